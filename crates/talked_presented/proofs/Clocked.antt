@@ -23,7 +23,7 @@ use Rattle.aaf_format.specs.Aaf.{aaf_of, aaf_refusal, aaf_subtype}
 use Rattle.iec61883_format.specs.Iec.{iec_of, iec_refusal}
 use Rattle.stream_journal.specs.ClockRows.{IsSpotAt}
 use Rattle.stream_journal.specs.Conforming.{AgreesWithClock, Conforms, IsAudio, IsOfKind}
-use Rattle.stream_journal.specs.Delivered.{IsDelivered}
+use Rattle.stream_journal.specs.Delivered.{IsAudioKind, IsDelivered}
 use Rattle.stream_journal.specs.Journal.{DenseAaf, IsAt, IsAtBy, IsAtByClock, Journal, Kind, head_of, rule_of}
 use Rattle.stream_journal.specs.Known.{IsCoveredBy}
 use Rattle.stream_journal.proofs.OneInstant.{one_instant}

@@ -5,13 +5,17 @@ use Rattle.std.proofs.lemmas.List.Sums.{count_by-le-length, length-filter}
 use Rattle.std.proofs.lemmas.Int.{ints}
 use Rattle.std.proofs.lemmas.List.Elements.{All-cons, All-nil}
 use Rattle.talk_plan.specs.Plan.{IsAudioPlan, most_input}
+use Rattle.avtp_base.specs.Octets.{bits}
+use Rattle.cvf_format.specs.AnnexB.{units_from}
+use Rattle.talk_video.specs.Fragments.{part_by}
+use Rattle.talk_video.specs.Units.{sent_units, units_fault}
 use Rattle.talker.specs.Examples.{six_blocks}
 use Rattle.talker.specs.Journal.{journal, stream_of}
 use Rattle.talk_plan.specs.Timing.{first_instant, nominal_instant}
-use Rattle.talked_presented.specs.Anywhere.{MustBePresented}
+use Rattle.talked_presented.specs.Anywhere.{MustBePresented, UnitMustBePresented}
 use Rattle.aaf_format.specs.declared.aaf.AafFormat.TheVariants.{Int16}
 use Rattle.talked_presented.specs.Clocked.{HasDefaultClock}
-use Rattle.talked_presented.specs.Examples.{plain, silence, six_points, thirty, with_clock}
+use Rattle.talked_presented.specs.Examples.{one_unit, plain, silence, six_points, thirty, with_clock}
 use Rattle.talked_presented.proofs.Sent.{due_before}
 use Rattle.talked_presented.specs.Whole.{HasDefaultLead, IsDefaultVideo, default_listener}
 
@@ -146,6 +150,23 @@ repeated_fits =
         in_time = All-cons Early 0 (2 ∷ []) (sent_before 0 (omega arith)) (All-cons Early 2 [] (sent_before 2 (omega arith)) (All-nil Early));
       };
       first = All-cons Other 0 (2 ∷ []) (λ e. cc) (All-cons Other 2 [] (λ e. cc) (All-nil Other));
+      some = omega arith;
+      bytes = omega arith;
+    }
+
+-- a byte stream of one unit: its one packet must be presented, though it comes again
+pub unit_fits : UnitMustBePresented (thirty false) one_unit (default_listener 0x0200000000010001) [] 0 0 (0 ∷ [])
+unfolding sent_units units_fault part_by units_from bits
+unit_fits =
+    let count : (journal (thirty false) one_unit).times.packets ≡ 1 = refl in
+    let In : ℕ → Type 0 = λ (k : ℕ). k < (journal (thirty false) one_unit).times.packets in
+    let plan = video_fits one_unit false (omega arith) in
+    record {
+      talk = record { last_stamp = false; kind = refl; talked = plan.talked; stream_id = plan.stream_id; limit = plan.limit; near = tt; stream = refl; clock = tt };
+      sent = All-cons In 0 (0 ∷ []) (omega arith) (All-cons In 0 [] (omega arith) (All-nil In));
+      packets = inl (refl, refl);
+      in_time = All-nil (λ (k : ℕ). (stream_of (thirty false) one_unit).arrival k ≤ (journal (thirty false) one_unit).times.due 0);
+      first = All-nil (λ (k : ℕ). k ≢ 0);
       some = omega arith;
       bytes = omega arith;
     }

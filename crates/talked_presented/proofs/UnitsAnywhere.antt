@@ -1,37 +1,34 @@
 -- A unit of a plan of H.264 that must be presented, wherever it is in a capture.
-use Rattle.std.proofs.Common.{◌≡◌, ◌≢◌, ℕ, zero, suc, ◌+◌, ◌-◌, ◌*◌, ◌<◌, ◌≤◌, Bool, true, false, ℤ, pos, ◌≤ℤ◌, List, [], ◌∷◌, ◌++◌, All, length, map, filter, take, Option, Some, refl, sym, ap, ◌∙◌, subst, arith, append_assoc, length-append}
+use Rattle.std.proofs.Common.{◌≡◌, ◌≢◌, ℕ, zero, suc, ◌+◌, ◌-◌, ◌<◌, ◌≤◌, Bool, true, false, pos, ◌≤ℤ◌, List, [], ◌∷◌, ◌++◌, All, length, map, filter, Some, refl, sym, ap, ◌∙◌, subst, arith, append_assoc, length-append}
 use Rattle.std.specs.Prelude.{cond, slice_get}
-use Rattle.std.specs.List.{AllByRecursion, range_with_len, slice_index_or}
-use Rattle.std.proofs.lemmas.Bool.{cases_lt}
-use Rattle.std.proofs.lemmas.List.{length-map, map-append}
+use Rattle.std.specs.List.{range_with_len, slice_index_or}
+use Rattle.std.proofs.lemmas.List.{length-map}
 use Rattle.std.proofs.lemmas.List.Elements.{All-append, All-cons, All-head, All-nil, All-tail, filter-append}
-use Rattle.std.proofs.lemmas.Option.{slice_get-get_or, slice_get_within}
+use Rattle.std.proofs.lemmas.Option.{slice_get-get_or}
 use Rattle.pcap_frames.specs.Capture.{Record}
-use Rattle.stream_journal.specs.Conforming.{Ends, IsVideo}
+use Rattle.stream_journal.specs.Conforming.{Ends}
 use Rattle.stream_journal.specs.Journal.{H264 as OfParts, Part}
 use Rattle.packet_journal.specs.Deliveries.{Delivery}
 use Rattle.packet_journal.specs.Delivered.{AreFrom, IsCopyOf, Origin, OfStream}
 use Rattle.packet_journal.specs.Packets.{IsConforming, PacketJournal}
-use Rattle.packet_journal.specs.Units.{AreUnit, unit_bytes}
+use Rattle.packet_journal.specs.Units.{AreUnit}
 use Rattle.listener.specs.declared.plan.ListenPlan.{ListenPlan}
 use Rattle.listener.specs.Heard.{deliveries_of}
-use Rattle.listener.specs.Laws.{AreCopiesFrom, HearsTalker}
+use Rattle.listener.specs.Laws.{AreCopiesFrom}
 use Rattle.listener.specs.Units.{in_stream}
 use Rattle.listener.proofs.ItemKinds.{all_before, at_place}
 use Rattle.listener.proofs.Made.{is_streamed}
 use Rattle.listener.proofs.TrueItems.{Shows, all_shown}
 use Rattle.listener.proofs.TrueUnits.{video, video_copy, video_streamed}
-use Rattle.listener_laws.specs.Anywhere.{UnitComesInTime, UnitMustBePresented as IsUnitDue}
+use Rattle.listener_laws.specs.Anywhere.{UnitMustBePresented as IsUnitDue}
 use Rattle.listener_laws.proofs.UnitsAnywhere.{one_end, part_in, part_seen}
-use Rattle.talk_plan.specs.declared.plan.TalkKind.TheVariants.{H264}
 use Rattle.talk_plan.specs.declared.plan.TalkPlan.{TalkPlan}
-use Rattle.talker.specs.Journal.{Stream, journal, stream_of}
+use Rattle.talker.specs.Journal.{journal, stream_of}
 use Rattle.talked_headline.specs.Premises.{captured, part_sent}
 use Rattle.talked_headline.proofs.Fragments.{few_packets, first_before, one_due, parts_are, same_byte, unit_size, unit_small}
 use Rattle.talked_presented.specs.Anywhere.{UnitMustBePresented}
 use Rattle.talked_presented.specs.Whole.{ends_unit}
 use Rattle.talked_presented.proofs.Caught.{IsCaught, as_many, came_by}
-use Rattle.talked_presented.proofs.Merged.{sent_by}
 use Rattle.talked_presented.proofs.UnitRuns.{ends_so, inside_unit, unit_ends}
 
 -- ---- the deliveries before, of and after the unit

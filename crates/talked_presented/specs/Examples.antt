@@ -1,5 +1,5 @@
 -- Plans and captures that meet the premises.
-use Rattle.std.specs.Prelude.{ℕ, Bool, false, List, replicate, None, Some}
+use Rattle.std.specs.Prelude.{ℕ, Bool, false, List, [], ◌∷◌, replicate, None, Some}
 use Rattle.aaf_format.specs.declared.aaf.AafFormat.TheVariants.{Int16}
 use Rattle.talk_plan.specs.declared.plan.CrfPlan.{CrfPlan}
 use Rattle.talk_plan.specs.declared.plan.TalkKind.TheVariants.{Aaf, H264}
@@ -25,3 +25,7 @@ six_points = record { id = 0x0200000000010002; rate = 48000; pull = 0; interval 
 -- the plain plan of dense PCM with that clock
 abbrev pub with_clock : TalkPlan
 with_clock = record (plain false) { crf = Some six_points }
+
+-- a byte stream of H.264 (ITU-T H.264, annex B) with one NAL unit of two bytes, an IDR slice
+abbrev pub one_unit : List ℕ
+one_unit = 0 ∷ 0 ∷ 1 ∷ 0x65 ∷ 0x88 ∷ []

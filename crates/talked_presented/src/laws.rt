@@ -18,7 +18,7 @@ ghost use Rattle.talker.specs.Journal.{journal};
 ghost use Rattle.talked_headline.specs.Premises.{HasRoomForUnit, ListensToVideo, captured, part_sent};
 ghost use Rattle.talked_presented.specs.Anywhere.{ComesInTime, MustBePresented, UnitMustBePresented};
 ghost use Rattle.talked_presented.specs.Clocked.{ArePresentedFrom, HasDefaultClock, HearsClock, clocked_listener, first_covered};
-ghost use Rattle.talked_presented.specs.Examples.{plain, silence, six_points, thirty, with_clock};
+ghost use Rattle.talked_presented.specs.Examples.{one_unit, plain, silence, six_points, thirty, with_clock};
 ghost use Rattle.talked_presented.specs.Whole.{ArePresented, HasDefaultLead, HearsAll, HearsUnits, IsDefaultVideo, default_listener, unit_ends};
 
 use listener_laws::laws::{
@@ -165,7 +165,7 @@ pub fn presented_are_counted()
 {}
 
 /// Plans of each kind, without a clock and with one, have the default lead and can be timed whole, whatever they send. And if packets 0, 2, 1 and 1 of a plan
-/// are captured, in this order, the first copy of packet 1 must be presented.
+/// are captured, in this order, the first copy of packet 1 must be presented. So must a unit of one packet that comes twice.
 pub fn examples_are_so()
     ensures dense { (input : List ℕ) → length input ≤ most_input → HasDefaultLead (plain false) input }
     ensures sparse { (input : List ℕ) → length input ≤ most_input → HasDefaultLead (plain true) input }
@@ -173,4 +173,5 @@ pub fn examples_are_so()
     ensures h264 { (input : List ℕ) (last_stamp : Bool) → length input ≤ most_input → IsDefaultVideo (thirty last_stamp) input }
     ensures clocked { (input : List ℕ) → length input ≤ most_input → HasDefaultClock with_clock six_points input }
     ensures repeated { MustBePresented (plain false) silence (default_listener 0x0200000000010001) (0 ∷ 2 ∷ []) 1 (1 ∷ []) }
+    ensures unit { UnitMustBePresented (thirty false) one_unit (default_listener 0x0200000000010001) [] 0 0 (0 ∷ []) }
 {}

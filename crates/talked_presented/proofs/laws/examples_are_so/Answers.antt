@@ -1,4 +1,4 @@
-use Rattle.talked_presented.proofs.Examples.{blocks_fit, clock_fits, dense_fits, repeated_fits, sparse_fits, video_fits}
+use Rattle.talked_presented.proofs.Examples.{blocks_fit, clock_fits, dense_fits, repeated_fits, sparse_fits, unit_fits, video_fits}
 use Rattle.talked_presented.proofs.laws.examples_are_so.Goals as goal
 
 pub returns-clause-dense : goal.returns-clause-dense
@@ -18,3 +18,6 @@ returns-clause-clocked c = clock_fits
 
 pub returns-clause-repeated : goal.returns-clause-repeated
 returns-clause-repeated c = repeated_fits
+
+pub returns-clause-unit : goal.returns-clause-unit
+returns-clause-unit c = unit_fits

@@ -1,4 +1,4 @@
-use Rattle.std.proofs.Common.{◌≡◌, ◌-◌, ◌∷◌, ◌++◌, ◌<◌, ℕ, List, [], All, map, pos, ap, ◌∙◌, subst}
+use Rattle.std.proofs.Common.{◌-◌, ◌∷◌, ◌++◌, pos}
 use Rattle.std.specs.List.{range_with_len}
 use Rattle.listener.specs.Items.{unit_by}
 use Rattle.listener_laws.specs.Anywhere.{unit_place}
