@@ -99,6 +99,9 @@ pub fn next_difference<S: Source>(
     ensures kept_b { S.kept b.new ≡ S.kept b.old }
     ensures less { ((S.work a.new + S.work b.new) + nexts_left matching.new) + length (option_to_list result) ≤ (S.work a.old + S.work b.old) + nexts_left matching.old }
 {
+    if matching.wants().is_some() {
+        return None;
+    }
     loop {
         let difference = matching.next_difference();
         let wanted = matching.wants();

@@ -1,6 +1,6 @@
 -- The pairs and counts of one batch more.
-use Rattle.std.proofs.Common.{◌≡◌, ℕ, zero, suc, ◌+◌, ◌-◌, ◌^◌, ◌<◌, ◌≤◌, Bool, true, false, cond, List, [], ◌∷◌, ◌++◌, length, filter, Option, Some, None, refl, sym, ap, ◌∙◌, subst, arith, append-nil, append_assoc, length-append}
-use Rattle.std.specs.Prelude.{is_some, min, option_map}
+use Rattle.std.proofs.Common.{◌≡◌, ℕ, suc, ◌+◌, ◌-◌, ◌^◌, ◌<◌, ◌≤◌, true, false, List, [], ◌∷◌, ◌++◌, length, filter, Option, Some, None, refl, sym, ap, ◌∙◌, subst, arith, append-nil, append_assoc, length-append}
+use Rattle.std.specs.Prelude.{is_some, option_map}
 use Rattle.std.specs.List.{cons_option, filter_map, find}
 use Rattle.std.specs.Option.{option_to_list}
 use Rattle.std.proofs.lemmas.List.Elements.{filter-append, filter_map-append}
@@ -9,10 +9,9 @@ use Rattle.listener_pair.specs.declared.difference.Difference.{Difference}
 use Rattle.listener_pair.specs.declared.difference.PairCounts.{PairCounts}
 use Rattle.listener_pair.specs.declared.difference.Which.{Which}
 use Rattle.listener_pair.specs.declared.difference.Which.TheVariants.{A, B}
-use Rattle.listener_pair.specs.declared.placed.Paired.{Paired}
 use Rattle.listener_pair.specs.declared.placed.Placed.{Placed}
 use Rattle.listener_pair.specs.Merged.{Sided, is_side}
-use Rattle.listener_pair.specs.Pairs.{at_place, left_by, may_pair, pair_by, pairs, pairs_from, partner_of, unpaired, unpaired_from, unpaired_with, without_first}
+use Rattle.listener_pair.specs.Pairs.{Paired, at_place, left_by, may_pair, pair_by, pairs, pairs_from, partner_of, unpaired, unpaired_from, unpaired_with, without_first}
 use Rattle.listener_pair.specs.Differences.{alone, counts_of, difference_of, differences}
 use Rattle.listener_pair.specs.Matching.{batches_of, of_side}
 use Rattle.listener_pair.specs.state.Window.{counted, difference_by_pair, paired_with, risen, risen_if}

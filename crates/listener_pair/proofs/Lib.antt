@@ -1,4 +1,5 @@
 pub mod Numbers
+pub mod Reaching
 pub mod Sorting
 pub mod Windows
 pub mod Samples

@@ -1,21 +1,17 @@
 -- The laws of pairs and differences.
-use Rattle.std.proofs.Common.{◌≡◌, ℕ, zero, suc, ◌+◌, ◌<◌, ◌≤◌, Bool, true, false, cond, ◌&&◌, ◌||◌, ◌⊎◌, inl, inr, ℤ, ◌≤ℤ◌, List, [], ◌∷◌, ◌++◌, length, filter, map, Option, Some, None, refl, sym, ap, ◌∙◌, subst, arith, append-nil, append_assoc, length-append}
-use Rattle.std.specs.Prelude.{nat_le, not, ◌==◌, int_lt, nat_eq}
+use Rattle.std.proofs.Common.{◌≡◌, ℕ, suc, ◌+◌, ◌<◌, ◌≤◌, Bool, true, false, cond, ◌&&◌, ◌||◌, ◌⊎◌, inl, inr, List, [], ◌∷◌, ◌++◌, length, filter, Option, Some, None, refl, sym, ap, ◌∙◌, subst, arith, length-append}
+use Rattle.std.specs.Prelude.{nat_le, not, ◌==◌}
 use Rattle.std.specs.List.{AllByRecursion, find}
 use Rattle.std.proofs.lemmas.Bool.Decides.{Decides-eqb, nat_tests}
 use Rattle.std.proofs.lemmas.List.Elements.{filter-append}
-use Rattle.sample_schedule.specs.Batches.{Presented}
-use Rattle.sample_schedule.specs.Verdicts.{first_instant}
-use Rattle.listener_pair.specs.declared.difference.Which.{Which}
 use Rattle.listener_pair.specs.declared.difference.Which.TheVariants.{A, B}
-use Rattle.listener_pair.specs.declared.placed.Paired.{Paired}
 use Rattle.listener_pair.specs.declared.placed.Placed.{Placed}
 use Rattle.listener_pair.specs.Laws.{IsPair, is_in, times_paired}
 use Rattle.listener_pair.specs.Merged.{Sided, is_settled, is_side, known}
-use Rattle.listener_pair.specs.Pairs.{at_place, fits, left_by, may_pair, pair_by, pairs, pairs_from, partner_of, unpaired_with, without_first}
+use Rattle.listener_pair.specs.Pairs.{Paired, at_place, fits, left_by, may_pair, pair_by, pairs, pairs_from, partner_of, unpaired_with, without_first}
 use Rattle.listener_pair.proofs.Known.{known-cons, known-nil}
 use Rattle.listener_pair.proofs.Sorting.{all-join}
-use Rattle.listener_pair.proofs.Windows.{IsAscending, ascending-with, either, fewer, filter-no, filter-yes, find-passes, without-apart}
+use Rattle.listener_pair.proofs.Windows.{IsAscending, ascending-with, either, fewer, filter-no, find-passes}
 
 -- ---- the known part
 

@@ -1,5 +1,5 @@
 -- A matching stands for what it was given.
-use Rattle.std.proofs.Common.{◌≡◌, ℕ, zero, suc, ◌+◌, ◌-◌, ◌^◌, ◌<◌, ◌≤◌, Bool, true, false, cond, ◌⊎◌, inl, inr, List, [], ◌∷◌, ◌++◌, length, filter, map, Option, Some, None, refl, sym, ap, ◌∙◌, subst, arith, append-nil, append_assoc, length-append}
+use Rattle.std.proofs.Common.{◌≡◌, ℕ, suc, ◌+◌, ◌^◌, ◌<◌, Bool, true, false, cond, inl, inr, List, [], ◌∷◌, ◌++◌, length, Option, Some, None, refl, sym, ap, ◌∙◌, subst, arith, append-nil, append_assoc, length-append}
 use Rattle.std.specs.Prelude.{is_some, option_map, slice_get, IfSome}
 use Rattle.std.specs.List.{find}
 use Rattle.std.specs.Option.{option_to_list}
@@ -9,16 +9,15 @@ use Rattle.listener_pair.specs.declared.difference.Difference.{Difference}
 use Rattle.listener_pair.specs.declared.difference.PairCounts.{PairCounts}
 use Rattle.listener_pair.specs.declared.difference.Which.{Which}
 use Rattle.listener_pair.specs.declared.difference.Which.TheVariants.{A, B}
-use Rattle.listener_pair.specs.declared.placed.Paired.{Paired}
 use Rattle.listener_pair.specs.declared.placed.Placed.{Placed}
-use Rattle.listener_pair.specs.Merged.{IsInOrder, Sided, is_side, known, merged}
-use Rattle.listener_pair.specs.Pairs.{at_place, may_pair, pairs, pairs_from, partner_of, unpaired, unpaired_from, unpaired_with, without_first}
+use Rattle.listener_pair.specs.Merged.{IsInOrder, Sided, known, merged}
+use Rattle.listener_pair.specs.Pairs.{Paired, at_place, pairs_from, partner_of, unpaired, unpaired_from, unpaired_with, without_first}
 use Rattle.listener_pair.specs.Differences.{counts_of, differences}
-use Rattle.listener_pair.specs.Matching.{EndsOn, IsIdle, IsSorted, MatchingState, StandsFor, batches_of, ended_by, given_to, known_of, lacks, nexts, of_side, wanted, window}
-use Rattle.listener_pair.specs.state.Window.{Enters, EntersSide, Steps, counted, difference_by_pair, first_side, kept, next_of, next_side, paired_with, risen, takes, without_next, without_passed}
+use Rattle.listener_pair.specs.Matching.{IsIdle, IsSorted, MatchingState, StandsFor, batches_of, ended_by, given_to, known_of, lacks, nexts, of_side, wanted, window}
+use Rattle.listener_pair.specs.state.Window.{Enters, Steps, counted, difference_by_pair, first_side, kept, next_of, next_side, paired_with, risen, takes, without_passed}
 use Rattle.listener_pair.proofs.Counting.{ascending-unpaired, counted-next, differences-front, differences-next, unpaired-next}
 use Rattle.listener_pair.proofs.Known.{batches-next-a, batches-next-b, idle-at, known-done, nexts-a, nexts-b}
-use Rattle.listener_pair.proofs.Sorting.{batches-append, batches-one, merged-is, sorted-with-a, sorted-with-b}
+use Rattle.listener_pair.proofs.Sorting.{batches-append, merged-is, sorted-with-a, sorted-with-b}
 use Rattle.listener_pair.proofs.Windows.{other_side, others-next, own-next, partner-waits, room-next}
 
 -- ---- sides

@@ -1,59 +1,74 @@
 -- The code's step is that of the next batch.
-use Rattle.std.proofs.Common.{◌≡◌, ℕ, ◌+◌, Bool, List, Option, Some, None, length, refl, sym, ap, ◌∙◌, subst}
-use Rattle.std.specs.Prelude.{slice_get, IfSome}
+use Rattle.std.proofs.Common.{◌≡◌, ℕ, ◌+◌, List, Option, Some, None, length, refl, sym, ap, ◌∙◌, subst}
+use Rattle.std.specs.Prelude.{slice_get, IfSome, IsSome}
 use Rattle.std.specs.Option.{option_to_list}
 use Rattle.sample_schedule.specs.Batches.{Presented}
 use Rattle.listener_pair.specs.declared.difference.Difference.{Difference}
 use Rattle.listener_pair.specs.declared.difference.PairCounts.{PairCounts}
 use Rattle.listener_pair.specs.declared.difference.Which.{Which}
 use Rattle.listener_pair.specs.declared.difference.Which.TheVariants.{A, B}
-use Rattle.listener_pair.specs.declared.placed.Paired.{Paired}
+use Rattle.listener_pair.specs.declared.placed.Entered.{Entered}
 use Rattle.listener_pair.specs.declared.placed.Placed.{Placed}
 use Rattle.listener_pair.specs.Merged.{known, merged}
+use Rattle.listener_pair.specs.Pairs.{Paired}
 use Rattle.listener_pair.specs.Differences.{differences}
 use Rattle.listener_pair.specs.Matching.{MatchingState, StandsFor, known_of}
-use Rattle.listener_pair.specs.state.Window.{Enters, EntersSide, Steps, counted, difference_by_pair, next_of, next_side, risen, without_next}
-use Rattle.listener_pair.proofs.Standing.{Advances, steps}
+use Rattle.listener_pair.specs.state.Window.{Tells, Enters, EntersSide, Steps, counted, difference_by_pair, made_on, next_of, next_side, placed, risen, without_next}
+use Rattle.listener_pair.proofs.Standing.{next-there, steps}
 
-enters-at : (x z : Placed) (n k : ℕ) (o a ot at o2 a2 ot2 at2 : List Placed) (pair : Option Paired) → x ≡ z → n ≡ k → o ≡ o2 → a ≡ a2 → ot ≡ ot2 → at ≡ at2 → Enters x n o a ot at pair → Enters z k o2 a2 ot2 at2 pair
-enters-at x z n k o a ot at o2 a2 ot2 at2 pair ex en eo ea eot eat h =
-    subst (λ (l : List Placed). Enters z k o2 a2 ot2 l pair) eat (subst (λ (l : List Placed). Enters z k o2 a2 l at pair) eot (subst (λ (l : List Placed). Enters z k o2 l ot at pair) ea
-    (subst (λ (l : List Placed). Enters z k l a ot at pair) eo (subst (λ (m : ℕ). Enters z m o a ot at pair) en (subst (λ (p : Placed). Enters p n o a ot at pair) ex h)))))
+abbrev pub left : MatchingState → ℕ → PairCounts → MatchingState
+left m place counts = record m { place = place; counts = counts }
 
-enters-side : (s : Which) (x z : Placed) (n k : ℕ) (old new old2 new2 : MatchingState) (pair : Option Paired) → x ≡ z → n ≡ k → old.waiting_a ≡ old2.waiting_a → old.waiting_b ≡ old2.waiting_b → new.waiting_a ≡ new2.waiting_a → new.waiting_b ≡ new2.waiting_b
-    → EntersSide s x n old new pair → EntersSide s z k old2 new2 pair
-enters-side A x z n k old new old2 new2 pair ex en oa ob na nb h = enters-at x z n k old.waiting_a old.waiting_b new.waiting_a new.waiting_b old2.waiting_a old2.waiting_b new2.waiting_a new2.waiting_b pair ex en oa ob na nb h
-enters-side B x z n k old new old2 new2 pair ex en oa ob na nb h = enters-at x z n k old.waiting_b old.waiting_a new.waiting_b new.waiting_a old2.waiting_b old2.waiting_a new2.waiting_b new2.waiting_a pair ex en ob oa nb na h
+place-same : (s : Which) (m : MatchingState) → (without_next s m).place ≡ m.place
+place-same A m = refl
+place-same B m = refl
 
-state-eq : (m n : MatchingState) → m.next_a ≡ n.next_a → m.next_b ≡ n.next_b → m.ended_a ≡ n.ended_a → m.ended_b ≡ n.ended_b → m ≡ record n { place = m.place; waiting_a = m.waiting_a; waiting_b = m.waiting_b; counts = m.counts }
-state-eq m n a b c d =
-    ap (λ x. record m { next_a = x }) a ∙ ap (λ x. record m { next_a = n.next_a; next_b = x }) b
-    ∙ ap (λ x. record m { next_a = n.next_a; next_b = n.next_b; ended_a = x }) c ∙ ap (λ x. record m { next_a = n.next_a; next_b = n.next_b; ended_a = n.ended_a; ended_b = x }) d
+counts-same : (s : Which) (m : MatchingState) → (without_next s m).counts ≡ m.counts
+counts-same A m = refl
+counts-same B m = refl
 
-without-same : (s : Which) (m : MatchingState) → ((without_next s m).waiting_a ≡ m.waiting_a) × ((without_next s m).waiting_b ≡ m.waiting_b) × ((without_next s m).place ≡ m.place) × ((without_next s m).counts ≡ m.counts)
-without-same A m = (refl, refl, refl, refl)
-without-same B m = (refl, refl, refl, refl)
+enters-on : (s : Which) (x : Placed) (n k : ℕ) (old new : MatchingState) (counts : PairCounts) (pair : Option Paired) → n ≡ k → EntersSide s x k old new pair → EntersSide s x n old (left new n counts) pair
+enters-on A x n k old new counts pair e h = subst (λ m. Enters x m old.waiting_a old.waiting_b new.waiting_a new.waiting_b pair) (sym e) h
+enters-on B x n k old new counts pair e h = subst (λ m. Enters x m old.waiting_b old.waiting_a new.waiting_b new.waiting_a pair) (sym e) h
 
--- the states that the code goes through: without the next batch, with its place, with it among those that wait, and with the counts
-pub stepped : (s : Which) (b : Presented) (v0 v1 v2 v3 v4 : MatchingState) (next place : ℕ) (pair : Option Paired) → v1 ≡ without_next s v0 → v2 ≡ record v1 { place = next } → v3 ≡ record v2 { waiting_a = v3.waiting_a; waiting_b = v3.waiting_b }
-    → v4 ≡ record v3 { counts = counted s pair v3.counts } → EntersSide s (record { place = place; side = s; batch = b }) next v2 v3 pair → place ≡ v1.place → next ≡ risen place → Steps s b v0 v4 pair
-stepped s b v0 v1 v2 v3 v4 next place pair e1 e2 e3 e4 enters is_place is_next =
-    let w = without-same s v0 in
-    let place_is : place ≡ v0.place = is_place ∙ ap (λ (m : MatchingState). m.place) e1 ∙ w.2 in
-    let next_is : v4.place ≡ next = ap (λ (m : MatchingState). m.place) e4 ∙ ap (λ (m : MatchingState). m.place) e3 ∙ ap (λ (m : MatchingState). m.place) e2 in
+-- the matching after its next batch entered, with its next place and its counts
+pub stepped : (s : Which) (b : Presented) (old new : MatchingState) (place : ℕ) (counts : PairCounts) (pair : Option Paired) → new ≡ record (without_next s old) { waiting_a = new.waiting_a; waiting_b = new.waiting_b }
+    → EntersSide s (placed old.place s b) (risen old.place) old new pair → place ≡ risen new.place → counts ≡ counted s pair new.counts → Steps s b old (left new place counts) pair
+stepped s b old new place counts pair same enters is_place is_counts =
+    let place_is : place ≡ risen old.place = is_place ∙ ap risen (ap (λ (m : MatchingState). m.place) same ∙ place-same s old) in
     record {
-      same = state-eq v4 (without_next s v0)
-          (ap (λ (m : MatchingState). m.next_a) e4 ∙ ap (λ (m : MatchingState). m.next_a) e3 ∙ ap (λ (m : MatchingState). m.next_a) e2 ∙ ap (λ (m : MatchingState). m.next_a) e1)
-          (ap (λ (m : MatchingState). m.next_b) e4 ∙ ap (λ (m : MatchingState). m.next_b) e3 ∙ ap (λ (m : MatchingState). m.next_b) e2 ∙ ap (λ (m : MatchingState). m.next_b) e1)
-          (ap (λ (m : MatchingState). m.ended_a) e4 ∙ ap (λ (m : MatchingState). m.ended_a) e3 ∙ ap (λ (m : MatchingState). m.ended_a) e2 ∙ ap (λ (m : MatchingState). m.ended_a) e1)
-          (ap (λ (m : MatchingState). m.ended_b) e4 ∙ ap (λ (m : MatchingState). m.ended_b) e3 ∙ ap (λ (m : MatchingState). m.ended_b) e2 ∙ ap (λ (m : MatchingState). m.ended_b) e1);
-      place = next_is ∙ is_next ∙ ap risen place_is;
-      enters = enters-side s (record { place = place; side = s; batch = b }) (record { place = v0.place; side = s; batch = b }) next v4.place v2 v3 v0 v4 pair
-          (ap (λ n. record { place = n; side = s; batch = b }) place_is) (sym next_is)
-          (ap (λ (m : MatchingState). m.waiting_a) e2 ∙ ap (λ (m : MatchingState). m.waiting_a) e1 ∙ w.0) (ap (λ (m : MatchingState). m.waiting_b) e2 ∙ ap (λ (m : MatchingState). m.waiting_b) e1 ∙ w.1)
-          (sym (ap (λ (m : MatchingState). m.waiting_a) e4)) (sym (ap (λ (m : MatchingState). m.waiting_b) e4)) enters;
-      counts = ap (λ (m : MatchingState). m.counts) e4 ∙ ap (counted s pair) (ap (λ (m : MatchingState). m.counts) e3 ∙ ap (λ (m : MatchingState). m.counts) e2 ∙ ap (λ (m : MatchingState). m.counts) e1 ∙ w.3);
+      same = ap (λ (m : MatchingState). left m place counts) same;
+      place = place_is;
+      enters = enters-on s (placed old.place s b) place (risen old.place) old new counts pair place_is enters;
+      counts = is_counts ∙ ap (counted s pair) (ap (λ (m : MatchingState). m.counts) same ∙ counts-same s old);
     }
+
+-- A next batch entered: it made this pair or none, and what is told is that.
+pub record Came (s : Which) (old new : MatchingState) (entered : Entered) : Type 0 where
+  pub batch : Presented
+  pub next : next_of s old ≡ Some batch
+  pub pair : Option Paired
+  pub steps : Steps s batch old new pair
+  pub tells : entered.difference ≡ difference_by_pair pair
+
+-- the side of the next batch of the known part has a next batch
+some-of : (o : Option Presented) → (o ≡ None → ⊥) → (b : Presented) × (o ≡ Some b)
+some-of None h = absurd (h refl)
+some-of (Some b) h = (b, refl)
+
+pub next-known : (s : Which) (m : MatchingState) → next_side m ≡ Some s → IsSome (next_of s m)
+next-known s m e = let h = some-of (next_of s m) (next-there m s e) in subst (λ (o : Option Presented). IsSome o) (sym h.1) refl
+
+pub comes : (s : Which) (old new : MatchingState) (entered : Entered) (place : ℕ) (counts : PairCounts) → next_side old ≡ Some s → new ≡ record (without_next s old) { waiting_a = new.waiting_a; waiting_b = new.waiting_b }
+    → IfSome (next_of s old) (λ batch. EntersSide s (placed old.place s batch) (risen old.place) old new (made_on s (placed old.place s batch) old)) → IfSome (next_of s old) (λ batch. Tells (made_on s (placed old.place s batch) old) entered)
+    → place ≡ risen new.place → ((pair : Option Paired) → Tells pair entered → counts ≡ counted s pair new.counts) → Came s old (left new place counts) entered
+comes s old new entered place counts side same enters tells is_place is_counts =
+    let h = some-of (next_of s old) (next-there old s side) in
+    let pair = made_on s (placed old.place s h.0) old in
+    let told : Tells pair entered = subst (λ (o : Option Presented). IfSome o (λ batch. Tells (made_on s (placed old.place s batch) old) entered)) h.1 tells in
+    let on : EntersSide s (placed old.place s h.0) (risen old.place) old new pair =
+    subst (λ (o : Option Presented). IfSome o (λ batch. EntersSide s (placed old.place s batch) (risen old.place) old new (made_on s (placed old.place s batch) old))) h.1 enters in
+    record { batch = h.0; next = h.1; pair = pair; steps = stepped s h.0 old new place counts pair same on is_place (is_counts pair told); tells = told.difference }
 
 -- what the step leaves
 pub step-stands : (s : Which) (b : Presented) (old new : MatchingState) (pair : Option Paired) (d : Option Difference) → next_side old ≡ Some s → next_of s old ≡ Some b → Steps s b old new pair → d ≡ difference_by_pair pair

@@ -1,13 +1,12 @@
 -- What waits for a partner is what is not paired of the last 512 batches.
-use Rattle.std.proofs.Common.{◌≡◌, ℕ, zero, suc, ◌+◌, ◌<◌, ◌≤◌, Bool, true, false, cond, ◌&&◌, ◌⊎◌, inl, inr, List, [], ◌∷◌, ◌++◌, length, filter, Option, Some, None, refl, sym, ap, ◌∙◌, subst, arith, append-nil}
-use Rattle.std.specs.Prelude.{nat_le, not, if◌then◌else◌, option_map}
+use Rattle.std.proofs.Common.{◌≡◌, ℕ, suc, ◌+◌, ◌<◌, ◌≤◌, Bool, true, false, cond, ◌&&◌, ◌⊎◌, inl, inr, List, [], ◌∷◌, ◌++◌, length, filter, Option, Some, None, refl, sym, ap, ◌∙◌, subst, arith, append-nil}
+use Rattle.std.specs.Prelude.{nat_le, not, option_map}
 use Rattle.std.specs.List.{find}
 use Rattle.std.proofs.lemmas.Bool.Decides.{nat_tests}
 use Rattle.std.proofs.lemmas.List.Elements.{filter-append}
 use Rattle.listener_pair.specs.declared.difference.Which.{Which}
 use Rattle.listener_pair.specs.declared.difference.Which.TheVariants.{A, B}
 use Rattle.listener_pair.specs.declared.placed.Placed.{Placed}
-use Rattle.listener_pair.specs.declared.placed.Paired.{Paired}
 use Rattle.listener_pair.specs.Merged.{is_side}
 use Rattle.listener_pair.specs.Pairs.{left_by, may_pair, unpaired_with, without_first}
 use Rattle.listener_pair.specs.Matching.{is_within, window}
@@ -81,7 +80,7 @@ without-yes t y ys e = ap (λ v. cond v ys (y ∷ without_first t ys)) e
 without-no : (t : Placed → Bool) (y : Placed) (ys : List Placed) → t y ≡ false → without_first t (y ∷ ys) ≡ y ∷ without_first t ys
 without-no t y ys e = ap (λ v. cond v ys (y ∷ without_first t ys)) e
 
-find-yes : (t : Placed → Bool) (y : Placed) (ys : List Placed) → t y ≡ true → find t (y ∷ ys) ≡ Some y
+pub find-yes : (t : Placed → Bool) (y : Placed) (ys : List Placed) → t y ≡ true → find t (y ∷ ys) ≡ Some y
 find-yes t y ys e = ap (λ v. cond v (Some y) (find t ys)) e
 
 find-no : (t : Placed → Bool) (y : Placed) (ys : List Placed) → t y ≡ false → find t (y ∷ ys) ≡ find t ys

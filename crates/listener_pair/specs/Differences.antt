@@ -7,10 +7,9 @@ use Rattle.listener_pair.specs.declared.difference.PairCounts.{PairCounts}
 use Rattle.listener_pair.specs.declared.difference.Way.{Way}
 use Rattle.listener_pair.specs.declared.difference.Which.{Which}
 use Rattle.listener_pair.specs.declared.difference.Which.TheVariants.{A, B}
-use Rattle.listener_pair.specs.declared.placed.Paired.{Paired}
 use Rattle.listener_pair.specs.declared.placed.Placed.{Placed}
 use Rattle.listener_pair.specs.Merged.{Sided, is_side}
-use Rattle.listener_pair.specs.Pairs.{pairs, unpaired}
+use Rattle.listener_pair.specs.Pairs.{Paired, pairs, unpaired}
 use Rattle.listener_pair.specs.Ways.{way_of}
 
 -- a way in which a batch of A and one of B differ, with the numbers of their frames and their sequence number

@@ -1,10 +1,7 @@
 -- What holds for all pairs and differences.
 use Rattle.std.specs.Prelude.{◌≡◌, ℕ, ◌+◌, ◌==◌, ◌<◌, ◌≤◌, ◌||◌, Bool, true, false, List, length, filter}
-use Rattle.sample_schedule.specs.Batches.{Presented}
-use Rattle.listener_pair.specs.declared.difference.Which.{Which}
-use Rattle.listener_pair.specs.declared.placed.Paired.{Paired}
 use Rattle.listener_pair.specs.Merged.{Sided, is_side}
-use Rattle.listener_pair.specs.Pairs.{fits, pairs}
+use Rattle.listener_pair.specs.Pairs.{Paired, fits, pairs}
 
 -- What holds for every pair: its batches are of different sides and may be one packet or unit, and the earlier is among the 512
 -- directly before the later.

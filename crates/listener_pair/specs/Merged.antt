@@ -1,5 +1,5 @@
 -- What two listeners present, in one list.
-use Rattle.std.specs.Prelude.{◌≡◌, ℕ, Bool, true, false, ◌&&◌, ◌||◌, if◌then◌else◌, ℤ, int_lt, ◌≤ℤ◌, ⊤, List, [], ◌∷◌, ◌++◌, map}
+use Rattle.std.specs.Prelude.{Bool, true, false, ◌&&◌, ◌||◌, if◌then◌else◌, int_lt, ◌≤ℤ◌, ⊤, List, [], ◌∷◌, ◌++◌, map}
 use Rattle.std.specs.List.{AllByRecursion, list_any}
 use Rattle.sample_schedule.specs.Batches.{Presented}
 use Rattle.sample_schedule.specs.Verdicts.{first_instant}

@@ -1,11 +1,10 @@
 -- Which batches of a merged list are pairs.
-use Rattle.std.specs.Prelude.{ℕ, suc, ◌+◌, ◌*◌, ◌==◌, nat_le, Bool, false, ◌&&◌, ◌||◌, not, if◌then◌else◌, ◌-ℤ◌, unsigned_abs, List, [], ◌∷◌, ◌++◌, Option, None, Some}
+use Rattle.std.specs.Prelude.{ℕ, suc, ◌+◌, ◌*◌, ◌==◌, nat_le, Bool, ◌&&◌, ◌||◌, not, if◌then◌else◌, ◌-ℤ◌, unsigned_abs, List, [], ◌∷◌, ◌++◌, Option, None, Some}
 use Rattle.std.specs.List.{find}
 use Rattle.sample_schedule.specs.Batches.{Presented, is_unit}
 use Rattle.sample_schedule.specs.Verdicts.{first_instant, same_instant}
 use Rattle.listener_pair.specs.declared.difference.Which.{Which}
 use Rattle.listener_pair.specs.declared.difference.Which.TheVariants.{A, B}
-use Rattle.listener_pair.specs.declared.placed.Paired.{Paired}
 use Rattle.listener_pair.specs.declared.placed.Placed.{Placed}
 use Rattle.listener_pair.specs.Merged.{Sided, is_side}
 
@@ -38,6 +37,11 @@ abbrev pub may_pair : Placed → Placed → Bool
 may_pair x y = nat_le x.place (y.place + 512) && not (is_side x.side y.side) && fits x.side x.batch y.batch
 
 -- ---- pairs
+
+-- two batches that are paired, in merged order
+pub record Paired : Type 0 where
+  pub earlier : Placed
+  pub later : Placed
 
 -- a list without its first element that passes a test
 abbrev pub without_first : {T : Type 0} → (T → Bool) → List T → List T

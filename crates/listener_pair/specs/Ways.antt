@@ -1,5 +1,5 @@
 -- How two batches differ.
-use Rattle.std.specs.Prelude.{ℕ, zero, suc, ◌*◌, ◌/◌, ◌==◌, Bool, if◌then◌else◌, List, length, take, drop, Option, None, Some}
+use Rattle.std.specs.Prelude.{ℕ, zero, suc, ◌*◌, ◌/◌, ◌==◌, if◌then◌else◌, List, length, take, drop, Option, None, Some}
 use Rattle.std.specs.Str.{bytes_eq}
 use Rattle.sample_schedule.specs.Batches.{Presented, sample_instant}
 use Rattle.sample_schedule.specs.Verdicts.{same_instant}

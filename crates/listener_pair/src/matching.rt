@@ -1,17 +1,17 @@
 //! The batches of two listeners, matched as they come.
 
-ghost use Rattle.std.specs.Prelude.{◌≡◌, ◌+◌, ◌^◌, ◌<◌, ◌≤◌, ◌++◌, ◌∷◌, [], ℕ, false, List, length, slice_get, Option, Some, None, IfNone, IfOk, IfSome, MatchOption, is_some, option_map};
+ghost use Rattle.std.specs.Prelude.{◌≡◌, ◌+◌, ◌^◌, ◌<◌, ◌≤◌, ◌++◌, ◌∷◌, [], ℕ, false, List, length, slice_get, Option, Some, None, IfNone, IfOk, IfSome, IsSome, MatchOption, is_some, option_map};
 ghost use Rattle.std.specs.Option.{option_to_list};
 ghost use Rattle.sample_schedule.specs.Batches.{Presented};
+ghost use Rattle.listener_pair.specs.Pairs.{Paired};
 ghost use Rattle.listener_pair.specs.Merged.{IsInOrder};
-ghost use Rattle.listener_pair.specs.Differences.{between as between_of, counts_of, difference_of as difference_of_pair, differences};
+ghost use Rattle.listener_pair.specs.Differences.{counts_of, differences};
 ghost use Rattle.listener_pair.specs.Matching.{IsIdle, StandsFor, ended_by, given_to, known_of, nexts_left, wanted};
-ghost use Rattle.listener_pair.specs.state.Window.{EntersSide, counted as counted_by, difference_by_pair, next_of, next_side, without_next};
+ghost use Rattle.listener_pair.specs.state.Window.{EntersSide, Tells, counted as counted_by, made_on, next_of, next_side, placed, risen, without_next};
 
 use crate::difference::{Difference, PairCounts, Which};
-use crate::placed::{Paired, Placed};
+use crate::placed::{Entered, Placed};
 use crate::timed::Timed;
-use crate::way::way_of;
 use crate::window::{WINDOW, enter};
 use avtp_base::NoMemory;
 use sample_schedule::Batch;
@@ -163,25 +163,29 @@ impl Matching {
         }
     }
 
-    /// The next batch of a side.
-    fn take_next(&mut self, side: Which) -> Option<Timed>
-        ensures next { result ≡ next_of side self.old }
-        ensures same { self.new ≡ without_next side self.old }
+    /// Adds the next batch of a side to those that wait, or pairs it.
+    fn enter(&mut self, side: Which) -> Entered
+        requires { IsSome (next_of side self.old) }
+        ensures enters { IfSome (next_of side self.old) (λ batch. EntersSide side (placed self.old.place side batch) (risen self.old.place) self.old self.new (made_on side (placed self.old.place side batch) self.old)) }
+        ensures tells { IfSome (next_of side self.old) (λ batch. Tells (made_on side (placed self.old.place side batch) self.old) result) }
+        ensures same { self.new ≡ record (without_next side self.old) { waiting_a = self.new.waiting_a; waiting_b = self.new.waiting_b } }
     {
+        let place = self.place;
         match side {
-            Which::A => self.next_a.take(),
-            Which::B => self.next_b.take(),
-        }
-    }
-
-    /// Adds a batch to those that wait.
-    fn enter(&mut self, x: Placed, next: u64) -> Option<Paired>
-        ensures enters { EntersSide x.side x next self.old self.new result }
-        ensures same { self.new ≡ record self.old { waiting_a = self.new.waiting_a; waiting_b = self.new.waiting_b } }
-    {
-        match x.side {
-            Which::A => enter(&mut self.waiting_a, &mut self.waiting_b, x, next),
-            Which::B => enter(&mut self.waiting_b, &mut self.waiting_a, x, next),
+            Which::A => enter(
+                side,
+                place,
+                &mut self.next_a,
+                &mut self.waiting_a,
+                &mut self.waiting_b,
+            ),
+            Which::B => enter(
+                side,
+                place,
+                &mut self.next_b,
+                &mut self.waiting_b,
+                &mut self.waiting_a,
+            ),
         }
     }
 
@@ -194,66 +198,20 @@ impl Matching {
         ensures ended { (self.new.ended_a ≡ self.old.ended_a) × (self.new.ended_b ≡ self.old.ended_b) }
         ensures less { nexts_left self.new < nexts_left self.old }
     {
-        let Some(batch) = self.take_next(side) else {
-            return None;
-        };
-        let next = self.place.saturating_add(1);
-        let x = Placed {
-            place: self.place,
-            side,
-            batch,
-        };
-        self.place = next;
-        let pair = self.enter(x, next);
-        let difference = difference_by(&pair);
-        self.counts = counted(self.counts, side, &pair, difference.is_some());
-        difference
+        let entered = self.enter(side);
+        self.place = self.place.saturating_add(1);
+        self.counts = counted(self.counts, side, &entered);
+        entered.difference
     }
 }
 
-/// The counts after a batch of a side made this pair, or none.
-fn counted(counts: PairCounts, side: Which, pair: &Option<Paired>, differs: bool) -> PairCounts
-    requires { differs ≡ is_some (difference_by_pair pair.now) }
-    ensures { result ≡ counted_by side pair.now counts }
+/// The counts after a batch of a side entered.
+fn counted(counts: PairCounts, side: Which, entered: &Entered) -> PairCounts
+    ensures { (pair : Option Paired) → Tells pair entered.now → result ≡ counted_by side pair counts }
 {
-    match pair {
-        None => counts.with_alone(side),
-        Some(_) => counts.with_pair(side, differs),
-    }
-}
-
-/// The difference of a pair, if there is one and it differs.
-fn difference_by(pair: &Option<Paired>) -> Option<Difference>
-    ensures { result ≡ difference_by_pair pair.now }
-{
-    match pair {
-        None => None,
-        Some(pair) => difference_of(pair),
-    }
-}
-
-/// The difference of two batches of A and B, if they differ.
-fn between(a: &Timed, b: &Timed) -> Option<Difference>
-    ensures { result ≡ between_of a.now b.now }
-{
-    let (a, b) = (a.batch(), b.batch());
-    match way_of(a, b) {
-        None => None,
-        Some(way) => Some(Difference {
-            frame_a: a.frame,
-            frame_b: b.frame,
-            seq: a.seq,
-            way,
-        }),
-    }
-}
-
-/// The difference of a pair, if it differs.
-fn difference_of(pair: &Paired) -> Option<Difference>
-    ensures { result ≡ difference_of_pair pair.now }
-{
-    match pair.later.side {
-        Which::A => between(&pair.later.batch, &pair.earlier.batch),
-        Which::B => between(&pair.earlier.batch, &pair.later.batch),
+    if entered.paired {
+        counts.with_pair(side, entered.difference.is_some())
+    } else {
+        counts.with_alone(side)
     }
 }

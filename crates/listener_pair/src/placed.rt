@@ -1,6 +1,6 @@
 //! Batches in merged order.
 
-use crate::difference::Which;
+use crate::difference::{Difference, Which};
 use crate::timed::Timed;
 
 /// A batch of a side, and its place in the merged list, from 0.
@@ -11,9 +11,9 @@ pub struct Placed {
     pub batch: Timed,
 }
 
-/// Two batches that are paired, in merged order.
-#[derive(Drop)]
-pub struct Paired {
-    pub earlier: Placed,
-    pub later: Placed,
+/// What came of a batch that entered: whether it was paired, and the difference of the pair, if that differs.
+#[derive(Clone, Copy)]
+pub struct Entered {
+    pub paired: bool,
+    pub difference: Option<Difference>,
 }

@@ -1,9 +1,11 @@
 //! How two batches differ.
 
 ghost use Rattle.std.specs.Prelude.{◌≡◌, ◌<◌, ◌≤◌, ◌*◌, ◌+◌};
+ghost use Rattle.listener_pair.specs.Differences.{between as between_of, difference_by};
 ghost use Rattle.listener_pair.specs.Ways.{first_way, sample_bytes as sample_bytes_of, sample_size as sample_size_of, sample_way as sample_way_of, way_of as way};
 
-use crate::difference::Way;
+use crate::difference::{Difference, Way, Which};
+use crate::timed::Timed;
 use sample_schedule::Batch;
 
 /// The bytes of a sample of a batch.
@@ -69,4 +71,29 @@ pub fn way_of(a: &Batch, b: &Batch) -> Option<Way>
         return None;
     }
     first_of_samples(a, b)
+}
+
+/// The difference of a batch of A and one of B, if they differ.
+fn between(a: &Batch, b: &Batch) -> Option<Difference>
+    ensures { result ≡ between_of a.now b.now }
+{
+    match way_of(a, b) {
+        None => None,
+        Some(way) => Some(Difference {
+            frame_a: a.frame,
+            frame_b: b.frame,
+            seq: a.seq,
+            way,
+        }),
+    }
+}
+
+/// The difference of a batch of a side and its partner on the other side, if they differ.
+pub fn difference_of(side: Which, x: &Timed, y: &Timed) -> Option<Difference>
+    ensures { result ≡ difference_by side x.now y.now }
+{
+    match side {
+        Which::A => between(x.batch(), y.batch()),
+        Which::B => between(y.batch(), x.batch()),
+    }
 }

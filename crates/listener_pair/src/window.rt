@@ -1,30 +1,45 @@
 //! The batches that wait for a partner.
 
-ghost use Rattle.std.specs.Prelude.{◌≡◌, ◌+◌, ◌<◌, ◌≤◌, ◌++◌, ◌∷◌, [], length, option_map};
-ghost use Rattle.std.specs.List.{find};
+ghost use Rattle.std.specs.Prelude.{◌≡◌, ◌+◌, ◌<◌, ◌≤◌, ◌++◌, ◌∷◌, [], length, slice_get, None, IfNone, IfSome, IsSome};
+ghost use Rattle.std.specs.List.{find, remove};
 ghost use Rattle.std.specs.VecDeque.{deque_capacity};
 ghost use Rattle.listener_pair.specs.Pairs.{without_first};
-ghost use Rattle.listener_pair.specs.state.Window.{kept, paired_with, takes, without_passed};
+ghost use Rattle.listener_pair.specs.state.Window.{Enters, Tells, made, placed, risen, takes_by, without_passed};
 
-use crate::placed::{Paired, Placed};
+use crate::difference::Which;
+use crate::placed::{Entered, Placed};
 use crate::reach::fits;
+use crate::timed::Timed;
+use crate::way::difference_of;
 use std::collections::VecDeque;
 
 /// A batch is paired only with one of this many directly before it in merged order.
 pub const WINDOW: usize = 512;
 
-/// Takes the first of those that wait that `x` may be paired with.
-fn take_partner(waiting: &mut VecDeque<Placed>, x: &Placed) -> Option<Placed>
-    ensures found { result ≡ find (takes x.now) waiting.old.items }
-    ensures left { waiting.new.items ≡ without_first (takes x.now) waiting.old.items }
-    ensures capacity { deque_capacity waiting.new ≡ deque_capacity waiting.old }
+/// Where the first one is of those that wait that a batch of a side may be paired with.
+fn find_partner(waiting: &VecDeque<Placed>, side: Which, x: &Timed) -> Option<usize>
+    ensures found { IfSome result (λ i. find (takes_by side x.now) waiting.now.items ≡ slice_get waiting.now.items i) }
+    ensures left { IfSome result (λ i. without_first (takes_by side x.now) waiting.now.items ≡ remove waiting.now.items i) }
+    ensures none { IfNone result ((find (takes_by side x.now) waiting.now.items ≡ None) × (without_first (takes_by side x.now) waiting.now.items ≡ waiting.now.items)) }
 {
     for i in 0..waiting.len() {
-        if fits(x.side, &x.batch, &waiting[i].batch) {
-            return waiting.remove(i);
+        if fits(side, x, &waiting[i].batch) {
+            return Some(i);
         }
     }
     None
+}
+
+/// Takes the first of those that wait that a batch of a side may be paired with.
+fn take_partner(waiting: &mut VecDeque<Placed>, side: Which, x: &Timed) -> Option<Placed>
+    ensures found { result ≡ find (takes_by side x.now) waiting.old.items }
+    ensures left { waiting.new.items ≡ without_first (takes_by side x.now) waiting.old.items }
+    ensures capacity { deque_capacity waiting.new ≡ deque_capacity waiting.old }
+{
+    match find_partner(waiting, side, x) {
+        Some(i) => waiting.remove(i),
+        None => None,
+    }
 }
 
 /// Drops the first one if it is not among the 512 batches before a place.
@@ -41,42 +56,61 @@ fn drop_passed(waiting: &mut VecDeque<Placed>, place: u64)
     }
 }
 
-/// Puts a batch after those that wait. At most 511 others of the last 512 batches wait, so there is room. If there were none,
-/// those that wait would be dropped.
-fn keep(waiting: &mut VecDeque<Placed>, x: Placed)
+/// Puts the next batch of a side after those that wait. At most 511 others of the last 512 batches wait, so there is room. If
+/// there were none, those that wait would be dropped.
+#[inline(always)]
+fn keep(waiting: &mut VecDeque<Placed>, side: Which, place: u64, next: &mut Option<Timed>)
     requires { 512 ≤ deque_capacity waiting.old }
-    ensures kept { length waiting.old.items < 512 → waiting.new.items ≡ waiting.old.items ++ x ∷ [] }
+    ensures kept { IfSome next.old (λ batch. length waiting.old.items < 512 → waiting.new.items ≡ waiting.old.items ++ placed place side batch ∷ []) }
+    ensures taken { next.new ≡ None }
     ensures capacity { deque_capacity waiting.new ≡ deque_capacity waiting.old }
 {
     if waiting.len() >= WINDOW {
         waiting.clear();
     }
-    waiting.push_back_reserved(x);
+    if let Some(batch) = next.take() {
+        waiting.push_back_reserved(Placed { place, side, batch });
+    }
 }
 
-/// Takes a batch: it is paired with the first one that waits on the other side and that it may be paired with, or it waits.
-/// Those that are not among the 512 before `next`, the place of the next batch, are dropped.
+/// Takes the next batch of a side: it is paired with the first one that waits on the other side and that it may be paired with,
+/// or it waits. Those that are then not among the last 512 are dropped.
+#[inline(always)]
 pub fn enter(
+    side: Which,
+    place: u64,
+    next: &mut Option<Timed>,
     own: &mut VecDeque<Placed>,
     other: &mut VecDeque<Placed>,
-    x: Placed,
-    next: u64,
-) -> Option<Paired>
-    requires { 512 ≤ deque_capacity own.old }
-    ensures pair { result ≡ option_map (paired_with x) (find (takes x) other.old.items) }
-    ensures others { other.new.items ≡ without_passed next (without_first (takes x) other.old.items) }
-    ensures owns { length (without_passed next own.old.items) < 512 → own.new.items ≡ without_passed next own.old.items ++ kept x result }
+) -> Entered
+    requires room { 512 ≤ deque_capacity own.old }
+    requires next { IsSome next.old }
+    ensures enters { IfSome next.old (λ batch. Enters (placed place side batch) (risen place) own.old.items other.old.items own.new.items other.new.items (made (placed place side batch) other.old.items)) }
+    ensures tells { IfSome next.old (λ batch. Tells (made (placed place side batch) other.old.items) result) }
+    ensures taken { next.new ≡ None }
     ensures capacity { deque_capacity own.new ≡ deque_capacity own.old }
     ensures other_capacity { deque_capacity other.new ≡ deque_capacity other.old }
 {
-    let partner = take_partner(other, &x);
-    drop_passed(own, next);
-    drop_passed(other, next);
+    let Some(x) = &*next else { unreachable!() };
+    let partner = take_partner(other, side, x);
+    let then = place.saturating_add(1);
+    drop_passed(own, then);
+    drop_passed(other, then);
     match partner {
-        Some(earlier) => Some(Paired { earlier, later: x }),
+        Some(earlier) => {
+            let difference = difference_of(side, x, &earlier.batch);
+            *next = None;
+            Entered {
+                paired: true,
+                difference,
+            }
+        }
         None => {
-            keep(own, x);
-            None
+            keep(own, side, place, next);
+            Entered {
+                paired: false,
+                difference: None,
+            }
         }
     }
 }

@@ -25,10 +25,9 @@ use Rattle.listener_pair.specs.declared.difference.Way.{Way}
 use Rattle.listener_pair.specs.declared.difference.Way.TheVariants.{At as AtWay, Bytes as BytesWay}
 use Rattle.listener_pair.specs.declared.difference.Which.{Which}
 use Rattle.listener_pair.specs.declared.difference.Which.TheVariants.{A, B}
-use Rattle.listener_pair.specs.declared.placed.Paired.{Paired}
 use Rattle.listener_pair.specs.declared.placed.Placed.{Placed}
 use Rattle.listener_pair.specs.Merged.{Sided, merged}
-use Rattle.listener_pair.specs.Pairs.{are_near, at_place, fits, left_by, may_pair, pair_by, pairs, pairs_from, partner_of, reaches, within_reach, without_first}
+use Rattle.listener_pair.specs.Pairs.{Paired, are_near, at_place, fits, left_by, may_pair, pair_by, pairs, pairs_from, partner_of, reaches, within_reach, without_first}
 use Rattle.listener_pair.specs.Differences.{difference_by, difference_of, differ_in, differences}
 use Rattle.listener_pair.specs.Laws.{IsPair}
 use Rattle.listener_pair.specs.Ways.{first_way, sample_bytes, sample_way, way_of}

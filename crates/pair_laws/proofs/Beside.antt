@@ -12,10 +12,9 @@ use Rattle.listener_pair.specs.declared.difference.Difference.{Difference}
 use Rattle.listener_pair.specs.declared.difference.PairCounts.{PairCounts}
 use Rattle.listener_pair.specs.declared.difference.Which.{Which}
 use Rattle.listener_pair.specs.declared.difference.Which.TheVariants.{A, B}
-use Rattle.listener_pair.specs.declared.placed.Paired.{Paired}
 use Rattle.listener_pair.specs.declared.placed.Placed.{Placed}
 use Rattle.listener_pair.specs.Merged.{IsInOrder, Sided, is_side, merged}
-use Rattle.listener_pair.specs.Pairs.{are_near, at_place, fits, left_by, may_pair, pair_by, pairs, pairs_from, partner_of, reaches, unpaired, unpaired_from, unpaired_with, within_reach, without_first}
+use Rattle.listener_pair.specs.Pairs.{Paired, are_near, at_place, fits, left_by, may_pair, pair_by, pairs, pairs_from, partner_of, reaches, unpaired, unpaired_from, unpaired_with, within_reach, without_first}
 use Rattle.listener_pair.specs.Differences.{alone, between, counts_of, difference_by, difference_of, differences}
 use Rattle.listener_pair.specs.Matching.{IsSorted, MayPrecede, batches_of, of_side}
 use Rattle.listener_pair.specs.Ways.{way_of}

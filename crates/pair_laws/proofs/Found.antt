@@ -18,10 +18,9 @@ use Rattle.listener.proofs.TrueOnce.{first_at}
 use Rattle.stream_journal.proofs.OneInstant.{one_instant}
 use Rattle.listener_pair.specs.declared.difference.Which.{Which}
 use Rattle.listener_pair.specs.declared.difference.Which.TheVariants.{A, B}
-use Rattle.listener_pair.specs.declared.placed.Paired.{Paired}
 use Rattle.listener_pair.specs.declared.placed.Placed.{Placed}
 use Rattle.listener_pair.specs.Merged.{Sided, is_side, merged}
-use Rattle.listener_pair.specs.Pairs.{are_near, at_place, fits, left_by, may_pair, pair_by, pairs, pairs_from, partner_of, reaches, unpaired, unpaired_from, within_reach, without_first}
+use Rattle.listener_pair.specs.Pairs.{Paired, are_near, at_place, fits, left_by, may_pair, pair_by, pairs, pairs_from, partner_of, reaches, unpaired, unpaired_from, within_reach, without_first}
 use Rattle.listener_pair.specs.Matching.{IsSorted, MayPrecede, batches_of, of_side}
 use Rattle.listener_pair.proofs.Sorting.{all-left, all-right, all-weaker, batches-append}
 use Rattle.listener_pair.proofs.Windows.{le-yes}

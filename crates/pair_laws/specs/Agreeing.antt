@@ -4,8 +4,8 @@ use Rattle.sample_schedule.specs.Batches.{Presented, is_unit}
 use Rattle.stream_journal.specs.Journal.{Am824, DenseAaf, H264, Kind, SparseAaf}
 use Rattle.packet_journal.specs.Packets.{PacketJournal}
 use Rattle.listener.specs.Laws.{IsOfJournal, IsOfPacket}
-use Rattle.listener_pair.specs.declared.placed.Paired.{Paired}
 use Rattle.listener_pair.specs.declared.placed.Placed.{Placed}
+use Rattle.listener_pair.specs.Pairs.{Paired}
 
 -- the samples of a batch are 7/8 to 9/8 of their nominal spacing apart, at this rate
 pub record HasPace (rate : ℕ) (batch : Presented) : Type 0 where

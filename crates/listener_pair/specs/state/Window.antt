@@ -1,6 +1,6 @@
 -- Kept for proofs: what the code's own parts hold and do. No clause of a public call rests on it.
 -- What waits for a partner, and a batch that comes.
-use Rattle.std.specs.Prelude.{◌≡◌, ℕ, suc, ◌+◌, ◌-◌, ◌^◌, ◌<◌, ◌≤◌, nat_le, min, Bool, true, false, if◌then◌else◌, List, [], ◌∷◌, ◌++◌, length, Option, None, Some, option_map, is_some, int_lt}
+use Rattle.std.specs.Prelude.{◌≡◌, ℕ, ◌+◌, ◌-◌, ◌^◌, ◌<◌, nat_le, min, Bool, true, false, if◌then◌else◌, List, [], ◌∷◌, ◌++◌, length, Option, None, Some, option_map, is_some, int_lt}
 use Rattle.std.specs.List.{find}
 use Rattle.sample_schedule.specs.Batches.{Presented}
 use Rattle.sample_schedule.specs.Verdicts.{first_instant}
@@ -8,15 +8,23 @@ use Rattle.listener_pair.specs.declared.difference.Difference.{Difference}
 use Rattle.listener_pair.specs.declared.difference.PairCounts.{PairCounts}
 use Rattle.listener_pair.specs.declared.difference.Which.{Which}
 use Rattle.listener_pair.specs.declared.difference.Which.TheVariants.{A, B}
-use Rattle.listener_pair.specs.declared.placed.Paired.{Paired}
+use Rattle.listener_pair.specs.declared.placed.Entered.{Entered}
 use Rattle.listener_pair.specs.declared.placed.Placed.{Placed}
-use Rattle.listener_pair.specs.Pairs.{fits, without_first}
+use Rattle.listener_pair.specs.Pairs.{Paired, fits, without_first}
 use Rattle.listener_pair.specs.Differences.{difference_of}
 use Rattle.listener_pair.specs.Matching.{MatchingState, wanted}
 
+-- the next batch of a side, at its place
+abbrev pub placed : ℕ → Which → Presented → Placed
+placed place side batch = record { place = place; side = side; batch = batch }
+
+-- a batch of a side may be paired with one that waits on the other side
+abbrev pub takes_by : Which → Presented → Placed → Bool
+takes_by side batch y = fits side batch y.batch
+
 -- x may be paired with one that waits on the other side
 abbrev pub takes : Placed → Placed → Bool
-takes x y = fits x.side x.batch y.batch
+takes x = takes_by x.side x.batch
 
 -- what waits, without the first one if that is not among the 512 before a place
 abbrev pub without_passed : ℕ → List Placed → List Placed
@@ -26,6 +34,15 @@ without_passed place (y ∷ ys) = if nat_le place (y.place + 512) then y ∷ ys 
 abbrev pub paired_with : Placed → Placed → Paired
 paired_with later earlier = record { earlier = earlier; later = later }
 
+-- the pair that x makes with one of those that wait on the other side
+abbrev pub made : Placed → List Placed → Option Paired
+made x other = option_map (paired_with x) (find (takes x) other)
+
+-- the pair that x makes in a matching
+abbrev pub made_on : Which → Placed → MatchingState → Option Paired
+made_on A x m = made x m.waiting_b
+made_on B x m = made x m.waiting_a
+
 -- x waits if it made no pair
 abbrev pub kept : Placed → Option Paired → List Placed
 kept x None = x ∷ []
@@ -33,7 +50,7 @@ kept x (Some pair) = []
 
 -- x came before the place `next`, to what waits on its own side and on the other, and made this pair or none
 pub record Enters (x : Placed) (next : ℕ) (own other own_then other_then : List Placed) (pair : Option Paired) : Type 0 where
-  pub made : pair ≡ option_map (paired_with x) (find (takes x) other)
+  pub made : pair ≡ made x other
   pub others : other_then ≡ without_passed next (without_first (takes x) other)
   pub owns : length (without_passed next own) < 512 → own_then ≡ without_passed next own ++ kept x pair
 
@@ -70,6 +87,11 @@ counted side (Some pair) counts = with_pair side (is_some (difference_of pair)) 
 abbrev pub difference_by_pair : Option Paired → Option Difference
 difference_by_pair None = None
 difference_by_pair (Some pair) = difference_of pair
+
+-- whether a pair was made, and its difference
+pub record Tells (pair : Option Paired) (entered : Entered) : Type 0 where
+  pub paired : entered.paired ≡ is_some pair
+  pub difference : entered.difference ≡ difference_by_pair pair
 
 -- ---- the next batch
 

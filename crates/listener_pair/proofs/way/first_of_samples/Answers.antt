@@ -1,5 +1,5 @@
 -- No sample so far differs, so the first that does decides.
-use Rattle.std.proofs.Common.{◌≡◌, ◌+◌, ◌≤◌, ℕ, suc, true, false, Option, Some, None, refl, sym, ap, ◌∙◌, subst, arith}
+use Rattle.std.proofs.Common.{◌≡◌, ◌+◌, ◌≤◌, ℕ, suc, true, false, Option, Some, None, sym, ap, ◌∙◌, subst, arith}
 use Rattle.std.specs.Prelude.{is_some}
 use Rattle.sample_schedule.specs.Batches.{Presented}
 use Rattle.listener_pair.specs.declared.difference.Way.{Way}

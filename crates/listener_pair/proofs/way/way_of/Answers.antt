@@ -1,7 +1,6 @@
 -- One line and equal bytes leave no sample that differs.
-use Rattle.std.proofs.Common.{◌≡◌, ℕ, List, sym, ap, ◌∙◌, rules}
+use Rattle.std.proofs.Common.{◌≡◌, sym, ap, ◌∙◌, rules}
 use Rattle.std.proofs.lemmas.Int.{ints}
-use Rattle.time_unfold.specs.declared.line.Line.{Line}
 use Rattle.sample_schedule.specs.Batches.{Presented}
 use Rattle.listener_pair.proofs.Samples.{bytes-equal, equal-batches, lines-equal, no-way}
 use Rattle.listener_pair.proofs.way.way_of.Goals as goal

@@ -1,5 +1,5 @@
 -- Nothing more is known.
-use Rattle.std.proofs.Common.{◌≡◌, ◌≤◌, List, Option, Some, None, length, ap, sym, ◌∙◌, arith}
+use Rattle.std.proofs.Common.{◌≤◌, Option, Some, None, length, ap, sym, ◌∙◌, arith}
 use Rattle.std.specs.Prelude.{slice_get}
 use Rattle.std.specs.Option.{option_to_list}
 use Rattle.listener_pair.specs.Merged.{known, merged}

@@ -1,32 +1,28 @@
 -- The next batch comes to those that wait.
-use Rattle.std.proofs.Common.{◌≡◌, ℕ, ap, sym, ◌∙◌}
-use Rattle.listener_pair.specs.declared.difference.PairCounts.{PairCounts}
-use Rattle.listener_pair.specs.Matching.{MatchingState}
-use Rattle.listener_pair.specs.state.Window.{Steps, counted, risen}
-use Rattle.listener_pair.proofs.Stepping.{step-first, step-stands, stepped}
+use Rattle.std.proofs.Common.{◌+◌, length, ap, sym, ◌∙◌, subst}
+use Rattle.std.specs.Option.{option_to_list}
+use Rattle.listener_pair.specs.Matching.{MatchingState, StandsFor}
+use Rattle.listener_pair.specs.state.Window.{counted, risen}
+use Rattle.listener_pair.proofs.Stepping.{Came, comes, left, next-known, step-first, step-stands}
 use Rattle.listener_pair.proofs.matching.Matching.step.Goals as goal
 
--- the matching once it has its next place, and at the end
-abbrev entered : goal.Joined-pair → MatchingState
-entered c = record { next_a = c.self.inside.next_a; next_b = c.self.inside.next_b; ended_a = c.self.inside.ended_a; ended_b = c.self.inside.ended_b; place = c.saturating_add-next.result; waiting_a = c.self.inside.waiting_a.items; waiting_b = c.self.inside.waiting_b.items; counts = c.self.inside.counts }
+pub enter-entered-requires : goal.enter-entered-requires
+enter-entered-requires c = next-known c.args.side c.args.self.now c.requires
 
-abbrev left-with : goal.Joined-pair → PairCounts → MatchingState
-left-with c counts = record { next_a = c.self-2.inside.next_a; next_b = c.self-2.inside.next_b; ended_a = c.self-2.inside.ended_a; ended_b = c.self-2.inside.ended_b; place = c.self-2.inside.place; waiting_a = c.self-2.inside.waiting_a.items; waiting_b = c.self-2.inside.waiting_b.items; counts = counts }
-
-comes : (c : goal.Joined-pair) → Steps c.args.side c.in-Some.batch c.args.self.now (left-with c c.counted-self-inside.result) c.enter-pair.result
-comes c =
-    let next_is : c.saturating_add-next.result ≡ risen c.self.inside.place = c.saturating_add-next.ensures in
-    stepped c.args.side c.in-Some.batch c.args.self.now c.take_next.new.self (entered c) c.enter-pair.new.self (left-with c c.counted-self-inside.result) c.saturating_add-next.result c.self.inside.place c.enter-pair.result
-    c.take_next.ensures.same
-    (ap (λ (m : MatchingState). record m { place = c.saturating_add-next.result }) c.self.view_is)
-    c.enter-pair.ensures.same
-    (ap (λ (k : PairCounts). left-with c k) c.counted-self-inside.ensures ∙ ap (λ (m : MatchingState). record m { counts = counted c.args.side c.enter-pair.result m.counts }) c.self-2.view_is)
-    c.enter-pair.ensures.enters
-    (ap (λ (m : MatchingState). m.place) c.self.view_is)
-    next_is
+came : (c : goal.After-self-2-1) → Came c.args.side c.args.self.now (left c.enter-entered.new.self c.saturating_add-self-inside.result c.counted-self-inside.result) c.enter-entered.result
+came c =
+    comes c.args.side c.args.self.now c.enter-entered.new.self c.enter-entered.result c.saturating_add-self-inside.result c.counted-self-inside.result c.requires c.enter-entered.ensures.same c.enter-entered.ensures.enters
+    c.enter-entered.ensures.tells (c.saturating_add-self-inside.ensures ∙ ap (λ (m : MatchingState). risen m.place) c.self.view_is)
+    (λ pair told. c.counted-self-inside.ensures pair told ∙ ap (λ (m : MatchingState). counted c.args.side pair m.counts) c.self.view_is)
 
 pub returns-clause-stands : goal.returns-clause-stands
-returns-clause-stands c = step-stands c.args.side c.in-Some.batch c.args.self.now (left-with c c.counted-self-inside.result) c.enter-pair.result c.difference_by-difference.result c.requires (sym c.take_next.ensures.next ∙ c.in-Some.is) (comes c) c.difference_by-difference.ensures
+returns-clause-stands c xs ys given h =
+    let t = came c in
+    subst (λ (m : MatchingState). StandsFor xs ys (given + length (option_to_list c.enter-entered.result.difference)) m)
+    (sym (ap (λ (m : MatchingState). left m c.saturating_add-self-inside.result c.counted-self-inside.result) c.self.view_is))
+    (step-stands c.args.side t.batch c.args.self.now (left c.enter-entered.new.self c.saturating_add-self-inside.result c.counted-self-inside.result) t.pair c.enter-entered.result.difference c.requires t.next t.steps t.tells xs ys given h)
 
 pub returns-clause-first : goal.returns-clause-first
-returns-clause-first c = step-first c.args.side c.in-Some.batch c.args.self.now (left-with c c.counted-self-inside.result) c.enter-pair.result c.difference_by-difference.result c.requires (sym c.take_next.ensures.next ∙ c.in-Some.is) (comes c) c.difference_by-difference.ensures
+returns-clause-first c =
+    let t = came c in
+    step-first c.args.side t.batch c.args.self.now (left c.enter-entered.new.self c.saturating_add-self-inside.result c.counted-self-inside.result) t.pair c.enter-entered.result.difference c.requires t.next t.steps t.tells
