@@ -8,6 +8,9 @@
 //! - `capture OUT COUNT STREAMS faulty`: the same with faults. Of 64 packets, some 4 are lost, 4 come twice, in 8 the restart
 //!   bit turns, and one each has a reserved bit set, no timestamp, or a stream id that is not valid.
 //! - `capture OUT COUNT lost SEED`: COUNT packets of which one in 100 is lost. Which ones depends on the seed.
+//! - `capture OUT COUNT burst ORDER SIDE`: COUNT packets in bursts of 256, as one of two captures, `a` or `b`, whose matching has
+//!   to search: `one` has one sequence number, out of reach of each other; in `strange` none is in both; in `falling` and `middle`
+//!   a burst is at one instant, and B has the last of those that wait first, or the one in their middle.
 //! - `capture OUT COUNT damaged IN`: the packets of the classic capture IN in turn. Half of them are damaged, and one in 16 comes
 //!   twice.
 //! - `capture OUT COUNT STYLE`: packets in `le-ns`, `le-us`, `be-ns` or `be-us`. Half of them are damaged, of every 2,048 the
@@ -19,7 +22,7 @@ mod packets;
 #[path = "../yardsticks/pcap.rs"]
 mod pcap;
 
-use packets::{Capture, LONGEST, TIMESTAMP, packet, packet_of};
+use packets::{Capture, LONGEST, SEQUENCE_NUM, TIMESTAMP, packet, packet_of};
 use pcap::read_records;
 use std::env;
 use std::fs::File;
@@ -146,6 +149,42 @@ fn put_lossy_packets(capture: &mut Capture<impl Write>, count: u64, seed: u64) -
     Ok(())
 }
 
+/// The packets of a burst.
+const BURST: u64 = 256;
+
+/// The number that packet k of a burst of B has, which is that of the one in the middle of those of A that still wait.
+fn middle(k: u64) -> u64 {
+    let half = BURST / 2;
+    if k % 2 == 0 { half - k / 2 - 1 } else { half + k / 2 }
+}
+
+/// The sequence number of packet k of a burst, and how long after the burst's start it is due.
+fn packet_in_burst(order: &str, is_b: bool, k: u64) -> io::Result<(u64, u64)> {
+    Ok(match (order, is_b) {
+        ("one", false) => (0, k),
+        ("one", true) => (0, 8_100_000 + k),
+        ("strange", _) => (k / 2 * 2 + u64::from(is_b), k),
+        ("falling" | "middle", false) => (k, 0),
+        ("falling", true) => (BURST - 1 - k, 0),
+        ("middle", true) => (middle(k), 0),
+        _ => return Err(Error::other(format!("{order} is no order"))),
+    })
+}
+
+/// Packets in bursts, which arrive at 3 ms before they are due.
+fn put_bursts(capture: &mut Capture<impl Write>, count: u64, order: &str, is_b: bool) -> io::Result<()> {
+    let time = if order == "one" { 16_200_000 } else { 1_000_000 };
+    for n in 0..count {
+        let start = 1_000_000_000 + n / BURST * time;
+        let (number, after) = packet_in_burst(order, is_b, n % BURST)?;
+        let mut frame = packet(0);
+        frame[SEQUENCE_NUM] = number as u8;
+        frame[TIMESTAMP..TIMESTAMP + 4].copy_from_slice(&((start + 3_000_000 + after) as u32).to_be_bytes());
+        capture.record_at(start + n % BURST, &frame)?;
+    }
+    Ok(())
+}
+
 /// A section header, an interface in nanoseconds, and an enhanced packet block for each packet.
 fn write_pcapng(path: &str, count: u64) -> io::Result<()> {
     let mut out = BufWriter::new(File::create(path)?);
@@ -174,7 +213,7 @@ fn main() -> io::Result<()> {
     let words: Vec<String> = env::args().skip(1).collect();
     let words: Vec<&str> = words.iter().map(String::as_str).collect();
     let [path, count, how @ ..] = words.as_slice() else {
-        return Err(Error::other("capture OUT COUNT [ng, STREAMS [faulty], lost SEED, damaged IN, or STYLE]"));
+        return Err(Error::other("capture OUT COUNT [ng, STREAMS [faulty], lost SEED, burst ORDER SIDE, damaged IN, or STYLE]"));
     };
     let count: u64 = count.parse().map_err(Error::other)?;
     if how == ["ng"] {
@@ -194,6 +233,7 @@ fn main() -> io::Result<()> {
             }
         }
         ["lost", seed] => put_lossy_packets(&mut capture, count, seed.parse().map_err(Error::other)?)?,
+        ["burst", order, side] => put_bursts(&mut capture, count, order, *side == "b")?,
         ["damaged", whole] => {
             let frames = frames_of(whole)?;
             put_damaged_packets(&mut capture, count, |n| frames[n as usize % frames.len()].clone())?;
