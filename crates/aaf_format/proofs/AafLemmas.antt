@@ -54,9 +54,9 @@ width-some Int16 = omega arith
 format_shown : (bytes : List ℕ) (f : AafFormat) → bits 16 0 8 bytes ≡ code_of f → f ≡ format_of bytes
 format_shown bytes f e = rw (e, named-code f) refl
 
--- ---- what the rows say
+-- ---- what follows if no row refuses the bytes
 
--- what is known of bytes that no row refuses
+-- What is known of bytes that no row refuses.
 record Accepted (bytes : List ℕ) : Type 0 where
   header : header_refusal bytes ≡ None
   version : bits 1 1 3 bytes ≡ 0
@@ -128,7 +128,7 @@ aaf_spelled bytes e =
       reserved = refl;
     }
 
--- two packets with equal fields
+-- packets with equal fields are equal
 abbrev packet : StreamHeader → AafFormat → ℕ → ℕ → ℕ → Bool → ℕ → ℕ → List ℕ → Bool → Aaf
 packet header format nsr channels depth sparse evt count payload reserved = record {
   header = header;
@@ -148,7 +148,7 @@ same_packet : (a a' : StreamHeader) (b b' : AafFormat) (c c' d d' e e' : ℕ) (f
     → packet a b c d e f g h i j ≡ packet a' b' c' d' e' f' g' h' i' j'
 same_packet a a' b b' c c' d d' e e' f f' g g' h h' i i' j j' p q r s t u v w x y = rw (p, q, r, s, t, u, v, w, x, y) refl
 
--- what the bits of bytes say of a packet that they spell
+-- What the bits of the bytes are, if these spell the packet.
 record Fields (bytes : List ℕ) (v : Aaf) : Type 0 where
   subtype : bits 0 0 8 bytes ≡ v.header.subtype
   version : bits 1 1 3 bytes ≡ 0
@@ -202,7 +202,7 @@ one_packet bytes v s =
 aaf_laid : IsLaid 0 aaf_layout
 aaf_laid = (refl, refl, (refl, refl, (refl, refl, (refl, refl, (refl, refl, (refl, refl, (refl, refl, (refl, refl, (refl, refl, (refl, refl, (refl, refl, (refl, refl, tt))))))))))))
 
--- ---- what was written is read again, whatever follows it
+-- ---- a packet that was written is read back, whatever follows it
 
 named-some : (f : AafFormat) → is_none (named_format (code_of f)) ≡ false
 named-some Float32 = refl
@@ -242,7 +242,7 @@ accepted_again bytes v whole j long =
     ) in
     or_else-accepted _ _ (or_else-accepted _ _ start shared) (or_else-accepted _ _ samples lengths)
 
--- bytes that hold what a writer puts there, and then the payload
+-- bytes that hold what a writer puts into the header, followed by the payload, spell the packet with reserved bits 0
 held : (bytes : List ℕ) (v : Aaf) → IsWritableAaf v → Holds aaf_layout v bytes → 24 + v.header.data_length ≤ length bytes
     → v.payload ≡ take v.header.data_length (drop 24 bytes) → SpellsAaf bytes (plain_aaf v)
 held bytes v whole f long payload =
@@ -271,7 +271,7 @@ code-below Int32 = omega arith
 code-below Int24 = omega arith
 code-below Int16 = omega arith
 
--- the numbers of a packet whose fields fit their bits
+-- The bounds of the numbers in a packet whose fields fit their bits.
 record Bounds (v : Aaf) : Type 0 where
   nsr : v.nsr < 16
   channels : v.channels < 1024
@@ -331,7 +331,7 @@ fits_whole v samples flags whole (subtype, (second, (seq, (tu, (id, (timestamp, 
       ),
     )
 
--- ---- bytes without a reserved bit and without trail are the spelling
+-- ---- bytes without a set reserved bit and without trailing bytes are those that are written for their packet
 
 pub aaf_only : (bytes : List ℕ) (v : Aaf) → AreBytes bytes → SpellsAaf bytes v → v.reserved ≡ false → length bytes ≡ 24 + v.header.data_length
     → bytes ≡ aaf_spelling v

@@ -40,14 +40,14 @@ aaf_shape v = record {
   reserved = v.reserved;
 }
 
--- the byte that names a format of samples
+-- the number that byte 16 of a packet has for a format of samples
 abbrev pub code_of : AafFormat → ℕ
 code_of Float32 = 1
 code_of Int32 = 2
 code_of Int24 = 3
 code_of Int16 = 4
 
--- the format of samples that a byte names, if it is one of PCM
+-- the format of samples that a byte names, if it is a PCM format
 abbrev pub named_format : ℕ → Option AafFormat
 named_format code =
     if code == 1 then Some Float32 else
@@ -55,7 +55,7 @@ named_format code =
     if code == 3 then Some Int24 else
     if code == 4 then Some Int16 else None
 
--- the bytes of a sample of this format
+-- the size in bytes of a sample of this format
 abbrev pub width_of : AafFormat → ℕ
 width_of Float32 = 4
 width_of Int32 = 4
@@ -80,7 +80,7 @@ rate_of nsr =
 abbrev pub format_of : List ℕ → AafFormat
 format_of bytes = unwrap_or (named_format (bits 16 0 8 bytes)) Int16
 
--- the bytes of a sample frame: one sample of each channel
+-- the size in bytes of a sample frame, which has one sample of each channel
 abbrev pub frame_size : ℕ → AafFormat → ℕ
 frame_size channels format = channels * width_of format
 
@@ -159,6 +159,6 @@ pub record IsWritableAaf (v : Aaf) : Type 0 where
 abbrev pub plain_aaf : Aaf → Aaf
 plain_aaf v = record v { header = record v.header { format_bits = 0 }; reserved = false }
 
--- the bytes of a PCM packet, with every reserved bit 0 and nothing after the stated length
+-- the bytes that are written for a PCM packet: every reserved bit is 0, and nothing follows the stated length
 abbrev pub aaf_spelling : Aaf → List ℕ
 aaf_spelling v = spelling aaf_layout v ++ v.payload

@@ -2,7 +2,7 @@
 
 use avtp_header::StreamHeader;
 
-/// The format of a sample; its highest byte comes first.
+/// The format of a sample, whose highest byte comes first.
 #[derive(Clone, Copy, Debug, PartialEq, Eq)]
 pub enum AafFormat {
     Float32,

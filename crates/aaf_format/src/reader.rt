@@ -32,7 +32,7 @@ pub fn rate_of(nsr: u8) -> Option<u32>
     })
 }
 
-/// The bytes of a sample.
+/// The size of a sample in bytes.
 pub fn width_of(format: AafFormat) -> u32
     ensures { result ≡ width_of_format format }
 {

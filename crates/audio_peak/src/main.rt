@@ -7,10 +7,10 @@ use pcap_frames::{KeptRecord, read_frame, read_pieces};
 use std::process::ExitCode;
 use std::{env, fs};
 
-/// The EtherType of AVTP (IEEE 1722-2016, 5).
+/// The EtherType of AVTP (IEEE 1722-2016, 4.2).
 const AVTP: u16 = 0x22f0;
 
-/// The most bytes of a capture that are read.
+/// The greatest number of bytes of a capture that are read.
 const MOST_BYTES: usize = 1 << 30;
 
 fn main(rt: HostRuntime) -> ExitCode {

@@ -7,7 +7,7 @@ use Rattle.std.specs.Prelude.{bit_and}
 use Rattle.byteorder.specs.Endian.{big_from}
 use Rattle.avtp_base.specs.Octets.{AreBytes, bits, flag, is_set}
 
--- a number in the rest of a list
+-- a number in a list whose first bytes were dropped is that number further on in the list
 pub big_from-drop : (i n at : ℕ) (xs : List ℕ) → big_from i n (drop at xs) ≡ big_from (at + i) n xs
 big_from-drop i zero at xs = refl
 big_from-drop i (suc n) at xs =
@@ -21,7 +21,7 @@ number-rest n at xs =
     let e : at + 0 ≡ at = omega arith in
     rw (take_rest xs at, big_from-drop 0 n at xs, e) refl
 
--- the code's shift and mask
+-- the shift and the mask of the code take the bits out of a byte
 pub masked : (b first width : ℕ) → width ≤ 8
     → bit_and (b / 2 ^ (8 - first - width)) (255 / 2 ^ (8 - width)) ≡ b / 2 ^ (8 - first - width) % 2 ^ width
 masked b first width h =
@@ -54,7 +54,7 @@ pub bits-below : (at first width : ℕ) (xs : List ℕ) → bits at first width 
 unfolding bits
 bits-below at first width xs = mod_below (big_from at ((first + width + 7) / 8) xs / 2 ^ (8 * ((first + width + 7) / 8) - (first + width))) (2 ^ width) (pow_pos width)
 
--- a bit is set if it is 1
+-- a flag is set exactly if its number is 1
 pub bit_of_flag : (n : ℕ) (b : Bool) → n ≡ flag b → eqb n 1 ≡ b
 bit_of_flag n true e = rw e refl
 bit_of_flag n false e = rw e refl

@@ -17,7 +17,7 @@ KeepsFiles-trans (Some a) b None p q = tt
 KeepsFiles-trans (Some a) None (Some c) p q = absurd q
 KeepsFiles-trans (Some a) (Some b) (Some c) p q = λ name. q name ∙ p name
 
--- all files stayed, and then one was put
+-- all files were kept, and then one was put
 pub KeepsFiles-puts : (a b c : Option Files) (name bytes : List ℕ) → KeepsFiles a b → PutsFile b c name bytes → PutsFile a c name bytes
 KeepsFiles-puts None None None name bytes p q = tt
 KeepsFiles-puts None None (Some c) name bytes p q = absurd q
@@ -26,7 +26,7 @@ KeepsFiles-puts (Some a) b None name bytes p q = tt
 KeepsFiles-puts (Some a) None (Some c) name bytes p q = absurd q
 KeepsFiles-puts (Some a) (Some b) (Some c) name bytes p q = (q.0, λ other differs. q.1 other differs ∙ p other)
 
--- a file was put, and then all stayed
+-- a file was put, and then all files were kept
 pub PutsFile-kept : (a b c : Option Files) (name bytes : List ℕ) → PutsFile a b name bytes → KeepsFiles b c → PutsFile a c name bytes
 PutsFile-kept None None None name bytes p q = tt
 PutsFile-kept None None (Some c) name bytes p q = absurd q
@@ -35,7 +35,7 @@ PutsFile-kept (Some a) b None name bytes p q = tt
 PutsFile-kept (Some a) None (Some c) name bytes p q = absurd q
 PutsFile-kept (Some a) (Some b) (Some c) name bytes p q = (q name ∙ p.0, λ other differs. q other ∙ p.1 other differs)
 
--- a file was put, and then put again
+-- a file was put twice
 pub PutsFile-again : (a b c : Option Files) (name before bytes : List ℕ) → PutsFile a b name before → PutsFile b c name bytes → PutsFile a c name bytes
 PutsFile-again None None None name before bytes p q = tt
 PutsFile-again None None (Some c) name before bytes p q = absurd q
@@ -66,7 +66,7 @@ PutsFile-appends (Some a) (Some b) (Some c) name held bytes of named p q =
 pub KeepsOthers-trans : (a b c : Slots) (k : ℕ) → KeepsOthers a b k → KeepsOthers b c k → KeepsOthers a c k
 KeepsOthers-trans a b c k p q = λ j differs. q j differs ∙ p j differs
 
--- a slot that was free was filled, and is free again
+-- a slot that was free was filled, and is free again: in the end every slot is unchanged
 pub KeepsOthers-closed : (a b c : Slots) (k : ℕ) → a k ≡ None → KeepsOthers a b k → KeepsOthers b c k → c k ≡ None → KeepsSlots a c
 KeepsOthers-closed a b c k free p q closed j =
     elim (eqb_tells j k) [
@@ -74,14 +74,14 @@ KeepsOthers-closed a b c k free p q closed j =
       | inr other ↦ q j other.1 ∙ p j other.1
     ]
 
--- a slot that has its file as before has its name as before
+-- a slot that keeps its file keeps its name
 pub named_as : (a b : Option Open) → option_map file_of b ≡ option_map file_of a → option_and_then (λ (o : Open). o.name) b ≡ option_and_then (λ (o : Open). o.name) a
 named_as None None same = refl
 named_as None (Some b) same = absurd cc
 named_as (Some a) None same = absurd cc
 named_as (Some a) (Some b) same = let e : file_of b ≡ file_of a = cc in ap (λ (p : _). p.1) e
 
--- one file was written twice
+-- the file in slot k was written twice
 pub KeepsOtherFiles-trans : (a b c : Slots) (k : ℕ) → KeepsOtherFiles a b (name_in a k) → KeepsOtherFiles b c (name_in b k) → KeepsOtherFiles a c (name_in a k)
 KeepsOtherFiles-trans a b c k p q = record {
   same = λ j. q.same j ∙ p.same j;

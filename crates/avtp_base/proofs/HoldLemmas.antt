@@ -41,7 +41,7 @@ held_bits (b ∷ bs) v at first bytes told spells unset =
     let here = held_bit b.free b.shown v at first b.width (free_ranges at (first + b.width) bs) bytes parts.0 spells.0 unset in
     (here.0, held_bits bs v at (first + b.width) bytes parts.1 spells.1 here.1)
 
--- bytes that spell a view and have no reserved bit set hold what a writer puts there
+-- bytes that spell a view, and have no reserved bit set, hold what a writer puts into the header
 pub spelled_holds : {V : Type 0} (layout : Layout V) (v : V) (bytes : List ℕ) → is_told layout ≡ true
     → Spells layout v bytes → any_set (reserved_ranges layout) bytes ≡ false → Holds layout v bytes
 spelled_holds [] v bytes told spells unset = tt
@@ -72,7 +72,7 @@ shown_bits (b ∷ bs) v at first bytes plain holds =
     let parts = and_parts (cond b.free (eqb (value_of b.shown v) 0) true) (bits_plain bs v) plain in
     (shown_bit b.free b.shown v (bits at first b.width bytes) parts.0 holds.0, shown_bits bs v at (first + b.width) bytes parts.1 holds.1)
 
--- bytes that hold what a writer puts there spell a view in which reserved bits are 0
+-- bytes that hold what a writer puts into the header spell a view in which reserved bits are 0
 pub held_spells : {V : Type 0} (layout : Layout V) (v : V) (bytes : List ℕ) → is_plain layout v ≡ true → Holds layout v bytes → Spells layout v bytes
 held_spells [] v bytes plain holds = tt
 held_spells (p ∷ parts) v bytes plain holds =

@@ -1,4 +1,4 @@
--- Bytes that hold what a writer puts there are those that it writes.
+-- Bytes that hold what a writer puts into a header are those that it writes.
 use Rattle.std.proofs.Common.{◌≡◌, ℕ, zero, suc, ◌+◌, ◌-◌, ◌*◌, ◌/◌, ◌%◌, ◌^◌, ◌<◌, ◌≤◌, List, [], ◌∷◌, ◌++◌, length, take, drop, get_or, refl, sym, ap, subst, ◌∙◌, append_assoc, inl, inr, arith}
 use Rattle.std.specs.Int.{bytes_high_first}
 use Rattle.std.proofs.Math.Nat.{div-eq_of_lt, div-one}
@@ -40,14 +40,14 @@ number_of_part bs v size at xs bytes whole h =
     let none : big_from at size xs / 2 ^ (8 * size - 0) ≡ 0 = rw (places, ← pow256 size) (div-eq_of_lt below) in
     packed_is bs v ∙ sym (ap (λ (n : ℕ). packed_behind n bs v) none) ∙ packed_from_bits bs v size at 0 xs bytes (omega arith) h
 
--- later bytes
+-- if suc n items are bytes, so are the n after the first
 bytes_behind : (n at : ℕ) (xs : List ℕ) → AreBytesAt at (suc n) xs → AreBytesAt (suc at) n xs
 bytes_behind n at xs bytes i lt =
     let h = bytes (suc i) (omega arith) in
     let e : at + suc i ≡ suc at + i = omega arith in
     rw e at h
 
--- bytes that spell one number are the same
+-- bytes that spell one number are equal
 same_bytes : (n at : ℕ) (xs ys : List ℕ) → AreBytesAt at n xs → AreBytesAt at n ys → big_from at n xs ≡ big_from at n ys
     → (k : ℕ) → k < n → get_or xs (at + k) 0 ≡ get_or ys (at + k) 0
 same_bytes zero at xs ys p q e k lt = absurd (omega arith)
@@ -64,7 +64,7 @@ same_bytes (suc n) at xs ys p q e (suc k) lt =
 
 -- ---- whole headers
 
--- the bytes of a header
+-- the size in bytes of a header
 abbrev pub layout_size : {V : Type 0} → Layout V → ℕ
 layout_size [] = 0
 layout_size (p ∷ parts) = size_of p + layout_size parts
@@ -89,7 +89,7 @@ same_parts (part ∷ parts) v at xs ys laid p q h g k low high =
       | inr behind ↦ same_parts parts v (at + n) xs ys laid.2 p q h.1 g.1 k behind (omega arith)
     ]
 
--- the value in some bits fits them
+-- the value that some bits hold fits them
 holds_fit_bits : {V : Type 0} (bs : List (Bits V)) (v : V) (at first : ℕ) (bytes : List ℕ) → HoldsBits at first bs v bytes → FitsBits bs v
 holds_fit_bits [] v at first bytes h = tt
 holds_fit_bits (b ∷ bs) v at first bytes h =
@@ -122,7 +122,7 @@ length-spelling (p ∷ parts) v =
     let here : List ℕ = big_bytes (size_of p) (packed p.bits v) in
     omega (arith, length-append here (spelling parts v), length-bytes_high_first (size_of p) (packed p.bits v), length-spelling parts v)
 
--- the only bytes that hold what a writer puts there, and then the same rest
+-- bytes that hold what a writer puts into a header are those that it writes, followed by the rest
 pub only_spelling : {V : Type 0} (layout : Layout V) (v : V) (bytes : List ℕ) (size : ℕ) → IsLaid 0 layout → layout_size layout ≡ size
     → AreBytes bytes → size ≤ length bytes → Holds layout v bytes → bytes ≡ spelling layout v ++ drop size bytes
 only_spelling layout v bytes size laid len fits long h =

@@ -1,4 +1,4 @@
--- What a result says, by whether it is an error; a missing one is `None`.
+-- Which branch of a match a result takes; and an option that is not `Some` is `None`.
 use Rattle.std.proofs.Common.{◌≡◌, true, false, Option, Some, None, Result, Ok, Err, refl}
 use Rattle.std.specs.Prelude.{is_err, is_some, MatchResult}
 

@@ -18,7 +18,7 @@ Appends-trans (Some x) b None bs cs p q = tt
 Appends-trans (Some x) None (Some z) bs cs p q = absurd q
 Appends-trans (Some x) (Some y) (Some z) bs cs p q = q ∙ ap (λ l. l ++ cs) p ∙ append_assoc x bs cs
 
--- bytes were appended, and then all stayed
+-- bytes were appended, and then all bytes were kept
 pub Appends-kept : (a b c : Option (List ℕ)) (bs : List ℕ) → Appends a b bs → Keeps b c → Appends a c bs
 Appends-kept None None None bs p q = tt
 Appends-kept None None (Some z) bs p q = absurd q
@@ -27,7 +27,7 @@ Appends-kept (Some x) b None bs p q = tt
 Appends-kept (Some x) None (Some z) bs p q = absurd q
 Appends-kept (Some x) (Some y) (Some z) bs p q = q ∙ p
 
--- all stayed, and then bytes were appended
+-- all bytes were kept, and then some were appended
 pub Keeps-appends : (a b c : Option (List ℕ)) (bs : List ℕ) → Keeps a b → Appends b c bs → Appends a c bs
 Keeps-appends None None None bs p q = tt
 Keeps-appends None None (Some z) bs p q = absurd q
@@ -36,7 +36,7 @@ Keeps-appends (Some x) b None bs p q = tt
 Keeps-appends (Some x) None (Some z) bs p q = absurd q
 Keeps-appends (Some x) (Some y) (Some z) bs p q = q ∙ ap (λ l. l ++ bs) p
 
--- nothing was appended
+-- if all bytes were kept, nothing was appended
 pub Keeps-none : (a b : Option (List ℕ)) → Keeps a b → Appends a b []
 Keeps-none a b p = Keeps-appends a b b [] p (Appends-nil b)
 

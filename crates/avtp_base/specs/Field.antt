@@ -2,7 +2,7 @@ use Rattle.std.specs.Prelude.{List, ℕ, codes}
 use Rattle.avtp_base.specs.declared.field.Field.{Field}
 use Rattle.avtp_base.specs.declared.field.Field.TheVariants.{Magic, VersionMajor, VersionMinor, Thiszone, Sigfigs, Snaplen, Network, TsSec, TsFraction, InclLen, OrigLen, PacketBytes, Destination, Source, Ethertype, TagControl, Subtype, Version, SequenceNum, Tu, StreamId, AvtpTimestamp, FormatData, StreamDataLength, FormatFlags, Format, Nsr, ChannelsPerFrame, BitDepth, Tag, Qi1, FnBits, Qpc, Sph, Qi2, Fmt, Fdf, CvfFormat, FormatSubtype, NalType, FuHeader, CrfType, Pull, BaseFrequency, CrfDataLength, TimestampInterval, BlockType, BlockLength, BlockTrailer, BlockBody, ByteOrderMagic, SectionVersion, Interfaces, LinkType, InterfaceId, TimestampRange, CapturedLength, OptionLength, IfTsresol, IfTsoffset}
 
--- the name of a field, as the standard writes it
+-- the name of a field, as it is printed
 abbrev pub name_of : Field → List ℕ
 name_of Magic = codes "magic"
 name_of VersionMajor = codes "version_major"

@@ -1,5 +1,5 @@
 -- What the calls of a shelf do to its files and to its open files, if the shelf shows them. A shelf may stop showing its files,
--- and then never shows them again; a statement about files holds if they are shown before and after. A name is its bytes.
+-- and then never shows them again; a statement about files holds if they are shown before and after. A name is a list of bytes.
 use Rattle.std.specs.Prelude.{◌≡◌, ◌≢◌, ℕ, Bool, true, false, List, ◌++◌, Option, Some, None, option_map, option_and_then, IsSome, IsSomeAnd, ⊤}
 
 -- files by name: the bytes of the file, or `None` if no file has the name
@@ -17,7 +17,7 @@ pub record Open : Type 0 where
 abbrev pub Slots : Type 0
 Slots = ℕ → Option Open
 
--- what does not change while a slot is live: whether its file was made for writing, and its name
+-- the part of an open file that does not change while its slot is live: whether the file was made for writing, and its name
 abbrev pub file_of : Open → Bool × Option (List ℕ)
 file_of o = (o.made, o.name)
 
@@ -67,14 +67,13 @@ IsOpened (Some files) slot name =
 abbrev pub IsMade : Option Files → Option Open → List ℕ → Type 0
 IsMade files slot name = IsSomeAnd slot (λ o. (o.made ≡ true) × (IsSome files → o.name ≡ Some name))
 
--- every slot stays live or free as it was and keeps its file, and what is left to read is unchanged in each slot whose file has
--- a different name from this
+-- every slot stays live or free and keeps its file; what is left to read changes only in slots whose file has this name
 pub record KeepsOtherFiles (old new : Slots) (name : Option (List ℕ)) : Type 0 where
   pub same : (j : ℕ) → option_map file_of (new j) ≡ option_map file_of (old j)
   pub left : (j : ℕ) → name_in old j ≢ name → left_in new j ≡ left_in old j
 
--- every slot except slot k stays live or free as it was and keeps its file, and what is left to read is unchanged in each of
--- them whose file has a different name from this
+-- every slot except slot k stays live or free and keeps its file; among these slots, what is left to read changes only if the
+-- file has this name
 pub record KeepsOthersFiles (old new : Slots) (k : ℕ) (name : List ℕ) : Type 0 where
   pub same : (j : ℕ) → j ≢ k → option_map file_of (new j) ≡ option_map file_of (old j)
   pub left : (j : ℕ) → j ≢ k → name_in old j ≢ Some name → left_in new j ≡ left_in old j

@@ -60,19 +60,19 @@ abbrev pub Spells : {V : Type 0} → Layout V → V → List ℕ → Type 0
 Spells [] v bytes = ⊤
 Spells (p ∷ parts) v bytes = SpellsBits p.at 0 p.bits v bytes × Spells parts v bytes
 
--- the reserved ones of these bits, which begin at bit `first` of byte `at`, as ranges
+-- the ranges of the reserved bits among these bits, which begin at bit `first` of byte `at`
 abbrev pub free_ranges : {V : Type 0} → ℕ → ℕ → List (Bits V) → List Range
 free_ranges at first [] = []
 free_ranges at first (b ∷ bs) =
     if b.free then range at first b.width ∷ free_ranges at (first + b.width) bs else free_ranges at (first + b.width) bs
 
--- the reserved bits of a header, as ranges
+-- the ranges of the reserved bits of a header
 abbrev pub reserved_ranges : {V : Type 0} → Layout V → List Range
 reserved_ranges layout = flat_map (λ p. free_ranges p.at 0 p.bits) layout
 
 -- ---- the sizes of parts, and the refusal of a packet that is too short
 
--- how many bits these are together
+-- the total width of these bits
 abbrev pub total_width : {V : Type 0} → List (Bits V) → ℕ
 total_width [] = 0
 total_width (b ∷ bs) = b.width + total_width bs
@@ -111,12 +111,12 @@ abbrev pub Fits : {V : Type 0} → Layout V → V → Type 0
 Fits [] v = ⊤
 Fits (p ∷ parts) v = FitsBits p.bits v × Fits parts v
 
--- the number that n and then the values written to these bits spell, the first in the highest bits
+-- the number whose highest bits are n, followed by the values that a writer puts into these bits
 abbrev pub packed_behind : {V : Type 0} → ℕ → List (Bits V) → V → ℕ
 packed_behind n [] v = n
 packed_behind n (b ∷ bs) v = packed_behind (n * 2 ^ b.width + written b v) bs v
 
--- the number that the values written to these bits spell, the first in the highest bits
+-- the number that the values written to these bits give together, the first in the highest bits
 abbrev pub packed : {V : Type 0} → List (Bits V) → V → ℕ
 packed [] v = 0
 packed (b ∷ bs) v = packed_behind (written b v) bs v

@@ -3,8 +3,8 @@
 use Rattle.std.specs.Prelude.{ℕ, ◌+◌, ◌-◌, ◌*◌, ◌/◌, ◌%◌, ◌^◌, ◌<◌, ◌==◌, Bool, true, false, List, [], ◌∷◌, slice_index, if◌then◌else◌}
 use Rattle.byteorder.specs.Endian.{big_from}
 
--- The number that `width` bits spell from bit `first` of byte `at` on, the highest first: the bytes that they reach
--- into are read as one big-endian number, and the bits are cut out of it.
+-- The number in `width` bits from bit `first` of byte `at` on, the highest first: the bytes that hold any of the bits are read
+-- as one big-endian number, and the bits are cut out of it.
 unfoldable pub bits : ℕ → ℕ → ℕ → List ℕ → ℕ
 bits at first width bytes =
     let size = (first + width + 7) / 8 in

@@ -9,7 +9,7 @@ pub record Row : Type 0 where
   pub refusal : Refusal
   pub holds : Bool
 
--- the row that refuses the field at byte `at` for its value, if this holds
+-- the row that refuses the field at byte `at` for its value, if `holds` is true
 abbrev pub row : Field → ℕ → Bool → Row
 row field at holds = record { refusal = record { field = field; at = at; short = false }; holds = holds }
 
@@ -28,8 +28,8 @@ abbrev pub Reads : {X V : Type 0} → (X → V) → Option Refusal → V → Res
 Reads shape refusal view (Ok x) = (refusal ≡ None) × (shape x ≡ view)
 Reads shape refusal view (Err r) = refusal ≡ Some r
 
--- A writer's result: it put the spelling at the front of the slice, left the rest unchanged and returned the spelling's length;
--- or the slice is too short, it left everything unchanged, and returned the room that is needed and the room there is.
+-- A writer's result. `Ok`: it put the spelling at the front of the slice, left the rest unchanged, and returned the spelling's
+-- length. `Err`: the slice is too short and unchanged, and the result has the length that is needed and the slice's length.
 abbrev pub Writes : List ℕ → List ℕ → List ℕ → Result ℕ Room → Type 0
 Writes spelling old new (Ok n) =
     (n ≡ length spelling) × (length spelling ≤ length old) × (new ≡ spelling ++ drop (length spelling) old)

@@ -2,7 +2,7 @@
 use Rattle.std.specs.Prelude.{◌≡◌, ℕ, ⊤, Bool, true, false, List, ◌++◌, Option, None, Some}
 use Rattle.avtp_base.specs.Files.{Files, Slots}
 
--- the names that a shelf was asked for, as far as it keeps them, and whether these are all
+-- the names that a shelf was asked for, as far as it keeps them, and whether it keeps all of them
 pub record Account : Type 0 where
   pub kept : List (List ℕ)
   pub all : Bool
@@ -13,7 +13,7 @@ pub record ShelfState : Type 0 where
   pub files : Option Files
   -- the live slots, and what is open there
   pub slots : Slots
-  -- the numbers of faults so far
+  -- the counts of faults so far, of reading and of writing
   pub reading_faults : ℕ
   pub writing_faults : ℕ
   -- the names that it was asked for so far, if it keeps an account of them
@@ -32,15 +32,16 @@ abbrev pub AreNames : Bool → List (List ℕ) → List (List ℕ) → Type 0
 AreNames true kept names = names ≡ kept
 AreNames false kept names = (rest : List (List ℕ)) × (names ≡ kept ++ rest)
 
--- A shelf may have been asked for these names so far, in this order: for those of its account, or for any if it keeps none.
+-- By its account, a shelf may have been asked for these names so far, in this order. A shelf without an account may have been
+-- asked for any.
 abbrev pub WasAsked : Option Account → List (List ℕ) → Type 0
 WasAsked None names = ⊤
 WasAsked (Some account) names = AreNames account.all account.kept names
 
--- from one state of a shelf to the other, it was asked for exactly these names, in this order
+-- between these two states, the shelf was asked for exactly these names, in this order
 abbrev pub Asks : List (List ℕ) → ShelfState → ShelfState → Type 0
 Asks names before after = (earlier : List (List ℕ)) → WasAsked before.asked earlier → WasAsked after.asked (earlier ++ names)
 
--- from one state of a shelf to the other, it was asked for no name
+-- between these two states, the shelf was asked for no name
 abbrev pub AsksNothing : ShelfState → ShelfState → Type 0
 AsksNothing before after = (names : List (List ℕ)) → WasAsked before.asked names → WasAsked after.asked names

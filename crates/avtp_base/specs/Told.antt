@@ -16,7 +16,7 @@ Appends None (Some ys) bs = ⊥
 Appends (Some xs) None bs = ⊤
 Appends (Some xs) (Some ys) bs = ys ≡ xs ++ bs
 
--- a write of a piece appended the n bytes that it took at `Ok(n)`, and nothing at `Err`
+-- at `Ok(n)` a write appended the first n bytes of the piece, and at `Err` nothing
 abbrev pub WriteAppends : {E : Type 0} → Option (List ℕ) → Option (List ℕ) → Result ℕ E → List ℕ → Type 0
 WriteAppends old new r piece = MatchResult r (λ n. Appends old new (take n piece)) (λ _. Keeps old new)
 

@@ -30,7 +30,7 @@ impl Buffer {
     ghost use Rattle.std.specs.Borrow.{sem};
     ghost use Rattle.avtp_base.specs.Waiting.{LendsWaiting};
 
-    /// The most bytes that wait.
+    /// The greatest number of bytes that wait.
     pub const ROOM: usize = 65_536;
 
     /// A buffer in which nothing waits. Reserves all the memory that its bytes will need.
@@ -62,8 +62,8 @@ impl Buffer {
         self.len = end;
     }
 
-    /// Adds the first `len` of these bytes at the end. There must be room for all of them, because all are moved: if the
-    /// compiler knows their number, it moves them in place and without a call.
+    /// Adds the first `len` of these bytes at the end. There must be room for all of `bytes`, because all of them are copied: a
+    /// copy whose length the compiler knows needs no call.
     #[inline(always)]
     pub fn push_first(&mut self, bytes: &[u8], len: usize)
         requires some { len ≤ length bytes.now }

@@ -8,11 +8,11 @@ pub struct Refusal {
     pub field: Field,
     /// The offset of the field's first byte in the bytes that were read.
     pub at: u64,
-    /// The part that should hold the field is too short for it.
+    /// Whether the part that should hold the field is too short for it.
     pub short: bool,
 }
 
-/// The refusal of a writer whose output slice is shorter than the spelling. The slice is unchanged.
+/// The refusal of a writer whose output slice is too short for the spelling. The slice is unchanged.
 #[derive(Clone, Copy, Debug, PartialEq, Eq)]
 pub struct Room {
     /// The length of the spelling in bytes.

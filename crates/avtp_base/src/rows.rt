@@ -1,4 +1,4 @@
-//! The refusals of a format's rows.
+//! Refusals of a field, for its value or because it is cut off.
 
 ghost use Rattle.std.specs.Prelude.{◌≡◌, true, false};
 

@@ -5,8 +5,8 @@ use Rattle.avtp_base.specs.Faults.{IsCounted}
 use Rattle.avtp_base.specs.States.{SinkState}
 use Rattle.avtp_base.specs.Told.{WriteAppends}
 
--- A prefix of the piece, at least one byte, as long as the result says, was appended to what the sink holds, as far as it shows
--- that; or only a fault was counted.
+-- A prefix of the piece, of at least one byte and as long as the result says, was appended to what the sink holds, if the sink
+-- shows that; or nothing was appended, and a fault was counted.
 pub record WritesPiece (before after : SinkState) (piece : List ℕ) (result : Result ℕ Failed) : Type 0 where
   pub some : IfOk result (λ n. 0 < n)
   pub within : IfOk result (λ n. n ≤ length piece)

@@ -3,8 +3,8 @@
 use std::alloc::Alloc;
 use std::io::{self, Eprint};
 
-/// Tells on standard error which file a call of the system failed on, and why, after the name of a program. It is silent if it
-/// has no name.
+/// Writes to standard error the name of the program, the file on which a system call failed, and the reason. Writes nothing if
+/// it has no name of a program.
 #[derive(Clone, Copy, Drop)]
 pub struct FaultTeller<R> {
     rt: R,

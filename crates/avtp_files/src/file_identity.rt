@@ -7,14 +7,14 @@ use std::{fs, io};
 /// The path of standard output.
 pub const STANDARD_OUTPUT: &str = "/dev/stdout";
 
-/// A regular file, whatever its name: its device, and its number there.
+/// The identity of a regular file, whatever its path: its device, and its inode number there.
 #[derive(Clone, Copy, Debug, PartialEq, Eq)]
 pub struct FileIdentity {
     device: u64,
     number: u64,
 }
 
-/// The regular file that a path leads to, through links. `None` if it leads to none, or to something else.
+/// The regular file that a path leads to, links followed. `None` if it leads to no file or to one that is not regular.
 pub fn identity_of<R: Files>(files: &R, path: &str) -> Option<FileIdentity> {
     let metadata = fs::metadata(files, path).ok()?;
     if !metadata.is_file() {
@@ -26,7 +26,7 @@ pub fn identity_of<R: Files>(files: &R, path: &str) -> Option<FileIdentity> {
     })
 }
 
-/// Why a file is not written over.
+/// The error for a file that is not made or emptied because the run already uses it.
 pub fn already_used() -> io::Error {
     io::Error::other("the run reads or writes this file already")
 }

@@ -13,11 +13,10 @@ use std::fs;
 use std::io::{self, Eprint};
 use std::rt::Files;
 
-/// A real file. Contracts see nothing of what it holds, but that a write adds to it just what it says, if the system tells what
-/// its files hold.
+/// A real file. Contracts do not see what it holds. If the system tells that, a write adds exactly the bytes that it reports.
 ///
-/// A file that is kept apart is never made anew, under whatever path, and neither is standard output if it is a file: `write`
-/// answers `Failed`, and the file is as it was.
+/// A file at one of the paths in `apart` is never made or emptied, under any path, and neither is standard output if it is a
+/// file: `write` returns `Failed`, and the file is unchanged.
 #[derive(Drop)]
 pub struct FileSink<R: Files> {
     rt: R,
@@ -29,8 +28,8 @@ pub struct FileSink<R: Files> {
 }
 
 impl<R: Files + Eprint + Alloc> FileSink<R> {
-    /// The file at this path, which must not be one of the files at the other paths. It is not made yet: the first `write`
-    /// makes or empties it.
+    /// The file at the path `name`, which must not be one of the files at the paths in `apart`. It is not made yet: the first
+    /// `write` makes or empties it.
     pub fn named(rt: R, name: String, apart: Vec<String>) -> Self
         ensures { result.faults ≡ 0 }
     {
@@ -44,7 +43,7 @@ impl<R: Files + Eprint + Alloc> FileSink<R> {
         }
     }
 
-    /// The same sink, which also tells each fault on standard error, after the name of the program.
+    /// Makes this sink also tell each fault on standard error, after the name of the program.
     pub fn telling(self, program: &'static str) -> Self
         ensures { result.faults ≡ self.faults }
     {

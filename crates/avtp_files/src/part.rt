@@ -1,11 +1,11 @@
-//! Writing that may take a part.
+//! Writes that may take a part of a piece.
 
 ghost use Rattle.std.specs.Prelude.{◌≤◌, ◌<◌, length, IfOk};
 ghost use Rattle.std.specs.Io.KnownBytes.{WriteAppends};
 
 use std::io::{Error, ErrorKind, Result, Write};
 
-/// Writes the piece, or a part of it, and answers how many bytes were taken. It is an error if none were.
+/// Writes the piece, or a part of it, and returns how many bytes were taken. It is an error if none were.
 pub fn write_part<W: Write>(file: &mut W, piece: &[u8]) -> Result<usize>
     ensures some { IfOk result (λ n. 0 < n) }
     ensures within { IfOk result (λ n. n ≤ length piece.now) }

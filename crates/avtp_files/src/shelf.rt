@@ -51,8 +51,8 @@ pub trait Shelf {
         ensures does { MakesInSlot (state self.old) (state self.new) name.now result }
         ensures own { makes self.old self.new name.now result };
 
-    /// Moves bytes from the front of what is left into the buffer, at least one, and returns their number; 0 means that nothing
-    /// is left.
+    /// Moves at least one byte from the front of what is left into the buffer, and returns how many bytes it moved; 0 means
+    /// that nothing is left.
     ///
     /// At `Failed` the reading count rose, and nothing was moved.
     fn read(&mut self, slot: Slot, buf: &mut [u8]) -> Result<usize, Failed>

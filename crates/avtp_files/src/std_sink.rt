@@ -6,8 +6,8 @@ use crate::sink::Sink;
 use avtp_base::Failed;
 use std::io::Write;
 
-/// Standard output, or another writer of the system. Contracts see nothing of what it holds, but that a write adds to it
-/// just what it says, if the writer tells what it holds.
+/// Standard output, or another writer of the system. Contracts do not see what it holds. If the writer tells that, a write adds
+/// exactly the bytes that it reports.
 #[derive(Drop)]
 pub struct StdSink<W> {
     writer: W,

@@ -35,7 +35,7 @@ header_layout = stream_layout (λ h. h)
     (part FormatData 16 (reserved 32 ∷ []) ∷ [])
     (part FormatFlags 22 (reserved 16 ∷ []) ∷ [])
 
--- the row that refuses a packet of another subtype than this
+-- the row that refuses a packet whose subtype is not this one
 abbrev pub subtype_row : ℕ → List ℕ → Row
 subtype_row subtype bytes = row Subtype 0 (not (bits 0 0 8 bytes == subtype))
 
@@ -55,7 +55,7 @@ kind_refusal subtype bytes =
     or_else (first_short header_layout (length bytes))
     (first_row (subtype_row subtype bytes ∷ version_row bytes ∷ []))
 
--- a stated length is more than what n bytes hold after the first `header` ones
+-- a stated length exceeds the bytes that follow the first `header` of n bytes
 abbrev pub exceeds : ℕ → ℕ → ℕ → Bool
 exceeds header stated n = nat_lt n (header + stated)
 
@@ -79,7 +79,7 @@ header_of bytes = record {
   data_length = bits 20 0 16 bytes;
 }
 
--- the first fields of any packet of a stream, which a CRF packet has in the same places
+-- the first fields of a packet, which have the same places in packets with a stream header and in CRF packets
 abbrev pub peeked_of : List ℕ → Peeked
 peeked_of bytes = record {
   subtype = bits 0 0 8 bytes;

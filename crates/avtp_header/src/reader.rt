@@ -60,7 +60,7 @@ fn fields(pdu: &[u8]) -> StreamHeader
     }
 }
 
-/// Whether a stated length is more than a packet of `len` bytes holds after its header.
+/// Whether a stated length exceeds the bytes that a packet of `len` bytes has after its header.
 pub fn exceeds(header: usize, stated: u16, len: usize) -> bool
     requires { header ≤ len }
     ensures { result ≡ is_exceeded header stated len }
@@ -92,8 +92,8 @@ fn read_any(pdu: &[u8]) -> Result<StreamHeader, Refusal>
     Ok(fields(pdu))
 }
 
-/// Like `read_stream_header`, for packets of one format: also refuses any other subtype, before it looks at the
-/// version.
+/// Like `read_stream_header`, for packets of one format: a packet of any other subtype is refused, too, before its version is
+/// judged.
 #[inline(always)]
 pub fn read_header_of(subtype: u8, pdu: &[u8]) -> Result<StreamHeader, Refusal>
     ensures { Reads (λ h. h) (kind_refusal subtype pdu.now) (header_of pdu.now) result }

@@ -2,6 +2,6 @@
 use Rattle.std.specs.Prelude.{ℕ, ◌+◌, min}
 use Rattle.avtp_base.specs.Faults.{last_count}
 
--- the number after this one, which stops at the greatest 64-bit number
+-- n + 1, but at most the greatest 64-bit number
 abbrev pub next_number : ℕ → ℕ
 next_number n = min (n + 1) last_count

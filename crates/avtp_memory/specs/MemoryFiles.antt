@@ -12,7 +12,7 @@ use Rattle.avtp_memory.specs.Room.{kept_within, FitsRoom}
 abbrev pub files_in : MemoryFiles → Files
 files_in held = bytes_under held.files.entries.items
 
--- an open file, and what is left of it
+-- an open file as contracts see it, with what is left to read of it
 abbrev pub open_in : List (String Global × Vec ℕ) → OpenFile → Open
 open_in entries file =
     record { made = file.made; name = Some (string_bytes file.name); left = Some (drop file.place (unwrap_or (bytes_under entries (string_bytes file.name)) [])) }
@@ -21,12 +21,12 @@ open_in entries file =
 abbrev pub slots_in : MemoryFiles → Slots
 slots_in held k = option_map (open_in held.files.entries.items) (entry_at held.live.entries.items k)
 
--- the room of a file that is made
+-- the room of each file that is made, in bytes
 abbrev pub room_in : MemoryFiles → ℕ
 room_in held = held.room
 
--- The named file keeps as much of a piece as fits its room, the answer says whether that is all of it, and every other file
--- stays.
+-- The named file keeps as much of a piece as fits its room, `fits` says whether that is all of the piece, and every other file
+-- is unchanged.
 pub record KeepsPart (old new : Files) (named : Option (List ℕ)) (room : ℕ) (piece : List ℕ) (fits : Bool) : Type 0 where
   pub name : List ℕ
   pub is_named : named ≡ Some name

@@ -30,7 +30,7 @@ calls shelf = shelf.calls.count
 abbrev pub failing_calls : MemoryShelf → List ℕ
 failing_calls shelf = shelf.calls.fails.items
 
--- the most bytes that a call moves
+-- the greatest number of bytes that a call moves
 abbrev pub most : MemoryShelf → ℕ
 most shelf = shelf.most
 
@@ -46,7 +46,7 @@ writing_count shelf = shelf.writing_faults
 abbrev pub IsToFail : MemoryShelf → Type 0
 IsToFail shelf = Contains (failing_calls shelf) (next_number (calls shelf))
 
--- one more call was counted, and the shelf fails and moves bytes as before
+-- one more call was counted; which calls fail, and the greatest number of bytes that a call moves, are unchanged
 pub record CountsCall (old new : MemoryShelf) : Type 0 where
   pub next : calls new ≡ next_number (calls old)
   pub fails : failing_calls new ≡ failing_calls old
@@ -54,27 +54,27 @@ pub record CountsCall (old new : MemoryShelf) : Type 0 where
 
 -- ---- what a call does beyond what it does on every shelf
 
--- A file was opened or made, or not: at `Failed` exactly if the call's number is among those that fail. The call was
+-- A call opened or made a file, or did not: it returned `Failed` exactly if its number is among those that fail. It was
 -- counted.
 pub record OpensByNumber (old new : MemoryShelf) (result : Result Slot OpenFault) : Type 0 where
   pub failed : IsErrOf result open_fault.Failed ↔ IsToFail old
   pub call : CountsCall old new
 
--- A read of slot k into a buffer of this many bytes: it moved as many bytes as are left, fit and are allowed, or failed,
--- exactly if its number is among those that fail. The call was counted.
+-- A read of slot k into a buffer of `room` bytes: it moved as many bytes as are left, as fit the buffer, and as a call may
+-- move, whichever is least; or it failed, exactly if its number is among those that fail. The call was counted.
 pub record ReadsByNumber (old new : MemoryShelf) (k room : ℕ) (result : Result ℕ Failed) : Type 0 where
   pub whole : IfOk result (λ n. IfSome (left_in (slots_of old) k) (λ left. n ≡ min (length left) (min room (most old))))
   pub failed : IsErr result ↔ IsToFail old
   pub call : CountsCall old new
 
--- A write of a piece: it took as many bytes as it has and are allowed, or failed; it always fails if its number is among those
--- that fail. The call was counted.
+-- A write of a piece: it took the whole piece, or as many bytes as a call may move if the piece is longer; or it failed, as it
+-- always does if its number is among those that fail. The call was counted.
 pub record WritesByNumber (old new : MemoryShelf) (piece : List ℕ) (result : Result ℕ Failed) : Type 0 where
   pub whole : IfOk result (λ n. n ≡ min (length piece) (most old))
   pub failed : IsToFail old → IsErr result
   pub call : CountsCall old new
 
--- no call was counted, and the shelf moves bytes as before
+-- no call was counted, and the greatest number of bytes that a call moves is unchanged
 pub record KeepsNumber (old new : MemoryShelf) : Type 0 where
   pub calls : calls new ≡ calls old
   pub most : most new ≡ most old

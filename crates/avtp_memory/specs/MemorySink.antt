@@ -16,7 +16,7 @@ calls sink = sink.calls.count
 abbrev pub failing_calls : MemorySink → List ℕ
 failing_calls sink = sink.calls.fails.items
 
--- the most bytes that a call takes
+-- the greatest number of bytes that a call takes
 abbrev pub most : MemorySink → ℕ
 most sink = sink.most
 
@@ -24,9 +24,9 @@ most sink = sink.most
 abbrev pub fault_count : MemorySink → ℕ
 fault_count sink = sink.faults
 
--- What a write does beyond what it does on every sink: it took as many bytes as the piece has and are allowed, or failed; it
--- always fails if its number is among those that fail. The call was counted, and the sink keeps its other failing calls and its
--- limit.
+-- What a write does beyond what it does on every sink: it took the whole piece, or as many bytes as a call may take if the
+-- piece is longer; or it failed, as it always does if its number is among those that fail. The call was counted; which calls
+-- fail, and the greatest number of bytes that a call takes, are unchanged.
 pub record TakesByNumber (old new : MemorySink) (piece : List ℕ) (result : Result ℕ Failed) : Type 0 where
   pub told : Contains (failing_calls old) (next_number (calls old)) → IsErr result
   pub whole : IfOk result (λ n. n ≡ min (length piece) (most old))

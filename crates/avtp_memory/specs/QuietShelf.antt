@@ -13,7 +13,7 @@ use Rattle.avtp_memory.specs.Room.{told_while}
 abbrev pub kept_files : QuietShelf → Files
 kept_files shelf = files_in shelf.held
 
--- how many bytes it keeps of a file that is made
+-- how many bytes the shelf keeps of a file that is made
 abbrev pub room_of : QuietShelf → ℕ
 room_of shelf = room_in shelf.held
 
@@ -21,7 +21,7 @@ room_of shelf = room_in shelf.held
 abbrev pub keeps_all : QuietShelf → Bool
 keeps_all shelf = shelf.all
 
--- what it tells: the files, while all of them are kept
+-- the files that are kept, or `None` once some bytes that were written are not
 abbrev pub files_of : QuietShelf → Option Files
 files_of shelf = told_while (keeps_all shelf) (kept_files shelf)
 
@@ -33,33 +33,33 @@ slots_of shelf = slots_in shelf.held
 abbrev pub asked_of : QuietShelf → List (List ℕ) → Type 0
 asked_of shelf = StandsForNames shelf.asked
 
--- The named file keeps as much of a piece as fits its room, every other file stays, and all is kept if it was before and the
--- piece fits.
+-- The named file keeps as much of a piece as fits its room, and every other file is unchanged. All that was written is kept if
+-- it was before and the piece fits.
 abbrev pub KeepsPiece : QuietShelf → QuietShelf → Option (List ℕ) → List ℕ → Type 0
 KeepsPiece old new name piece =
     (fits : Bool) × KeepsPart (kept_files old) (kept_files new) name (room_of old) piece fits × (keeps_all new ≡ (keeps_all old && fits))
 
 -- ---- what a call does beyond what it does on every shelf
 
--- what is kept is unchanged, and so are whether that is all, and the room of files that are made
+-- what is kept is unchanged, and so are whether that is all that was written, and the room of files that are made
 pub record KeepsKept (old new : QuietShelf) : Type 0 where
   pub kept : KeepsFiles (Some (kept_files old)) (Some (kept_files new))
   pub all : keeps_all new ≡ keeps_all old
   pub room : room_of new ≡ room_of old
 
--- a file with this name was opened, if one is kept, and what is kept of it is left to read
+-- at `Ok` a kept file with this name was opened, and all that is kept of it is left to read; what is kept is unchanged
 pub record OpensQuietly (old new : QuietShelf) (name : List ℕ) (result : Result Slot OpenFault) : Type 0 where
   pub found : IfOk result (λ slot. IsOpened (Some (kept_files old)) (slots_of new slot.0) name)
   pub keeps : KeepsKept old new
 
--- the file with this name was made, and nothing is kept of it yet; or all that is kept is unchanged
+-- the file with this name was made, and nothing is kept of it yet; or what is kept of every file is unchanged
 pub record MakesQuietly (old new : QuietShelf) (name : List ℕ) (result : Result Slot OpenFault) : Type 0 where
   pub kept : OnOk result (PutsFile (Some (kept_files old)) (Some (kept_files new)) name [])
   pub as_before : OnErr result (KeepsFiles (Some (kept_files old)) (Some (kept_files new)))
   pub all : keeps_all new ≡ keeps_all old
   pub room : room_of new ≡ room_of old
 
--- a read of slot k into a buffer of this many bytes moved as many as are left and fit
+-- a read of slot k into a buffer of `room` bytes moved as many as are left and fit
 pub record ReadsQuietly (old new : QuietShelf) (k room : ℕ) (result : Result ℕ Failed) : Type 0 where
   pub whole : IfSome (left_in (slots_of old) k) (λ left. result ≡ Ok (min (length left) room))
   pub keeps : KeepsKept old new

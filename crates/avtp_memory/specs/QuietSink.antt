@@ -8,7 +8,7 @@ use Rattle.avtp_memory.specs.Room.{kept_within, told_while, FitsRoom}
 abbrev pub kept : QuietSink → List ℕ
 kept sink = sink.bytes.items
 
--- how many bytes it keeps
+-- how many bytes the sink keeps
 abbrev pub room_of : QuietSink → ℕ
 room_of sink = sink.room
 
@@ -16,7 +16,7 @@ room_of sink = sink.room
 abbrev pub keeps_all : QuietSink → Bool
 keeps_all sink = sink.all
 
--- what it tells: the bytes, while all of them are kept
+-- the bytes that are kept, or `None` once some that were written are not
 abbrev pub told : QuietSink → Option (List ℕ)
 told sink = told_while (keeps_all sink) (kept sink)
 

@@ -1,4 +1,4 @@
-//! The calls of an object in memory, some of which are to fail.
+//! The calls of an object in memory, some of which fail on purpose.
 
 ghost use Rattle.std.specs.Prelude.{◌≡◌, ◌↔◌, Contains, IsTrue};
 ghost use Rattle.avtp_memory.specs.Calls.{next_number};

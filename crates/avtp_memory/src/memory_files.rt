@@ -1,4 +1,4 @@
-//! Files in memory, and those of them that are open. Both shelves in memory are built on it.
+//! Files in memory, and which of them are open. Both shelves in memory are built on it.
 
 ghost use Rattle.std.specs.Prelude.{◌≤◌};
 ghost use Rattle.avtp_memory.specs.state.OpenFile.{AreNamed, HaveRoom};
@@ -10,7 +10,7 @@ use avtp_files::Slot;
 use avtp_files::slots::Slots;
 use std::alloc::Global;
 
-/// Files by name, and the open ones by slot. A file that is made has memory for this many bytes from its start.
+/// Files by name, and the open ones by slot. A file that is made has memory for `room` bytes from its start.
 #[derive(Debug, Drop)]
 pub struct MemoryFiles {
     alloc: Global,
@@ -28,7 +28,8 @@ impl MemoryFiles {
     ghost use Rattle.avtp_memory.specs.MemoryFiles.{files_in, slots_in, room_in, KeepsPart};
     ghost use Rattle.avtp_memory.specs.NamedFiles.{bytes_under};
 
-    /// These files, each under its name, none of them open. If two files have one name, the first counts.
+    /// These files, each under its name, none of them open; a file that is made gets memory for `room` bytes. If two files have
+    /// one name, the first counts.
     pub fn over(alloc: Global, files: Vec<(String, Vec<u8>)>, room: usize) -> Self
         ensures files { files_in result ≡ bytes_under files.items }
         ensures closed { (k : ℕ) → slots_in result k ≡ None }
@@ -90,7 +91,7 @@ impl MemoryFiles {
         Ok(slot)
     }
 
-    /// Moves bytes from the front of what is left: as many as are left, fit the buffer and are allowed.
+    /// Moves bytes from the front of what is left: as many as are left, at most `most`, and no more than fit the buffer.
     pub fn read(&mut self, slot: Slot, most: usize, buf: &mut [u8]) -> usize
         requires live { IsSome (slots_in self.old slot.0) }
         requires some { 0 < most }
@@ -113,7 +114,7 @@ impl MemoryFiles {
         moved
     }
 
-    /// Appends a piece to the file of a slot, whole, or nothing if there is no memory.
+    /// Appends the whole piece to the file of a slot, or nothing if there is no memory.
     pub fn append(&mut self, slot: Slot, piece: &[u8]) -> Result<(), NoMemory>
         requires live { option_map (λ o. o.made) (slots_in self.old slot.0) ≡ Some true }
         ensures appended { OnOk result (AppendsTo (Some (files_in self.old)) (Some (files_in self.new)) (name_in (slots_in self.old) slot.0) piece.now) }

@@ -9,7 +9,7 @@ use avtp_base::{Failed, NoMemory, OpenFault};
 use avtp_files::{Shelf, Slot};
 use std::alloc::Global;
 
-/// Keeps files by name. Its calls, except those of `close_file`, are numbered from 1, and those whose numbers it was given
+/// Keeps files by name. Its calls, except those of `close_file`, are numbered from 1, and the calls with the given numbers
 /// fail.
 #[derive(Debug, Drop)]
 pub struct MemoryShelf {
@@ -114,7 +114,7 @@ impl Shelf for MemoryShelf {
 
     ghost told = { λ shelf k told live. told_of_live shelf.held k live };
 
-    /// Fails exactly if its number is among those that fail.
+    /// Returns `Failed` exactly if the number of the call is among those that fail.
     fn open_file(&mut self, name: &str) -> Result<Slot, OpenFault> {
         self.asked.note(name);
         if self.calls.next_fails() {
@@ -124,7 +124,7 @@ impl Shelf for MemoryShelf {
         self.held.open(name)
     }
 
-    /// Fails exactly if its number is among those that fail.
+    /// Returns `Failed` exactly if the number of the call is among those that fail.
     fn create_file(&mut self, name: &str) -> Result<Slot, OpenFault> {
         self.asked.note(name);
         if self.calls.next_fails() {
@@ -137,7 +137,8 @@ impl Shelf for MemoryShelf {
         Ok(slot)
     }
 
-    /// Fails exactly if its number is among those that fail. It moves as many bytes as are left and fit.
+    /// Fails exactly if the number of the call is among those that fail. Otherwise it moves as many bytes as are left and fit,
+    /// at most the limit of a call.
     fn read(&mut self, slot: Slot, buf: &mut [u8]) -> Result<usize, Failed> {
         if self.calls.next_fails() {
             self.reading_faults = self.reading_faults.saturating_add(1);
@@ -146,8 +147,8 @@ impl Shelf for MemoryShelf {
         Ok(self.held.read(slot, self.most, buf))
     }
 
-    /// Fails if its number is among those that fail, or if there is no memory to keep the piece. Otherwise it takes the whole
-    /// piece.
+    /// Fails if the number of the call is among those that fail, or if there is no memory to keep the piece. Otherwise it takes
+    /// the whole piece, or as much of it as the limit of a call allows.
     fn write(&mut self, slot: Slot, piece: &[u8]) -> Result<usize, Failed> {
         if self.calls.next_fails() {
             self.writing_faults = self.writing_faults.saturating_add(1);

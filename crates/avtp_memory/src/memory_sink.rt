@@ -7,7 +7,7 @@ use avtp_base::Failed;
 use avtp_files::Sink;
 use std::alloc::Global;
 
-/// Keeps what is written. Its calls are numbered from 1, and those whose numbers it was given fail.
+/// Keeps what is written. Its calls are numbered from 1, and the calls with the given numbers fail.
 #[derive(Debug, Drop)]
 pub struct MemorySink {
     bytes: Vec<u8>,

@@ -25,7 +25,7 @@ impl NamedFiles {
         }
     }
 
-    /// The bytes of the file with the name, if there is one.
+    /// The bytes of the file with the name, which must be there.
     pub fn bytes_of(&self, name: &str) -> &[u8]
         requires { IsSome (bytes_under self.now.entries.items name.now) }
         ensures { bytes_under self.now.entries.items name.now ≡ Some result.now }

@@ -9,7 +9,7 @@ use avtp_files::Slot;
 use avtp_files::slots::Slots;
 use std::alloc::Global;
 
-/// An open file: how many of its bytes were read, and whether it was made for writing.
+/// An open file: its name, how many of its bytes were read, and whether it was made for writing.
 #[derive(Debug, Drop)]
 pub struct OpenFile {
     pub name: String,
@@ -33,7 +33,7 @@ impl OpenFile {
     }
 }
 
-/// Moves on in the file of a live slot.
+/// Counts `by` more bytes of the file in a live slot as read.
 pub fn advance(live: &mut Slots<OpenFile>, slot: Slot, by: usize)
     requires live { IsSome (entry_at live.old.entries.items slot.0) }
     requires fits { IfSome (entry_at live.old.entries.items slot.0) (λ file. file.place + by < 2 ^ 64) }
@@ -44,7 +44,7 @@ pub fn advance(live: &mut Slots<OpenFile>, slot: Slot, by: usize)
     }
 }
 
-/// Copies a file's bytes from a place on into the buffer, at most `most` of them.
+/// Copies a file's bytes from `place` on to the front of the buffer, at most `most` of them, and returns how many.
 pub fn copy_from(bytes: &[u8], place: usize, most: usize, buf: &mut [u8]) -> usize
     requires some { 0 < most }
     requires room { 0 < length buf.old }

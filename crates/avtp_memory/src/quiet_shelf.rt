@@ -7,7 +7,7 @@ use avtp_files::{Shelf, Slot};
 use std::alloc::Global;
 
 /// Keeps as much of each written file as fits its room, and takes the rest without keeping it. It tells its files only while
-/// everything that was written fits, and never again after that.
+/// everything that was written fits; after that it never tells them again.
 #[derive(Debug, Drop)]
 pub struct QuietShelf {
     held: MemoryFiles,
@@ -88,7 +88,7 @@ impl Shelf for QuietShelf {
         Ok(self.held.read(slot, usize::MAX, buf))
     }
 
-    /// Never fails. Takes the whole piece, and keeps as much of it as fits the room of the file.
+    /// Never fails. It takes the whole piece, and keeps as much of it as fits the room of the file.
     fn write(&mut self, slot: Slot, piece: &[u8]) -> Result<usize, Failed> {
         let fits = self.held.keep(slot, piece);
         self.all = self.all && fits;

@@ -11,7 +11,7 @@ use Rattle.crf_format.specs.Crf.{Crf, crf_subtype, crf_refusal, crf_of, crf_shap
 use Rattle.avtp_packet.specs.declared.packet.Packet.{Packet as PacketView}
 use Rattle.avtp_packet.specs.declared.packet.Packet.TheVariants as view
 
--- a packet of one of the formats that are read, or of another, of which only the subtype is known
+-- a packet of one of the formats that are read, or a packet of another format, of which only the subtype is known
 pub data AnyPacket : Type 0 where
   OfIec : Iec → AnyPacket
   OfAaf : Aaf → AnyPacket
@@ -49,7 +49,7 @@ kind_refusal subtype pdu =
 
 -- ---- by the bytes alone
 
--- the refusal of a packet without a byte, which has no subtype
+-- the refusal of a packet without bytes, which has no subtype
 abbrev pub subtype_refusal : List ℕ → Option Refusal
 subtype_refusal pdu = if nat_lt (length pdu) 1 then Some (record { field = Subtype; at = 0; short = true }) else None
 

@@ -14,7 +14,7 @@ use Rattle.avtp_packet.specs.Packet.{AnyPacket, OfAaf, OfCrf, OfH264, OfIec, OfO
 abbrev pub is_off : ℕ → Bool → Bool → Bool
 is_off count stamped must = nat_lt 0 count && not (beq stamped must)
 
--- a PCM packet must be stamped: always, but in a sparse stream only if its sequence number is a multiple of 8
+-- a PCM packet must have a timestamp: always, or in a sparse stream if its sequence number is a multiple of 8
 abbrev pub must_stamp_aaf : Aaf → Bool
 must_stamp_aaf v = if v.sparse then v.header.seq % 8 == 0 else true
 
@@ -33,7 +33,7 @@ iec_is_off_by (Some interval) v = is_off v.count v.header.tv (nat_lt (anchor_ind
 abbrev pub iec_is_off : Iec → Bool
 iec_is_off v = iec_is_off_by (syt_interval v.cip.fdf) v
 
--- a packet ends a NAL unit of H.264
+-- a packet that carries this part of a NAL unit ends the unit
 abbrev pub ends_unit : NalPart → Bool
 ends_unit Single = true
 ends_unit First = false

@@ -34,7 +34,7 @@ fn stream_by(subtype: u8, header: &StreamHeader) -> PacketStream
     }
 }
 
-/// The stream of a packet. It is `None` exactly for packets of another format.
+/// The stream of a packet. It is `None` exactly for packets of a format that is not read.
 pub fn stream_of(packet: &Packet<'_>) -> Option<PacketStream>
     ensures { result ≡ stream_of_packet (packet_shape packet.now) }
 {
@@ -53,7 +53,7 @@ pub fn stream_of(packet: &Packet<'_>) -> Option<PacketStream>
     })
 }
 
-/// Whether a reserved bit of the packet is set. `false` for packets of another format, whose reserved bits are not
+/// Whether a reserved bit of the packet is set. `false` for packets of a format that is not read, whose reserved bits are not
 /// known.
 pub fn reserved(packet: &Packet<'_>) -> bool
     ensures { result ≡ has_reserved (packet_shape packet.now) }

@@ -37,11 +37,11 @@ fn h264_is_off(view: &CvfView<'_>) -> bool
     matches!(view.part, NalPart::Single | NalPart::Last) && !view.header.tv
 }
 
-/// Whether the packet has a timestamp that its format does not want, or lacks one that it wants.
+/// Whether the packet has a timestamp that it must not have, or lacks one that it must have.
 ///
-/// PCM must be stamped in every packet, sparse PCM in exactly those whose sequence number is a multiple of 8, and AM824 in
-/// exactly those that have a data block whose block count is a multiple of SYT_INTERVAL. Packets without samples may be stamped
-/// or not. H.264 must be stamped in every packet that ends a NAL unit. Other packets have no rule.
+/// A PCM packet must have a timestamp; a packet of a sparse stream must have one exactly if its sequence number is a multiple
+/// of 8. An AM824 packet must have one exactly if it has a data block whose block count is a multiple of SYT_INTERVAL. Packets
+/// without samples may have one or not. An H.264 packet that ends a NAL unit must have one. Other packets have no rule.
 pub fn stamp_is_wrong(packet: &Packet<'_>) -> bool
     ensures { result ≡ stamp_is_off (packet_shape packet.now) }
 {

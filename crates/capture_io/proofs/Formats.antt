@@ -1,4 +1,4 @@
--- The layout of a capture, and what its bytes hold by it.
+-- The layout of a capture, and what its bytes mean in that layout.
 use Rattle.std.proofs.Common.{◌≡◌, ℕ, ◌≤◌, ◌<◌, true, false, List, [], ◌++◌, length, Option, Some, None, refl, sym, ap, ◌∙◌, arith, inl, inr, length-append}
 use Rattle.std.proofs.lemmas.Bool.{cases_Bool, le-leb}
 use Rattle.std.proofs.lemmas.Bool.Decides.{nat_tests}
@@ -15,7 +15,7 @@ use Rattle.capture_io.specs.declared.capture_reader.Format.{Format}
 use Rattle.capture_io.specs.declared.capture_reader.Format.TheVariants.{Classic, Pcapng}
 use Rattle.capture_io.specs.Formats.{is_pcapng, format_in, meaning_of, records_in, refusal_in, certain_in}
 
--- the layout stays, however the bytes go on, once there are four
+-- the layout stays, whatever bytes follow, once four have come
 format_stays : (bytes more : List ℕ) → 4 ≤ length bytes → is_pcapng (bytes ++ more) ≡ is_pcapng bytes
 unfolding is_pcapng
 format_stays bytes more long =
@@ -90,7 +90,7 @@ accepted_classic bytes none = elim (cases_Bool (is_pcapng bytes)) [
   | inr is ↦ is
 ]
 
--- ---- a refusal that stands
+-- ---- a refusal that stays is the first one
 
 settled_first : (x : Option ng.Ending) (r : Refusal) → ng.settled x ≡ Some r → ng.refusal_of x ≡ Some r
 settled_first None r e = absurd cc
@@ -103,7 +103,7 @@ pcapng_first : (bytes : List ℕ) (r : Refusal) → ng.settled (ng.contents byte
 unfolding ng.first_refusal
 pcapng_first bytes r e = settled_first (ng.contents bytes).ending r e
 
--- is the first
+-- a refusal that stays whatever bytes follow is the first one
 pub certain_first : (bytes : List ℕ) (r : Refusal) → certain_in bytes ≡ Some r → refusal_in bytes ≡ Some r
 certain_first bytes r e = elim (cases_Bool (is_pcapng bytes)) [
   | inl is ↦ refusal_by Pcapng bytes (is_ng bytes is) ∙ pcapng_first bytes r (sym (certain_by Pcapng bytes (is_ng bytes is)) ∙ e)

@@ -23,17 +23,17 @@ use Rattle.capture_io.proofs.Reader.{feeds_as, format_feeds, format_releases}
 
 -- ---- the reader
 
--- a reader that takes the next record
+-- a reader that takes the next record is fed
 next_feeds : (r : CaptureReading) (piece : List ℕ) (size : ℕ) → size ≤ length piece → IsNext r (take size piece) → Feeds r piece (Ok size) (with_part r (take size piece))
 next_feeds r piece size within next =
     feeds_as r.format r.format (Some Classic) (Some Classic) r.front r.front r.classic (classic.with_part r.classic (take size piece)) r.ng r.ng r piece (Ok size) next.format next.format refl
     (format_feeds Classic r.front r.classic (classic.with_part r.classic (take size piece)) r.ng r.ng piece (Ok size) (classic_feeds r.classic piece size within next.next))
 
--- it holds the record then
+-- a reader that takes the next record holds it
 next_held : (r : CaptureReading) (bytes : List ℕ) → IsNext r bytes → held (with_part r bytes) ≡ classic.held (classic.with_part r.classic bytes)
 next_held r bytes next = ap (λ (f : Option Format). held_by f (with_part r bytes)) next.format
 
--- a reader that goes past the next record
+-- a reader that skips the next record releases it
 pub next_passes : (r : CaptureReading) (c' : classic.Reading) (bytes : List ℕ) → IsNext r bytes → c' ≡ record r.classic { start = r.classic.start + length bytes } → Releases (with_part r bytes) (record r { classic = c' })
 next_passes r c' bytes next is =
     subst (λ (f : Option Format). Releases (record { format = f; front = r.front; classic = classic.with_part r.classic bytes; ng = r.ng }) (record { format = f; front = r.front; classic = c'; ng = r.ng })) (sym next.format)
@@ -42,7 +42,7 @@ next_passes r c' bytes next is =
 
 -- ---- the source
 
--- the bytes of the next record were taken
+-- the reader took the bytes of the next record
 fed_more : (limit : ℕ) (bytes : List ℕ) (remains : Option (List ℕ)) (source : Sourcing) (size : ℕ) (records : List Record) → LiesAhead source size → HasFed limit bytes remains source records → HasFed limit bytes remains (holding source size) records
 fed_more limit bytes remains source size records ahead fed =
     let waiting = source.pieces.waiting in
@@ -61,7 +61,7 @@ fed_more limit bytes remains source size records ahead fed =
       read = feeds.read fed.prefix records fed.read;
     }
 
--- the source reads on to the record that is lent
+-- a source that lends the next record has read on to it
 reads_ahead : (shelf : ShelfState) (source : Sourcing) (size : ℕ) → IsSome (shelf.slots (slot_of source)) → LiesAhead source size → ReadsOn shelf shelf source (holding source size) None
 reads_ahead shelf source size live ahead =
     let waiting = source.pieces.waiting in
@@ -75,7 +75,7 @@ reads_ahead shelf source size live ahead =
       reads = reads_nothing shelf (slot_of source) live;
     }
 
--- the held record was given up, and the next is lent
+-- the held record was released, and the next one is lent
 lends_next : (shelf : ShelfState) (old mid : Sourcing) (size : ℕ) → IsSome (shelf.slots (slot_of old)) → GivesUp old mid → LiesAhead mid size → GivesNext shelf shelf old (holding mid size) None
 lends_next shelf old mid size live gone ahead =
     let here = subst (λ (p : Piecing). IsSome (shelf.slots p.slot)) (sym gone.pieces) live in
@@ -83,7 +83,7 @@ lends_next shelf old mid size live gone ahead =
     subst (λ (e : Option End). GivesNext shelf shelf old (record (holding mid size) { ended = e }) None) (sym ahead.going)
     (gives_next shelf shelf old mid (holding mid size) None (sym gone.ended ∙ ahead.going) gone.pieces gone.reader (reads_ahead shelf mid size here ahead) (λ none. some))
 
--- the held record was given up
+-- the held record was released, so a source that gave it holds none
 still_given : (shelf : ShelfState) (old mid : Sourcing) → GivesUp old mid → (limit : ℕ) (bytes : List ℕ) (records : List Record) → HasGivenOf limit bytes shelf old records → HasGivenOf limit bytes shelf mid records
 still_given shelf old mid gone limit bytes records given = record {
   going = gone.ended ∙ given.going;
@@ -92,7 +92,7 @@ still_given shelf old mid gone limit bytes records given = record {
   given = sym (ap (λ (h : Option Record). records ++ option_to_list h) gone.reader.free ∙ append-nil records);
 }
 
--- and then the next was read
+-- the held record was released, and then the next one was read
 gives_after : (before after : ShelfState) (old mid next : Sourcing) (result : Option End) → GivesUp old mid → GivesNext before after mid next result → GivesNext before after old next result
 gives_after before after old mid next result gone gives = record {
   given = λ none limit bytes records given. gives.given none limit bytes records (still_given before old mid gone limit bytes records given);
@@ -105,7 +105,7 @@ gives_after before after old mid next result gone gives = record {
   reads = subst (λ (p : Piecing). ReadsSlot before after p.slot (slot_of next)) gone.pieces gives.reads;
 }
 
--- the next record is lent, or read
+-- if the next record is at hand, it is lent
 pub lent_by : (shelf : ShelfState) (old mid : Sourcing) (o : Option ℕ) → IsSome (shelf.slots (slot_of old)) → GivesUp old mid → IfSome o (λ size. LiesAhead mid size) → is_some o ≡ true → GivesNext shelf shelf old (lending o mid) None
 lent_by shelf old mid None live gone ahead some = absurd cc
 lent_by shelf old mid (Some size) live gone ahead some = lends_next shelf old mid size live gone ahead
@@ -114,7 +114,7 @@ pub read_by : (before after : ShelfState) (old mid next : Sourcing) (o : Option 
 read_by before after old mid next None result gone none gives = gives_after before after old mid next result gone gives
 read_by before after old mid next (Some size) result gone none gives = absurd cc
 
--- the next record is lent, or nothing is
+-- a source advances: it lends the next record, or none is at hand
 pub advances : (old mid : Sourcing) (o : Option ℕ) → GivesUp old mid → IfSome o (λ size. LiesAhead mid size) → Advances old (lending o mid) (is_some o)
 advances old mid None gone ahead = record {
   given = λ some. absurd cc;

@@ -1,4 +1,4 @@
--- The packets of a pcapng capture can be spelled as a classic capture.
+-- The packets of a pcapng capture can be written as a classic capture.
 use Rattle.std.proofs.Common.{◌≡◌, ℕ, zero, suc, ◌+◌, ◌*◌, ◌^◌, ◌%◌, ◌≤◌, ◌<◌, ℤ, pos, ◌≤ℤ◌, ◌<ℤ◌, Bool, true, false, nat_lt, if◌then◌else◌, List, ◌++◌, length, drop, Option, Some, None, refl, sym, subst, ◌∙◌, arith, length-take}
 use Rattle.std.proofs.lemmas.Int.{ints}
 use Rattle.std.specs.Prelude.{IfSome, int_lt, nat_abs, option_to_list}
@@ -39,7 +39,7 @@ number_below Big offset bytes all = big_from-lt 0 4 (drop offset bytes) (bytes_a
 
 -- ---- a packet
 
--- the instants that are arrivals
+-- an instant that is accepted as an arrival is within the range of arrivals
 arrival_within : (z t : ℤ) → (if int_lt z (pos 0) then None else if int_lt z arrival_limit then Some z else None) ≡ Some t → (pos 0 ≤ℤ t) × (t <ℤ pos (2 ^ 32 * 1000000000))
 arrival_within z t e = cases (int_lt z (pos 0)) (int_lt z arrival_limit) refl refl e
   where
@@ -83,7 +83,7 @@ arrival_is : (order : Order) (interfaces : List Interface) (bytes : List ℕ) �
 unfolding packet_arrival
 arrival_is order interfaces bytes = refl
 
--- what is read of a block whose fields are accepted
+-- the packet of a block whose fields are accepted can be written in a classic capture
 next_block : (p : Place) (bytes : List ℕ) → AreBytes bytes → p.stage ≡ stage.Block → ng.refusal_here p bytes ≡ None → ng.size_here p bytes ≤ length bytes → IfSome (ng.after_any p bytes).packet (HasSpelling nanoseconds)
 next_block p bytes all is accepted long =
     let order = ng.order_or_little p.order in
@@ -136,7 +136,7 @@ all_spelled : (bytes : List ℕ) → AreBytes bytes → AllByRecursion (HasSpell
 unfolding ng.whole_records ng.contents
 all_spelled bytes all = all_from (suc (length bytes)) ng.first_place bytes all tt
 
--- the classic capture of them
+-- the classic capture of a pcapng capture's packets has the same records, and nothing in it is refused
 pub classic_same : (bytes : List ℕ) → AreBytes bytes → is_pcapng bytes ≡ true → (records_in (as_classic bytes) ≡ records_in bytes) × (refusal_in (as_classic bytes) ≡ None)
 classic_same bytes all is =
     let spelled = subst (AllByRecursion (HasSpelling nanoseconds)) (sym (records_by Pcapng bytes (is_ng bytes is))) (all_spelled bytes all) in

@@ -13,7 +13,7 @@ use Rattle.avtp_base.specs.States.{Asks, AsksNothing, ShelfState}
 use Rattle.avtp_files.specs.ShelfCalls.{IsMadeIn}
 use Rattle.capture_io.specs.Writing.{NotMade, PutsPrefix, WritesSlot, Writing}
 
--- captures are little-endian, and count nanoseconds
+-- the style of every capture that is written: little-endian, with nanoseconds
 abbrev pub written_style : Style
 written_style = record { order = Little; unit = Nano }
 
@@ -27,8 +27,8 @@ capture_bytes records = capture_spelling written_style records
 
 -- ---- the file that is written
 
--- Since the shelf had these files, the file of this name was made, and it is open in the writer's slot. The bytes are those
--- that the file has and then those that wait. All other files are as they were, as far as the shelf shows them.
+-- Since the shelf had the files `files`, the file with this name was made, and it is open in the writer's slot. `bytes` are
+-- those of the file followed by those that wait. All other files are unchanged, if they are shown.
 pub record HoldsFile (files : Option Files) (shelf : ShelfState) (writer : Writing) (name bytes : List ℕ) : Type 0 where
   pub held : List ℕ
   pub split : bytes ≡ held ++ writer.waiting
@@ -36,22 +36,22 @@ pub record HoldsFile (files : Option Files) (shelf : ShelfState) (writer : Writi
   pub made : IsMadeIn shelf.slots writer.slot
   pub named : IsSome files → name_in shelf.slots writer.slot ≡ Some name
 
--- what the file has and then what waits is the capture of these records
+-- the bytes of the file followed by those that wait are a capture of these records
 abbrev pub HoldsCapture : Option Files → ShelfState → Writing → List ℕ → List Record → Type 0
 HoldsCapture files shelf writer name records = HoldsFile files shelf writer name (capture_bytes records)
 
 -- ---- all other slots
 
--- Every slot but slot k is live or free as it was, with its file; and if files are shown, what is left to read is as it was
--- in each of them whose file has another name than this.
+-- Every slot except slot k stays live or free and keeps its file. If files are shown, what is left to read in these slots
+-- changes only if the file has this name.
 pub record KeepsBeside (files : Option Files) (old new : Slots) (k : ℕ) (name : List ℕ) : Type 0 where
   pub same : (j : ℕ) → j ≢ k → option_map file_of (new j) ≡ option_map file_of (old j)
   pub left : IsSome files → (j : ℕ) → j ≢ k → name_in old j ≢ Some name → left_in new j ≡ left_in old j
 
 -- ---- calls
 
--- A file of this name was made, which is to have a capture without a record so far; or it was not made, and the count of
--- writing faults rose if the shelf failed. The name was asked for.
+-- The file with this name was made for a capture, which has no record so far; or it was not made, and the count of writing
+-- faults rose if the shelf failed. The name was asked for.
 pub record BeginsCapture (before after : ShelfState) (name : List ℕ) (result : Result Writing OpenFault) : Type 0 where
   pub begun : IfOk result (λ writer. HoldsCapture before.files after writer name [])
   pub fresh : IfOk result (λ writer. before.slots writer.slot ≡ None)
@@ -62,7 +62,8 @@ pub record BeginsCapture (before after : ShelfState) (name : List ℕ) (result :
   pub counted : IsOpenCounted before.writing_faults after.writing_faults result
   pub asked : Asks (name ∷ []) before after
 
--- The capture has this record more, or none if the shelf failed; and of all other slots the call says what each write says.
+-- The capture has one more record, this one, or is unchanged if the shelf failed. All other slots are left as a write leaves
+-- them.
 pub record AddsRecord (before after : ShelfState) (old new : Writing) (r : Record) (result : Result Unit Failed) : Type 0 where
   pub added : OnOk result ((files : Option Files) (name : List ℕ) (records : List Record) → HoldsCapture files before old name records → HoldsCapture files after new name (records ++ r ∷ []))
   pub kept : OnErr result ((files : Option Files) (name : List ℕ) (records : List Record) → HoldsCapture files before old name records → HoldsCapture files after new name records)

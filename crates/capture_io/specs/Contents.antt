@@ -27,8 +27,8 @@ pub record IsReadCounted (before after : ℕ) (result : Result Contents OpenFaul
   pub memory : IsErrOf result open_fault.Memory → after ≡ before
   pub failed : IsErrOf result open_fault.Failed → Rose before after
 
--- The file with this name was read whole, or as much of it as could and may be read, at most `limit` bytes; or it was not
--- opened, or memory ran out. It is closed again, and nothing else was done.
+-- The file with this name was read up to its end, a fault or the limit, and was closed again; or it was not opened, or memory
+-- ran out. Nothing else was done.
 pub record ReadsContents (before after : ShelfState) (limit : ℕ) (name : List ℕ) (result : Result Contents OpenFault) : Type 0 where
   -- the bytes are those of the file, if the shelf shows it
   pub read : IfOk result (λ contents. (files : Files) → before.files ≡ Some files → (bytes : List ℕ) × (files name ≡ Some bytes) × IsContents limit bytes contents.stop contents.bytes.items)

@@ -48,6 +48,6 @@ meaning = record { records = records_in; refusal = refusal_in; certain = certain
 abbrev pub nanoseconds : Style
 nanoseconds = record { order = Little; unit = Nano }
 
--- the classic capture of the records of the bytes
+-- the classic capture of the records in these bytes
 abbrev pub as_classic : List ℕ → List ℕ
 as_classic bytes = capture_spelling nanoseconds (records_in bytes)

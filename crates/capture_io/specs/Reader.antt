@@ -1,4 +1,4 @@
--- What a reader of captures in either layout means.
+-- What the state of a reader of captures in either layout means.
 use Rattle.std.specs.Prelude.{◌≡◌, ℕ, ◌<◌, ◌≤◌, List, [], length, Option, None, Some}
 use Rattle.avtp_base.specs.declared.refusal.Refusal.{Refusal}
 use Rattle.pcap_frames.specs.Capture.{Record}
@@ -11,8 +11,8 @@ use Rattle.capture_io.specs.declared.capture_reader.Format.{Format}
 use Rattle.capture_io.specs.declared.capture_reader.Format.TheVariants.{Classic, Pcapng}
 use Rattle.capture_io.specs.Formats.{format_in, certain_in}
 
--- A reader of captures in either layout: the layout, once it is known; the bytes that came before it was; and a reader
--- of each layout.
+-- The state of a reader of captures in either layout: the layout, once it is known; the bytes that came before it was known;
+-- and a reader of each layout.
 pub record CaptureReading : Type 0 where
   pub format : Option Format
   pub front : List ℕ

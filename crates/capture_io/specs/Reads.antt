@@ -17,8 +17,7 @@ pub record OnlyReads (before after : ShelfState) (names : List (List ℕ)) : Typ
 
 -- ---- while the file of one slot is open
 
--- The file in slot k was read, and the same file is still open there: `now` is slot k, too. All else is unchanged, and no name
--- was asked for.
+-- The file in slot k was read, and is still open there: `now` is slot k, too. All else is unchanged, and no name was asked for.
 pub record ReadsSlot (before after : ShelfState) (k now : ℕ) : Type 0 where
   pub slot : now ≡ k
   pub files : KeepsFiles before.files after.files
@@ -41,8 +40,8 @@ pub record OpensSlot (before after : ShelfState) (name : List ℕ) (k : ℕ) : T
   pub writing : after.writing_faults ≡ before.writing_faults
   pub asked : Asks (name ∷ []) before after
 
--- A file with this name was opened, in the slot of the value that was made of it. Or it was not opened: `Missing` means that
--- the shelf shows its files and none has the name, at `Failed` the count of reading faults rose, and nothing else was done.
+-- A file with this name was opened, in the slot of the value in the result. Or it was not opened: `Missing` means that the
+-- shelf shows its files and none has the name, at `Failed` the count of reading faults rose, and nothing else was done.
 pub record TriesOpen {T : Type 0} (slot : T → ℕ) (before after : ShelfState) (name : List ℕ) (result : Result T OpenFault) : Type 0 where
   pub opened : IfOk result (λ file. OpensSlot before after name (slot file))
   pub refused : OnErr result (OnlyReads before after (name ∷ []))

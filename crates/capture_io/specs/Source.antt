@@ -30,14 +30,15 @@ remains_of shelf source = left_in shelf.slots (slot_of source)
 abbrev pub held_in : Sourcing → Option Record
 held_in source = held source.reader
 
--- The reader has taken a prefix of a file of these bytes, has refused nothing, and has released these records.
+-- The reader has taken a prefix of a file of these bytes, of which at most `limit` may be read. It has refused nothing, and has
+-- released these records.
 pub record HasFed (limit : ℕ) (bytes : List ℕ) (remains : Option (List ℕ)) (source : Sourcing) (records : List Record) : Type 0 where
   pub prefix : List ℕ
   pub taken : HasTaken limit bytes remains source.pieces prefix
   pub accepted : refusal_of source.reader ≡ None
   pub read : HasRead source.reader prefix records
 
--- These records were given of a file of these bytes, of which at most `limit` may be read and the slot has `remains` left; the
+-- These records were given from a file of these bytes, of which at most `limit` may be read and `remains` are left to read; the
 -- last record may still be held, and the reading has not ended.
 pub record HasGiven (limit : ℕ) (bytes : List ℕ) (remains : Option (List ℕ)) (source : Sourcing) (records : List Record) : Type 0 where
   pub going : source.ended ≡ None
@@ -45,12 +46,12 @@ pub record HasGiven (limit : ℕ) (bytes : List ℕ) (remains : Option (List ℕ
   pub fed : HasFed limit bytes remains source before
   pub given : records ≡ before ++ option_to_list (held_in source)
 
--- A source has given these records of a file of these bytes, of which at most `limit` may be read. Its slot has left what this
--- state of the shelf shows, and the reading has not ended.
+-- A source has given these records from a file of these bytes, of which at most `limit` may be read. What is left to read is
+-- what the shelf shows of its slot, and the reading has not ended.
 abbrev pub HasGivenOf : ℕ → List ℕ → ShelfState → Sourcing → List Record → Type 0
 HasGivenOf limit bytes shelf source records = HasGiven limit bytes (remains_of shelf source) source records
 
--- The reading of a file of these bytes ends in this way, and these are the records before that place.
+-- The reading of a file of these bytes ends in this way, and these are the records before its end.
 pub record EndsAfter (limit : ℕ) (bytes : List ℕ) (fault : Type 0) (how : End) (records : List Record) : Type 0 where
   pub prefix : List ℕ
   pub ends : EndsAt limit (Some bytes) fault how prefix
@@ -68,8 +69,8 @@ pub record OpensSource (before after : ShelfState) (limit : ℕ) (name : List �
   pub going : IfOk result (λ source. (source.ended ≡ None) × (to_do source ≤ 2 * limit))
   pub tries : TriesOpen slot_of before after name result
 
--- The next record was read, and is held now; or the reading ended in this way after the records that were given, and the count
--- of reading faults rose if a fault ended it. A reading that had ended returns its end again.
+-- The next record was read, and is held now; or the reading ended, as the result says, after the records that were given, and
+-- the count of reading faults rose if a fault ended it. A reading that had ended before returns that end again.
 pub record GivesNext (before after : ShelfState) (old new : Sourcing) (result : Option End) : Type 0 where
   pub given : result ≡ None → (limit : ℕ) (bytes : List ℕ) (records : List Record) → HasGivenOf limit bytes before old records
       → (next : Record) × (held_in new ≡ Some next) × HasGivenOf limit bytes after new (records ++ next ∷ [])
@@ -81,8 +82,8 @@ pub record GivesNext (before after : ShelfState) (old new : Sourcing) (result : 
   pub counted : CountsFault old.ended result before.reading_faults after.reading_faults
   pub reads : ReadsSlot before after (slot_of old) (slot_of new)
 
--- The record that was held was given up. If the next one lies whole in what was read, it is held now, and nothing was read for it;
--- if not, whatever a reading does from here it does from before.
+-- The record that was held was released. If the next one is complete in the bytes that were read, it is held now, and nothing
+-- more was read. If not, what reading the next record does from here, it does from the state before, too.
 pub record Advances (old new : Sourcing) (at_hand : Bool) : Type 0 where
   pub given : at_hand ≡ true → (shelf : ShelfState) → IsSome (shelf.slots (slot_of old)) → GivesNext shelf shelf old new None
   pub further : at_hand ≡ false → (before after : ShelfState) (next : Sourcing) (result : Option End) → GivesNext before after new next result → GivesNext before after old next result

@@ -45,7 +45,7 @@ pub record AddsBytes (before after : ShelfState) (old new : Writing) (bytes : Li
 
 -- ---- what is left
 
--- a file was not made: files, slots and the count of reading faults are unchanged
+-- a file was not made: all files, all slots and the count of reading faults are unchanged
 pub record NotMade (before after : ShelfState) : Type 0 where
   pub files : KeepsFiles before.files after.files
   pub slots : KeepsSlots before.slots after.slots
@@ -72,8 +72,8 @@ pub record PutsPrefix (old new : Option Files) (name bytes : List ℕ) : Type 0 
 abbrev pub MakesPrefix : Option Files → Option Files → List ℕ → List ℕ → Type 0
 MakesPrefix old new name bytes = KeepsFiles old new ⊎ PutsPrefix old new name bytes
 
--- Every slot is live or free as it was, with its file; and if files are shown, what is left to read is unchanged in each slot
--- whose file has a different name from this.
+-- Every slot stays live or free and keeps its file. If files are shown, what is left to read changes only in slots whose file
+-- has this name.
 pub record KeepsSlotsBut (files : Option Files) (old new : Slots) (name : List ℕ) : Type 0 where
   pub same : (j : ℕ) → option_map file_of (new j) ≡ option_map file_of (old j)
   pub left : IsSome files → (j : ℕ) → name_in old j ≢ Some name → left_in new j ≡ left_in old j

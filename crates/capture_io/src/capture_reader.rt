@@ -135,8 +135,8 @@ impl CaptureReader {
         self.classic.whole_ahead(piece)
     }
 
-    /// Whether the piece is known to have all of the next record. Of a pcapng capture, of which nothing is lent, any bytes
-    /// count, since those who write one write whole blocks.
+    /// Whether the piece is known to have all of the next record. For a pcapng capture any bytes count: nothing of it is lent,
+    /// and writers write whole blocks.
     pub fn is_ahead(&self, piece: &[u8]) -> bool {
         match self.format {
             None => false,
@@ -145,7 +145,7 @@ impl CaptureReader {
         }
     }
 
-    /// The next record, in the piece: these are its bytes, including the header.
+    /// The next record, shown in these bytes of the piece, which include its header.
     pub fn lend<'a>(&self, bytes: &'a [u8]) -> RecordView<'a>
         requires { IsNext self.now bytes.now }
         ensures { IsView (held (with_part self.now bytes.now)) result }

@@ -11,7 +11,7 @@ use avtp_files::Shelf;
 use pcap_frames::{Order, Style, Unit, record_header, write_header};
 use std::marker::Model;
 
-/// Captures are little-endian, and count nanoseconds.
+/// A capture is little-endian, with nanoseconds.
 const STYLE: Style = Style {
     order: Order::Little,
     unit: Unit::Nano,
@@ -25,9 +25,9 @@ const RECORD_HEADER: usize = 16;
 
 /// A classic capture, little-endian with nanoseconds (draft-ietf-opsawg-pcap), that is written to a file of a shelf.
 ///
-/// What the file has and then what waits in the buffer is the file header and a record of each frame that was added. If the
-/// shelf fails, the file has a prefix of that; nothing is lost or written twice, so the same call may be made again. Other
-/// files of the shelf may be read in between.
+/// The bytes of the file followed by those that wait in the buffer are the file header and a record of each frame that was
+/// added. If the shelf fails, the file has a prefix of these bytes; nothing is lost or written twice, so the call may be
+/// repeated. Other files of the shelf may be read in between.
 #[derive(Drop)]
 pub struct CaptureWriter {
     file: FileWriter,
@@ -53,11 +53,11 @@ fn file_header() -> [u8; FILE_HEADER]
 }
 
 impl CaptureWriter {
-    /// Makes a file, or empties it, for a capture, which has no record so far. The buffer's memory was reserved before, so
-    /// want of memory leaves the file as it was.
+    /// Makes a file, or empties it, for a capture, which has no record so far. The buffer's memory was reserved before, so if
+    /// memory runs out the file is unchanged.
     ///
-    /// At `Failed` the writing count rose, and `Memory` is the shelf's; after both the file is as it was. It never
-    /// answers `Missing`.
+    /// At `Failed` the writing count rose; `Memory` means that the shelf had no memory. After both the file is unchanged. Never
+    /// returns `Missing`.
     pub fn create<F: Shelf>(buffer: Buffer, shelf: &mut F, name: &str) -> Result<Self, OpenFault>
         requires { buffer ≡ [] }
         ensures { BeginsCapture (F.state shelf.old) (F.state shelf.new) name.now result }
@@ -67,7 +67,7 @@ impl CaptureWriter {
         Ok(CaptureWriter { file })
     }
 
-    /// Adds the record of a frame of at most 65,520 bytes, which is captured whole and spelled in place; or nothing if the
+    /// Adds the record of a frame of at most 65,520 bytes, which is captured whole and written in place; or nothing if the
     /// shelf fails. `arrival` is in nanoseconds, from 0 to before 2^32 seconds.
     #[inline(always)]
     pub fn add<F: Shelf, W: Spelled>(
@@ -90,7 +90,7 @@ impl CaptureWriter {
         Ok(())
     }
 
-    /// Writes what waits, and closes the file. At `Ok` the file has the whole capture, otherwise a prefix of it.
+    /// Writes the bytes that wait, and closes the file. At `Ok` the file has the whole capture, otherwise a prefix of it.
     pub fn finish<F: Shelf>(self, shelf: &mut F) -> Result<(), Failed>
         requires { IsMadeIn (F.state shelf.old).slots self.slot }
         ensures { FinishesCapture (F.state shelf.old) (F.state shelf.new) self result }

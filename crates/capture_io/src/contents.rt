@@ -12,13 +12,13 @@ use std::alloc::Global;
 /// What was read of a file.
 #[derive(Drop)]
 pub struct Contents {
-    /// The bytes from its first on.
+    /// The bytes from the file's first one on.
     pub bytes: Vec<u8>,
     /// Where the reading stopped.
     pub stop: Stop,
 }
 
-/// Opens a file, reads it to its end, or as far as it can or may be read, and closes it. At most `limit` bytes are read.
+/// Opens a file, reads it up to its end, a fault or the limit of `limit` bytes, and closes it.
 ///
 /// Returns `Missing` only if the shelf shows its files and none has the name, `Failed` only if the file could not be opened and
 /// the reading count rose, and `Memory` if memory ran out.

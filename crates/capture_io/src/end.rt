@@ -12,7 +12,7 @@ pub enum End {
     Whole,
     /// At a field that cannot be accepted.
     Refused(Refusal),
-    /// At a fault of reading, or before the first byte.
+    /// At a fault of reading, after some bytes or before the first one.
     ReadFault,
     /// At the last byte that may be read, with more after it.
     Limit,
@@ -30,8 +30,8 @@ pub enum Stop {
 }
 
 impl Stop {
-    /// How a capture ends if nothing was refused in it and its reading stopped here. If the file ended, `lack` is what it
-    /// lacks. A refused field that is complete before that place ends the capture, whatever stopped the reading.
+    /// How a capture ends if nothing was refused in it and its reading stopped here. If the file ended, `lack` is the first
+    /// field that it lacks. A refused field that is complete before the stop ends the capture, whatever stopped the reading.
     pub fn end(self, lack: Option<Refusal>) -> End
         ensures { result ≡ end_at self lack }
     {

@@ -65,7 +65,7 @@ impl Feed {
         }
     }
 
-    /// Feeds the reader what waits, or reads the next piece if nothing waits.
+    /// Feeds the reader the bytes that wait, or reads the next piece if none wait.
     fn step<F: Shelf>(&mut self, shelf: &mut F) -> Option<End>
         requires { IsReady (F.state shelf.old).slots self.old }
         ensures { ReadsOn (F.state shelf.old) (F.state shelf.new) self.old self.new result }
@@ -76,7 +76,7 @@ impl Feed {
         self.feed_piece()
     }
 
-    /// Reads the next piece, when nothing waits.
+    /// Reads the next piece, when no bytes wait.
     fn read_piece<F: Shelf>(&mut self, shelf: &mut F) -> Option<End>
         requires ready { IsReady (F.state shelf.old).slots self.old }
         requires none_waits { self.old.pieces.waiting ≡ [] }
@@ -86,7 +86,7 @@ impl Feed {
         Some(stop.end(self.reader.finish().err()))
     }
 
-    /// Feeds the reader what waits, up to the end of one record, or returns the refusal that ends the reading.
+    /// Feeds the reader bytes that wait, up to the end of one record, or returns the refusal that ends the reading.
     fn feed_piece(&mut self) -> Option<End>
         requires { 0 < length self.old.pieces.waiting }
         ensures { (shelf : ShelfState) → IsReady shelf.slots self.old → ReadsOn shelf shelf self.old self.new result }
@@ -114,7 +114,8 @@ impl Feed {
         self.reader.whole_ahead(self.pieces.waiting())
     }
 
-    /// Whether the next record must first be read, as far as the bytes tell that wait after the first `taken`.
+    /// Whether the file must be read for the next record: the bytes that wait after the first `taken` are not known to have all
+    /// of it.
     pub fn must_read(&self, taken: usize) -> bool
         requires { taken ≤ length self.now.pieces.waiting }
     {

@@ -11,8 +11,8 @@ use std::marker::Model;
 
 /// A file of a shelf that is made and written through a buffer.
 ///
-/// All that was added is in the file, or waits in the buffer after it. If the shelf fails, the file has a prefix of that;
-/// nothing is lost or written twice, so the call may be repeated.
+/// All bytes that were added are in the file, or wait in the buffer to follow them. If the shelf fails, the file has a prefix
+/// of them; nothing is lost or written twice, so the call may be repeated.
 #[derive(Drop)]
 pub struct FileWriter {
     slot: Slot,
@@ -32,8 +32,8 @@ impl FileWriter {
     /// Makes a file, or empties it, to write it through a buffer in which nothing waits. The buffer's memory was reserved
     /// before, so if memory runs out the file is unchanged.
     ///
-    /// At `Failed` the writing count rose, and `Memory` is the shelf's; after both the file is unchanged. Never returns
-    /// `Missing`.
+    /// At `Failed` the writing count rose; `Memory` means that the shelf had no memory. After both the file is unchanged. Never
+    /// returns `Missing`.
     pub fn create<F: Shelf>(buffer: Buffer, shelf: &mut F, name: &str) -> Result<Self, OpenFault>
         requires { buffer ≡ [] }
         ensures { CreatesFile (F.state shelf.old) (F.state shelf.new) name.now result }
@@ -54,7 +54,7 @@ impl FileWriter {
         Ok(())
     }
 
-    /// Writes what waits, if there is no room for this many bytes more.
+    /// Writes the bytes that wait, if there is no room for `size` more.
     #[inline(always)]
     pub(crate) fn make_room<F: Shelf>(&mut self, shelf: &mut F, size: usize) -> Result<(), Failed>
         requires made { IsMadeIn (F.state shelf.old).slots self.old.slot }
@@ -67,7 +67,7 @@ impl FileWriter {
         Ok(())
     }
 
-    /// Adds what is spelled, for which there is room.
+    /// Adds the encoding of a value, for which there is room.
     #[inline(always)]
     pub(crate) fn put<W: Spelled>(&mut self, added: &W)
         requires { length self.old.waiting + length (W.spelling added.now) ≤ 65536 }
@@ -85,7 +85,7 @@ impl FileWriter {
         self.buffer.push(bytes);
     }
 
-    /// Writes all that waits.
+    /// Writes all bytes that wait.
     #[inline(never)]
     fn flush<F: Shelf>(&mut self, shelf: &mut F) -> Result<(), Failed>
         requires { IsMadeIn (F.state shelf.old).slots self.old.slot }
@@ -98,7 +98,7 @@ impl FileWriter {
         Ok(())
     }
 
-    /// Writes what waits, and closes the file. At `Ok` the file has all that was added, otherwise a prefix of that.
+    /// Writes the bytes that wait, and closes the file. At `Ok` the file has all that was added, otherwise a prefix of that.
     pub fn finish<F: Shelf>(self, shelf: &mut F) -> Result<(), Failed>
         requires { IsMadeIn (F.state shelf.old).slots self.slot }
         ensures { FinishesFile (F.state shelf.old) (F.state shelf.new) self result }

@@ -14,8 +14,8 @@ pub fn classic_again()
     ensures { (bytes : List ℕ) → AreBytes bytes → is_pcapng bytes ≡ true → (records_in (as_classic bytes) ≡ records_in bytes) × (refusal_in (as_classic bytes) ≡ None) }
 {}
 
-/// A capture is written beside others. It stays as it is while other files of the shelf are opened, read and closed: these
-/// calls keep all files, and the writer's slot. What two calls after each other leave of all other slots is what each leaves.
+/// A capture that is being written is unchanged while other files of the shelf are opened, read and closed, because these calls
+/// keep all files and the writer's slot. If each of two calls in a row keeps the other slots, both together keep them.
 pub fn captures_are_written_beside_others()
     ensures kept { (files : Option Files) (s t : ShelfState) (w : Writing) (name : List ℕ) (records : List Record) → HoldsCapture files s w name records → KeepsFiles s.files t.files → t.slots w.slot ≡ s.slots w.slot → HoldsCapture files t w name records }
     ensures beside { (files : Option Files) (a b c : Slots) (k : ℕ) (name : List ℕ) → KeepsBeside files a b k name → KeepsBeside files b c k name → KeepsBeside files a c k name }

@@ -10,7 +10,7 @@ use avtp_files::{Shelf, Slot};
 use std::alloc::Global;
 use std::marker::Model;
 
-/// The most bytes of a piece.
+/// The greatest number of bytes in a piece.
 const PIECE: usize = 65_536;
 
 /// An open file that is read in pieces of at most 65,536 bytes, up to a limit. Bytes that were read wait until they are
@@ -65,8 +65,8 @@ impl Pieces {
         })
     }
 
-    /// Reads the next piece, when no bytes wait: then bytes wait, or the call returns where the reading stopped. Bytes beyond
-    /// the limit are dropped; once the others were taken, the call returns that there are more.
+    /// Reads the next piece. No bytes may wait before; after it bytes wait, or the call returns why reading stopped. Bytes
+    /// beyond the limit are dropped: once all others were taken, the call returns `Limit`.
     pub fn read<F: Shelf>(&mut self, shelf: &mut F) -> Option<Stop>
         requires { IsDrained (F.state shelf.old).slots self.old }
         ensures { ReadsPiece (F.state shelf.old) (F.state shelf.new) self.old self.new result }

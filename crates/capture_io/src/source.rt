@@ -82,8 +82,8 @@ impl Source {
         self.feed.next(shelf)
     }
 
-    /// Drops the record that is held, and goes on to the next if it lies whole in what was read. Returns whether it does: if
-    /// not, `next` reads, which may take as long as whoever writes the file does.
+    /// Drops the record that is held, and goes on to the next if that is complete in the bytes that were read. Returns whether
+    /// it is. If not, `next` reads from the file, and may wait for the program that writes it.
     #[inline(always)]
     pub fn advance(&mut self) -> bool
         ensures { Advances self.old self.new result }
@@ -93,8 +93,8 @@ impl Source {
         self.lent.is_some()
     }
 
-    /// Whether `next` will read from the file, as far as the bytes tell that were read: then it may take as long as whoever
-    /// writes the file does, and what is known so far is best told first. It is a hint, which no clause speaks of.
+    /// Whether `next` will read from the file, judged by the bytes that were read. It may then wait for the program that writes
+    /// the file, so a caller prints first what is known so far. This is a hint: no clause says anything of it.
     #[inline(always)]
     pub fn must_read(&self) -> bool {
         self.feed.must_read(self.lent.unwrap_or(0))

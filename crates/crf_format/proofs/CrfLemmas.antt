@@ -13,7 +13,7 @@ use Rattle.avtp_base.proofs.OnlySpelling.{only_spelling}
 use Rattle.avtp_base.proofs.LayoutLemmas.{Holds, IsLaid, holds_spelled, unset_spelled}
 use Rattle.crf_format.specs.Crf.{Crf, IsWritableCrf, SpellsCrf, clock_rows, crf_layout, crf_of, crf_refusal, crf_spelling, crf_subtype, last_pull, misses_timestamps, plain_crf, shared_rows}
 
--- ---- what the rows say
+-- ---- what follows if no row refuses the bytes
 
 not_below : (n least : ℕ) → ltb n least ≡ false → least ≤ n
 not_below n least e = elim (cases_lt n least) [
@@ -25,7 +25,7 @@ some_number : (n : ℕ) → eqb n 0 ≡ false → 0 < n
 some_number zero e = absurd cc
 some_number (suc n) e = omega arith
 
--- what is known of bytes that no row refuses
+-- What is known of bytes that no row refuses.
 record Accepted (bytes : List ℕ) : Type 0 where
   subtype : bits 0 0 8 bytes ≡ crf_subtype
   version : bits 1 1 3 bytes ≡ 0
@@ -86,7 +86,7 @@ crf_spelled bytes e =
       reserved = refl;
     }
 
--- what the bits of bytes say of a packet that they spell
+-- What the bits of the bytes are, if these spell the packet.
 record Fields (bytes : List ℕ) (v : Crf) : Type 0 where
   subtype : bits 0 0 8 bytes ≡ crf_subtype
   sv : bits 1 0 1 bytes ≡ flag v.sv
@@ -133,7 +133,7 @@ crf_writable bytes v s =
       data_length = rw (← f.stated) (bits-below 16 0 16 bytes);
     }
 
--- ---- two packets with equal fields
+-- ---- packets with equal fields are equal
 
 abbrev packet : Bool → Bool → Bool → Bool → ℕ → ℕ → ℕ → ℕ → ℕ → ℕ → List ℕ → Bool → Crf
 packet sv mr fs tu seq kind stream_id pull base_frequency interval payload reserved = record {
@@ -177,7 +177,7 @@ one_packet bytes v s =
 crf_laid : IsLaid 0 crf_layout
 crf_laid = (refl, refl, (refl, refl, (refl, refl, (refl, refl, (refl, refl, (refl, refl, (refl, refl, (refl, refl, tt))))))))
 
--- ---- what was written is read again, whatever follows it
+-- ---- a packet that was written is read back, whatever follows it
 
 header_whole : (n : ℕ) → 20 ≤ n → first_short crf_layout n ≡ None
 header_whole n long =
@@ -217,7 +217,7 @@ accepted_again bytes v whole j long =
     ) in
     or_else-accepted _ _ start (or_else-accepted _ _ shared clock)
 
--- bytes that hold what a writer puts there, and then the payload
+-- bytes that hold what a writer puts into the header, followed by the payload, spell the packet with the reserved bit 0
 held : (bytes : List ℕ) (v : Crf) → IsWritableCrf v → Holds crf_layout v bytes → 20 + length v.payload ≤ length bytes
     → v.payload ≡ take (length v.payload) (drop 20 bytes) → SpellsCrf bytes (plain_crf v)
 held bytes v whole f long payload =
@@ -238,7 +238,7 @@ crf_again v rest whole fits =
     omega (arith, length-append (spelling crf_layout v) (v.payload ++ rest), length-append v.payload rest) in
     rw regrouped (held (spelling crf_layout v ++ (v.payload ++ rest)) v whole f long (sym (take_at v.payload rest (length v.payload) refl)))
 
--- ---- bytes without a reserved bit and without trail are the spelling
+-- ---- bytes without a set reserved bit and without trailing bytes are those that are written for their packet
 
 pub crf_only : (bytes : List ℕ) (v : Crf) → AreBytes bytes → SpellsCrf bytes v → v.reserved ≡ false → length bytes ≡ 20 + length v.payload
     → bytes ≡ crf_spelling v

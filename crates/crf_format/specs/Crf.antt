@@ -73,7 +73,7 @@ point_at i payload = bits (8 * i) 0 64 payload
 abbrev pub last_pull : ℕ
 last_pull = 5
 
--- a stated length is 0, is not a multiple of a timestamp's 8 bytes, or is more than what n bytes hold after the header
+-- a stated length is 0, is not a multiple of a timestamp's 8 bytes, or exceeds the bytes that follow the header of n bytes
 abbrev pub misses_timestamps : ℕ → ℕ → Bool
 misses_timestamps stated n = stated == 0 || not (stated % 8 == 0) || exceeds 20 stated n
 
@@ -136,6 +136,6 @@ pub record IsWritableCrf (v : Crf) : Type 0 where
 abbrev pub plain_crf : Crf → Crf
 plain_crf v = record v { reserved = false }
 
--- the bytes of a clock reference packet, with every reserved bit 0 and nothing after the stated length
+-- the bytes that are written for a clock reference packet: every reserved bit is 0, and nothing follows the stated length
 abbrev pub crf_spelling : Crf → List ℕ
 crf_spelling v = spelling crf_layout v ++ v.payload

@@ -53,8 +53,8 @@ fn base_frequency(pdu: &[u8]) -> u32
     u32_at(pdu, 12) % (1 << 29)
 }
 
-/// Whether a stated length is not that of one or more whole timestamps, or is more than `len` bytes hold after the
-/// header.
+/// Whether a stated length is not that of one or more whole timestamps, or exceeds the bytes that a packet of `len` bytes has
+/// after its header.
 fn misses_timestamps(stated: u16, len: usize) -> bool
     requires { 20 ≤ len }
     ensures { result ≡ is_missed stated len }

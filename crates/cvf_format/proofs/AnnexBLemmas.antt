@@ -47,7 +47,7 @@ first_there hay needle from within (Some k) found = (
   occurs_there hay needle from k within found.1,
 )
 
--- also for the slice that the code searches
+-- a needle is first found there, too, in the slice that the code searches
 pub found_there : (hay needle : List ℕ) (from : ℕ) → from ≤ length hay → (r s : Option ℕ) → r ≡ s
     → FindsNeedle (take (length hay - from) (drop from hay)) needle 0 r → IsFirst (OccursAt hay needle) from (length hay + 1) (option_map (λ k. from + k) s)
 found_there hay needle from within r s e found =
@@ -73,7 +73,7 @@ three_stand bytes at c two more third = record {
       three_read bytes at 0 0 c first (two.reads 1 (omega arith)) third;
 }
 
--- three bytes of which two are zero
+-- three bytes that begin with two zeros hold two zeros
 two_of_three : (bytes : List ℕ) (at c : ℕ) → OccursAt bytes (0 ∷ 0 ∷ c ∷ []) at → OccursAt bytes (0 ∷ 0 ∷ []) at
 two_of_three bytes at c o = record {
   fits = omega (arith, o.fits);
@@ -109,7 +109,7 @@ third_passes bytes at two many =
     not_there : (c : ℕ) → c ≤ 1 → OccursAt bytes (0 ∷ 0 ∷ c ∷ []) at → ⊥
     not_there c few o = let third : get_or bytes (at + 2) 0 ≡ c = o.reads 2 (omega arith) in let fits : at + 2 < length bytes = omega (arith, o.fits) in let more = many fits in absurd (omega arith)
 
--- without two zeros no unit ends
+-- no unit ends at a place without two zeros
 passes_without : (bytes : List ℕ) (at : ℕ) → ¬ OccursAt bytes (0 ∷ 0 ∷ []) at → is_end bytes at ≡ false
 passes_without bytes at none =
     or_from (occurs_at bytes start_code at) (occurs_at bytes three_zeros at)
@@ -139,7 +139,7 @@ end_none bytes at within none =
     let rest : NonePasses (is_end bytes) at (at + (length bytes - at)) = λ k low high. none k low (omega arith) in
     ap (λ (o : Option ℕ). unwrap_or o (length bytes)) (find_none (is_end bytes) (length bytes - at) at rest)
 
--- the code's test of a third byte
+-- the code's test of the third byte tells whether a unit ends there
 pub third_tells : (bytes : List ℕ) (at : ℕ) → OccursAt bytes (0 ∷ 0 ∷ []) at → at + 2 < length bytes → leb (get_or bytes (at + 2) 0) 1 ≡ is_end bytes at
 third_tells bytes at two more =
     elim (leb_tells (get_or bytes (at + 2) 0) 1) [
@@ -186,7 +186,7 @@ not_code bytes k at j code e few = false_from_ne_true (is_start_code bytes k) (�
     zero_there (suc zero) few here e one = let z = here.reads 1 (omega arith) in let same : get_or bytes (at + 2) 0 ≡ 0 = rw (← e) z in absurd (omega arith)
     zero_there (suc (suc j)) few here e one = absurd (omega arith)
 
--- no start code is between a start code and the end of what is after it
+-- no start code begins between a start code and the end of what is after it
 pub code_apart : (bytes : List ℕ) (code : ℕ) → OccursAt bytes start_code code → NonePasses (is_start_code bytes) (code + 1) (end_behind bytes (code + 3))
 code_apart bytes code there k from below =
     let ends = end_first bytes (code + 3) (omega (arith, there.fits)) in
@@ -201,7 +201,7 @@ none_codes bytes low high none k from below = false_from_ne_true (is_start_code 
 pub codes_none : (bytes : List ℕ) (at : ℕ) → at ≤ length bytes → Nowhere (OccursAt bytes start_code) at (length bytes + 1) → units_from bytes at ≡ []
 codes_none bytes at within none = units_none bytes at within (none_codes bytes at (length bytes) (λ k low high. none k low (omega arith)))
 
--- the units from a place on are the one after the first start code there, if it is one, and those after it
+-- the units from a place on are the unit after the first start code there, if there is one, and the units after that start code
 pub code_found : (bytes : List ℕ) (at code : ℕ) → NoneBefore (OccursAt bytes start_code) at (length bytes + 1) code → OccursAt bytes start_code code
     → units_from bytes at ≡ cons_option (unit_behind bytes code) (units_from bytes (code + 1))
 code_found bytes at code first there =
@@ -214,7 +214,7 @@ unit_passed bytes code k there behind before =
     let ends = end_first bytes (code + 3) (omega (arith, there.fits)) in
     units_skipped bytes (code + 1) k behind (omega (arith, ends.within)) (λ i low high. code_apart bytes code there i low (omega arith))
 
--- what the code found after a start code is the unit there
+-- the unit that the code found after a start code is the one that is there
 pub unit_is : (bytes : List ℕ) (code end : ℕ) (r s : Option (ℕ × ℕ)) → end ≡ end_behind bytes (code + 3)
     → r ≡ option_map (λ (last : ℕ). (code + 3, last + 1)) (last_or None (places (is_other_byte bytes) (code + 3) end)) → r ≡ s → unit_behind bytes code ≡ s
 unit_is bytes code end r s ends value is =

@@ -22,11 +22,11 @@ keeps_marks : (a : Assembly) (w : List Fragment) → KeepsAll a w → a.held ≡
 keeps_marks a [] k = k
 keeps_marks a (f ∷ rest) k = k.marks
 
--- the marks of the packets that the last event gave up, by what waited before it and by the stretch at the end
+-- the packets that the last event gave up, by the stretches before and after it
 abbrev pub lost_of : List Fragment → List Fragment → List Fragment
 lost_of before after = if is_joined after then [] else waiting before
 
--- what an assembler keeps after an event, and its answer
+-- What an assembler keeps after an event, by the stretches before and after it.
 pub record Left (a : Assembly) (before after : List Fragment) : Type 0 where
   pub waits : KeepsAll a (waiting after)
   pub lost : a.lost ≡ map mark_of (lost_of before after)
@@ -84,7 +84,7 @@ within_fails r e a b = let t = within_so r a b in absurd cc
 length_unit_more : (g : Fragment) (gs : List Fragment) (f : Fragment) → length (unit_of (g ∷ (gs ++ f ∷ []))) ≡ length (unit_of (g ∷ gs)) + length f.body
 length_unit_more g gs f = ap length (unit_more g gs f) ∙ length-append (unit_of (g ∷ gs)) f.body
 
--- a stretch that is too long stays so
+-- a stretch that exceeds the limits exceeds them with one more fragment, too
 pub stays_long : (g : Fragment) (gs : List Fragment) (f : Fragment) → is_within (g ∷ gs) ≡ false → is_within (g ∷ (gs ++ f ∷ [])) ≡ false
 stays_long g gs f e = by (is_within (g ∷ (gs ++ f ∷ []))) refl
   where
@@ -94,9 +94,9 @@ stays_long g gs f e = by (is_within (g ∷ (gs ++ f ∷ []))) refl
         let l = within_lengths (g ∷ (gs ++ f ∷ [])) k in
         absurd (within_fails (g ∷ gs) e (omega (arith, length_unit_more g gs f, l.0)) (omega (arith, length-append gs (f ∷ []), l.1)))
 
--- ---- the answer for a stretch, by whether it is within the limits and complete
+-- ---- what is returned for a stretch, by whether it is within the limits and complete
 
--- a stretch that is too long, as what came before it is
+-- A stretch that is empty or exceeded the limits before its last packet: nothing waits, and the packet is lost as `Broken`.
 record Overlong (r : List Fragment) : Type 0 where
   waits : waiting r ≡ []
   apart : is_joined r ≡ false
@@ -119,7 +119,7 @@ overlong g gs f e =
       piece = rw (long, front, e) refl;
     }
 
--- a stretch that is too long with its last fragment
+-- A stretch that exceeds the limits only with its last packet: nothing waits, and the packet is lost as `Long`.
 record JustLong (r : List Fragment) : Type 0 where
   waits : waiting r ≡ []
   apart : is_joined r ≡ false
@@ -138,14 +138,14 @@ just_long g gs f e long =
       piece = rw (long, front, e) refl;
     }
 
--- what is given up if the stretch at the end takes nothing over
+-- all packets that waited are given up if the last packet did not join them
 gives_all : (a : Assembly) (before after : List Fragment) → KeepsAll a (waiting before) → is_joined after ≡ false → a.held ≡ map mark_of (lost_of before after)
 gives_all a before after k e = rw e (keeps_marks a (waiting before) k)
 
 gives_count : (a : Assembly) (before after : List Fragment) → KeepsAll a (waiting before) → is_joined after ≡ false → length a.held ≡ length (lost_of before after)
 gives_count a before after k e = ap length (gives_all a before after k e) ∙ length-map (lost_of before after) mark_of
 
--- ---- a packet that continues nothing
+-- ---- a packet that does not continue the waiting unit
 
 lost_left : (a : Assembly) (before after : List Fragment) → KeepsAll a (waiting before) → Overlong after → Left (gave_up a) before after
 lost_left a before after k o = record {
@@ -236,7 +236,7 @@ begun_answers a before f k few =
       piece = rw (within, complete_one f) refl;
     }
 
--- ---- a packet that continues what waits
+-- ---- a packet that continues the waiting unit
 
 first_more : (ts us : List ℤ) → first_stamp (ts ++ us) ≡ or_first (first_stamp ts) (first_stamp us)
 first_more [] us = refl
@@ -326,7 +326,7 @@ room_is a g gs f k =
     let most = lt_le (length a.held) (length (g ∷ (gs ++ f ∷ []))) most_fragments count in
     rw (bytes, most) refl
 
--- what waits, if a packet continues it
+-- The packets that wait, if a packet continues their unit.
 record Waits (a : Assembly) (r : List Fragment) (f : Fragment) : Type 0 where
   first : Fragment
   rest : List Fragment
@@ -363,7 +363,7 @@ waits_here a (g ∷ gs) f k here = by (is_within (g ∷ gs)) (is_complete (g ∷
           goes = sym (here_is a g gs f kept q) ∙ here;
         }
 
--- the stretch with a packet that continues nothing
+-- if a packet continues nothing and begins nothing, no stretch within the limits ends with it
 nothing_here : (a : Assembly) (r : List Fragment) (f : Fragment) → KeepsAll a (waiting r) → begins f.part ≡ false → goes_on_here a f ≡ false → Overlong (step r f)
 nothing_here a [] f k e here = rw e overlong_none
 nothing_here a (g ∷ gs) f k e here = by (is_within (g ∷ gs)) (is_complete (g ∷ gs)) (continues g gs f) refl refl refl
@@ -421,7 +421,7 @@ pushed_apart a events f rest here s =
     let after = nothing_here a r f s.waits rest here in
     pushed_by _ _ events f (lost_left a r (step r f) s.waits after) (lost_answers a r (step r f) s.waits after)
 
--- the stretch with a packet that continues what waits
+-- the stretch after a packet that continues the waiting unit is the waiting packets and this one
 step_here : (r : List Fragment) (g : Fragment) (gs : List Fragment) (f : Fragment) → r ≡ g ∷ gs → continues g gs f ≡ true → step r f ≡ g ∷ (gs ++ f ∷ [])
 step_here r g gs f is goes = rw (is, goes) refl
 

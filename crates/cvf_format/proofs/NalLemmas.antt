@@ -1,4 +1,4 @@
--- The first byte of a NAL unit from its parts, and the reserved bit of a fragment after the others.
+-- The first byte of a NAL unit is joined from two parts, and the reserved bit of a fragment is tested after the others.
 use Rattle.std.proofs.Common.{◌≡◌, ℕ, ◌+◌, ◌*◌, ◌%◌, ◌^◌, ◌<◌, Bool, true, false, cond, not, eqb, ◌⊎◌, inl, inr, List, [], ◌∷◌, ◌++◌, bit_or, refl, ◌∙◌, arith}
 use Rattle.std.proofs.lemmas.Nat.{or_shifted}
 use Rattle.avtp_base.specs.Octets.{Range, range, any_set, bits}
@@ -16,7 +16,7 @@ joined at xs =
     let whole : bits 28 0 3 xs * 32 % 256 ≡ bits 28 0 3 xs * 2 ^ 5 = omega arith in
     rw whole (or_shifted (bits 28 0 3 xs) 5 (bits at 3 5 xs) b)
 
--- if none of the first ranges has a bit that is set, the others decide
+-- if no bit of the first ranges is set, the other ranges decide
 unset_before : (xs ys : List Range) (bytes : List ℕ) → any_set xs bytes ≡ false → any_set (xs ++ ys) bytes ≡ any_set ys bytes
 unset_before [] ys bytes unset = refl
 unset_before (x ∷ xs) ys bytes unset =
@@ -27,7 +27,7 @@ not_unset : (unset : Bool) → cond unset false true ≡ not unset
 not_unset true = refl
 not_unset false = refl
 
--- the reserved bit of a fragment decides if the shared ones are 0
+-- if the reserved bits that all packets share are 0, the reserved bit of the fragment decides
 pub fragment_reserved : (part : NalPart) (bytes : List ℕ) → (part ≡ First) ⊎ ((part ≡ Middle) ⊎ (part ≡ Last))
     → any_set (reserved_ranges (cvf_layout [])) bytes ≡ false → sets_reserved part bytes ≡ not (eqb (bits 29 2 1 bytes) 0)
 fragment_reserved part bytes is unset =

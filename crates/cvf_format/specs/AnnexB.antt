@@ -1,5 +1,5 @@
--- NAL units in a byte stream (ITU-T H.264, annex B). A range of bytes is the place of its first byte and the place
--- after its last.
+-- NAL units in a byte stream (ITU-T H.264, annex B). A range of bytes is given by the place of its first byte and the place
+-- after its last byte.
 use Rattle.std.specs.Prelude.{◌≡◌, ◌≢◌, ◌↔◌, ℕ, ◌+◌, ◌-◌, ◌<◌, ◌≤◌, ◌==◌, Bool, not, ◌||◌, ◌⊎◌, List, [], ◌∷◌, length, slice_index, filter, find, Contains, AllPairs, Option, None, unwrap_or}
 use Rattle.std.specs.List.{range_with_len, filter_map, last_or}
 use Rattle.std.specs.Option.{option_map}
@@ -48,7 +48,7 @@ is_start_code bytes at = occurs_at bytes start_code at
 abbrev pub is_end : List ℕ → ℕ → Bool
 is_end bytes at = occurs_at bytes start_code at || occurs_at bytes three_zeros at
 
--- where a NAL unit that begins at `from` ends, with the zero bytes after it
+-- the place at which a NAL unit from `from` on ends, zero bytes at its end included
 abbrev pub end_behind : List ℕ → ℕ → ℕ
 end_behind bytes from = unwrap_or (find (is_end bytes) (range_with_len from (length bytes - from))) (length bytes)
 
@@ -56,8 +56,8 @@ end_behind bytes from = unwrap_or (find (is_end bytes) (range_with_len from (len
 abbrev pub is_other_byte : List ℕ → ℕ → Bool
 is_other_byte bytes at = not (slice_index bytes at == 0)
 
--- The NAL unit after the start code at this place: it ends with the last byte before its end that is not 0; if there is no such
--- byte, there is no unit.
+-- The NAL unit after the start code at this place. It ends with the last byte before `end_behind` that is not 0; if there is no
+-- such byte, there is no unit.
 abbrev pub unit_behind : List ℕ → ℕ → Option (ℕ × ℕ)
 unit_behind bytes code =
     option_map (λ last. (code + 3, last + 1))

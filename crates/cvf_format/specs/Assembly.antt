@@ -4,8 +4,8 @@ use Rattle.cvf_format.specs.declared.cvf.CvfView.{CvfView}
 use Rattle.cvf_format.specs.declared.piece.Mark.{Mark}
 use Rattle.cvf_format.specs.Stretches.{Fragment, Event, mark_of, unit_of, stamps, held, lost_marks, whole_unit, sequence_numbers}
 
--- An assembler: the bytes of the unit so far; the marks of the packets that wait and of those that were given up last;
--- the first byte of the unit, the sequence number and the instant that the next fragment must have; and whether the
+-- The state of an assembler: the bytes of the unit so far; the marks of the packets that wait and of those that were given up
+-- last; the first byte of the unit, and the sequence number and the instant that the next fragment must have; and whether the
 -- unit is whole.
 pub record Assembly : Type 0 where
   pub bytes : List ℕ
@@ -16,7 +16,7 @@ pub record Assembly : Type 0 where
   pub instant : Option ℤ
   pub whole : Bool
 
--- the packet with this mark and instant, and with what a view shows of its NAL unit
+-- the fragment in a packet with this mark, this instant and this view
 abbrev pub fragment_of : Mark → Option ℤ → CvfView → Fragment
 fragment_of mark instant view = record {
   mark = mark;
@@ -26,7 +26,7 @@ fragment_of mark instant view = record {
   body = view.body.now;
 }
 
--- the bytes of the longest body that a packet can have
+-- the greatest number of bytes that the body of a packet can have
 abbrev pub longest_body : ℕ
 longest_body = 65530
 
@@ -55,7 +55,7 @@ abbrev pub KeepsAll : Assembly → List Fragment → Type 0
 KeepsAll a [] = a.held ≡ []
 KeepsAll a (first ∷ rest) = Keeps a first rest
 
--- the bytes of the unit that an assembler shows, and none if the unit is not whole
+-- the bytes of the unit that an assembler shows; none if the unit is not whole
 abbrev pub shown_unit : Assembly → List ℕ
 shown_unit a = if a.whole then a.bytes else []
 

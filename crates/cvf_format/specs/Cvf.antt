@@ -39,7 +39,7 @@ cvf_shape v = record {
   reserved = v.reserved;
 }
 
--- the format of video that is laid out by an RFC (IEEE 1722-2016, 8)
+-- the code of the video formats that an RFC defines (IEEE 1722-2016, 8)
 abbrev pub rfc_format : ℕ
 rfc_format = 2
 
@@ -110,18 +110,18 @@ fragment_headers =
     reserved 1 ∷
     holds 5 (λ v. type_of v.nal) ∷ []) ∷ []
 
--- the headers of what a packet carries: a whole NAL unit or a fragment
+-- the headers of the NAL unit in a packet, by what the packet carries of it
 abbrev pub headers_of : NalPart → Layout Cvf
 headers_of Single = single_headers
 headers_of First = fragment_headers
 headers_of Middle = fragment_headers
 headers_of Last = fragment_headers
 
--- the table of an H.264 packet, by what it carries of a NAL unit
+-- the table of an H.264 packet, by what the packet carries of its NAL unit
 abbrev pub layout_of : NalPart → Layout Cvf
 layout_of part = cvf_layout (headers_of part)
 
--- how many bytes come before the body, by what the packet carries of a NAL unit
+-- the size in bytes of all headers of a packet, by what it carries of its NAL unit
 abbrev pub header_size : NalPart → ℕ
 header_size Single = 29
 header_size First = 30
@@ -143,7 +143,7 @@ format_rows bytes =
 abbrev pub is_fragment : List ℕ → Bool
 is_fragment bytes = bits 28 3 5 bytes == fu_a
 
--- the row that refuses a field that the stated length cuts off, if this holds
+-- the row that refuses a field that the stated length cuts off, if `holds` is true
 abbrev pub cut_off : Field → ℕ → Bool → Row
 cut_off field at holds = record { refusal = record { field = field; at = at; short = true }; holds = holds }
 
@@ -164,15 +164,15 @@ cvf_refusal bytes =
 
 -- ---- packets
 
--- a reserved bit of an H.264 packet is set, by what it carries of a NAL unit
+-- a reserved bit of an H.264 packet that carries this part of its NAL unit is set
 abbrev pub sets_reserved : NalPart → List ℕ → Bool
 sets_reserved part bytes = any_set (reserved_ranges (layout_of part)) bytes
 
--- the bytes after the headers, to the end of the stated length
+-- the bytes after the headers, up to the end of the stated length
 abbrev pub body_of : NalPart → ℕ → List ℕ → List ℕ
 body_of part stated bytes = take (24 + stated - header_size part) (drop (header_size part) bytes)
 
--- The bytes spell this H.264 packet, whose NAL unit has a type of single units; anything may follow its stated length.
+-- The bytes spell this H.264 packet, whose NAL unit has a type from 1 to 23; anything may follow its stated length.
 pub record SpellsCvf (bytes : List ℕ) (v : Cvf) : Type 0 where
   pub accepted : cvf_refusal bytes ≡ None
   pub fields : Spells (layout_of v.part) v bytes
@@ -180,7 +180,7 @@ pub record SpellsCvf (bytes : List ℕ) (v : Cvf) : Type 0 where
   pub body : v.body ≡ body_of v.part v.header.data_length bytes
   pub reserved : v.reserved ≡ sets_reserved v.part bytes
 
--- what a fragment with these bits S and E carries of its NAL unit
+-- which fragment of its NAL unit a packet with these bits S and E carries
 abbrev pub fragment_of : Bool → Bool → NalPart
 fragment_of true end = First
 fragment_of false true = Last
@@ -220,6 +220,6 @@ pub record IsWritableCvf (v : Cvf) : Type 0 where
 abbrev pub plain_cvf : Cvf → Cvf
 plain_cvf v = record v { header = record v.header { format_bits = 0 }; reserved = false }
 
--- the bytes of an H.264 packet, with every reserved bit 0 and nothing after the stated length
+-- the bytes that are written for an H.264 packet: every reserved bit is 0, and nothing follows the stated length
 abbrev pub cvf_spelling : Cvf → List ℕ
 cvf_spelling v = spelling (layout_of v.part) v ++ v.body

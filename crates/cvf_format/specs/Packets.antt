@@ -1,11 +1,11 @@
 -- How many packets carry a NAL unit (RFC 6184, 5.6 and 5.8). The two sizes are a choice of this project.
 use Rattle.std.specs.Prelude.{◌≡◌, ℕ, ◌+◌, ◌-◌, ◌*◌, ◌/◌, ◌<◌, ◌≤◌, nat_le, if◌then◌else◌}
 
--- the bytes of the longest NAL unit that is sent whole
+-- the length in bytes of the longest NAL unit that is sent whole
 abbrev pub longest_single : ℕ
 longest_single = 1400
 
--- the bytes of the body of each fragment but the last
+-- the length in bytes of the body of each fragment except the last
 abbrev pub full_body : ℕ
 full_body = 1398
 

@@ -11,14 +11,15 @@ packets [] = []
 packets (cut ∷ events) = packets events
 packets (packet fragment ∷ events) = fragment ∷ packets events
 
--- the packets that a packet settles: all packets of its unit if it completes the unit, none if it waits, and itself if
--- it is lost
+-- the packets that a packet settles: all packets of its unit if it completes the unit, none if it waits, and only itself if it
+-- is lost
 abbrev pub settled_as : Piece → Fragment → List Fragment → List Fragment
 settled_as Whole fragment stretch = stretch
 settled_as Held fragment stretch = []
 settled_as (Lost why) fragment stretch = fragment ∷ []
 
--- the packets that an event settles after the events before it: those that it gives up, and then those that it settles itself
+-- the packets that an event settles after the events before it: those that it gives up, followed by those that it settles
+-- itself
 abbrev pub settled_by : List Event → Event → List Fragment
 settled_by before cut = given_up (before ++ cut ∷ [])
 settled_by before (packet fragment) =

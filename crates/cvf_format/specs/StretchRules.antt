@@ -4,8 +4,8 @@ use Rattle.std.specs.List.{All}
 use Rattle.std.specs.Option.{IfSome}
 use Rattle.cvf_format.specs.Stretches.{Fragment, Event, packet, begins, goes_on, completes, sequence_numbers}
 
--- A packet continues the unit of the packet before it: that packet did not complete the unit, both carry the same first
--- byte of the unit, and the sequence number is the next one.
+-- A packet continues the unit of the packet before it: it has a middle or last fragment, the packet before did not complete the
+-- unit, both carry the same first byte of the unit, and the sequence number is the next one.
 pub record GoesOn (before after : Fragment) : Type 0 where
   pub incomplete : completes before.part ≡ false
   pub part : goes_on after.part ≡ true

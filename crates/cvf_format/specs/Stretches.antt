@@ -10,15 +10,15 @@ use Rattle.cvf_format.specs.declared.piece.Lost.TheVariants.{Broken, Long}
 use Rattle.cvf_format.specs.declared.piece.Piece.{Piece}
 use Rattle.cvf_format.specs.declared.piece.Piece.TheVariants as variant
 
--- the bytes of the longest NAL unit that is put together
+-- the length in bytes of the longest NAL unit that is put together
 abbrev pub longest_unit : ℕ
 longest_unit = 4194304
 
--- the most packets that one NAL unit is put together from
+-- the greatest number of packets that one NAL unit is put together from
 abbrev pub most_fragments : ℕ
 most_fragments = 4096
 
--- how many sequence numbers there are: after the last they begin again at 0
+-- how many sequence numbers there are; after the last one they begin again at 0
 abbrev pub sequence_numbers : ℕ
 sequence_numbers = 256
 
@@ -72,7 +72,7 @@ completes First = false
 completes Middle = false
 completes Last = true
 
--- a packet continues the unit of the packet before it
+-- a packet continues the NAL unit of the packet before it
 abbrev pub follows : Fragment → Fragment → Bool
 follows before after =
     not (completes before.part)
@@ -80,7 +80,7 @@ follows before after =
     && (after.nal == before.nal)
     && (after.mark.seq == (before.mark.seq + 1) % sequence_numbers)
 
--- each packet, after this first one, continues the unit of the packet before it
+-- each packet of the list continues the NAL unit of the packet before it; `before` is the one before the first
 abbrev pub are_linked : Fragment → List Fragment → Bool
 are_linked before [] = true
 are_linked before (after ∷ rest) = follows before after && are_linked after rest
@@ -94,13 +94,13 @@ abbrev pub all_equal : List ℤ → Bool
 all_equal [] = true
 all_equal (instant ∷ rest) = list_all (int_eq instant) rest
 
--- Adjacent packets are a stretch: the first begins a unit, each other one continues it, and all that have a timestamp
--- have the same instant.
+-- Adjacent packets are a stretch: the first begins a unit, each other one continues the unit of the packet before it, and all
+-- that have a timestamp have the same instant.
 unfoldable pub is_stretch : List Fragment → Bool
 is_stretch [] = false
 is_stretch (first ∷ rest) = begins first.part && are_linked first rest && all_equal (stamps (first ∷ rest))
 
--- the longest end of a list that is a stretch; empty if no end is one
+-- the longest stretch with which a list ends; empty if it ends with none
 abbrev pub stretch_of : List Fragment → List Fragment
 stretch_of [] = []
 stretch_of (first ∷ rest) = if is_stretch (first ∷ rest) then first ∷ rest else stretch_of rest
@@ -144,7 +144,7 @@ held events = waiting (last_stretch events)
 abbrev pub is_passed : List Fragment → Bool
 is_passed stretch = not (is_within stretch) && is_within (before_last stretch)
 
--- what becomes of the last packet of a stretch, or of a packet that is in none, by what is known when it comes
+-- what becomes of the last packet of this stretch, or of a packet that is in no stretch, by what is known when it comes
 abbrev pub piece_of : List Fragment → Piece
 piece_of [] = variant.Lost Broken
 piece_of (first ∷ rest) =
@@ -163,7 +163,7 @@ is_joined stretch = nat_lt 1 (length stretch) && is_within stretch
 abbrev pub given_up : List Event → List Fragment
 given_up events = if is_joined (last_stretch events) then [] else held (before_last events)
 
--- Why the last packet of a stretch gave up those that waited: it made their unit too long, or did not continue it.
+-- why the last packet of a stretch gave up the packets that waited: it made their unit too long, or did not continue it
 abbrev pub reason_of : List Fragment → Lost
 reason_of [] = Broken
 reason_of (first ∷ rest) = if is_passed (first ∷ rest) then Long else Broken
@@ -172,7 +172,7 @@ reason_of (first ∷ rest) = if is_passed (first ∷ rest) then Long else Broken
 abbrev pub reason : List Event → Lost
 reason events = reason_of (last_stretch events)
 
--- the bytes of the unit of a stretch; none if it is not complete or not within the limits
+-- the bytes of the unit of a stretch; none if the stretch is not complete or not within the limits
 abbrev pub whole_of : List Fragment → List ℕ
 whole_of stretch = if is_within stretch && is_complete stretch then unit_of stretch else []
 

@@ -49,7 +49,7 @@ fn end_of_unit(bytes: &[u8], from: usize) -> usize
     bytes.len()
 }
 
-/// A range of bytes without the zero bytes at its end; `None` if all its bytes are zero.
+/// A range of bytes without the zero bytes at its end; `None` if all its bytes are 0.
 fn without_zeros(bytes: &[u8], from: usize, end: usize) -> Option<(usize, usize)>
     requires order { from ≤ end }
     requires inside { end ≤ length bytes.now }

@@ -11,19 +11,18 @@ use avtp_base::NoMemory;
 use std::alloc::Global;
 use std::marker::Model;
 
-/// The bytes of the longest unit.
+/// The length in bytes of the longest unit.
 const LONGEST_UNIT: usize = 4_194_304;
 
-/// The most fragments of a unit.
+/// The greatest number of fragments of a unit.
 const MOST_FRAGMENTS: usize = 4_096;
 
 /// Puts NAL units together from the packets of a stream, in the order in which they came.
 ///
-/// A unit is one packet, or a first fragment and those after it, each with the same first byte of the unit and the next
-/// sequence number, up to a last one. All that are stamped must have one presentation time.
+/// A unit is one packet, or a first fragment and those after it, up to a last one. Each carries the same first byte of the
+/// unit, and has the next sequence number. All that are stamped must have one presentation time.
 ///
-/// What becomes of a packet depends on the longest stretch of packets that ends with it, and the assembler keeps only
-/// that stretch.
+/// What becomes of a packet depends on the longest stretch of packets that ends with it. The assembler keeps only that stretch.
 #[derive(Drop)]
 pub struct Assembler {
     /// The unit so far, or the last one that is whole.
@@ -110,8 +109,8 @@ fn completes_unit(part: NalPart) -> bool
 }
 
 impl Assembler {
-    /// No packet yet. Reserves the memory for a unit of 4,194,304 bytes, and for the marks of 4,096 fragments that wait
-    /// and as many that were given up.
+    /// An assembler without a packet. Reserves the memory for a unit of 4,194,304 bytes, and for the marks of 4,096 fragments
+    /// that wait and of 4,096 that were given up.
     pub fn new(alloc: Global) -> Result<Self, NoMemory>
         ensures { IfOk result (λ assembler. StandsFor assembler []) }
     {
@@ -128,9 +127,9 @@ impl Assembler {
 
     /// Takes a packet, with its mark and, if it is stamped, its presentation time in nanoseconds of gPTP.
     ///
-    /// A unit is whole with its last packet. A packet that does not continue the waiting unit gives it up, and so does
-    /// one that would make the unit longer than 4,194,304 bytes or 4,096 fragments, and is then lost with it. A packet
-    /// that completes a unit must have a timestamp, and a body has at most 65,530 bytes. Allocates nothing.
+    /// A unit is whole when its last packet comes. A packet that does not continue the waiting unit gives it up. A packet that
+    /// would make the unit longer than 4,194,304 bytes or 4,096 fragments gives it up, too, and is lost with it. A packet that
+    /// completes a unit must have a timestamp, and a body has at most 65,530 bytes. Allocates nothing.
     pub fn push(&mut self, mark: Mark, instant: Option<i64>, view: &CvfView<'_>) -> Pushed
         requires body { length view.now.body.now ≤ longest_body }
         requires stamped { IsTrue (completes view.now.part) → IsSome instant }
@@ -147,8 +146,8 @@ impl Assembler {
         self.push_packet(mark, instant, view)
     }
 
-    /// The mark of fragment `i`, from 0, of those that the last packet or cut gave up, in the order in which they came.
-    /// `i` must be below their number.
+    /// The mark of fragment `i`, counted from 0, among those that the last packet or cut gave up, in the order in which they
+    /// came. `i` must be below their number.
     pub fn lost_mark(&self, i: u32) -> Mark
         requires { i < length self.now.lost }
         ensures { (events : List Event) → StandsFor self.now events → slice_get (lost_marks events) i ≡ Some result }
@@ -259,7 +258,7 @@ impl Assembler {
         body.len() <= LONGEST_UNIT - self.bytes.len() && self.held.len() < MOST_FRAGMENTS
     }
 
-    /// Adds to the bytes of the unit, for which there must be room.
+    /// Adds these bytes to the unit, which must have room for them.
     fn append(&mut self, bytes: &[u8])
         requires { length self.old.bytes + length bytes.now ≤ LONGEST_UNIT }
         ensures { self.new ≡ record self.old { bytes = self.old.bytes ++ bytes.now } }
@@ -287,7 +286,7 @@ impl Assembler {
         self.next_seq = mark.seq.wrapping_add(1);
     }
 
-    /// The packet waits, or it completes the unit.
+    /// Notes that the packet waits, or that it completes the unit.
     fn settle(&mut self, mark: Mark, part: NalPart) -> Piece
         requires { length self.old.held < MOST_FRAGMENTS }
         ensures left { self.new ≡ record self.old { held = if completes part then [] else self.old.held ++ mark ∷ []; whole = completes part } }
@@ -322,7 +321,7 @@ impl Assembler {
         }
     }
 
-    /// Continues the unit, for which there must be room.
+    /// Continues the unit, which must have room for the packet.
     fn go_on(&mut self, mark: Mark, instant: Option<i64>, view: &CvfView<'_>) -> Pushed
         requires bytes { length self.old.bytes + length view.now.body.now ≤ LONGEST_UNIT }
         requires fragments { length self.old.held < MOST_FRAGMENTS }

@@ -33,17 +33,17 @@ pub struct CvfView<'a> {
     pub evt: u8,
     /// The H.264 timestamp, in nanoseconds of gPTP modulo 2^32 like the header's.
     pub h264_timestamp: u32,
-    /// The first byte of the NAL unit: F in one bit, NRI in two, and the type, 1 to 23, in five. All fragments of a
-    /// unit carry the same first byte, in their two headers.
+    /// The first byte of the NAL unit: F in one bit, NRI in two, and the type, 1 to 23, in five. All fragments of a unit carry
+    /// this byte, in their two headers.
     pub nal: u8,
     pub part: NalPart,
-    /// The bytes of the NAL unit after its first that this packet carries.
+    /// The bytes that this packet carries of the NAL unit, without the unit's first byte.
     pub body: &'a [u8],
     /// A reserved bit is set.
     pub reserved: bool,
 }
 
-/// The bytes of a packet before its body.
+/// The size in bytes of a packet's headers, which come before its body.
 pub fn header_size(part: NalPart) -> usize
     ensures { result ≡ size_of_header part }
 {

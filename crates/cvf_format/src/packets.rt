@@ -3,10 +3,10 @@
 ghost use Rattle.std.specs.Prelude.{◌≡◌, ◌≤◌};
 ghost use Rattle.cvf_format.specs.Packets.{IsCut, packets_of};
 
-/// The bytes of the longest NAL unit that is sent whole.
+/// The length in bytes of the longest NAL unit that is sent whole.
 const LONGEST_SINGLE: usize = 1400;
 
-/// The bytes of the body of each fragment except the last.
+/// The length in bytes of the body of each fragment except the last.
 const FULL_BODY: usize = 1398;
 
 /// The number of packets that carry a NAL unit of `len` bytes, 1 to 268,435,456: one for a unit of at most 1400 bytes;

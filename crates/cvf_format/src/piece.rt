@@ -1,7 +1,7 @@
 //! What becomes of the fragments of NAL units.
 
-/// Which packet it is: its frame of the capture, counted from 1, its sequence number, and its arrival in nanoseconds of
-/// gPTP.
+/// Which packet a fragment came in: its frame of the capture, counted from 1, its sequence number, and its arrival in
+/// nanoseconds of gPTP.
 #[derive(Clone, Copy, Debug, PartialEq, Eq)]
 pub struct Mark {
     pub frame: u64,
@@ -12,13 +12,13 @@ pub struct Mark {
 /// Why a fragment is in no unit.
 #[derive(Clone, Copy, Debug, PartialEq, Eq)]
 pub enum Lost {
-    /// The fragments before it or after it are missing, or do not match.
+    /// Fragments before it or after it are missing, or do not match it.
     Broken,
     /// The unit would have more than 4,194,304 bytes or 4,096 fragments.
     Long,
 }
 
-/// What becomes of a packet, by what is known when it comes.
+/// What becomes of a packet, as far as is known when it comes.
 #[derive(Clone, Copy, Debug, PartialEq, Eq)]
 pub enum Piece {
     /// Its unit is whole.
@@ -29,7 +29,7 @@ pub enum Piece {
     Lost(Lost),
 }
 
-/// What a packet did.
+/// What happened when a packet came.
 #[derive(Clone, Copy, Debug, PartialEq, Eq)]
 pub struct Pushed {
     /// The number of earlier fragments that it gave up.

@@ -97,7 +97,7 @@ fn nal_at(pdu: &[u8], part: NalPart) -> u8
     }
 }
 
-/// A reserved bit before the NAL unit is set.
+/// Whether a reserved bit before the NAL unit is set.
 fn sets_shared_reserved(pdu: &[u8]) -> bool
     requires { 24 ≤ length pdu.now }
     ensures { result ≡ any_set (reserved_ranges (cvf_layout [])) pdu.now }

@@ -23,7 +23,7 @@ pub fn each_packet_once()
     ensures next { (before : List Event) (event : Event) → held before ++ packets (event ∷ []) ≡ settled_by before event ++ held (before ++ event ∷ []) }
 {}
 
-/// The packets that wait, those that an event gives up, and those of a complete unit are within the limits.
+/// At most 4,096 packets wait, an event gives up at most 4,096, and a complete unit has at most 4,194,304 bytes.
 pub fn within_the_limits()
     ensures held { (events : List Event) → length (held events) ≤ most_fragments }
     ensures given_up { (events : List Event) → length (given_up events) ≤ most_fragments }

@@ -76,9 +76,9 @@ quadlets_told byte dbs e some = elim (eqb_tells dbs 256) [
 some_block : (byte : ℕ) → 0 < block_size (dbs_of byte)
 some_block byte = let some = some_quadlets byte in omega arith
 
--- ---- what the rows say
+-- ---- what follows if no row refuses the bytes
 
--- what is known of bytes that no row refuses
+-- What is known of bytes that no row refuses.
 record Accepted (bytes : List ℕ) : Type 0 where
   header : header_refusal bytes ≡ None
   version : bits 1 1 3 bytes ≡ 0
@@ -200,7 +200,7 @@ iec_spelled bytes e =
       reserved = refl;
     }
 
--- ---- two packets with equal fields
+-- ---- packets with equal fields are equal
 
 abbrev cip : ℕ → ℕ → ℕ → ℕ → ℕ → Cip
 cip sid dbs dbc fdf syt = record { sid = sid; dbs = dbs; dbc = dbc; fdf = fdf; syt = syt }
@@ -226,7 +226,7 @@ same_packet : (a a' : StreamHeader) (b b' c c' d d' e e' : ℕ) (f f' : Cip) (g 
     → packet a b c d e f g h i ≡ packet a' b' c' d' e' f' g' h' i'
 same_packet a a' b b' c c' d d' e e' f f' g g' h h' i i' p q r s t u v w x = rw (p, q, r, s, t, u, v, w, x) refl
 
--- what the bits of bytes say of a packet that they spell
+-- What the bits of the bytes are, if these spell the packet.
 record Fields (bytes : List ℕ) (v : Iec) : Type 0 where
   subtype : bits 0 0 8 bytes ≡ v.header.subtype
   version : bits 1 1 3 bytes ≡ 0
@@ -324,7 +324,7 @@ iec_laid : IsLaid 0 iec_layout
 iec_laid =
     (refl, refl, (refl, refl, (refl, refl, (refl, refl, (refl, refl, (refl, refl, (refl, refl, (refl, refl, (refl, refl, (refl, refl, cip_laid))))))))))
 
--- ---- what was written is read again, whatever follows it
+-- ---- a packet that was written is read back, whatever follows it
 
 whole_blocks : (count block size : ℕ) → count * block ≡ size → size % block ≡ 0
 whole_blocks count block size e = rw (← e) (mul-mod_left count block)
@@ -379,7 +379,7 @@ accepted_again bytes v whole j long =
     or_else-accepted _ _ (or_else-accepted _ _ start shared)
     (or_else-accepted _ _ carrier (or_else-accepted _ _ first (or_else-accepted _ _ second blocks)))
 
--- bytes that hold what a writer puts there, and then the payload
+-- bytes that hold what a writer puts into the headers, followed by the payload, spell the packet with reserved bits 0
 held : (bytes : List ℕ) (v : Iec) → IsWritableIec v → Holds iec_layout v bytes → 24 + v.header.data_length ≤ length bytes
     → v.payload ≡ take (v.header.data_length - 8) (drop 32 bytes) → SpellsIec bytes (plain_iec v)
 held bytes v whole f long payload =
@@ -437,7 +437,7 @@ fits_whole v gv info flags whole e (subtype, ((sv, (version, (mr, (_, tv)))), (s
   ),
 )
 
--- ---- bytes without a reserved bit and without trail are the spelling
+-- ---- bytes without a set reserved bit and without trailing bytes are those that are written for their packet
 
 pub iec_only : (bytes : List ℕ) (v : Iec) → AreBytes bytes → SpellsIec bytes v → v.reserved ≡ false → length bytes ≡ 24 + v.header.data_length
     → bytes ≡ iec_spelling v

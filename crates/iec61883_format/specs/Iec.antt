@@ -59,7 +59,7 @@ audio_format = 0x10
 abbrev pub no_data : ℕ
 no_data = 255
 
--- the quadlets of a data block, by the byte DBS: 256 do not fit a byte, so 0 means 256 (IEC 61883-1)
+-- how many quadlets a data block has, by the byte DBS: 256 does not fit a byte, so 0 means 256 (IEC 61883-1)
 abbrev pub dbs_of : ℕ → ℕ
 dbs_of byte = if byte == 0 then 256 else byte
 
@@ -98,11 +98,11 @@ IsSytInterval interval = (interval ≡ 8) ⊎ (interval ≡ 16) ⊎ (interval �
 abbrev pub anchor_index : ℕ → ℕ → ℕ
 anchor_index dbc interval = stamped_index (Blocks dbc interval)
 
--- the bytes of a data block of `dbs` quadlets
+-- the size in bytes of a data block of `dbs` quadlets
 abbrev pub block_size : ℕ → ℕ
 block_size dbs = 4 * dbs
 
--- how many of the `size` bytes after the CIP header are data blocks: all of them, and none in a no-data packet
+-- how many of the `size` bytes after the CIP header belong to data blocks: all of them, or none in a no-data packet
 abbrev pub data_size : ℕ → ℕ → ℕ
 data_size fdf size = if fdf == no_data then 0 else size
 
@@ -161,11 +161,11 @@ second_quadlet_rows bytes =
     row Fmt 28 (not (bits 28 2 6 bytes == audio_format)) ∷
     row Fdf 29 (nat_lt 6 (bits 29 0 8 bytes) && not (bits 29 0 8 bytes == no_data)) ∷ []
 
--- the bytes of all data blocks of a packet, by its stated length and its FDF
+-- how many bytes all data blocks of a packet have together, by its stated length and its FDF
 abbrev pub stated_data : List ℕ → ℕ
 stated_data bytes = data_size (bits 29 0 8 bytes) (bits 20 0 16 bytes - 8)
 
--- the bytes of each data block of a packet, by its DBS
+-- how many bytes each data block of a packet has, by its DBS
 abbrev pub stated_block : List ℕ → ℕ
 stated_block bytes = block_size (dbs_of (bits 25 0 8 bytes))
 
@@ -240,6 +240,6 @@ pub record IsWritableIec (v : Iec) : Type 0 where
 abbrev pub plain_iec : Iec → Iec
 plain_iec v = record v { header = record v.header { format_bits = v.header.format_bits % 2 }; reserved = false }
 
--- the bytes of an IEC 61883-6 packet, with every reserved bit 0 and nothing after the stated length
+-- the bytes that are written for an IEC 61883-6 packet: every reserved bit is 0, and nothing follows the stated length
 abbrev pub iec_spelling : Iec → List ℕ
 iec_spelling v = spelling iec_layout v ++ v.payload

@@ -36,9 +36,9 @@ pub fn syt_interval(fdf: u8) -> Option<u32>
     })
 }
 
-/// The data block, counted from 0, that the timestamp of a packet belongs to: the first whose block count is a multiple
-/// of SYT_INTERVAL, if the packet's first block has the count `dbc`. The packet may have fewer blocks than that. The
-/// interval is 8, 16 or 32.
+/// The data block, counted from 0, that the timestamp of a packet belongs to: the first whose block count is a multiple of
+/// SYT_INTERVAL, if the packet's first block has the count `dbc`. The packet may end before that block. The interval is 8, 16
+/// or 32.
 pub fn anchor_index(dbc: u8, interval: u32) -> u32
     requires { IsSytInterval interval }
     ensures exact { result ≡ index_of_anchor dbc interval }

@@ -14,7 +14,7 @@ use avtp_header::{exceeds, read_header_of, subtype};
 /// The FDF of a no-data packet.
 const NO_DATA: u8 = 255;
 
-/// The quadlets of a data block, by the byte DBS.
+/// How many quadlets a data block has, by the byte DBS.
 fn dbs_of(byte: u8) -> u16
     ensures exact { result ≡ quadlets_of byte }
     ensures some { 0 < result }
@@ -23,7 +23,7 @@ fn dbs_of(byte: u8) -> u16
     if byte == 0 { 256 } else { u16::from(byte) }
 }
 
-/// How many of the bytes after the CIP header are data blocks.
+/// How many of the `size` bytes after the CIP header belong to data blocks.
 fn data_size(fdf: u8, size: u32) -> u32
     ensures { result ≡ data_size_of fdf size }
 {
@@ -83,7 +83,7 @@ fn refused_by_second_quadlet(pdu: &[u8]) -> Option<Refusal>
     None
 }
 
-/// The refusal of data blocks of `block` bytes that do not fill their part of the stated length.
+/// The refusal of the stated length if data blocks of `block` bytes do not fill its part for data.
 fn refused_by_blocks(pdu: &[u8], data_bytes: u32, block: u32) -> Option<Refusal>
     requires some { 0 < block }
     requires all { data_bytes ≡ stated_data pdu.now }

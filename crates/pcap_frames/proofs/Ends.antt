@@ -1,4 +1,4 @@
--- Where the bytes that a reader took may end.
+-- What the bytes that a reader took hold if the capture ends with them.
 use Rattle.std.proofs.Common.{◌≡◌, ℕ, ◌+◌, ◌-◌, ◌<◌, ◌≤◌, true, cond, List, [], ◌∷◌, ◌++◌, length, drop, Option, Some, None, refl, sym, ap, subst, ◌∙◌, arith, is_none, is_some, inl, inr, append_assoc, length-append, length-drop}
 use Rattle.std.proofs.lemmas.Bool.Decides.{nat_tests}
 use Rattle.std.proofs.lemmas.List.{append-nil}
@@ -13,7 +13,7 @@ use Rattle.pcap_frames.specs.state.Reading.{ending, ending_by}
 use Rattle.pcap_frames.proofs.Fields.{file_whole, record_whole, nothing_held, record_begins}
 use Rattle.pcap_frames.proofs.Steps.{reading}
 
--- one more record at the end
+-- one more record is spelled at the end
 spells_more : (style : Style) (records : List Record) (r : Record) (bytes last : List ℕ) → SpellsAll style records bytes → Spells style r last → SpellsAll style (records ++ r ∷ []) (bytes ++ last)
 spells_more style [] r bytes last all one = (last, [], rw all (sym (append-nil last)), one, refl)
 spells_more style (x ∷ records) r bytes last all one =
@@ -32,7 +32,7 @@ pub record_limited : (order : Order) (start : ℕ) (bytes : List ℕ) → record
 unfolding record_refusal
 record_limited order start bytes h = grind (arith, nat_tests)
 
--- a whole part is a spelling
+-- a part of a record that is whole spells that record
 spells_part : (style : Style) (start : ℕ) (part : List ℕ) → IsPart style.order start part → record_refusal style.order start part ≡ None → Spells style (record_of style part) part
 spells_part style start part p none =
     let whole = record_whole style.order start part none in
@@ -96,14 +96,14 @@ given_up style start part next bytes records None e some none h = record {
   reading = record_begins style.order (start + length part) next none;
 }
 
--- the held record is given up
+-- the held record is released
 pub gives_up : (refusal : Option Refusal) (style : Option Style) (start : ℕ) (part next bytes : List ℕ) (records : List Record) → is_some (held_by refusal style start part) ≡ true → next ≡ []
     → HasRead (reading refusal style start part) bytes records → HasRead (reading refusal style (start + length part) next) bytes (records ++ option_to_list (held_by refusal style start part))
 gives_up (Some r) style start part next bytes records some none h = absurd (cc)
 gives_up None None start part next bytes records some none h = absurd (cc)
 gives_up None (Some style) start part next bytes records some none h = given_up style start part next bytes records (record_refusal style.order start part) refl some none h
 
--- none is held if nothing has come of the next
+-- no record is held if nothing has come of the next one
 pub free_held : (refusal : Option Refusal) (style : Option Style) (start : ℕ) (part : List ℕ) → part ≡ [] → held_by refusal style start part ≡ None
 free_held (Some r) style start part none = refl
 free_held None None start part none = refl

@@ -48,7 +48,7 @@ same_frame a a' b b' c c' d d' e e' f f' p q r s t u = rw (p, q, r, s, t, u) ref
 same_tag : (t : Tag) (a : ℕ) (b : Bool) (c : ℕ) → t.pcp ≡ a → t.dei ≡ b → t.vid ≡ c → t ≡ record { pcp = a; dei = b; vid = c }
 same_tag t a b c p q r = rw (← p, ← q, ← r) refl
 
--- what the bits of a tagged frame say
+-- What the bits of a tagged frame are.
 record Tagged (bytes : List ℕ) (v : Frame) (t : Tag) : Type 0 where
   dst : bits 0 0 48 bytes ≡ v.dst
   src : bits 6 0 48 bytes ≡ v.src
@@ -154,7 +154,7 @@ only_by bytes dst src (Some t) ethertype start payload fits long s =
     only_spelling (frame_layout true) v bytes 18 (laid_by true) refl fits long s.fields
     ∙ ap (λ (xs : List ℕ). spelling (frame_layout true) v ++ xs) (sym rest)
 
--- a header without a part that is cut off
+-- a header of which no part is cut off is whole
 whole_by : (tagged : Bool) (n : ℕ) → first_short (frame_layout tagged) n ≡ None → header_len tagged ≤ n
 whole_by false n e = ltb-false n 14 (rows_passed (map (short_row n) (frame_layout false)) e).1.1.0
 whole_by true n e = ltb-false n 18 (rows_passed (map (short_row n) (frame_layout true)) e).1.1.1.1.0

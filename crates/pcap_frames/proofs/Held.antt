@@ -1,4 +1,4 @@
--- What it means that a reader holds a record, or is refused.
+-- What follows if a reader holds a record, or is refused.
 use Rattle.std.proofs.Common.{◌≡◌, ℕ, ◌+◌, ◌≤◌, false, cond, List, [], ◌∷◌, ◌++◌, length, Option, Some, None, IsSome, refl, sym, ap, subst, ◌∙◌, arith, is_none, inl, inr, append_assoc, length-append}
 use Rattle.std.specs.Prelude.{IfSome, Result, Ok, Err, option_to_list}
 use Rattle.std.specs.Result.{result_err}
@@ -22,7 +22,7 @@ held_none : (x : Option Refusal) (r : Record) → IsSome (cond (is_none x) (Some
 held_none None r h = refl
 held_none (Some why) r h = absurd (cc)
 
--- a held record is whole, and not refused
+-- a held record is whole, and nothing in it is refused
 pub held_is : (refusal : Option Refusal) (style : Option Style) (s : Style) (start : ℕ) (part : List ℕ) → refusal ≡ None → style ≡ Some s → IsSome (held_by refusal style start part) → record_refusal s.order start part ≡ None
 held_is refusal style s start part none is h = held_none (record_refusal s.order start part) (record_of s part) (rw (none, is) at h)
 
@@ -30,7 +30,7 @@ held_is refusal style s start part none is h = held_none (record_refusal s.order
 pub is_held_by : (refusal : Option Refusal) (style : Option Style) (s : Style) (start : ℕ) (part : List ℕ) → refusal ≡ None → style ≡ Some s → record_refusal s.order start part ≡ None → IsSome (held_by refusal style start part)
 is_held_by refusal style s start part none is e = rw (none, is, e) refl
 
--- a held record ends with the bytes that came
+-- a held record ends with the last byte that came
 pub held_ends : (order : Order) (start : ℕ) (part : List ℕ) → IsPart order start part → record_refusal order start part ≡ None → length part ≡ 16 + number_at order 8 4 part
 held_ends order start part p e =
     let whole = record_whole order start part e in
@@ -39,7 +39,7 @@ held_ends order start part p e =
       | inr within ↦ omega arith
     ]
 
--- the record is whole once its last byte came
+-- a record is whole once its last byte has come
 pub filled : (order : Order) (start : ℕ) (part more : List ℕ) → IsPart order start part → 16 ≤ length part → length (part ++ more) ≡ 16 + number_at order 8 4 part → record_refusal order start (part ++ more) ≡ None
 filled order start part more p long size =
     let limit = record_limit order start part (omega arith) p.accepted in
@@ -66,14 +66,14 @@ style_after bytes more records r long (inr h) =
     let whole = file_whole bytes none in
     rw (none, file_stays bytes more None none refl) (style_at_stays bytes more (omega arith))
 
--- a refused reader has read all later bytes
+-- a refused reader counts all later bytes as read
 pub refused_goes_on : (refusal : Option Refusal) (style : Option Style) (start : ℕ) (part : List ℕ) (r : Refusal) (more : List ℕ) → refusal ≡ Some r → GoesOn (reading refusal style start part) more (reading refusal style start part)
 refused_goes_on refusal style start part r more e bytes records h =
     let long = rw e at h.reading in
     let stands = rw e at h.stands in
     record { style = h.style ∙ sym (style_after bytes more records r long stands); stands = rw e (refused_stays bytes more records r long stands); reading = h.reading }
 
--- what a refused reader says is the first refusal, whatever bytes follow
+-- the refusal of a reader is the first one of its bytes, whatever bytes follow
 pub refused_for_good : (refusal : Option Refusal) (style : Option Style) (start : ℕ) (part : List ℕ) (r : Refusal) (bytes more : List ℕ) (records : List Record) → refusal ≡ Some r → HasRead (reading refusal style start part) bytes records → Holds (bytes ++ more) records (Some r)
 refused_for_good refusal style start part r bytes more records e h = refused_stays bytes more records r (rw e at h.reading) (rw e at h.stands)
 
@@ -83,14 +83,14 @@ uncertain_by None None start part none keeps = keeps.accepted
 uncertain_by None (Some style) start [] none keeps = refl
 uncertain_by None (Some style) start (b ∷ part) none keeps = keeps.accepted
 
--- the verdict of the reader is that of the bytes
+-- the verdict of the reader is that on its bytes
 pub ending_is : (r : Reading) (bytes : List ℕ) (records : List Record) → HasRead r bytes records → ending r ≡ first_refusal bytes
 ending_is r bytes records h = (holds_one bytes _ _ _ _ (ends r bytes records h) (holds_whole bytes)).1
 
 pub records_are : (r : Reading) (bytes : List ℕ) (records : List Record) → HasRead r bytes records → records ++ option_to_list (held r) ≡ whole_records bytes
 records_are r bytes records h = (holds_one bytes _ _ _ _ (ends r bytes records h) (holds_whole bytes)).0
 
--- a reader that is not refused has taken no byte that is refused
+-- nothing in the bytes of a reader that is not refused is certain to be refused
 pub uncertain : (r : Reading) (bytes : List ℕ) (records : List Record) → r.refusal ≡ None → HasRead r bytes records → certain (first_refusal bytes) ≡ None
 uncertain r bytes records none h = ap certain (sym (ending_is r bytes records h)) ∙ uncertain_by r.refusal r.style r.start r.part none h.reading
 
@@ -114,7 +114,7 @@ ending_again None style start part result e = tt
 ending_again (Some why) style start part (Ok unit) e = absurd cc
 ending_again (Some why) style start part (Err r) e = let same : r ≡ why = cc in rw same refl
 
--- what a reader returns if the capture ends
+-- at the end of a capture a reader returns the first refusal of its bytes
 pub ends_now : (r : Reading) (result : Result Unit Refusal) → result_err result ≡ ending r → Ends meaning (progress r) result
 ends_now r result e = record {
   records = λ bytes records h. records_are r bytes records h;

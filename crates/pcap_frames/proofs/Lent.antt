@@ -1,4 +1,4 @@
--- A record that is borrowed.
+-- A record that is lent.
 use Rattle.std.proofs.Common.{◌≡◌, ℕ, ◌+◌, ◌≤◌, List, [], ◌++◌, length, take, drop, Option, Some, None, Ok, IsSome, inl, inr, refl, sym, ap, subst, arith}
 use Rattle.std.specs.Prelude.{IfSome}
 use Rattle.std.proofs.lemmas.List.{length-take-le, take-append-drop}
@@ -25,7 +25,7 @@ holds_styled (Some r) style start part some = absurd cc
 holds_styled None None start part some = absurd cc
 holds_styled None (Some s) start part some = (s, refl)
 
--- the next record lies whole in the piece
+-- a record that is whole at the front of the piece is the next one
 pub is_next : (refusal : Option Refusal) (style : Option Style) (s : Style) (start : ℕ) (part piece : List ℕ) (size : ℕ) → refusal ≡ None → style ≡ Some s → part ≡ []
     → size ≡ 16 + number_at s.order 8 4 piece → size ≤ 262160 → size ≤ length piece → IsNext (reading refusal style start part) (take size piece)
 is_next refusal style s start part piece size accepted styled untaken is limit fits = record {
@@ -39,14 +39,14 @@ pub ahead_next : (refusal : Option Refusal) (style : Option Style) (s : Style) (
 ahead_next refusal style s start part piece None accepted styled untaken is limit fits = tt
 ahead_next refusal style s start part piece (Some size) accepted styled untaken is limit fits = is_next refusal style s start part piece size accepted styled untaken is limit fits
 
--- the next record has a header
+-- the next record has a whole header
 pub next_long : (r : Reading) (bytes : List ℕ) → IsNext r bytes → 16 ≤ length bytes
 next_long r bytes next =
     let styled = holds_styled r.refusal r.style r.start bytes next.whole in
     let whole = record_whole styled.0.order r.start bytes (held_is r.refusal r.style styled.0 r.start bytes (holds_accepted r.refusal r.style r.start bytes next.whole) styled.1 next.whole) in
     omega arith
 
--- nothing is refused in a piece at whose front a record lies whole
+-- if a record is whole at the front of the piece, no record refusal is found in the piece
 pub next_accepted : (refusal : Option Refusal) (style : Option Style) (s : Style) (start : ℕ) (piece : List ℕ) (size : ℕ) → style ≡ Some s → IsSome (held_by refusal style start (take size piece)) → record_refusal s.order start piece ≡ None
 next_accepted refusal style s start piece size styled some =
     let none = held_is refusal style s start (take size piece) (holds_accepted refusal style start (take size piece) some) styled some in
@@ -55,7 +55,7 @@ next_accepted refusal style s start piece size styled some =
 pub none_next : (r : Reading) (s : Style) (piece : List ℕ) (size : ℕ) → r.style ≡ Some s → IsSome (record_refusal s.order r.start piece) → IsNext r (take size piece) → ⊥
 none_next r s piece size styled some next = none_some (record_refusal s.order r.start piece) (next_accepted r.refusal r.style s r.start piece size styled next.whole) some
 
--- a reader that takes the next record
+-- a reader that takes the next record has read its bytes
 pub next_goes_on : (r : Reading) (bytes : List ℕ) → IsNext r bytes → GoesOn r bytes (with_part r bytes)
 next_goes_on r bytes next before records h =
     let accepted = holds_accepted r.refusal r.style r.start bytes next.whole in
@@ -64,7 +64,7 @@ next_goes_on r bytes next before records h =
     subst (λ (p : List ℕ). HasRead (with_part r p) (before ++ bytes) records) all
     (record_goes_on r.refusal r.style styled.0 r.start r.part bytes before records accepted styled.1 (subst (IsReading r.refusal r.style r.start) (sym all) next.reading) h)
 
--- a reader that takes the next record was fed
+-- a reader that takes the next record is fed
 pub next_feeds : (r : Reading) (piece : List ℕ) (size : ℕ) → size ≤ length piece → IsNext r (take size piece)
     → Feeds meaning (progress r) piece (Ok size) (progress (with_part r (take size piece)))
 next_feeds r piece size within next =
@@ -94,7 +94,7 @@ next_feeds r piece size within next =
       end = λ less. next.whole;
     }) (is_sure new)
 
--- a reader that skips the next record
+-- a reader that skips the next record releases it
 pub next_releases : (r : Reading) (bytes : List ℕ) → IsNext r bytes → Releases (progress (with_part r bytes)) (progress (record r { start = r.start + length bytes }))
 next_releases r bytes next = record {
   given_up = λ before records h. gives_up r.refusal r.style r.start bytes r.part before records next.whole next.untaken h;
@@ -114,7 +114,7 @@ passes r bytes next =
       refusal = refl;
     }
 
--- the invariant of a reader, past a record
+-- the reader's invariant holds after a record that it skipped
 pub passed : (refusal : Option Refusal) (style : Option Style) (start next : ℕ) (part bytes : List ℕ) → IsNext (reading refusal style start part) bytes → IsReading refusal style next part
 passed refusal style start next part bytes is =
     let styled = holds_styled refusal style start bytes is.whole in

@@ -10,7 +10,7 @@ use Rattle.pcap_frames.specs.Layout.{number_at, style_at, file_refusal, record_r
 use Rattle.pcap_frames.specs.Capture.{Record, IsFileHeader, Spells, SpellsAll, IsCapture, IsRefusedInRecord, Holds, record_of, record_size}
 use Rattle.pcap_frames.proofs.Append.{number_stays, file_stays, record_stays}
 
--- a record that is whole and within the limit is not refused
+-- a record that is whole and within the limit is accepted
 pub record_fits : (order : Order) (start : ℕ) (bytes : List ℕ) → 16 + number_at order 8 4 bytes ≤ length bytes → number_at order 8 4 bytes ≤ 262144 → record_refusal order start bytes ≡ None
 unfolding record_refusal
 record_fits order start bytes whole limit = grind (arith, nat_tests)
@@ -19,7 +19,7 @@ file_fits : (style : Style) (bytes : List ℕ) → length bytes ≡ 24 → style
 unfolding file_refusal style_at
 file_fits style bytes size magic version network = grind (arith, nat_tests)
 
--- two ways to split one list
+-- two ways to split one list, with fronts of one length, have equal parts
 same_front : (p q p' q' : List ℕ) → p ++ q ≡ p' ++ q' → length p ≡ length p' → p ≡ p'
 same_front p q p' q' e l = sym (take_at p q (length p) refl) ∙ (ap (take (length p)) e ∙ take_at p' q' (length p) (sym l))
 
@@ -31,7 +31,7 @@ pub spells_accepted : (style : Style) (r : Record) (start : ℕ) (first more : L
 spells_accepted style r start first more s =
     record_stays style.order start first more None (record_fits style.order start first (omega (arith, s.size, s.incl_len)) (omega (arith, s.limit, s.incl_len))) refl
 
--- the bytes of a spelling tell its length
+-- the length of a record's spelling follows from its bytes
 pub spells_size : (style : Style) (r : Record) (first more : List ℕ) → Spells style r first → length first ≡ record_size style (first ++ more)
 spells_size style r first more s =
     let stays : number_at style.order 8 4 (first ++ more) ≡ number_at style.order 8 4 first = number_stays style.order 8 4 first more (omega (arith, s.size)) in
@@ -47,13 +47,13 @@ spells_one style r first s =
     ∙ (ap (λ (n : ℕ). make (record_of style first).arrival n r.bytes) (sym s.orig_len)
     ∙ ap (λ (b : List ℕ). make (record_of style first).arrival (record_of style first).orig_len b) (sym s.packet_bytes))
 
--- what follows whole records: nothing, or the part of a record in which this is refused
+-- what follows whole records: nothing, or bytes that are refused, as a record, by x
 abbrev pub Ends : Style → ℕ → List ℕ → Option Refusal → Type 0
 Ends style start rest x =
     ((rest ≡ []) × (x ≡ None))
     ⊎ ((r : Refusal) × (x ≡ Some r) × (0 < length rest) × (record_refusal style.order start rest ≡ Some r))
 
--- no spelling begins after the last record
+-- no record is spelled after the last one
 no_more : (style : Style) (r : Record) (start : ℕ) (first more rest : List ℕ) (x : Option Refusal) → Spells style r first → rest ≡ first ++ more → Ends style start rest x → ⊥
 no_more style r start first more rest x s e (inl none) = omega (arith, s.size, length-append first more, ap length (sym none.0 ∙ e))
 no_more style r start first more rest x s e (inr some) =
@@ -76,7 +76,7 @@ one_list style (r ∷ records) (o ∷ others) b b' rest rest' start start' x y s
     let tail = one_list style records others s.1 t.1 rest rest' start start' x y s.4 t.4 (same_back s.0 (s.1 ++ rest) t.0 (t.1 ++ rest') whole long) p q in
     (cc (same, tail.0), tail.1)
 
--- bytes whose file header is accepted
+-- Bytes whose file header is accepted.
 record Split (bytes : List ℕ) (records : List Record) (x : Option Refusal) : Type 0 where
   style : Style
   front : List ℕ
@@ -98,7 +98,7 @@ header_accepted bytes records x p =
     let whole : bytes ≡ c.header ++ (c.body ++ p.rest) = p.whole ∙ (ap (λ (z : List ℕ). z ++ p.rest) c.whole ∙ append_assoc c.header c.body p.rest) in
     ap file_refusal whole ∙ file_stays c.header (c.body ++ p.rest) None (file_fits p.style c.header h.size h.magic h.version_major h.network) refl
 
--- a file header tells one style
+-- a file header has one style
 header_style : (style other : Style) (a b : List ℕ) → IsFileHeader style a → IsFileHeader other b → a ≡ b → style ≡ other
 header_style style other a b h k e = same_Some style other (sym h.magic ∙ (ap style_at e ∙ k.magic))
 
@@ -119,7 +119,7 @@ split_one bytes records others x y p q =
     subst (λ (n : ℕ). Ends p.style n p.rest y) (sym fronts) (subst (λ (z : List ℕ). Ends p.style (length q.front) z y) (sym lists.1) ends) in
     (lists.0, ends_one p.style (length p.front) p.rest x y p.ends moved, style)
 
--- a capture ends after its records
+-- a capture is split into its records and nothing after them
 split_capture : (style : Style) (records : List Record) (bytes : List ℕ) → IsCapture style records bytes → Split bytes records None
 split_capture style records bytes c = record {
   style = style;
@@ -140,7 +140,7 @@ split_refused bytes records r h = record {
   ends = inr (r, refl, h.some, h.refused);
 }
 
--- one of two: the file header is accepted, or refused
+-- bytes either have an accepted file header, or are refused in it
 holds_by : (bytes : List ℕ) (records : List Record) (x : Option Refusal) → Holds bytes records x
     → Split bytes records x ⊎ ((r : Refusal) × (records ≡ []) × (x ≡ Some r) × (file_refusal bytes ≡ Some r))
 holds_by bytes records None h = inl (split_capture h.0 records bytes h.1)

@@ -1,4 +1,4 @@
--- How a reader continues.
+-- How a reader goes on, step by step.
 use Rattle.std.proofs.Common.{◌≡◌, ℕ, ◌+◌, ◌-◌, ◌<◌, false, cond, List, [], ◌++◌, length, take, drop, Option, Some, None, IsSome, Result, Ok, Err, refl, sym, ap, subst, ◌∙◌, arith, is_none, inl, inr, append_assoc, length-append}
 use Rattle.std.specs.Prelude.{◌≤◌, IfSome, option_to_list}
 use Rattle.std.proofs.lemmas.List.{append-nil, take_all, take-append-drop, length-drop}
@@ -16,7 +16,7 @@ use Rattle.pcap_frames.proofs.Fields.{file_whole, file_style, file_header_is, re
 abbrev pub reading : Option Refusal → Option Style → ℕ → List ℕ → Reading
 reading refusal style start part = record { style = style; start = start; part = part; refusal = refusal }
 
--- the style of the bytes, once a header of a file is there
+-- bytes have a style only if nothing in their file header is refused
 style_by : (x : Option Refusal) (style : Option Style) (s : Style) → cond (is_none x) style None ≡ Some s → (x ≡ None) × (style ≡ Some s)
 style_by None style s e = (refl, e)
 style_by (Some r) style s e = absurd (cc)
@@ -27,7 +27,7 @@ style_stays bytes more s e =
     let long = file_whole bytes both.0 in
     rw (file_stays bytes more None both.0 refl, style_at_stays bytes more (omega arith)) both.1
 
--- more of a file header came, and not the whole of it
+-- more of a file header came, but not all of it
 pub header_goes_on : (refusal : Option Refusal) (style : Option Style) (start : ℕ) (part more bytes : List ℕ) (records : List Record) (why : Refusal)
     → refusal ≡ None → style ≡ None → file_refusal (part ++ more) ≡ Some why → IsReading refusal style start (part ++ more)
     → HasRead (reading refusal style start part) bytes records → HasRead (reading refusal style start (part ++ more)) (bytes ++ more) records
@@ -106,7 +106,7 @@ record_refuses refusal style s start part more rest bytes records why left ref s
       reading = long;
     }
 
--- the rest of a piece, as the code cuts it
+-- the rest of a piece, as the code cuts it, is the piece without its first n bytes
 rest_is : (n : ℕ) (piece : List ℕ) → take (length piece - n) (drop n piece) ≡ drop n piece
 rest_is n piece = take_all (length piece - n) (drop n piece) (omega (arith, length-drop n piece))
 
@@ -119,7 +119,7 @@ two_steps bytes n m piece =
     ap (λ (p : List ℕ). (bytes ++ take n piece) ++ take m p) (rest_is n piece)
     ∙ (append_assoc bytes (take n piece) (take m (drop n piece)) ∙ ap (λ (p : List ℕ). bytes ++ p) (sym (take-add n m piece)))
 
--- a step, and then all the rest of the piece
+-- the first n bytes of a piece, and then all the rest of it, are the piece
 pub all_steps : (bytes : List ℕ) (n : ℕ) (piece : List ℕ) → (bytes ++ take n piece) ++ take (length piece - n) (drop n piece) ≡ bytes ++ piece
 all_steps bytes n piece =
     ap (λ (p : List ℕ). (bytes ++ take n piece) ++ p) (rest_is n piece)
@@ -136,7 +136,7 @@ pub goes_on_whole : (a b c : Progress) (n : ℕ) (piece : List ℕ) → GoesOn a
 goes_on_whole a b c n piece first then bytes records h =
     subst (λ (p : List ℕ). c.has_read p records) (all_steps bytes n piece) (then _ _ (first bytes records h))
 
--- no step
+-- no step is taken
 pub steps_none : (r : Progress) (piece : List ℕ) → r.refusal ≡ None → Steps r piece (Ok 0) r
 steps_none r piece none = record {
   within = omega arith;
@@ -148,7 +148,7 @@ steps_none r piece none = record {
   stopped = tt;
 }
 
--- a step, and then others in the rest of the piece
+-- a step is followed by others in the rest of the piece
 pub steps_on : (a b c : Progress) (n m : ℕ) (piece : List ℕ) → Steps a piece (Ok n) b → Steps b (take (length piece - n) (drop n piece)) (Ok m) c
     → Steps a piece (Ok (n + m)) c
 steps_on a b c n m piece first then = record {
@@ -173,7 +173,7 @@ steps_refused a b c n piece why first then = record {
   stopped = goes_on_whole a b c n piece first.read then.stopped;
 }
 
--- a piece is refused
+-- a reader that is refused, by this piece or before, returns its refusal
 feeds_refused : (meaning : Meaning) (old new : Progress) (piece : List ℕ) (why : Refusal) → IfSome old.refusal (λ r. ◌≡◌ {A = Result ℕ Refusal} (Err why) (Err r)) → new.refusal ≡ Some why
     → GoesOn old piece new → new.taken ≤ old.taken + length piece → IsSure meaning new → Feeds meaning old piece (Err why) new
 feeds_refused meaning old new piece why lasting is goes bounded sure = record {
@@ -219,7 +219,7 @@ pub none_some : {X : Type 0} (o : Option X) → o ≡ None → IsSome o → ⊥
 none_some None none some = absurd cc
 none_some (Some x) none some = absurd cc
 
--- no record is released if none is held
+-- a release changes nothing if no record is held
 pub releases_none : (r : Progress) → r.held ≡ None → Releases r r
 releases_none r none = record {
   given_up = λ bytes records h. subst (r.has_read bytes) (sym (ap (λ (x : Option Record). records ++ option_to_list x) none ∙ append-nil records)) h;
@@ -228,7 +228,7 @@ releases_none r none = record {
   refusal = refl;
 }
 
--- a reader that has taken nothing
+-- a reader that has taken nothing has read no bytes
 pub read_nothing : (part : List ℕ) → part ≡ [] → HasRead (reading None None 0 part) [] []
 unfolding file_refusal
 read_nothing part e = record { style = refl; stands = (refl, sym e); reading = header_begins part e }

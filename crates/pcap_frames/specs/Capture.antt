@@ -41,8 +41,8 @@ pub record IsCapture (style : Style) (records : List Record) (bytes : List ℕ) 
   pub is_header : IsFileHeader style header
   pub spelled : SpellsAll style records body
 
--- The bytes are a capture of these records and then a part of another record. The refusal is by that record's first field that
--- is cut off or refused.
+-- The bytes are a capture of these records, followed by at least one byte. The refusal is by the first field after the capture
+-- that is cut off or refused, if the bytes there are taken as a record.
 pub record IsRefusedInRecord (bytes : List ℕ) (records : List Record) (refusal : Refusal) : Type 0 where
   pub style : Style
   pub front : List ℕ
@@ -57,7 +57,7 @@ abbrev pub IsRefused : List ℕ → List Record → Refusal → Type 0
 IsRefused bytes records refusal =
     ((records ≡ []) × (file_refusal bytes ≡ Some refusal)) ⊎ IsRefusedInRecord bytes records refusal
 
--- the bytes are a capture of these records; or, if there is a refusal, it is their first and these are the whole
+-- without a refusal, the bytes are a capture of these records; a refusal is the first one of the bytes, and these are the whole
 -- records before it
 abbrev pub Holds : List ℕ → List Record → Option Refusal → Type 0
 Holds bytes records None = (style : Style) × IsCapture style records bytes
@@ -75,7 +75,7 @@ record_of style bytes = record {
   bytes = drop 16 bytes;
 }
 
--- how many bytes the record has that the bytes begin with, by its header
+-- the size in bytes of the record at the front of the bytes, by its header, which is counted too
 abbrev pub record_size : Style → List ℕ → ℕ
 record_size style bytes = 16 + number_at style.order 8 4 bytes
 
@@ -136,7 +136,7 @@ record_spelling style r =
     ++ r.bytes
 
 -- A record that the canonical spelling can hold: its instant has 32 bits of seconds and is a whole number of units of the
--- fraction, and it has at most 262,144 bytes.
+-- fraction, its length on the wire has 32 bits, and it has at most 262,144 captured bytes.
 pub record HasSpelling (style : Style) (r : Record) : Type 0 where
   pub begun : pos 0 ≤ℤ r.arrival
   pub ended : r.arrival <ℤ pos (2 ^ 32 * 1000000000)

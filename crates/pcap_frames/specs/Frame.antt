@@ -51,7 +51,7 @@ frame_layout true =
     holds 12 (λ v. (tag_of v).vid) ∷ []) ∷
     part Ethertype 16 (holds 16 (λ v. v.ethertype) ∷ []) ∷ []
 
--- the bytes of the header of a frame, without a tag and with one
+-- the length in bytes of a frame's header, without a tag and with one
 abbrev pub header_len : Bool → ℕ
 header_len false = 14
 header_len true = 18
@@ -72,7 +72,7 @@ pub record SpellsFrame (bytes : List ℕ) (v : Frame) : Type 0 where
   pub start : v.start ≡ header_len (is_some v.tag)
   pub payload : v.payload ≡ drop v.start bytes
 
--- the VLAN tag that the bytes of a tagged frame spell
+-- the VLAN tag of a tagged frame with these bytes
 abbrev pub tag_in : List ℕ → Tag
 tag_in bytes = record { pcp = bits 14 0 3 bytes; dei = is_set 14 3 bytes; vid = bits 14 4 12 bytes }
 
@@ -97,10 +97,10 @@ pub record IsWritableFrame (v : Frame) : Type 0 where
   pub tag : IfSome v.tag (λ t. (t.pcp < 2 ^ 3) × (t.vid < 2 ^ 12))
   pub untagged : IfNone v.tag (v.ethertype ≢ tag_ethertype)
 
--- a frame with the start of its payload that its header gives
+-- a frame whose `start` is the length of its header
 abbrev pub plain_frame : Frame → Frame
 plain_frame v = record v { start = header_len (is_some v.tag) }
 
--- the bytes of a frame
+-- the bytes that are written for a frame
 abbrev pub frame_spelling : Frame → List ℕ
 frame_spelling v = spelling (frame_layout (is_some v.tag)) v ++ v.payload

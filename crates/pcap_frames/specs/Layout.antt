@@ -27,7 +27,7 @@ abbrev pub magic_of : units.Unit → ℕ
 magic_of Micro = 0xA1B2C3D4
 magic_of Nano = 0xA1B23C4D
 
--- the style that a magic number gives, if its four bytes are read as little-endian
+-- the style that a magic number gives, read as little-endian, if it is one of the four
 abbrev pub style_of_magic : ℕ → Option Style
 style_of_magic n =
     if nat_eq n 0xA1B2C3D4 then Some (record { order = Little; unit = Micro })

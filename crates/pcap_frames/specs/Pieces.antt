@@ -4,7 +4,7 @@ use Rattle.std.specs.List.{flat_map}
 use Rattle.pcap_frames.specs.declared.pieces.KeptRecord.{KeptRecord}
 use Rattle.pcap_frames.specs.Capture.{Record}
 
--- the record that an owned one holds, without its location in memory
+-- the record that a `KeptRecord` holds, without its location in memory
 abbrev pub kept : KeptRecord → Record
 kept r = record { arrival = r.arrival; orig_len = r.orig_len; bytes = r.bytes }
 

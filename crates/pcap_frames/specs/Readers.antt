@@ -22,11 +22,11 @@ pub record Progress : Type 1 where
   pub taken : ℕ
   pub refusal : Option Refusal
 
--- whatever was read before, these bytes have been read, too, and no record was released
+-- after what was read before, these bytes have been read, and no record was released
 abbrev pub GoesOn : Progress → List ℕ → Progress → Type 0
 GoesOn old more new = (bytes : List ℕ) (records : List Record) → old.has_read bytes records → new.has_read (bytes ++ more) records
 
--- Bytes hold these records and no more, and are refused then, whatever bytes follow.
+-- The bytes hold exactly these records and are refused after them, whatever bytes follow.
 pub record IsRefusedAfter (meaning : Meaning) (bytes : List ℕ) (records : List Record) (refusal : Refusal) : Type 0 where
   pub all : meaning.records bytes ≡ records
   pub certain : meaning.certain bytes ≡ Some refusal

@@ -1,4 +1,4 @@
--- What a reader means: the bytes that it has taken, and the records that it has released.
+-- What the state of a reader means: the bytes that it has taken, and the records that it has released.
 use Rattle.std.specs.Prelude.{◌≡◌, ℕ, ◌+◌, ◌<◌, ◌≤◌, false, cond, ◌⊎◌, List, [], ◌++◌, length, IsSome, Option, Some, None, is_none, option_to_list}
 use Rattle.avtp_base.specs.declared.refusal.Refusal.{Refusal}
 use Rattle.pcap_frames.specs.declared.style.Order.{Order}
@@ -9,8 +9,8 @@ use Rattle.pcap_frames.specs.Readers as readers
 use Rattle.pcap_frames.specs.Readers.{Meaning, Progress}
 pub use Rattle.pcap_frames.specs.Readers.{shown}
 
--- A reader: the style, once the file header was accepted; the offset of what is being read, and what has come of it;
--- and the refusal.
+-- The state of a reader: the style, once the file header was accepted; the offset of the file header or record that is being
+-- read, and the bytes of it that have come; and the refusal.
 pub record Reading : Type 0 where
   pub style : Option Style
   pub start : ℕ
@@ -39,12 +39,13 @@ held_by None (Some style) start part = whole_record style start part
 abbrev pub held : Reading → Option Record
 held r = held_by r.refusal r.style r.start r.part
 
--- What has come of a record: nothing in it is refused, and it does not go past the record's end.
+-- The bytes that have come of a record: nothing in them is refused, and they do not go past the record's end.
 pub record IsPart (order : Order) (start : ℕ) (part : List ℕ) : Type 0 where
   pub accepted : certain (record_refusal order start part) ≡ None
   pub within : (length part ≤ 16) ⊎ (length part ≤ 16 + number_at order 8 4 part)
 
--- What has come of a file header: it is the front of the capture, nothing in it is refused, and it is not whole yet.
+-- The bytes that have come of a file header: they are the front of the capture, nothing in them is refused, and they are not
+-- the whole header yet.
 pub record IsHeaderPart (start : ℕ) (part : List ℕ) : Type 0 where
   pub begins : start ≡ 0
   pub accepted : certain (file_refusal part) ≡ None
@@ -78,7 +79,7 @@ pub record HasRead (r : Reading) (bytes : List ℕ) (records : List Record) : Ty
   pub stands : StandsFor r.refusal r.style r.start r.part bytes records
   pub reading : IsReading r.refusal r.style r.start r.part
 
--- what the bytes of a classic capture mean
+-- what the bytes of a classic pcap capture mean
 abbrev pub meaning : Meaning
 meaning = record { records = whole_records; refusal = first_refusal; certain = λ bytes. certain (first_refusal bytes) }
 
@@ -86,7 +87,7 @@ meaning = record { records = whole_records; refusal = first_refusal; certain = �
 abbrev pub progress : Reading → Progress
 progress r = record { has_read = HasRead r; held = held r; taken = taken r; refusal = r.refusal }
 
--- whatever the reader had read before, it has now read these bytes, too, and released no record
+-- after what the reader had read before, it has now read these bytes, and released no record
 abbrev pub GoesOn : Reading → List ℕ → Reading → Type 0
 GoesOn old more new = readers.GoesOn (progress old) more (progress new)
 
@@ -102,8 +103,8 @@ pub record IsNext (r : Reading) (bytes : List ℕ) : Type 0 where
   pub reading : IsReading r.refusal r.style r.start bytes
   pub whole : IsSome (held (with_part r bytes))
 
--- The reader skipped a record of these bytes, which was borrowed: whatever it had read before, it has now read these bytes,
--- too, and released their record, and it holds none.
+-- The reader skipped a record of these bytes, which was borrowed: after what it had read before, it has now read these bytes,
+-- and released their record, and it holds none.
 pub record Passes (old : Reading) (bytes : List ℕ) (new : Reading) : Type 0 where
   pub read : (before : List ℕ) (records : List Record) → HasRead old before records → HasRead new (before ++ bytes) (records ++ option_to_list (held (with_part old bytes)))
   pub counted : taken new ≡ taken old + length bytes

@@ -156,7 +156,7 @@ fn untagged_header(frame: &FrameView<'_>) -> [u8; 14]
     ]
 }
 
-/// The two bytes of tag control information.
+/// The tag control information, as a number of two bytes.
 fn control_of(tag: Tag) -> u16
     requires pcp { tag.pcp < 2 ^ 3 }
     requires vid { tag.vid < 2 ^ 12 }
@@ -200,8 +200,8 @@ fn tagged_header(frame: &FrameView<'_>, tag: Tag) -> [u8; 18]
 
 /// Writes an Ethernet frame, and returns its length. If the slice is shorter it returns `Room` and leaves the slice unchanged.
 ///
-/// The addresses are below 2^48, the tag's priority is at most 7 and its VLAN at most 4095, and without a tag the EtherType is
-/// not 0x8100, which would announce one. The view's `start` is not read.
+/// The addresses are below 2^48, the tag's priority is at most 7 and its VLAN identifier at most 4095, and the EtherType of an
+/// untagged frame is not 0x8100, which would announce a tag. The view's `start` is not read.
 pub fn write_frame(out: &mut [u8], frame: &FrameView<'_>) -> Result<usize, Room>
     requires { IsWritableFrame (frame_shape frame.now) }
     ensures written { Writes (frame_spelling (frame_shape frame.now)) out.old out.new result }
@@ -218,12 +218,13 @@ pub fn one_frame()
     ensures { (bytes : List ℕ) → IsSpelledOnce (frame_refusal bytes) (λ (v : Frame). SpellsFrame bytes v) }
 {}
 
-/// A law: the bytes written for a frame encode it, with the start of its header. The call does nothing.
+/// A law: the bytes that are written for a frame encode that frame, with the length of its header as `start`. The call does
+/// nothing.
 pub fn frame_again()
     ensures { (v : Frame) → IsWritableFrame v → SpellsFrame (frame_spelling v) (plain_frame v) }
 {}
 
-/// A law: bytes that encode a frame are the bytes written for it. The call does nothing.
+/// A law: bytes that encode a frame are the bytes that are written for it. The call does nothing.
 pub fn one_frame_spelling()
     ensures { (bytes : List ℕ) (v : Frame) → AreBytes bytes → SpellsFrame bytes v → bytes ≡ frame_spelling v }
 {}

@@ -17,7 +17,7 @@ pub const FILE_HEADER: usize = 24;
 /// The length in bytes of a record's header.
 pub const RECORD_HEADER: usize = 16;
 
-/// The most bytes that a record may have.
+/// The greatest number of bytes that a record may have.
 pub const RECORD_LIMIT: u32 = 262_144;
 
 /// The magic number of a capture that counts microseconds.
@@ -26,7 +26,7 @@ pub const MAGIC_MICRO: u32 = 0xA1B2_C3D4;
 /// The magic number of a capture that counts nanoseconds.
 pub const MAGIC_NANO: u32 = 0xA1B2_3C4D;
 
-/// The two magic numbers, read in the other byte order.
+/// The two magic numbers as they are read in the other byte order.
 const SWAPPED_MICRO: u32 = 0xD4C3_B2A1;
 
 const SWAPPED_NANO: u32 = 0x4D3C_B2A1;
@@ -89,8 +89,8 @@ fn rest_refusal(order: Order, header: &[u8]) -> Option<Refusal>
     }
 }
 
-/// The first field of a record that the end of these bytes cuts off, or whose value is refused. The record begins at an
-/// offset of the capture.
+/// The first field of a record that the end of these bytes cuts off, or whose value is refused. The record begins at offset
+/// `start` of the capture.
 #[tactic(auto, unfolding(crate::specs::Layout::record_refusal))]
 pub fn record_refusal(order: Order, start: u64, bytes: &[u8]) -> Option<Refusal>
     requires { start < 2 ^ 63 }
@@ -148,7 +148,7 @@ pub fn certain(refusal: Option<Refusal>) -> Option<Refusal>
     }
 }
 
-/// The instant of a record, in nanoseconds: the seconds and the fraction as they are.
+/// The instant of a record, in nanoseconds: the seconds and then the fraction, which may be a second or more.
 pub fn arrival_of(unit: Unit, seconds: u32, fraction: u32) -> i64
     ensures instant { result ≡ pos (instant unit seconds fraction) }
     ensures time { IsRecordTime result }

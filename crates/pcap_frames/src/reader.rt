@@ -29,7 +29,7 @@ pub struct Reader {
     style: Option<Style>,
     /// The offset in the capture of the file header or the record that is being read.
     start: u64,
-    /// What has come of it: a record's header and its bytes share this buffer.
+    /// The bytes of it that have come: a record's header and its captured bytes share this buffer.
     part: Vec<u8>,
     refusal: Option<Refusal>,
 }
@@ -210,7 +210,7 @@ impl Reader {
         layout::whole_size(style.order, piece)
     }
 
-    /// The next record, in the piece: these are its bytes, including the header.
+    /// The next record, shown in these bytes of the piece, which include its header.
     pub fn lend<'a>(&self, bytes: &'a [u8]) -> RecordView<'a>
         requires { IsNext self.now bytes.now }
         ensures exact { held (with_part self.now bytes.now) ≡ Some (shown result) }

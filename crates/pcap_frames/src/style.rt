@@ -14,7 +14,7 @@ pub enum Unit {
     Nano,
 }
 
-/// How a capture is encoded: its magic number gives both.
+/// How a capture is encoded, as its magic number says: its byte order, and the unit of the fraction.
 #[derive(Clone, Copy, Debug, PartialEq, Eq)]
 pub struct Style {
     pub order: Order,
@@ -24,7 +24,7 @@ pub struct Style {
 /// A record of a capture.
 #[derive(Clone, Copy, Debug)]
 pub struct RecordView<'a> {
-    /// When the frame was captured, in nanoseconds: seconds and fraction as they are.
+    /// When the frame was captured, in nanoseconds: the seconds and then the fraction, which may be a second or more.
     pub arrival: i64,
     /// The length in bytes of the frame on the wire.
     pub orig_len: u32,

@@ -47,8 +47,8 @@ pub fn write_header(out: &mut [u8], style: Style) -> Result<usize, Room>
 /// its length.
 ///
 /// `arrival` is in nanoseconds, with at most 32 bits of seconds, and a multiple of 1000 in a capture that counts microseconds.
-/// `orig_len` is the frame's length on the wire, and there are at most 262,144 `bytes`. It returns `Room` exactly if `out` has
-/// less room than 16 bytes and the record's, and then nothing is written.
+/// `orig_len` is the frame's length on the wire, and there are at most 262,144 `bytes`. It returns `Room` exactly if `out` is
+/// shorter than the header's 16 bytes and `bytes` together, and then nothing is written.
 pub fn write_record(
     out: &mut [u8],
     style: Style,
@@ -71,8 +71,8 @@ pub fn write_record(
     write_front(out, &header, bytes)
 }
 
-/// The header of a record (draft-ietf-opsawg-pcap, section 5), with a fraction below one second. The record is these 16 bytes
-/// followed by its own, which are `incl_len` bytes.
+/// The header of a record (draft-ietf-opsawg-pcap, section 5), with a fraction below one second. The whole record is these 16
+/// bytes followed by its `incl_len` captured bytes.
 ///
 /// `arrival` is in nanoseconds, with at most 32 bits of seconds, and a multiple of 1000 in a capture that counts microseconds.
 /// `orig_len` is the frame's length on the wire.

@@ -1,4 +1,4 @@
--- A packet whose block lies whole in a piece.
+-- A packet whose block is whole in a piece.
 use Rattle.std.proofs.Common.{◌≡◌, ℕ, ◌+◌, ◌-◌, ◌≤◌, Bool, true, false, List, [], ◌++◌, length, drop, take, min, Option, Some, None, is_some, refl, ap, sym, subst, ◌∙◌, arith, length-drop}
 use Rattle.std.proofs.lemmas.Bool.Decides.{nat_tests}
 use Rattle.std.proofs.lemmas.List.{length-take-le, take_all, take-append-drop}
@@ -25,7 +25,7 @@ use Rattle.pcapng_frames.proofs.Numbers.{packet_is}
 use Rattle.pcapng_frames.proofs.Options.{at_trailer_place, trailer_moves}
 use Rattle.pcapng_frames.proofs.Stay.{arrival_stays, packet_stays}
 
--- what is in a packet's fixed fields and its bytes
+-- the front of a packet's block has the values of its fixed fields, whatever follows
 pub packet_front : (order : Option Order) (interfaces : List Interface) (front rest : List ℕ) (packet : WholePacket) → 28 ≤ length front → IsPacket order interfaces (front ++ rest) packet → IsPacket order interfaces front packet
 packet_front order interfaces front rest packet long p = record {
   opened = p.opened;
@@ -42,7 +42,7 @@ rows_accepted : (order : Option Order) (interfaces : List Interface) (start : �
 rows_accepted None interfaces start bytes long opened h = absurd (cc)
 rows_accepted (Some order) interfaces start bytes long opened h = grind (arith, nat_tests)
 
--- no field of the packet's block is refused
+-- no field of a packet's block is refused
 pub packet_accepted : (order : Option Order) (interfaces : List Interface) (start : ℕ) (bytes : List ℕ) (packet : WholePacket) → 28 ≤ length bytes → IsPacket order interfaces bytes packet → block_refused order interfaces start bytes ≡ None
 unfolding block_refused
 packet_accepted order interfaces start bytes packet long p =
@@ -52,14 +52,14 @@ packet_accepted order interfaces start bytes packet long p =
 need_by_kind : (k : Kind) (order : Order) (n : ℕ) (bytes : List ℕ) → k ≡ kind.Packet → 28 ≤ length bytes → number_at order 20 4 bytes ≡ n → head_need k order bytes ≡ 28 + n
 need_by_kind k order n bytes is long e = rw (is, e) (grind (arith, nat_tests))
 
--- how much is needed of a packet
+-- the bytes that are needed of a packet are its fixed fields and its captured bytes
 pub packet_needs : (order : Option Order) (interfaces : List Interface) (bytes : List ℕ) (packet : WholePacket) → 28 ≤ length bytes → IsPacket order interfaces bytes packet → block_need order bytes ≡ 28 + packet.captured
 unfolding block_need
 packet_needs order interfaces bytes packet long p =
     long_enough (length bytes) 8 _ _ (omega arith)
     ∙ need_by_kind (kind_at order bytes) (order_or_little order) packet.captured bytes p.kind long p.captured
 
--- the cursor before the trailer of a packet, of which this many bytes are passed
+-- the cursor before the trailer of a packet's block, with `skip` bytes to be skipped before it
 abbrev pub before_trailer : Cursor → WholePacket → ℕ → Cursor
 before_trailer c packet skip = record {
   stage = stage.Trailer;
@@ -88,7 +88,7 @@ packet_sized order interfaces bytes packet size room p =
     ap (λ (k : Kind). block_size k (number_at (order_at k order bytes) 4 4 bytes)) p.kind
     ∙ (ap (block_size kind.Packet) p.total ∙ omega (arith, size, room))
 
--- the last four bytes of a block
+-- the last four bytes of a block are its total length
 pub trailer_bytes : (order : Order) (bytes : List ℕ) (total : ℕ) → 4 ≤ total → total ≤ length bytes → number_at order 0 4 (drop (total - 4) bytes) ≡ total
     → (length (take 4 (drop (total - 4) bytes)) ≡ 4) × (number_at order 0 4 (take 4 (drop (total - 4) bytes)) ≡ total)
 trailer_bytes order bytes total some within is =
@@ -103,7 +103,7 @@ trailer_accepted : (order : Order) (at total : ℕ) (bytes : List ℕ) → numbe
 unfolding trailer_refused
 trailer_accepted order at total bytes is = rw is (grind (arith, nat_tests))
 
--- a packet's fixed fields and bytes, what is passed, and the trailer
+-- a packet's fixed fields and captured bytes, the bytes that are skipped, and the trailer are its whole block
 all_bytes : (a s total : ℕ) (piece : List ℕ) → a + s ≡ total - 4 → 4 ≤ total → (take a piece ++ take s (drop a piece)) ++ take 4 (drop (total - 4) piece) ≡ take total piece
 all_bytes a s total piece is some =
     let four : (total - 4) + 4 ≡ total = omega arith in
@@ -150,13 +150,13 @@ packet_taken c interfaces part tail piece next last whole held refusal packet no
     subst (λ (n : ℕ). Takes (reading (place_of c interfaces part) c.skip (part_at c.stage part tail) whole refusal) ((front ++ mid) ++ take 4 (drop (packet.total - 4) piece)) (reading q n last held refusal)) gone all in
     subst (λ (b : List ℕ). Takes (reading (place_of c interfaces part) c.skip (part_at c.stage part tail) whole refusal) b (reading q 0 last held refusal)) (all_bytes a s packet.total piece (omega arith) (omega arith)) settled
 
--- the fixed fields and the bytes of a packet were taken, if none had come
+-- if no byte of a block had come, the fixed fields and the captured bytes of its packet were taken from the piece
 pub front_taken : (part piece next : List ℕ) (n size : ℕ) → part ≡ [] → size ≤ length piece → n ≡ min (length piece) (size - length part) → next ≡ part ++ take n piece → next ≡ part ++ take size piece
 front_taken part piece next n size nothing within is moved =
     let same : n ≡ size = omega (arith, is, ap length nothing) in
     moved ∙ ap (λ (k : ℕ). part ++ take k piece) same
 
--- the trailer of a packet was taken
+-- if no byte of a trailer had come, it was taken from the piece
 pub last_taken : (clear piece last : List ℕ) (n k : ℕ) → clear ≡ [] → n + 4 ≤ length piece → k ≡ min (length (take (length piece - n) (drop n piece))) (4 - length clear) → last ≡ clear ++ take k (take (length piece - n) (drop n piece)) → last ≡ take 4 (drop n piece)
 last_taken clear piece last n k nothing within is moved =
     let rest : take (length piece - n) (drop n piece) ≡ drop n piece = take_all (length piece - n) (drop n piece) (omega (arith, length-drop n piece)) in

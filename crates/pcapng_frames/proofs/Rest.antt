@@ -1,4 +1,4 @@
--- What a reader that is not refused stands for, if no bytes follow.
+-- What a reader returns if no bytes follow.
 use Rattle.std.proofs.Common.{◌≡◌, ℕ, ◌+◌, ◌≤◌, ◌<◌, Bool, true, false, nat_lt, nat_le, ◌&&◌, if◌then◌else◌, List, [], ◌++◌, length, drop, Option, Some, None, is_some, inl, inr, refl, ap, sym, ◌∙◌, arith}
 use Rattle.std.proofs.lemmas.Bool.{cases_lt}
 use Rattle.std.specs.Option.{option_to_list}
@@ -45,14 +45,14 @@ cut_stage stage.Block p bytes = cut_is (nat_lt (length bytes) 4) (nat_lt (length
 cut_stage stage.Option p bytes = refl
 cut_stage stage.Trailer p bytes = refl
 
--- an ending because bytes are missing is not settled
+-- an ending because bytes are missing may change
 settled_cut : (p : Place) (bytes : List ℕ) → settled (cut_short p bytes).ending ≡ None
 settled_cut p bytes = settled_if (ends_at p.stage p.order p.start (length bytes)) (cut_by p.stage p bytes) (cut_stage p.stage p bytes)
 
 less_true : {X : Type 0} (n m : ℕ) (x y : X) → n < m → (if nat_lt n m then x else y) ≡ x
 less_true n m x y h = grind (arith, nat_tests)
 
--- a place that the end of the bytes cuts off
+-- if nothing in a place is refused and its end is missing, the contents end there
 pub cut_at : (p : Place) (bytes : List ℕ) → refusal_here p bytes ≡ None → length bytes < size_here p bytes → contents_at p bytes ≡ cut_short p bytes
 cut_at p bytes none short =
     unroll p bytes
@@ -74,7 +74,7 @@ lacks_by_stage stage.Option p skip bytes is h =
     omega (arith, size_at_option p bytes is, option_lacks (order_or_little p.order) _ p.left bytes left (sym (at_option_place p bytes is) ∙ h.accepted) (omega (arith, h.partial, need)))
 lacks_by_stage stage.Trailer p skip bytes is h = omega (arith, size_at_trailer p bytes is, h.partial, need_in_trailer p.stage p.order bytes is)
 
--- what has come of a place is less than all of it
+-- a place of which more is needed is not whole
 pub lacks_some : (p : Place) (skip : ℕ) (bytes : List ℕ) → IsPart p skip bytes → length bytes < size_here p bytes
 lacks_some p skip bytes h = lacks_by_stage p.stage p skip bytes refl h
 
@@ -94,7 +94,7 @@ settled_by None false p skip part none h =
     settled_past (nat_lt 0 skip) _ (contents_at p (part ++ drop skip [])) refl
     (ap (λ (x : Contents). settled x.ending) (none_follow p skip part ∙ cut_at p part h.accepted (lacks_some p skip part h)) ∙ settled_cut p part)
 
--- a reader that is not refused has taken no byte that is refused for good
+-- nothing in the bytes that a reader has taken is certain to be refused, if the reader is not refused
 uncertain : (r : Reading) (bytes : List ℕ) (records : List Record) → r.refusal ≡ None → IsReading r.refusal r.whole r.place r.skip r.part → HasRead r bytes records → settled (contents bytes).ending ≡ None
 uncertain r bytes records none keeps h =
     ap (λ (b : List ℕ). settled (contents b).ending) (sym (append-nil bytes))
@@ -103,7 +103,7 @@ uncertain r bytes records none keeps h =
 nothing_after : (records : List Record) (r : Refusal) → after_all records (ends (Some (record { refusal = r; cut = false }))) ≡ refused_after records r
 nothing_after records r = ap (λ (rs : List Record). refused_after rs r) (append-nil records)
 
--- what a refused reader says is the first refusal, whatever bytes follow
+-- the refusal of a reader is the first one of its bytes, whatever bytes follow
 refused_for_good : (r : Reading) (why : Refusal) (bytes more : List ℕ) (records : List Record) → r.refusal ≡ Some why → HasRead r bytes records → IsRefusedAfter meaning (bytes ++ more) records why
 unfolding whole_records
 refused_for_good r why bytes more records e h =
@@ -197,7 +197,7 @@ whole_opened refusal whole c interfaces held skip part none h head is =
     let w = is_whole refusal whole (place_of c interfaces held) skip part none is h in
     head_opened c.order c.packet held w.some head
 
--- what a reader that is not refused says, if the capture ends
+-- what a reader that is not refused holds and lacks, if the capture ends
 pub ends_so : (c : Cursor) (interfaces : List Interface) (held : List ℕ) (skip : ℕ) (part : List ℕ) (whole : Bool) (refusal : Option Refusal) → refusal ≡ None → IsReading refusal whole (place_of c interfaces held) skip part → HasHead c.order c.packet held
     → IsEnd (rest_of (reading (place_of c interfaces held) skip part whole refusal) []) (held_by refusal whole (packet_of c.packet held)) (lacks_by whole (place_of c interfaces held) part)
 ends_so c interfaces held skip part whole refusal none h head =
@@ -206,12 +206,12 @@ ends_so c interfaces held skip part whole refusal none h head =
 all_of : (bytes : List ℕ) (records : List Record) (rest : Contents) → contents (bytes ++ []) ≡ after_all records rest → contents bytes ≡ after_all records rest
 all_of bytes records rest e = ap contents (sym (append-nil bytes)) ∙ e
 
--- the packets of the bytes
+-- the packets of the bytes are those that were released and the one that is held
 records_so : (bytes : List ℕ) (records : List Record) (rest : Contents) (packet : Option Record) (lack : Option Refusal) → contents (bytes ++ []) ≡ after_all records rest → IsEnd rest packet lack → records ++ option_to_list packet ≡ whole_records bytes
 unfolding whole_records
 records_so bytes records rest packet lack e end = sym (ap (λ (x : Contents). x.records) (all_of bytes records rest e) ∙ ap (λ (rs : List Record). records ++ rs) end.records)
 
--- the first refusal of the bytes
+-- the first refusal of the bytes is what the reader lacks
 refusal_so : (bytes : List ℕ) (records : List Record) (rest : Contents) (packet : Option Record) (lack : Option Refusal) → contents (bytes ++ []) ≡ after_all records rest → IsEnd rest packet lack → lack ≡ first_refusal bytes
 unfolding first_refusal
 refusal_so bytes records rest packet lack e end = sym (ap (λ (x : Contents). refusal_of x.ending) (all_of bytes records rest e) ∙ end.refusal)
@@ -219,14 +219,14 @@ refusal_so bytes records rest packet lack e end = sym (ap (λ (x : Contents). re
 none_held : (refusal : Option Refusal) (whole : Bool) (packet : Option Record) (why : Refusal) → refusal ≡ Some why → held_by refusal whole packet ≡ None
 none_held refusal whole packet why e = rw e refl
 
--- what a refused reader says, if the capture ends
+-- what a refused reader holds and lacks, if the capture ends
 pub end_refused : (r : Reading) (why : Refusal) → r.refusal ≡ Some why → IsEnd (rest_of r []) (held r) (Some why)
 end_refused r why e = record {
   records = ap (λ (x : Contents). x.records) (refused_rest r why [] e) ∙ sym (ap option_to_list (none_held r.refusal r.whole r.place.packet why e));
   refusal = ap (λ (x : Contents). refusal_of x.ending) (refused_rest r why [] e);
 }
 
--- what a reader returns if the capture ends
+-- at the end of a capture a reader returns the first refusal of its bytes
 pub ends_now : (r : Reading) (result : Result Unit Refusal) (lack : Option Refusal) → IsEnd (rest_of r []) (held r) lack → result_err result ≡ lack → IfSome r.refusal (λ why. result ≡ Err why) → Ends meaning (progress r) result
 ends_now r result lack end is lasting = record {
   records = λ bytes records h. records_so bytes records (rest_of r []) (held r) lack (h.read []) end;

@@ -1,4 +1,4 @@
--- What stays true, whatever bytes follow.
+-- What the rows of a block's kind give stays true, whatever bytes follow.
 use Rattle.std.proofs.Common.{◌≡◌, ℕ, ◌≤◌, List, ◌++◌, length, Option, None, refl, arith, length-append}
 use Rattle.std.proofs.lemmas.Bool.Decides.{nat_tests}
 use Rattle.avtp_base.specs.declared.refusal.Refusal.{Refusal}

@@ -121,12 +121,12 @@ size_of_any order bytes =
     let k = kind_at order bytes in
     block_size k (number_at (order_at k order bytes) 4 4 bytes)
 
--- the bytes of the option that the bytes begin with: its header and its padded value, or all that are left if it ends
--- the options
+-- the size in bytes of the option at the front of the bytes: its header and its padded value, or all bytes of options that are
+-- left if it ends the options
 abbrev pub size_of_option : Order → ℕ → List ℕ → ℕ
 size_of_option order left bytes = if nat_eq (option_code order bytes) 0 then 4 + (left - 4) else 4 + padded (option_length order bytes)
 
--- how many bytes come before the next place, if a block, an option or a trailer comes here
+-- how many bytes come before the next place, by whether a block, an option or a trailer comes here
 abbrev pub size_by : Stage → Place → List ℕ → ℕ
 size_by stage.Block p bytes = size_of_any p.order bytes
 size_by stage.Option p bytes = size_of_option (order_or_little p.order) p.left bytes
@@ -174,7 +174,7 @@ after_any p bytes =
     let k = kind_at p.order bytes in
     after_block k p (number_at (order_at k p.order bytes) 4 4 bytes) bytes
 
--- an interface after one more of its options
+-- an interface after one more of its options was read
 abbrev pub described : Order → ℕ → Option Interface → List ℕ → Option Interface
 described order code None bytes = None
 described order code (Some interface) bytes = Some (with_option order code interface bytes)
@@ -192,7 +192,7 @@ after_trailer p = record {
   packet = None;
 }
 
--- the next place, if a block, an option or a trailer comes here
+-- the next place, by whether a block, an option or a trailer comes here
 abbrev pub next_by : Stage → Place → List ℕ → Place
 next_by stage.Block p bytes = after_any p bytes
 next_by stage.Option p bytes =
@@ -204,7 +204,7 @@ next_by stage.Trailer p bytes = after_trailer p
 unfoldable pub next_place : Place → List ℕ → Place
 next_place p bytes = next_by p.stage p bytes
 
--- the packet that is complete after what comes here: that of the block, after its trailer
+-- the packet that is complete after what comes here: after a trailer the packet of its block, otherwise none
 abbrev pub packet_by : Stage → Option Record → Option Record
 packet_by stage.Block packet = None
 packet_by stage.Option packet = None
@@ -256,7 +256,7 @@ ends ending = record { records = []; ending = ending }
 abbrev pub and_then : Option Record → Contents → Contents
 and_then packet rest = record { records = option_to_list packet ++ rest.records; ending = rest.ending }
 
--- what bytes hold that end before the next place: no packet, and no refusal if a capture that ends here is whole
+-- what the bytes hold if they end before the next place: no packet, and no refusal if a capture that ends here is whole
 abbrev pub cut_short : Place → List ℕ → Contents
 cut_short p bytes = if ends_at p.stage p.order p.start (length bytes) then ends None else ends (Some (cut_by p.stage p bytes))
 

@@ -84,7 +84,7 @@ interface_rows order count bytes =
 unfoldable pub timestamp : Order → List ℕ → ℕ
 timestamp order bytes = number_at order 12 4 bytes * 2 ^ 32 + number_at order 16 4 bytes
 
--- the interface of a section with this number
+-- the interface with this number, in a section with these interfaces
 abbrev pub interface_at : List Interface → ℕ → Interface
 interface_at interfaces id = slice_index_or interfaces id microseconds
 

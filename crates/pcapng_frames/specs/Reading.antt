@@ -1,4 +1,4 @@
--- What a reader means: the bytes that it has taken, and the packets that it has released.
+-- What the state of a reader means: the bytes that it has taken, and the packets that it has released.
 use Rattle.std.specs.Prelude.{◌≡◌, ℕ, suc, ◌+◌, ◌-◌, Bool, true, false, nat_lt, if◌then◌else◌, List, [], ◌++◌, length, drop, Option, Some, None}
 use Rattle.avtp_base.specs.declared.field.Field.TheVariants.{BlockBody}
 use Rattle.avtp_base.specs.declared.refusal.Refusal.{Refusal}
@@ -8,8 +8,8 @@ use Rattle.pcapng_frames.specs.declared.block.Stage.{Stage}
 use Rattle.pcapng_frames.specs.declared.block.Stage.TheVariants as stage
 use Rattle.pcapng_frames.specs.Blocks.{Place, Contents, contents, contents_from, whole_records, first_refusal, settled, ends, and_then, first_place, after_trailer, short_at}
 
--- A reader: the place that it has come to; how many bytes are to be skipped before it; the bytes that have come there;
--- whether the block's packet is whole; and the refusal.
+-- The state of a reader: the place that it has come to; how many bytes are to be skipped before that place; the bytes that have
+-- come there; whether the block's packet is whole; and the refusal.
 pub record Reading : Type 0 where
   pub place : Place
   pub skip : ℕ

@@ -25,7 +25,7 @@ pub const MICROSECONDS: Interface = Interface {
     offset: 0,
 };
 
-/// Whether the resolution is one that is read: at most 10^-18 or 2^-63 seconds.
+/// Whether the resolution is one that is read: no finer than 10^-18 or 2^-63 seconds.
 pub fn resolved(resolution: u8) -> bool
     ensures { result ≡ is_resolution resolution }
 {
@@ -79,7 +79,7 @@ fn instant_of(interface: Interface, timestamp: u64) -> i128
     i128::from(interface.offset) * 1_000_000_000 + nanoseconds as i128
 }
 
-/// The arrival of a packet, in nanoseconds. `None` if a capture cannot have this time.
+/// The arrival of a packet, in nanoseconds. `None` if that is before the epoch, or 2^32 seconds or more after it.
 pub fn arrival(interface: Interface, timestamp: u64) -> Option<u64>
     requires { is_resolution interface.resolution ≡ true }
     ensures exact { option_map pos result ≡ arrival_of interface timestamp }

@@ -24,15 +24,15 @@ pub const INTERFACE_DESCRIPTION: u32 = 1;
 
 pub const ENHANCED_PACKET: u32 = 6;
 
-/// The magic number of a section, as it is and read in the other byte order.
+/// The magic number of a section, in the capture's byte order and in the other one.
 const MAGIC: u32 = 0x1A2B_3C4D;
 
 const SWAPPED_MAGIC: u32 = 0x4D3C_2B1A;
 
-/// The most interfaces that a section may have.
+/// The greatest number of interfaces that a section may have.
 pub const INTERFACE_LIMIT: usize = 256;
 
-/// The most bytes that a packet may have.
+/// The greatest number of bytes that a packet may have.
 pub const PACKET_LIMIT: u32 = 262_144;
 
 /// The bytes of a packet's fixed fields.

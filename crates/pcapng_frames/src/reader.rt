@@ -18,10 +18,10 @@ use pcap_frames::{Order, RecordView};
 use std::alloc::Global;
 use std::marker::Model;
 
-/// The most bytes of a block that are held: a packet's fixed fields and its bytes.
+/// The greatest number of bytes of a block that are held: a packet's fixed fields and its captured bytes.
 const PART_ROOM: usize = 262_172;
 
-/// The most bytes of an option that are held: its header and the value of `if_tsoffset`.
+/// The greatest number of bytes of an option that are held: its header and the value of `if_tsoffset`.
 const TAIL_ROOM: usize = 12;
 
 /// Reads a pcapng capture (draft-ietf-opsawg-pcapng). It takes the capture's bytes in pieces of any length, and holds one
@@ -204,7 +204,8 @@ impl Ng {
         taken
     }
 
-    /// The packet whose block is complete in the piece, if no block has begun and nothing in it is refused.
+    /// The packet whose whole block is at the front of the piece, if no byte of the block was taken before and nothing in it is
+    /// refused.
     fn packet_ahead(&self, piece: &[u8]) -> Option<WholePacket>
         requires { self.now.place.stage ≡ stage.Block }
         ensures begins { IfSome result (λ packet. self.now.part ≡ []) }

@@ -123,8 +123,8 @@ pub fn other_refusal(order: Order, start: u64, bytes: &[u8]) -> Option<Refusal>
     None
 }
 
-/// The first refused field of an option, among those that these bytes hold. The option begins at an offset of the
-/// capture, with `left` bytes left before the trailer.
+/// The first refused field of an option, among those that these bytes hold. The option begins at offset `at` of the capture,
+/// and `left` bytes of options are left before the trailer.
 #[tactic(auto, unfolding(crate::specs::Blocks::option_refused))]
 pub fn option_refusal(order: Order, at: u64, left: u32, bytes: &[u8]) -> Option<Refusal>
     ensures { result ≡ refused_in_option order at left bytes.now }
@@ -218,7 +218,7 @@ pub fn block_refusal(
     kind_refusal(kind, order, interfaces, start, bytes)
 }
 
-/// Whether a trailer is refused: its bytes have come, and differ from the total length.
+/// The refusal of a trailer whose bytes have come and differ from the total length.
 #[tactic(auto, unfolding(crate::specs::Blocks::trailer_refused))]
 pub fn trailer_refusal(order: Order, at: u64, total: u32, tail: &[u8]) -> Option<Refusal>
     ensures { result ≡ refused_in_trailer order at total tail.now }

@@ -373,7 +373,7 @@ pub fn after_trailer(cursor: Cursor) -> Cursor
     }
 }
 
-/// The section's interfaces after a block: one that was described becomes the next one.
+/// The section's interfaces after a block: an interface that the block described becomes the next one.
 pub fn add_described(interface: Option<Interface>, interfaces: &mut Vec<Interface>)
     requires room { IfSome interface (λ i. length interfaces.old.items < 256) }
     requires capacity { 256 ≤ vec_capacity interfaces.old }

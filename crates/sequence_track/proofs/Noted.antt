@@ -16,7 +16,7 @@ use Rattle.sequence_track.proofs.Streams.{same-is, same-refl, same-sym, any-dist
 
 -- ---- which streams are tracked
 
--- the streams of some notes, and of one more
+-- the stream of each note, in the order of the notes
 streams : List Seen → List StreamKey
 streams notes = map stream_of notes
 
@@ -24,7 +24,7 @@ streams-more : (notes : List Seen) (seen : Seen) → streams (notes ++ seen ∷ 
 unfolding streams
 streams-more notes seen = map-append stream_of notes (seen ∷ [])
 
--- what is found among the first is found among all
+-- an item that passes a test among the first ones passes it among all
 any-take : (test : StreamKey → Bool) (n : ℕ) (xs : List StreamKey) → list_any test (take n xs) ≡ true → list_any test xs ≡ true
 any-take test n xs e =
     ap (λ (l : List StreamKey). list_any test l) (sym (take-append-drop n xs)) ∙ list_any-append test (take n xs) (drop n xs) ∙ or_left _ _ e
@@ -34,7 +34,7 @@ has-notes : (stream : StreamKey) (notes : List Seen) → is_tracked stream notes
 has-notes stream notes e =
     sym (any-distinct stream (map stream_of notes)) ∙ any-take (same_stream stream) most_streams (distinct (map stream_of notes)) e
 
--- one more note of a stream that has notes
+-- one more note of a stream that has notes leaves the tracked streams as they are
 tracked-known : (notes : List Seen) (seen : Seen) → list_any (same_stream (stream_of seen)) (map stream_of notes) ≡ true → tracked (notes ++ seen ∷ []) ≡ tracked notes
 unfolding streams
 tracked-known notes seen known =
@@ -48,7 +48,7 @@ tracked-new notes seen new =
     ap (λ (l : List StreamKey). take most_streams (distinct l)) (streams-more notes seen)
     ∙ ap (λ (l : List StreamKey). take most_streams l) (distinct-new (map stream_of notes) (stream_of seen) new)
 
--- if as many streams are tracked as can be, no more are
+-- if 1,024 streams are tracked, one more note leaves them as they are
 tracked-full : (notes : List Seen) (seen : Seen) → length (tracked notes) ≡ most_streams → tracked (notes ++ seen ∷ []) ≡ tracked notes
 tracked-full notes seen full = by_case (list_any (same_stream (stream_of seen)) (map stream_of notes)) refl
   where
@@ -59,7 +59,7 @@ tracked-full notes seen full = by_case (list_any (same_stream (stream_of seen)) 
     by_case true known = tracked-known notes seen known
     by_case false new = tracked-new notes seen new ∙ take-append-le most_streams (distinct (map stream_of notes)) (stream_of seen ∷ []) many
 
--- If fewer are tracked than can be, all streams are.
+-- if fewer than 1,024 streams are tracked, all streams are
 all-tracked : (notes : List Seen) → length (tracked notes) < most_streams → tracked notes ≡ distinct (map stream_of notes)
 all-tracked notes few =
     let short : length (distinct (map stream_of notes)) < most_streams = omega (arith, length-take most_streams (distinct (map stream_of notes))) in
@@ -70,7 +70,7 @@ new-stream : (stream : StreamKey) (notes : List Seen) → length (tracked notes)
 new-stream stream notes few new =
     sym (any-distinct stream (map stream_of notes)) ∙ ap (λ (l : List StreamKey). list_any (same_stream stream) l) (sym (all-tracked notes few)) ∙ new
 
--- one more stream is tracked
+-- if fewer than 1,024 streams are tracked, the first note of a stream adds that stream
 tracked-more : (notes : List Seen) (seen : Seen) → length (tracked notes) < most_streams → is_tracked (stream_of seen) notes ≡ false
     → tracked (notes ++ seen ∷ []) ≡ tracked notes ++ stream_of seen ∷ []
 tracked-more notes seen few new =
@@ -103,22 +103,22 @@ kept-none notes stream e = by_case (is_tracked stream notes) refl
     by_case true t = absurd (recent-some stream notes (has-notes stream notes t) (no-state (recent stream notes) (sym (cond-true _ _ _ t) ∙ e)))
     by_case false t = t
 
--- if the tracked streams stay, a note is kept of its own stream alone
+-- if the tracked streams are unchanged, one more note changes what is kept of its own stream alone
 kept-other : (notes : List Seen) (seen : Seen) (stream : StreamKey) → is_tracked stream (notes ++ seen ∷ []) ≡ is_tracked stream notes
     → same_stream stream (stream_of seen) ≡ false → kept_of (notes ++ seen ∷ []) stream ≡ kept_of notes stream
 kept-other notes seen stream same apart =
     ap (λ (b : Bool). cond b (state_of (recent stream (notes ++ seen ∷ []))) None) same
     ∙ ap (λ (l : List Seen). cond (is_tracked stream notes) (state_of l) None) (recent-other stream notes seen apart)
 
--- what is kept if one more note is kept of its stream
+-- what is kept of a tracked stream after one more of its notes is the state after that note
 kept-own : (notes : List Seen) (seen : Seen) (state : StreamState) → is_tracked (stream_of seen) (notes ++ seen ∷ []) ≡ true
     → state_of (seen ∷ recent (stream_of seen) notes) ≡ Some state → kept_of (notes ++ seen ∷ []) (stream_of seen) ≡ Some state
 kept-own notes seen state t e =
     cond-true _ _ _ t ∙ ap state_of (recent-own (stream_of seen) notes seen (same-refl (stream_of seen))) ∙ e
 
--- ---- a tracker that noted one more
+-- ---- a tracker that noted one more packet
 
--- the entries of a tracker, if one stream has a new state
+-- one stream has a new state in the tracker, and the states of all others are unchanged
 abbrev pub Puts : List (StreamKey × StreamState) → List (StreamKey × StreamState) → StreamKey → StreamState → Type 0
 Puts old new stream state = (q : StreamKey) → lookup (same_stream q) new ≡ cond (same_stream stream q) (Some state) (lookup (same_stream q) old)
 
@@ -162,7 +162,7 @@ found-known old notes seen last found stands here next =
     next (recent (stream_of seen) notes) known.1
     ∙ sym (cond-true _ _ _ (ap (λ (l : List StreamKey). list_any (same_stream (stream_of seen)) l) same ∙ known.0))
 
--- ---- a packet of a stream that is not tracked, since as many are as can be
+-- ---- a packet of a stream that is not tracked, because 1,024 others are
 
 pub noted-full : (old : List (StreamKey × StreamState)) (notes : List Seen) (seen : Seen)
     → StandsFor old notes → lookup (same_stream (stream_of seen)) old ≡ None → length old ≡ most_streams → StandsFor old (notes ++ seen ∷ [])
@@ -190,7 +190,7 @@ found-full old notes seen stands here full =
 
 -- ---- the first packet of a stream that is tracked
 
--- a list with one more stream has that one, and of the other streams those that it had
+-- a list with one more stream has that stream, and has any other stream exactly if it had it before
 any-own : (stream : StreamKey) (xs : List StreamKey) → list_any (same_stream stream) (xs ++ stream ∷ []) ≡ true
 any-own stream xs = list_any-append (same_stream stream) xs (stream ∷ []) ∙ or_right _ _ (or_left _ _ (same-refl stream))
 

@@ -1,4 +1,4 @@
--- The streams of a list of notes, and the notes of one of them, when one more is noted.
+-- How one more note changes the streams of a list of notes, and the notes of each stream.
 use Rattle.std.proofs.Common.{◌≡◌, ℕ, ◌==◌, Bool, true, false, not, ◌||◌, cond, List, [], ◌∷◌, ◌++◌, map, filter, reverse, refl, sym, ap, ◌∙◌, subst}
 use Rattle.std.specs.List.{list_any}
 use Rattle.std.proofs.lemmas.Bool.{and_parts, and_from, eqb-true, eq-eqb, or_parts, both_ways}
@@ -30,7 +30,7 @@ same-sym a b false e = by_case (same_stream b a) refl
 
 -- ---- distinct streams
 
--- the streams of a list that differ from the first
+-- the streams of a list that differ from this one
 others : StreamKey → List StreamKey → List StreamKey
 others first streams = filter (λ other. not (same_stream first other)) streams
 
@@ -61,7 +61,7 @@ any-distinct stream (first ∷ rest) =
     or-same (same_stream stream first) (list_any (same_stream stream) (others first (distinct rest))) (list_any (same_stream stream) rest)
     (λ apart. any-others stream first (distinct rest) apart ∙ any-distinct stream rest)
 
--- one more of the other streams, or none
+-- one more stream is added to the others, unless it is the first one
 others-more : (first : StreamKey) (streams : List StreamKey) (stream : StreamKey) (r : Bool) → same_stream first stream ≡ r
     → others first (streams ++ stream ∷ []) ≡ cond r (others first streams) (others first streams ++ stream ∷ [])
 unfolding others
@@ -79,7 +79,7 @@ distinct-new (first ∷ rest) stream new =
     ap (λ (l : List StreamKey). first ∷ others first l) (distinct-new rest stream parts.1)
     ∙ ap (λ (l : List StreamKey). first ∷ l) (others-more first (distinct rest) stream false (same-sym stream first false parts.0))
 
--- a stream that is in the list adds none
+-- a stream that is in the list adds no distinct stream
 pub distinct-known : (streams : List StreamKey) (stream : StreamKey) → list_any (same_stream stream) streams ≡ true → distinct (streams ++ stream ∷ []) ≡ distinct streams
 unfolding others
 distinct-known [] stream known = absurd cc
@@ -95,7 +95,7 @@ distinct-known (first ∷ rest) stream known =
 
 -- ---- the notes of a stream
 
--- the notes of a stream, in their order
+-- the notes of a stream's packets, in their order
 own : StreamKey → List Seen → List Seen
 own stream notes = filter (λ note. same_stream stream (stream_of note)) notes
 
@@ -105,7 +105,7 @@ unfolding own
 own-more stream notes seen true e = filter-append (λ note. same_stream stream (stream_of note)) notes (seen ∷ []) ∙ rw e refl
 own-more stream notes seen false e = filter-append (λ note. same_stream stream (stream_of note)) notes (seen ∷ []) ∙ rw e (append-nil _)
 
--- one more note is the last of its own stream, and none of another
+-- one more note is the newest of its own stream, and changes no other stream's notes
 pub recent-own : (stream : StreamKey) (notes : List Seen) (seen : Seen) → same_stream stream (stream_of seen) ≡ true → recent stream (notes ++ seen ∷ []) ≡ seen ∷ recent stream notes
 unfolding own
 recent-own stream notes seen e =
@@ -115,7 +115,7 @@ pub recent-other : (stream : StreamKey) (notes : List Seen) (seen : Seen) → sa
 unfolding own
 recent-other stream notes seen e = ap (λ (l : List Seen). reverse l) (own-more stream notes seen false e)
 
--- a stream that is not in the list has no notes
+-- a stream of which no packet was noted has no notes
 none-own : (stream : StreamKey) (notes : List Seen) → list_any (same_stream stream) (map stream_of notes) ≡ false → own stream notes ≡ []
 unfolding own
 none-own stream [] none = refl
@@ -127,7 +127,7 @@ pub recent-none : (stream : StreamKey) (notes : List Seen) → list_any (same_st
 unfolding own
 recent-none stream notes none = ap (λ (l : List Seen). reverse l) (none-own stream notes none)
 
--- a stream that is in the list has notes
+-- a stream of which a packet was noted has notes
 some-own : (stream : StreamKey) (notes : List Seen) → list_any (same_stream stream) (map stream_of notes) ≡ true → own stream notes ≡ [] → ⊥
 unfolding own
 some-own stream [] some none = absurd cc

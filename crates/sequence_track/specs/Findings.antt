@@ -13,7 +13,7 @@ use Rattle.sequence_track.specs.declared.stream.StreamKey.{StreamKey}
 abbrev pub stream_of : Seen → StreamKey
 stream_of seen = record { subtype = seen.subtype; id = seen.id }
 
--- the two are the same stream: subtype and stream id are equal
+-- the two streams are one: subtype and stream id are equal
 abbrev pub same_stream : StreamKey → StreamKey → Bool
 same_stream a b = a.subtype == b.subtype && a.id == b.id
 
@@ -34,13 +34,13 @@ tracked notes = take most_streams (distinct (map stream_of notes))
 abbrev pub is_tracked : StreamKey → List Seen → Bool
 is_tracked stream notes = list_any (same_stream stream) (tracked notes)
 
--- the notes of a stream, newest first
+-- the notes of a stream's packets, newest first
 abbrev pub recent : StreamKey → List Seen → List Seen
 recent stream notes = reverse (filter (λ note. same_stream stream (stream_of note)) notes)
 
 -- ---- findings, after the notes of the packet's stream, the last of them first
 
--- the distance from one sequence number to another, modulo 256
+-- the distance from the previous sequence number to this one, modulo 256
 abbrev pub step_from : ℕ → ℕ → ℕ
 step_from previous seq = (seq + 256 - previous) % 256
 
@@ -50,7 +50,7 @@ step_after [] seen = None
 step_after (previous ∷ older) seen =
     if step_from previous.seq seen.seq == 1 then None else Some (step_from previous.seq seen.seq)
 
--- how many of the newest packets have this value of the media clock restart, without a break
+-- how many packets, from the newest one back, have this value of the media clock restart without a break
 abbrev pub stood : Bool → List Seen → ℕ
 stood mr notes = prefix_len (λ note. beq note.mr mr) notes
 

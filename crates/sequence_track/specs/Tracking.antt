@@ -23,7 +23,7 @@ state_of (last ∷ older) = Some (record {
 abbrev pub kept_of : List Seen → StreamKey → Option StreamState
 kept_of notes stream = if is_tracked stream notes then state_of (recent stream notes) else None
 
--- A tracker, seen as the state that it keeps for each stream, has noted these packets so far.
+-- The tracker that keeps these states of streams has noted these packets so far.
 pub record StandsFor (tracker : List (StreamKey × StreamState)) (notes : List Seen) : Type 0 where
   pub states : (stream : StreamKey) → lookup (same_stream stream) tracker ≡ kept_of notes stream
   pub count : length tracker ≡ length (tracked notes)

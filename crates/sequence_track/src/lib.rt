@@ -1,4 +1,4 @@
-//! What breaks the rules of a stream, packet by packet.
+//! Tracks streams, and finds packets that break the rules of their stream.
 #![tactic(auto)]
 
 mod seen;

@@ -16,7 +16,7 @@ pub struct Seen {
     pub mr: bool,
     /// A reserved bit is set.
     pub reserved: bool,
-    /// The packet has a timestamp that its format does not want, or lacks one that it wants.
+    /// The packet has a timestamp that it must not have, or lacks one that it must have.
     pub stamp_wrong: bool,
 }
 
@@ -25,11 +25,11 @@ pub struct Seen {
 pub struct Findings {
     /// A reserved bit is set.
     pub reserved: bool,
-    /// The sequence number minus that of the stream's previous packet, modulo 256, if this is not 1.
+    /// The sequence number minus that of the stream's previous packet, modulo 256, if the difference is not 1.
     pub step: Option<u8>,
-    /// For how many packets of the stream the media clock restart kept its value, if it changes again before 8.
+    /// For how many packets of the stream the media clock restart kept its value, if it changes again after fewer than 8.
     pub hold: Option<u32>,
-    /// The packet has a timestamp that its format does not want, or lacks one that it wants.
+    /// The packet has a timestamp that it must not have, or lacks one that it must have.
     pub stamp: bool,
     /// The stream is not tracked, because 1,024 others are.
     pub untracked: bool,

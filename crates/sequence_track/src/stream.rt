@@ -36,7 +36,7 @@ pub struct StreamState {
     seq: u8,
     /// The media clock restart of the last packet.
     mr: bool,
-    /// For how many packets the restart has kept its value, counted up to 8, if it came by a change.
+    /// For how many packets, counted up to 8, the media clock restart has kept its value, if that value came by a change.
     held: Option<u32>,
 }
 

@@ -12,10 +12,10 @@ use std::alloc::Global;
 use std::collections::HashMap;
 use std::marker::Model;
 
-/// The most streams that are tracked.
+/// The greatest number of streams that are tracked.
 const MOST_STREAMS: usize = 1024;
 
-/// The state of the first 1,024 streams.
+/// The state of each of the first 1,024 streams.
 #[derive(Drop)]
 pub struct Tracker {
     streams: HashMap<StreamKey, StreamState>,

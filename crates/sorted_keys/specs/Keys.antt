@@ -1,8 +1,8 @@
--- Sorted keys.
+-- Keys, sorted by instant.
 use Rattle.std.specs.Prelude.{ℕ, ◌==◌, Bool, false, if◌then◌else◌, ℤ, int_le, int_lt, List, [], ◌∷◌}
 use Rattle.sorted_keys.specs.declared.key.Key.{Key}
 
--- two instants are one
+-- two instants are equal
 abbrev pub same_instant : ℤ → ℤ → Bool
 same_instant x y = if int_le x y then int_le y x else false
 
@@ -11,11 +11,11 @@ pub record KeyList : Type 0 where
   pub list : List Key
   pub room : ℕ
 
--- a list of keys by instant with one more, after all that are not later
+-- the keys, sorted by instant, with one more: it comes after all keys that are not later
 abbrev pub put_key : List Key → Key → List Key
 put_key [] key = key ∷ []
 put_key (other ∷ rest) key = if int_lt key.instant other.instant then key ∷ other ∷ rest else other ∷ put_key rest key
 
--- the key is of this instant and this sequence number
+-- the key has this instant and this sequence number
 abbrev pub is_key : ℤ → ℕ → Key → Bool
 is_key instant seq key = if same_instant key.instant instant then key.seq == seq else false

@@ -19,7 +19,7 @@ pub const FULL: usize = 512;
 
 pub const HALF: usize = FULL / 2;
 
-/// How many of the sorted keys are not later than an instant.
+/// How many of the sorted keys are not later than the instant.
 fn place_behind(keys: &VecDeque<Key>, instant: i64) -> usize
     requires { KeysAreInOrder keys.now.items }
     ensures { IsPlace instant keys.now.items result }
@@ -46,7 +46,7 @@ fn insert_key(keys: &mut VecDeque<Key>, place: usize, key: Key)
     };
 }
 
-/// Moves all keys after the first `count` to the front of `others`, which has room.
+/// Moves all keys after the first `count` to the front of `others`, which must have room.
 fn move_behind(keys: &mut VecDeque<Key>, count: usize, others: &mut VecDeque<Key>)
     requires count { count ≤ length keys.old.items }
     requires room { length keys.old.items + length others.old.items ≤ count + deque_capacity others.old }
@@ -67,7 +67,7 @@ fn move_behind(keys: &mut VecDeque<Key>, count: usize, others: &mut VecDeque<Key
     }
 }
 
-/// At most 512 keys, sorted.
+/// Sorted keys, with memory for 512.
 #[derive(Drop)]
 pub struct Block {
     keys: VecDeque<Key>,
@@ -112,7 +112,7 @@ impl Block {
         self.keys.front().copied()
     }
 
-    /// The first key is not later than an instant, or there is none.
+    /// Whether the first key is not later than the instant, or there is none.
     pub fn starts_by(&self, instant: i64) -> bool
         ensures { result ≡ starts_by_of instant self.now }
     {
@@ -122,7 +122,7 @@ impl Block {
         }
     }
 
-    /// The first key is earlier than an instant.
+    /// Whether the first key is earlier than the instant.
     pub fn starts_before(&self, instant: i64) -> bool
         ensures { result ≡ starts_before_of instant self.now }
     {
@@ -132,7 +132,7 @@ impl Block {
         }
     }
 
-    /// Puts a key after those that are not later.
+    /// Puts a key into the block, after all keys that are not later.
     pub fn put(&mut self, key: Key)
         requires { length self.old < 512 }
         ensures { self.new ≡ put_key self.old key }
@@ -141,7 +141,7 @@ impl Block {
         insert_key(&mut self.keys, place, key);
     }
 
-    /// One of the keys has the instant and the sequence number.
+    /// Whether one of the keys has the instant and the sequence number.
     pub fn has(&self, instant: i64, seq: u8) -> bool
         ensures { result ≡ list_any (is_key instant seq) self.now }
     {

@@ -14,7 +14,7 @@ use avtp_base::NoMemory;
 use std::alloc::Global;
 use std::collections::VecDeque;
 
-/// The place of the block that a key of an instant goes into.
+/// The place of the block that a key with this instant goes into.
 pub fn block_for(blocks: &VecDeque<Block>, instant: i64) -> usize
     requires { AreBlocks blocks.now.items }
     ensures { IsBlockFor instant blocks.now.items result }
@@ -24,7 +24,7 @@ pub fn block_for(blocks: &VecDeque<Block>, instant: i64) -> usize
         .saturating_sub(1)
 }
 
-/// Puts a key into its block, and returns the place of the block, which may be full then.
+/// Puts a key into its block, and returns the place of that block, which may be full now.
 pub fn put_into(blocks: &mut VecDeque<Block>, key: Key) -> usize
     requires { AreBlocks blocks.old.items }
     ensures all { all_keys blocks.new.items ≡ put_key (all_keys blocks.old.items) key }
@@ -48,7 +48,7 @@ pub fn insert_block(blocks: &mut VecDeque<Block>, place: usize, block: Block)
     };
 }
 
-/// Splits a full block into itself and one that has no keys.
+/// Splits a full block: its upper half goes into a block that had no keys, which follows it.
 pub fn split(blocks: &mut VecDeque<Block>, place: usize, mut upper: Block)
     requires blocks { AreBlocksBut place blocks.old.items }
     requires full { length (slice_index_or blocks.old.items place []) ≡ 512 }
@@ -79,7 +79,7 @@ pub fn take_empty(blocks: &mut VecDeque<Block>) -> Option<Block>
     }
 }
 
-/// Blocks with no keys, with room for one more.
+/// `count` blocks without keys, in a list that has room for one more.
 pub fn spare_blocks(alloc: Global, count: usize) -> Result<Vec<Block>, NoMemory>
     requires { count < 2 ^ 32 }
     ensures spare { IfOk result (λ spare. AllByRecursion (λ block. block ≡ []) spare.items) }

@@ -1,4 +1,4 @@
-//! Keys of what waits.
+//! The keys of batches that wait.
 
 /// The key of a batch: the instant of its first sample, its sequence number, and the slot that it is kept in.
 #[derive(Clone, Copy)]

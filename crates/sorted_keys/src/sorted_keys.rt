@@ -1,4 +1,4 @@
-//! Keys of what waits, sorted.
+//! The sorted keys of batches that wait.
 
 ghost use Rattle.std.specs.Prelude.{◌≡◌, ◌<◌, ◌≤◌, ◌++◌, [], length, slice_get, IfNone, IfOk};
 ghost use Rattle.std.specs.List.{list_any};
@@ -36,7 +36,7 @@ impl Model for SortedKeys {
 }
 
 impl SortedKeys {
-    /// No keys. Reserves the memory for this many.
+    /// No keys, with memory for `keys` of them.
     pub fn with_room(alloc: Global, keys: u32) -> Result<Self, NoMemory>
         ensures none { IfOk result (λ sorted. sorted.list ≡ []) }
         ensures room { IfOk result (λ sorted. keys ≤ sorted.room) }
@@ -48,7 +48,7 @@ impl SortedKeys {
         Ok(SortedKeys { blocks, spare })
     }
 
-    /// One of the keys has the instant and the sequence number.
+    /// Whether one of the keys has the instant and the sequence number.
     pub fn has(&self, instant: i64, seq: u8) -> bool
         ensures { result ≡ list_any (is_key instant seq) self.now.list }
     {
@@ -66,7 +66,7 @@ impl SortedKeys {
         false
     }
 
-    /// Puts a key after those that are not later. Allocates nothing.
+    /// Puts a key into the list, after all keys that are not later. Allocates nothing.
     pub fn put(&mut self, key: Key)
         requires { length self.old.list < self.old.room }
         ensures list { self.new.list ≡ put_key self.old.list key }

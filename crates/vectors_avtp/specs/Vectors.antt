@@ -24,7 +24,7 @@ abbrev pub v4 : List ℕ
 v4 =
     codes "0480000102000000000100020000bb8000080060000000003bb94e80"
 
--- The capture of the first vector as a pcapng file.
+-- The capture of the first vector, as a pcapng file.
 abbrev pub v5 : List ℕ
 v5 =
     codes "0a0d0d0a1c0000004d3c2b1a01000000ffffffffffffffff1c0000000100000020000000010000000000040009000100" ++
@@ -32,7 +32,7 @@ v5 =
     codes "000000018100600222f00281000002000000000100013bb94e8004500210001800000001ffff0002fffe0003fffd0004" ++
     codes "fffc0005fffb0006fffa000064000000"
 
--- The vector of a number, 1 to 5.
+-- The vector with this number, 1 to 5.
 abbrev pub published : ℕ → List ℕ
 published n =
     if n == 1 then v1 else

@@ -2,7 +2,7 @@
 
 use avtp_base::NoMemory;
 
-/// The bytes with some of them changed, each at its offset; then cut to a length; then with zero bytes added.
+/// The bytes with some of them changed, each at its offset, then cut to `len` bytes, and then with `zeros` zero bytes added.
 pub fn changed(
     bytes: Vec<u8>,
     changes: &[(usize, u8)],

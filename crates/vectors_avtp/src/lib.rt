@@ -1,4 +1,4 @@
-//! What tests share: test vectors of AVTP packets and captures, bytes as rows of tables spell them, and pseudo-random
+//! What tests share: test vectors of AVTP packets and captures, bytes as the rows of tables write them, and pseudo-random
 //! numbers that are the same in each run.
 #![tactic(auto)]
 

@@ -1,21 +1,21 @@
-//! Bytes and refusals in the words of a table's row.
+//! Bytes and refusals as the rows of tables write them.
 
 use crate::vectors::vector;
 use avtp_base::Refusal;
 use std::alloc::{AllocError, Global};
 use std::test::Fail;
 
-/// Where the frame of the first vector begins, and the packet in it.
+/// The places in the first vector at which the frame and the packet in it begin.
 const FRAME: usize = 40;
 
 const PACKET: usize = 58;
 
-/// The bytes that a row spells. Each word continues from those before it:
+/// The bytes that a row gives. Each word continues from those before it:
 ///
 /// - `pcap`, `pcapng`, `frame`, `aaf`, `iec`, `h264` and `crf` add a vector, or the frame or the packet of the first one;
 /// - hex digits add these bytes;
 /// - `17=53ff` puts these bytes over others, from offset 17 on;
-/// - `len=47` cuts the bytes off there, or adds zeros.
+/// - `len=47` cuts the bytes to this length, or adds zeros up to it.
 pub fn bytes_of(alloc: Global, row: &str) -> Result<Vec<u8>, Fail> {
     let mut bytes = Vec::new(alloc);
     for word in row.split_whitespace() {
@@ -52,13 +52,13 @@ fn put(bytes: &mut Vec<u8>, at: usize, new: &[u8]) -> Result<(), Fail> {
     Ok(())
 }
 
-/// The two sides of a table's line, `bytes => what is wanted`.
+/// The two sides of a table's line, `bytes => expected`.
 pub fn row_of(line: &str) -> Result<(&str, &str), Fail> {
     let (row, wanted) = line.split_once("=>").ok_or("a line without a row")?;
     Ok((row.trim(), wanted.trim()))
 }
 
-/// A refusal as rows spell it: `stream_data_length at 20`, with ` short` if the field is cut off.
+/// A refusal as rows write it: `stream_data_length at 20`, with ` short` if the field is cut off.
 pub fn refusal_text(alloc: Global, refusal: Refusal) -> Result<String, AllocError> {
     let short = if refusal.short { " short" } else { "" };
     format!(in alloc; "{} at {}{short}", refusal.field.name(), refusal.at)

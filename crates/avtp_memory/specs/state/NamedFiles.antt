@@ -10,7 +10,7 @@ pub record SetsFile (old new : List (String Global × Vec ℕ)) (name bytes : Li
   pub set : bytes_under new name ≡ Some bytes
   pub others : (other : List ℕ) → other ≢ name → bytes_under new other ≡ bytes_under old other
 
--- the file has gained these bytes at its end, and every other file is unchanged
+-- the file gained these bytes at its end, and every other file is unchanged
 abbrev pub GrowsFile : List (String Global × Vec ℕ) → List (String Global × Vec ℕ) → List ℕ → List ℕ → Type 0
 GrowsFile old new name piece =
     (before : List ℕ) × (bytes_under old name ≡ Some before) × SetsFile old new name (before ++ piece)
@@ -19,7 +19,7 @@ GrowsFile old new name piece =
 abbrev pub KeepsNamed : List (String Global × Vec ℕ) → List (String Global × Vec ℕ) → Type 0
 KeepsNamed old new = (name : List ℕ) → bytes_under new name ≡ bytes_under old name
 
--- the bytes that the first entry with the name has memory for
+-- how many bytes the first entry with the name has memory for
 abbrev pub capacity_under : List (String Global × Vec ℕ) → List ℕ → ℕ
 capacity_under entries name = unwrap_or (option_map (λ entry. vec_capacity entry.1) (find (has_name name) entries)) 0
 
@@ -27,7 +27,7 @@ capacity_under entries name = unwrap_or (option_map (λ entry. vec_capacity entr
 abbrev pub KeepsCapacity : List (String Global × Vec ℕ) → List (String Global × Vec ℕ) → Type 0
 KeepsCapacity old new = (name : List ℕ) → capacity_under old name ≤ capacity_under new name
 
--- the file keeps as much of a piece as fits its room, the answer says whether that is all of it, and every other file is
+-- the file keeps as much of a piece as fits its room, `fits` says whether that is all of the piece, and every other file is
 -- unchanged
 pub record KeepsWithin (old new : List (String Global × Vec ℕ)) (name : List ℕ) (room : ℕ) (piece : List ℕ) (fits : Bool) : Type 0 where
   pub before : List ℕ

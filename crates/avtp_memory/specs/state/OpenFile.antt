@@ -8,7 +8,7 @@ use Rattle.avtp_files.specs.Entries.{entry_at}
 use Rattle.avtp_memory.specs.NamedFiles.{bytes_under}
 use Rattle.avtp_memory.specs.state.NamedFiles.{capacity_under}
 
--- the same file after n more bytes
+-- an open file after n more of its bytes were read
 abbrev pub moved_on : ℕ → OpenFile → OpenFile
 moved_on n file = record file { place = file.place + n }
 

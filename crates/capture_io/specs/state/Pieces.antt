@@ -21,7 +21,7 @@ HasTakenOf limit bytes shelf pieces prefix = HasTaken limit bytes (left_in shelf
 abbrev pub IsDrained : Slots → Piecing → Type 0
 IsDrained slots pieces = IsSome (slots pieces.slot) × (pieces.waiting ≡ [])
 
--- A file of this name was opened, of which `limit` bytes may be read and none was; or it was not opened.
+-- A file with this name was opened, of which at most `limit` bytes may be read, and none was read so far; or it was not opened.
 pub record OpensPieces (before after : ShelfState) (limit : ℕ) (name : List ℕ) (result : Result Piecing OpenFault) : Type 0 where
   pub begun : IfOk result (λ pieces. (files : Files) → before.files ≡ Some files → (bytes : List ℕ) × (files name ≡ Some bytes) × HasTakenOf limit bytes after pieces [])
   pub nothing : IfOk result (λ pieces. (pieces.waiting ≡ []) × (pieces.left ≡ limit))
@@ -38,7 +38,7 @@ pub record ReadsPiece (before after : ShelfState) (old new : Piecing) (result : 
   pub counted : CountsStop result before.reading_faults after.reading_faults
   pub reads : ReadsSlot before after old.slot new.slot
 
--- All pieces were read, after none had been taken, as far as they could or might be, and joined.
+-- From a file of which nothing had been taken, all pieces were read up to its end, a fault or the limit, and joined.
 pub record JoinsPieces (before after : ShelfState) (old new : Piecing) (result : Result Contents NoMemory) : Type 0 where
   pub read : IfOk result (λ contents. (limit : ℕ) (bytes : List ℕ) → HasTakenOf limit bytes before old [] → IsContents limit bytes contents.stop contents.bytes.items)
   pub bounded : IfOk result (λ contents. length contents.bytes.items ≤ old.left)

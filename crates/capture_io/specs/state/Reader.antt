@@ -34,12 +34,12 @@ IsFront None front c n = (length front < 4) × (c ≡ classic.nothing_read) × (
 IsFront (Some Classic) front c n = n ≡ ng.nothing_read
 IsFront (Some Pcapng) front c n = c ≡ classic.nothing_read
 
--- the reader of the other layout is unchanged
+-- the reader of the other layout was not changed
 abbrev pub KeepsOther : Format → classic.Reading → classic.Reading → ng.Reading → ng.Reading → Type 0
 KeepsOther Classic c c' n n' = n' ≡ n
 KeepsOther Pcapng c c' n n' = c' ≡ c
 
--- whatever the reader had read before, it has now read these bytes, too, and released no record
+-- after what the reader had read before, it has now read these bytes, and released no record
 abbrev pub GoesOn : CaptureReading → List ℕ → CaptureReading → Type 0
 GoesOn old more new = readers.GoesOn (progress old) more (progress new)
 
@@ -58,7 +58,7 @@ pub record Feeds (old : CaptureReading) (piece : List ℕ) (result : Result ℕ 
   pub accepted : OnOk result (refusal_of new ≡ None)
   pub refused : IfErr result (λ refusal. (bytes more : List ℕ) (records : List Record) → HasRead old bytes records → RefusedAfter ((bytes ++ piece) ++ more) records refusal)
 
--- the held record was given up
+-- the held record was released
 abbrev pub Releases : CaptureReading → CaptureReading → Type 0
 Releases old new = readers.Releases (progress old) (progress new)
 

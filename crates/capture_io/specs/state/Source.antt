@@ -16,9 +16,9 @@ use Rattle.capture_io.specs.Source.{Sourcing, slot_of, remains_of, held_in, HasF
 abbrev pub HasFedOf : ℕ → List ℕ → ShelfState → Sourcing → List Record → Type 0
 HasFedOf limit bytes shelf source records = HasFed limit bytes (remains_of shelf source) source records
 
--- The state after a call that read more, or took what waits. If the reading continues, the source has given the same records of
--- the same file, and less work is left. If it ended, it ended in this way after them. The count of reading faults rose if a
--- fault ended it, and is otherwise unchanged.
+-- The state after a call that read more, or took bytes that wait. If the reading continues, no further record was given, and
+-- less work is left. If the reading ended, it ended in this way after the records that were given. The count of reading faults
+-- rose if a fault ended it, and is otherwise unchanged.
 pub record ReadsOn (before after : ShelfState) (old new : Sourcing) (result : Option End) : Type 0 where
   pub more : result ≡ None → (limit : ℕ) (bytes : List ℕ) (records : List Record) → HasFedOf limit bytes before old records → HasFedOf limit bytes after new records
   pub ends : IfSome result (λ how. (limit : ℕ) (bytes : List ℕ) (records : List Record) → HasFedOf limit bytes before old records → EndsAfter limit bytes (Rose before.reading_faults after.reading_faults) how records)
@@ -26,7 +26,7 @@ pub record ReadsOn (before after : ShelfState) (old new : Sourcing) (result : Op
   pub counted : CountsFault None result before.reading_faults after.reading_faults
   pub reads : ReadsSlot before after (slot_of old) (slot_of new)
 
--- It read on until a record is held, or the reading ended.
+-- The source read on until a record is held, or the reading ended.
 pub record ReadsRecord (before after : ShelfState) (old new : Sourcing) (result : Option End) : Type 0 where
   pub on : ReadsOn before after old new result
   pub held : result ≡ None → IsSome (held_in new)
@@ -52,7 +52,7 @@ pub record FindsAhead (source : Sourcing) (result : Option ℕ) : Type 0 where
   pub ahead : IfSome result (λ size. LiesAhead source size)
   pub none : result ≡ None → (size : ℕ) → LiesAhead source size → ⊥
 
--- the value of a source that lends the record in the first bytes that wait, or lends none
+-- what contracts see of a source that lends the record in the first bytes that wait, or lends none
 abbrev pub lending : Option ℕ → Sourcing → Sourcing
 lending None source = source
 lending (Some size) source = holding source size

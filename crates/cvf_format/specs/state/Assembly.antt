@@ -11,7 +11,7 @@ use Rattle.cvf_format.specs.declared.piece.Piece.TheVariants as variant
 use Rattle.cvf_format.specs.Stretches.{Fragment, Event, held, given_up, reason, piece, goes_on, begins, completes, sequence_numbers, longest_unit, most_fragments}
 use Rattle.cvf_format.specs.Assembly.{Assembly, StandsFor}
 
--- the last of these events was a packet, and the assembler gave this answer
+-- the last of these events was a packet, and the assembler returned this for it
 pub record IsPushed (a : Assembly) (events : List Event) (pushed : Pushed) : Type 0 where
   pub stands : StandsFor a events
   pub lost : pushed.lost ≡ length (given_up events)
@@ -26,12 +26,12 @@ agree None b = true
 agree (Some a) None = true
 agree (Some a) (Some b) = int_eq a b
 
--- the packet continues what is kept
+-- the packet continues the unit that waits
 unfoldable pub goes_on_here : Assembly → Fragment → Bool
 goes_on_here a f = not (length a.held == 0)
     && (goes_on f.part && (f.nal == a.nal && (f.mark.seq == a.next_seq && agree a.instant f.instant)))
 
--- there is room for a fragment with this body
+-- the unit that waits has room for a fragment with this body
 unfoldable pub has_room : Assembly → List ℕ → Bool
 has_room a body = nat_le (length a.bytes + length body) longest_unit && nat_lt (length a.held) most_fragments
 

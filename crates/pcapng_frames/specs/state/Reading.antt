@@ -18,7 +18,7 @@ use Rattle.pcapng_frames.specs.Blocks.{kind_at, order_or_little, refusal_here, e
 use Rattle.pcapng_frames.specs.Reading.{Reading, rest_of, passed_by, taken, taken_by}
 use Rattle.pcapng_frames.specs.state.Fields.{AllResolved}
 
--- What is still to come from the reader is the same as before, less these bytes.
+-- What is still to come from the old reader after these bytes is still to come from the new one.
 pub record Takes (old : Reading) (bytes : List ℕ) (new : Reading) : Type 0 where
   pub same : (more : List ℕ) → rest_of old (bytes ++ more) ≡ rest_of new more
 
@@ -44,14 +44,14 @@ need_by stage.Block order part = block_need order part
 need_by stage.Option order part = option_need (order_or_little order) part
 need_by stage.Trailer order part = 4
 
--- What is still to come of a block, by how many bytes were passed, how many bytes of options are left, and its total length:
--- nothing is known of a block that begins, and otherwise the rest ends with the trailer.
+-- How far a reader is in a block, by how many bytes are to be skipped, how many bytes of options are left, and the block's
+-- total length: nothing is skipped before a block, and within a block these bytes and the trailer fit the total length.
 abbrev pub IsAhead : Stage → ℕ → ℕ → ℕ → Type 0
 IsAhead stage.Block skip left total = skip ≡ 0
 IsAhead stage.Option skip left total = (0 < left) × (left % 4 ≡ 0) × (skip + left + 4 ≤ total)
 IsAhead stage.Trailer skip left total = skip + 4 ≤ total
 
--- a block that begins has no packet yet
+-- before a block there is neither a packet nor an interface that is being described, and before an option there is no packet
 abbrev pub IsFree : Stage → Option Record → Option Interface → Type 0
 IsFree stage.Block packet interface = (packet ≡ None) × (interface ≡ None)
 IsFree stage.Option packet interface = packet ≡ None
@@ -65,7 +65,7 @@ pub record IsPart (p : Place) (skip : ℕ) (part : List ℕ) : Type 0 where
   pub room : IfSome p.interface (λ i. length p.interfaces < 256)
   pub free : IsFree p.stage p.packet p.interface
 
--- The trailer of a packet was taken.
+-- The trailer of a packet's block was taken.
 pub record IsWhole (p : Place) (skip : ℕ) (part : List ℕ) : Type 0 where
   pub at_trailer : p.stage ≡ stage.Trailer
   pub passed : skip ≡ 0

@@ -13,7 +13,7 @@ KeysAreInOrder (key ∷ rest) = AllByRecursion (λ other. key.instant ≤ℤ oth
 
 -- ---- a block
 
--- this many keys are not later than an instant, and those after them are
+-- The first `place` keys are not later than the instant, and those after them are.
 pub record IsPlace (instant : ℤ) (keys : List Key) (place : ℕ) : Type 0 where
   pub within : place ≤ length keys
   pub not_later : AllByRecursion (λ key. key.instant ≤ℤ instant) (take place keys)
@@ -65,8 +65,8 @@ pub record AreTaken (blocks : List (List Key)) : Type 0 where
   pub filled : AllByRecursion (λ block. 256 ≤ length block) (drop 1 blocks)
   pub short : AllByRecursion (λ block. length block < 512) blocks
 
--- A key of an instant goes into the block at this place: no key of the earlier blocks is later, and all keys of the later
--- blocks are.
+-- A key with this instant goes into the block at this place: no key in the blocks before it is later than the instant, and all
+-- keys in the blocks after it are later.
 abbrev pub IsBlockFor : ℤ → List (List Key) → ℕ → Type 0
 IsBlockFor instant [] place = ⊥
 IsBlockFor instant (block ∷ rest) zero = AllByRecursion (λ key. instant <ℤ key.instant) (all_keys rest)
@@ -76,7 +76,7 @@ IsBlockFor instant (block ∷ rest) (suc place) = AllByRecursion (λ key. key.in
 abbrev pub room_of : ℕ → ℕ
 room_of blocks = 256 * (blocks - 1)
 
--- the blocks of keys, and spare ones without keys, all in places that are reserved
+-- the blocks of keys, and the spare blocks without keys, fit the places that are reserved
 pub record HaveRoom (blocks spare : List (List Key)) (places : ℕ) : Type 0 where
   pub kept : AreBlocks blocks
   pub empty : AllByRecursion (λ block. block ≡ []) spare

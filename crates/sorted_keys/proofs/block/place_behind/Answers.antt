@@ -1,4 +1,4 @@
--- The last key or a binary search tells the place.
+-- The place follows from the last key, or is found by a binary search.
 use Rattle.std.proofs.Common.{◌≡◌, ◌≤◌, ◌≤ℤ◌, ◌-◌, length, get_or, rules}
 use Rattle.std.specs.Prelude.{int_le}
 use Rattle.std.proofs.lemmas.Int.{ints}

@@ -1,4 +1,4 @@
--- A packet is noted with its stream, which is tracked already, or cannot be because 1,024 others are, or is new.
+-- A packet is noted with its stream: the stream is tracked already, or cannot be because 1,024 others are, or is new.
 use Rattle.std.proofs.Common.{◌≡◌, ℕ, ◌+◌, ◌<◌, ◌≤◌, List, length, Option, Some, None, sym, ap, ◌∙◌, subst, arith, rules}
 use Rattle.std.specs.Prelude.{if◌then◌else◌, is_some}
 use Rattle.std.specs.HashMap.{HashMap}
@@ -10,7 +10,7 @@ use Rattle.sequence_track.specs.Tracking.{StandsFor}
 use Rattle.sequence_track.proofs.Noted.{noted-known, found-known, noted-full, found-full, noted-new, found-new, Puts}
 use Rattle.sequence_track.proofs.tracker.Tracker.note.Goals as goal
 
--- what the tracker showed is what its map has, and the stream is the packet's
+-- the state that the tracker's map holds for the packet's stream is the one that contracts see
 view : (entries shown : List (StreamKey × StreamState)) (a b : StreamKey) (o : Option StreamState) → entries ≡ shown → a ≡ b
     → o ≡ lookup (same_stream a) entries → lookup (same_stream b) entries ≡ o
 view entries shown a b o e s is = ap (λ (x : StreamKey). lookup (same_stream x) entries) (sym s) ∙ sym is
