@@ -1,4 +1,4 @@
--- What holds of all that a listener presents.
+-- What holds of each item that may be presented holds of all that a listener presents.
 use Rattle.std.proofs.Common.{◌≡◌, ℕ, zero, suc, Bool, true, false, ℤ, ◌≤ℤ◌, List, [], ◌∷◌, ◌++◌, length, map, Option, Some, None, Result, Ok, Err, refl, sym, subst, arith}
 use Rattle.std.specs.Prelude.{fold, int_lt, option_and_then, slice_get}
 use Rattle.std.specs.List.{AllByRecursion}
@@ -26,7 +26,7 @@ use Rattle.listener.specs.Laws.{presented_of}
 use Rattle.listener.proofs.Due.{due_first}
 use Rattle.listener.proofs.TrueList.{batches_are}
 
--- P holds of each batch that an item of a list can be presented as in time
+-- P holds of each batch that an item can be presented as in time
 abbrev pub HoldsOfItems : SchedulePlan → List Entry → (Presented → Type 0) → Type 0
 HoldsOfItems plan es P = (i : ℕ) (item : Item) (batch : Presented) → slice_get es i ≡ Some (OfItem item) → timed clock_spot plan (prefix_of plan es i) item ≡ Ok batch → now_at es i ≤ℤ first_instant batch → P batch
 
@@ -71,7 +71,7 @@ batches_all : (P : Presented → Type 0) (xs : List Accepted) → AllByRecursion
 batches_all P [] all = tt
 batches_all P (x ∷ xs) all = (all.0, batches_all P xs all.1)
 
--- it holds of all that is presented
+-- what holds of each item that may be presented holds of all that is presented
 pub presented_all : (P : Presented → Type 0) (plan : ListenPlan) (records : List Record) → HoldsOfItems (schedule_plan plan) (entries_in plan records) P → AllByRecursion P (presented_of (shown_of plan records))
 presented_all P plan records holds =
     let es = entries_in plan records in

@@ -26,7 +26,7 @@ use Rattle.am824_gateway.proofs.PieceLemmas.{counted, fits}
 
 -- ---- what is not skipped
 
--- a batch that is not skipped has the shape, does not overlap, and is in time
+-- The batch is not skipped: it has the shape, does not overlap, and is in time.
 pub record IsGiven (to : To) (shape : Shape) (given : Given) (batch : Presented) : Type 0 where
   pub shaped : has_shape to shape batch ≡ true
   pub apart : overlaps given.last batch ≡ false
@@ -93,7 +93,7 @@ all_by : {X : Type 0} (P Q : X → Type 0) → ((x : X) → P x → Q x) → (xs
 all_by P Q go [] all = tt
 all_by P Q go (x ∷ xs) all = (go x all.0, all_by P Q go xs all.1)
 
--- a piece begins at this sample or after it, within the batch
+-- The piece begins at this sample or after it, within the batch.
 pub record BeginsFrom (batch : Presented) (first : ℕ) (p : Piece) : Type 0 where
   pub from : first ≤ p.first
   pub inside : p.first < batch.count
@@ -162,7 +162,7 @@ is_after (Some m) l b e apart =
     before : (x y : ℤ) → int_le x y ≡ false → y <ℤ x
     before x y e = grind (arith, ints)
 
--- the pieces of a batch, if it is not skipped, and of those after it
+-- the pieces of a batch, if it is not skipped, and of the batches after it
 abbrev cuts_by : Option Skip → To → Shape → Given → Presented → List Presented → List Cut
 cuts_by skip to shape given b bs = unless skip (cuts_from given.packets b (pieces_of to shape b given.block) ++ cuts_after to shape (given_with to shape given b) bs) (cuts_after to shape given bs)
 
@@ -181,7 +181,7 @@ after_by to shape given b bs x l None is e h rising skipped taken =
     (cuts_begin (λ y. x <ℤ y) given.packets b 0 (pieces_of to shape b given.block) (λ j low high. let here = not_earlier b 0 j rising low high in omega (arith, ints, h, begun, here)) (begin_from to shape b b.count 0 given.block))
     (taken (omega (arith, ints, h, begun, ended))))
 
--- all pieces are after an instant that is not after the last that was given out
+-- all pieces come after any instant up to the last that was given out
 pub after_all : (to : To) (shape : Shape) (given : Given) (batches : List Presented) (x l : ℤ) → given.last ≡ Some l → x ≤ℤ l → AllByRecursion HasRisingInstants batches
     → AllByRecursion (λ y. x <ℤ y) (map cut_instant (cuts_after to shape given batches))
 after_all to shape given [] x l e h all = tt

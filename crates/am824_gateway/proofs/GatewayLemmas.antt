@@ -43,7 +43,7 @@ either : (a b : Bool) → (a || b) ≡ false → (a ≡ false) × (b ≡ false)
 either false b e = (refl, e)
 either true b e = absurd cc
 
--- a piece, if the batch has a sample there
+-- the piece of a batch that begins with this sample
 abbrev piece_at : To → Shape → Presented → ℕ → ℕ → Piece
 piece_at to shape batch first block = record { first = first; count = piece_count to shape batch first; block = block }
 
@@ -152,13 +152,13 @@ in_time batch p e = before (pos captures_end) (arrival_at (sample_instant batch 
     before : (x y : ℤ) → int_le x y ≡ false → y <ℤ x
     before x y e = grind (arith, ints)
 
--- the instant of a batch's sample is one
+-- the instant of a sample of a batch is within the range of instants
 pub in_range : (batch : Presented) (i : Instant) → IsPresentable batch → IsInstantOf i batch → i.j ≤ batch.count → IsInstant i.nanoseconds
 in_range batch i p is h = rw (is.at) (p.instants i.j h)
 
 -- ---- turns
 
--- the turn of a frame of a batch
+-- the turn of frame i, by the piece that it carries
 pub turn_is : (to : To) (shape : Shape) (id n : ℕ) (batch : Presented) (frames : List SentFrame) (i size : ℕ) (arrival : ℤ) (p : Piece) → slice_get frames i ≡ Some (piece_frame to shape id n batch p)
     → p.first + p.count ≤ batch.count → length batch.bytes ≡ batch.count * (value_in to * shape.channels) → arrival ≡ arrival_at (sample_instant batch p.first) → size ≡ frame_size to shape p
     → option_map turn_of (slice_get frames i) ≡ Some (record { arrival = arrival; number = n; clock = false; size = size })
@@ -166,7 +166,7 @@ turn_is to shape id n batch frames i size arrival p frame inside whole at sized 
     let long : length (piece_frame to shape id n batch p).bytes ≡ size = length_frame to shape id n batch p inside whole ∙ sym sized in
     rw (frame, at, ← long) refl
 
--- the frame of a turn
+-- the frame of a turn, by its bytes
 pub frame_is : (to : To) (shape : Shape) (id n : ℕ) (batch : Presented) (frames : List SentFrame) (i : ℕ) (turn : Turn) (bytes : List ℕ) (p : Piece) → slice_get frames i ≡ Some (piece_frame to shape id n batch p)
     → option_map turn_of (slice_get frames i) ≡ Some turn → bytes ≡ (piece_frame to shape id n batch p).bytes → slice_get frames i ≡ Some (frame_in turn bytes)
 frame_is to shape id n batch frames i turn bytes p frame is made =
@@ -174,7 +174,7 @@ frame_is to shape id n batch frames i turn bytes p frame is made =
     let turned : turn_of (piece_frame to shape id n batch p) ≡ turn = cc in
     frame ∙ (rw (← turned, made) refl)
 
--- the length of a turn
+-- the length of a turn's frame
 pub size_is : (to : To) (shape : Shape) (id n : ℕ) (batch : Presented) (frames : List SentFrame) (i : ℕ) (turn : Turn) (p : Piece) → slice_get frames i ≡ Some (piece_frame to shape id n batch p)
     → option_map turn_of (slice_get frames i) ≡ Some turn → p.first + p.count ≤ batch.count → length batch.bytes ≡ batch.count * (value_in to * shape.channels) → turn.size ≡ frame_size to shape p
 size_is to shape id n batch frames i turn p frame is inside whole =
@@ -182,7 +182,7 @@ size_is to shape id n batch frames i turn p frame is inside whole =
     let turned : turn_of (piece_frame to shape id n batch p) ≡ turn = cc in
     sym (ap (λ (t : Turn). t.size) turned) ∙ length_frame to shape id n batch p inside whole
 
--- the number of a turn
+-- the number of a turn's packet
 pub number_is : (to : To) (shape : Shape) (id n : ℕ) (batch : Presented) (frames : List SentFrame) (i : ℕ) (turn : Turn) (p : Piece) → slice_get frames i ≡ Some (piece_frame to shape id n batch p)
     → option_map turn_of (slice_get frames i) ≡ Some turn → n ≡ turn.number
 number_is to shape id n batch frames i turn p frame is =
@@ -192,18 +192,18 @@ number_is to shape id n batch frames i turn p frame is =
 
 -- ---- what a gateway holds
 
--- there is piece i
+-- piece i exists if frame i does
 pub known : (current : Option Current) (pieces : List Piece) (c : Current) (i : ℕ) → current ≡ Some c → i < length (frames_in current pieces) → i < length pieces
 known None pieces c i e h = absurd cc
 known (Some d) pieces c i e h = omega (arith, h, length_frames d.stream.to d.stream.shape d.stream.id d.first d.batch pieces)
 
--- it lies within the batch
+-- piece i lies within its batch
 pub within_at : (current : Option Current) (pieces : List Piece) (c : Current) (i : ℕ) (p : Piece) → current ≡ Some c → IsCutFrom current pieces → i < length pieces → p ≡ slice_index_or pieces i p → IsWithin c.stream.to c.stream.shape c.batch p
 within_at current pieces c i p e cut h is =
     let cut : IsCut c pieces = rw e at cut in
     subst (IsWithin c.stream.to c.stream.shape c.batch) (sym is) (at (IsWithin c.stream.to c.stream.shape c.batch) pieces i p h cut.within)
 
--- so does a piece alone
+-- a batch is still cut if piece i is the only one
 pub cut_one : (current : Option Current) (pieces : List Piece) (c : Current) (i : ℕ) (p : Piece) → current ≡ Some c → IsCutFrom current pieces → i < length pieces → p ≡ slice_index_or pieces i p → IsCut c (p ∷ [])
 cut_one current pieces c i p e cut h is =
     let all : IsCut c pieces = rw e at cut in
@@ -214,11 +214,11 @@ short [] i turn e = absurd cc
 short (x ∷ xs) zero turn e = omega arith
 short (x ∷ xs) (suc i) turn e = let rest = short xs i turn e in omega arith
 
--- there is piece i, since it has a turn
+-- piece i exists if it has a turn
 pub known_by : (current : Option Current) (pieces : List Piece) (c : Current) (i : ℕ) (turn : Turn) → current ≡ Some c → option_map turn_of (slice_get (frames_in current pieces) i) ≡ Some turn → i < length pieces
 known_by current pieces c i turn e is = known current pieces c i e (short (frames_in current pieces) i turn is)
 
--- the bytes of a frame that was written
+-- the bytes that were written are the frame of the piece
 pub made_is : (to : To) (shape : Shape) (id n : ℕ) (batch : Presented) (p : Piece) (out values : List ℕ) (s from end : ℕ) → s ≡ value_in to * shape.channels → values ≡ batch.bytes → from ≡ p.first * s → end ≡ from + p.count * s
     → out ≡ packet_bytes (packet_of to shape id n (sample_instant batch p.first) p (turned to (p.count * shape.channels) (take (end - from) (drop from values))))
     → out ≡ (piece_frame to shape id n batch p).bytes

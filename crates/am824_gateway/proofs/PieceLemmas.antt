@@ -26,12 +26,12 @@ pub goes_on : (test : ℕ → Bool) (k more : ℕ) → 1 ≤ more → test k ≡
 goes_on test k zero some e = absurd (omega arith)
 goes_on test k (suc more) some e = (let next : k + 1 ≡ suc k = omega arith in let less : suc more - 1 ≡ more = omega arith in rw (e, next, less) refl)
 
--- the next one is not
+-- the next sample is not at its nominal instant
 pub stops : (test : ℕ → Bool) (k more : ℕ) → test k ≡ false → going_on test k more ≡ k
 stops test k zero e = refl
 stops test k (suc more) e = rw e refl
 
--- there is no next one
+-- there is no next sample
 pub is_full : (test : ℕ → Bool) (k more : ℕ) → more ≡ 0 → going_on test k more ≡ k
 is_full test k zero e = refl
 is_full test k (suc more) e = absurd (omega arith)
@@ -44,14 +44,14 @@ counted test k (suc more) = by (test k) refl (counted test (suc k) more)
     by true e next = rw e (omega (arith, next.0), omega (arith, next.1))
     by false e next = rw e (omega arith, omega arith)
 
--- the test of a sample by its instant
+-- the test of a sample, by its instant
 pub test_is : (rate first k j offset : ℕ) (batch : Presented) (now start : ℤ) (b : Bool) → b ≡ int_eq now (start +ℤ pos offset) → now ≡ sample_instant batch j → j ≡ first + k → start ≡ sample_instant batch first
     → offset ≡ nominal_offset rate k → is_nominal rate batch first k ≡ b
 test_is rate first k j offset batch now start b e at place begun off = sym (e ∙ (rw (at, place, begun, off) refl))
 
 -- ---- the pieces
 
--- the first piece, and then the rest
+-- the pieces of a batch are the first one and then the rest
 pub first_piece : (to : To) (shape : Shape) (batch : Presented) (most first block : ℕ) → 1 ≤ most → first < batch.count
     → pieces_from to shape batch most first block
     ≡ record { first = first; count = piece_count to shape batch first; block = block }
@@ -67,7 +67,7 @@ pub no_piece : (to : To) (shape : Shape) (batch : Presented) (most first block :
 no_piece to shape batch zero first block h = refl
 no_piece to shape batch (suc most) first block h = (let test : nat_lt first batch.count ≡ false = grind (arith, nat_tests) in rw test refl)
 
--- the block count after one piece more
+-- the block count after one more piece
 pub block_more : (interval block : ℕ) (pieces : List Piece) (p : Piece) → p.block ≡ block_after interval block pieces → block_after interval block (pieces ++ p ∷ []) ≡ next_block interval p.block p.count
 block_more interval block [] p e = refl
 block_more interval block (q ∷ pieces) p e = block_more interval (next_block interval q.block q.count) pieces p e

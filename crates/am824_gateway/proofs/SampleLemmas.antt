@@ -27,7 +27,7 @@ use Rattle.am824_gateway.proofs.ValueLemmas.{labels_part, values_part}
 
 -- ---- instants
 
--- each further sample of a piece passes the test
+-- each sample of a piece after its first one passes the test
 passed_by : (test : ℕ → Bool) (j k more : ℕ) (b : Bool) → test j ≡ b → j ≤ k → k < (if b then going_on test (suc j) more else j) → (suc j ≤ k → k < going_on test (suc j) more → test k ≡ true) → test k ≡ true
 passed_by test j k more false e low high later = absurd (omega arith)
 passed_by test j k more true e low high later = by (k - j) refl
@@ -44,7 +44,7 @@ no_offset : (rate : ℕ) → nominal_offset rate 0 ≡ 0
 no_offset zero = refl
 no_offset (suc rate) = omega arith
 
--- so it is where it is counted
+-- each sample of a piece is where it is counted from the piece's first sample
 pub counted_at : (to : To) (shape : Shape) (batch : Presented) (first k : ℕ) → k < piece_count to shape batch first → sample_instant batch first +ℤ pos (nominal_offset shape.rate k) ≡ sample_instant batch (first + k)
 counted_at to shape batch first zero h =
     let none = no_offset shape.rate in
@@ -56,7 +56,7 @@ counted_at to shape batch first (suc k) h =
 
 -- ---- values
 
--- part k of a part of the bytes
+-- part k of some parts of the bytes, as a part of all bytes
 part_of : (s first count k : ℕ) (bytes : List ℕ) → k < count → take s (drop (k * s) (take (count * s) (drop (first * s) bytes))) ≡ part s (first + k) bytes
 part_of s first count k bytes h =
     let rest : ℕ = (count - k) * s in

@@ -56,7 +56,7 @@ use Rattle.am824_gateway.proofs.Timely.{HasRate, IsOfPacket, all_rated, of_packe
 
 -- ---- the scan
 
--- a stream of this shape can be turned, as far as this content of a record goes
+-- a stream of this shape can be converted, as far as this content of a record is concerned
 abbrev pub IsFine : To → Option Shape → Content → Type 0
 IsFine to shape Silent = ⊤
 IsFine to shape Video = ⊥
@@ -83,7 +83,7 @@ all_fine to stream first frame (r ∷ records) none =
 
 -- ---- deliveries
 
--- a delivery is of the clock, or the stream can be turned as far as it goes
+-- a delivery is of the clock, or its content allows that the stream is converted
 abbrev IsFineDelivery : To → Option Shape → Delivery → Type 0
 IsFineDelivery to shape d = ((d.subtype == crf_subtype) ≡ true) ⊎ IsFine to shape (packet_content (record { subtype = d.subtype; bytes = d.packet }))
 
@@ -133,14 +133,14 @@ all_other to shape (d ∷ ds) all =
 
 -- ---- packets of samples
 
--- a packet has values of 24 bits of this shape
+-- The packet has values of 24 bits of this shape.
 pub record HasValues (to : To) (shape : Option Shape) (p : Packet) : Type 0 where
   pub found : Shape
   pub is : shape ≡ Some found
   pub size : length p.bytes ≡ p.count * (value_in to * found.channels)
   pub labels : has_labels to p.bytes ≡ true
 
--- no fault was found in samples
+-- A scan finds no fault in the samples.
 record Passes (to : To) (shape : Shape) (s : Samples) : Type 0 where
   format : same_format s.format to ≡ false
   whole : s.whole ≡ true
@@ -160,7 +160,7 @@ passes to shape s e = by (same_format s.format to) refl s.whole refl (other_rate
     by false ea true eb false false true ef false eg h = absurd cc
     by false ea true eb false false true ef true eg h = record { format = ea; whole = eb; channels = eqb-true s.channels shape.channels ef; linear = eg }
 
--- the samples have three bytes
+-- samples of 24 bits have three bytes
 three_bytes : (f : AafFormat) (b : Bool) → (has_24_bits f && b) ≡ true → width_of f ≡ 3
 three_bytes Float32 b e = absurd cc
 three_bytes Int32 b e = absurd cc
@@ -178,7 +178,7 @@ payload_long bytes accepted =
     let rest = length-drop 24 bytes in
     omega (arith, long, front, rest)
 
--- a number of samples of three bytes, by the stated length
+-- the length of a payload of three-byte samples, by the stated length
 sized : (long pc c ch w k stated : ℕ) → long ≡ stated → c * (ch * w) ≡ stated → w ≡ 3 → ch ≡ k → pc ≡ c → long ≡ pc * (3 * k)
 sized long pc c ch w k stated same whole three channels count = rw (same, ← whole, three, channels, count) (omega arith)
 

@@ -46,7 +46,7 @@ use Rattle.am824_gateway.proofs.Accepted.{HoldsOfItems}
 
 -- ---- lines
 
--- samples of a line are at least two nanoseconds apart
+-- The samples of a line are at least two nanoseconds apart.
 pub record IsSlow (line : Line) : Type 0 where
   pub some : 1 ≤ line.den
   pub least : 2 * line.den ≤ line.num
@@ -84,7 +84,7 @@ some_interval p rate instant is = by (step_den p rate) refl
         let none : 2 * (period p * step_den p rate) ≡ 0 = rw e (omega arith) in
         absurd (omega (arith, ints, from, to, none))
 
--- the pair's line is one of samples of this rate
+-- samples on a pair's line are at least two nanoseconds apart
 other_slow : (p : Pair) (rate : ℕ) → rate ≤ 192000 → IsJoined p → 2 * step_den p rate ≤ step_num p
 other_slow p rate few is =
     let most = mul-le-mul_left (p.interval * p.down) few in
@@ -127,7 +127,7 @@ spot_slow p rate instant few joined is = by (p.up == rate * p.down) refl
         rw e (record { some = own.0; least = own.1 })
     by false e = rw e (record { some = some; least = other_slow p rate few joined })
 
--- a joined pair that covers an instant
+-- The pair is joined, and covers an instant.
 record IsFound (rate : ℕ) (instant : ℤ) (p : Pair) : Type 0 where
   joined : IsJoined p
   covers : Covers p rate instant
@@ -157,7 +157,7 @@ clock_slow rows shift instant rate spot few e = by (latest_pair shift instant ra
 
 -- ---- packets
 
--- a batch has the samples of a packet, on a line whose samples are at least two nanoseconds apart
+-- The batch has the samples of a packet, on a line whose samples are at least two nanoseconds apart.
 pub record IsOfPacket (p : Packet) (batch : Presented) : Type 0 where
   pub spot : Spot
   pub is : batch ≡ samples_at p spot
@@ -206,7 +206,7 @@ of_packet plan prefix p batch few e = by p.tu (p.count == 0) refl (p.rate == 0) 
 
 -- ---- rates
 
--- a packet has a rate of one of the formats
+-- the rate of a packet is at most 192,000 Hz
 abbrev pub HasRate : Entry → Type 0
 HasRate (OfItem (OfPacket p)) = p.rate ≤ 192000
 HasRate (OfItem (OfUnit u)) = ⊤
@@ -274,13 +274,13 @@ unit_time plan prefix (OfPacket p) batch rate e =
     let some = is.some in
     record { some = rw same some; rise = λ j h. slow_rises batch (rw same (is.slow)) j }
 
--- the instants of what an item is presented as rise
+-- the instants of each batch that an item can be presented as in time rise
 pub rises : (plan : ListenPlan) (records : List Record) → HoldsOfItems (schedule_plan plan) (entries_in plan records) HasRisingInstants
 rises plan records i item batch there e early =
     let rate = rate_at (items_in plan records) i (OfItem item) (all_rated (deliveries_of plan records)) there in
     unit_time (schedule_plan plan) (prefix_of (schedule_plan plan) (entries_in plan records) i) item batch rate e
 
--- it does not begin before 0
+-- no batch that an item can be presented as in time begins before 0
 pub begins : (plan : ListenPlan) (records : List Record) → HoldsOfItems (schedule_plan plan) (entries_in plan records) (λ (batch : Presented). pos 0 ≤ℤ first_instant batch)
 begins plan records i item batch there e early =
     let now = never_before (entries_in plan records) i in

@@ -65,7 +65,7 @@ back (suc n) v h =
 
 -- ---- a part
 
--- values b after a, of those with labels
+-- b values after the first a ones, taken from quadlets that were made of values
 pub labels_part : (a b d : ℕ) (v : List ℕ) → 3 * (a + b + d) ≤ length v → unlabelled b (take (4 * b) (drop (4 * a) (labelled (a + b + d) v))) ≡ take (3 * b) (drop (3 * a) v)
 labels_part a b d v h =
     let group : a + b + d ≡ a + (b + d) = omega arith in
@@ -76,7 +76,7 @@ labels_part a b d v h =
     let here = take_here (labelled b (drop (3 * a) v)) (labelled d (drop (3 * b) (drop (3 * a) v))) (4 * b) (length_labelled b (drop (3 * a) v) rest) in
     rw (group, whole, first, both, here) (back b (drop (3 * a) v) rest)
 
--- and of those without
+-- b values after the first a ones, taken from values that were made of quadlets
 pub values_part : (a b d : ℕ) (q : List ℕ) → 4 * (a + b + d) ≤ length q → take (3 * b) (drop (3 * a) (unlabelled (a + b + d) q)) ≡ unlabelled b (take (4 * b) (drop (4 * a) q))
 values_part a b d q h =
     let group : a + b + d ≡ a + (b + d) = omega arith in

@@ -41,17 +41,17 @@ am824 v rate = record {
   linear = are_linear v.payload;
 }
 
--- samples, if there are any and their rate is known; others are never presented
+-- the samples of a packet; nothing if it has none or their rate is unknown, because it is then never presented
 abbrev pub samples_or_silent : ℕ → Option ℕ → (ℕ → Samples) → Content
 samples_or_silent count None samples = Silent
 samples_or_silent count (Some rate) samples = if count == 0 then Silent else Audio (samples rate)
 
--- what a packet of PCM holds, which its reader may refuse
+-- what a packet of PCM holds: its samples, or nothing if its reader refuses it
 abbrev pub pcm_content : Option Refusal → Aaf → Content
 pcm_content None v = samples_or_silent v.count (rate_of v.nsr) (pcm v)
 pcm_content (Some refusal) v = Silent
 
--- what a packet of IEC 61883-6 holds, which its reader may refuse
+-- what a packet of IEC 61883-6 holds: its samples, or nothing if its reader refuses it
 abbrev pub am824_content : Option Refusal → Iec → Content
 am824_content None v = samples_or_silent v.count (rate_of_fdf v.cip.fdf) (am824 v)
 am824_content (Some refusal) v = Silent

@@ -10,7 +10,7 @@ use Rattle.am824_gateway.specs.declared.scan.To.{To}
 use Rattle.am824_gateway.specs.Packets.{frames_with}
 use Rattle.am824_gateway.specs.Pieces.{Given, captures_end, given_with}
 
--- A gateway: the format that it turns a stream into; the shape of that stream; the id that it sends under; what it has given
+-- A gateway: the format to which it converts a stream; the shape of that stream; the id that it sends under; what it has given
 -- out; and the frames of the last batch that was not skipped.
 pub record Gating : Type 0 where
   pub to : To
@@ -19,7 +19,7 @@ pub record Gating : Type 0 where
   pub given : Given
   pub frames : List SentFrame
 
--- the gateway after a batch that is not skipped; a stream without a shape has none
+-- the gateway after a batch that is not skipped; without a shape all batches are skipped
 abbrev pub given_out : Option Shape → Gating → Presented → Gating
 given_out None g batch = g
 given_out (Some shape) g batch = record g {

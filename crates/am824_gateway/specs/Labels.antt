@@ -27,17 +27,17 @@ abbrev pub unlabelled : ℕ → List ℕ → List ℕ
 unlabelled zero quadlets = []
 unlabelled (suc n) quadlets = unlabelled n quadlets ++ take 3 (drop (4 * n + 1) quadlets)
 
--- the bytes of a value of 24 bits as a gateway to this format is given it: a quadlet of AM824 begins with a label
+-- how many bytes a value of 24 bits has that is presented to a gateway to this format; a quadlet of AM824 begins with a label
 abbrev pub value_in : To → ℕ
 value_in Am824 = 3
 value_in Aaf = 4
 
--- the bytes of a value of 24 bits in this format
+-- how many bytes a value of 24 bits has in this format
 abbrev pub value_out : To → ℕ
 value_out Am824 = 4
 value_out Aaf = 3
 
--- n values of 24 bits in the wanted format: with the label of AM824, or without
+-- n values of 24 bits in the format that a gateway sends: with the labels of AM824, or without
 abbrev pub turned : To → ℕ → List ℕ → List ℕ
 turned Am824 n values = labelled n values
 turned Aaf n quadlets = unlabelled n quadlets

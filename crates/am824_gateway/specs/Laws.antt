@@ -1,4 +1,4 @@
--- What is said of all pieces that a gateway gives out, one after another.
+-- What holds of all pieces that a gateway gives out, one after another.
 use Rattle.std.specs.Prelude.{ℕ, suc, ◌<◌, ◌≤◌, ℤ, ◌<ℤ◌, List, [], ◌∷◌, ◌++◌, length, ⊤}
 use Rattle.std.specs.List.{AllByRecursion}
 use Rattle.sample_schedule.specs.Batches.{Presented, sample_instant}
@@ -17,12 +17,12 @@ pub record Cut : Type 0 where
   pub batch : Presented
   pub piece : Piece
 
--- pieces of a batch, of which the first is carried by packet n
+-- the pieces of a batch, with the numbers of their packets; packet n carries the first
 abbrev pub cuts_from : ℕ → Presented → List Piece → List Cut
 cuts_from n batch [] = []
 cuts_from n batch (p ∷ pieces) = record { number = n; batch = batch; piece = p } ∷ cuts_from (suc n) batch pieces
 
--- the pieces of batches of a stream of this shape, after what was given out; one that is skipped has none
+-- the pieces of batches of a stream of this shape, after what was given out before; a skipped batch has none
 abbrev pub cuts_after : To → Shape → Given → List Presented → List Cut
 cuts_after to shape given [] = []
 cuts_after to shape given (batch ∷ batches) =
@@ -58,7 +58,7 @@ abbrev pub Rise : List ℤ → Type 0
 Rise [] = ⊤
 Rise (x ∷ xs) = AllByRecursion (λ y. x <ℤ y) xs × Rise xs
 
--- the longest frame of an Ethernet network with a tag, without its frame check sequence (IEEE 802.3, 3.2.7)
+-- the length of the longest Ethernet frame with a tag, without its frame check sequence (IEEE 802.3, 3.2.7)
 abbrev pub longest_frame : ℕ
 longest_frame = 1518
 

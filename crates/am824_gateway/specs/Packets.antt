@@ -50,7 +50,7 @@ header_at subtype id n instant length = record {
   data_length = length;
 }
 
--- a packet of AM824 with these data blocks, as a talker sends it; it comes from no IEEE 1394 bus
+-- a packet of AM824 with these data blocks, as a talker sends it that is on no IEEE 1394 bus
 abbrev pub am824_packet : Shape → StreamHeader → Piece → List ℕ → Iec
 am824_packet shape header p blocks = record {
   header = header;
@@ -64,7 +64,7 @@ am824_packet shape header p blocks = record {
   reserved = false;
 }
 
--- a packet of PCM of 24 bits with these samples, as a talker sends it that gives each packet a timestamp
+-- a packet of PCM of 24 bits with these samples, as a talker sends it that stamps each packet
 abbrev pub aaf_packet : Shape → StreamHeader → Piece → List ℕ → AafPacket
 aaf_packet shape header p samples = record {
   header = header;
@@ -104,18 +104,18 @@ piece_frame to shape id n batch p = record {
   bytes = packet_bytes (packet_of to shape id n (sample_instant batch p.first) p (samples_of to shape batch p));
 }
 
--- the frames of pieces of a batch, of which the first is packet n
+-- the frames of pieces of a batch; packet n carries the first
 abbrev pub frames_from : To → Shape → ℕ → ℕ → Presented → List Piece → List SentFrame
 frames_from to shape id n batch [] = []
 frames_from to shape id n batch (p ∷ pieces) = piece_frame to shape id n batch p ∷ frames_from to shape id (suc n) batch pieces
 
--- the frames of a batch that is not skipped, given what was given out before it
+-- the frames of a batch that is not skipped, after what was given out before
 abbrev pub frames_with : To → Shape → ℕ → Given → Presented → List SentFrame
 frames_with to shape id given batch = frames_from to shape id given.packets batch (pieces_of to shape batch given.block)
 
 -- ---- all batches
 
--- the frames of batches of a stream of this shape, given what was given out before them; a skipped batch has none
+-- the frames of batches of a stream of this shape, after what was given out before; a skipped batch has none
 abbrev pub frames_after : To → Shape → ℕ → Given → List Presented → List SentFrame
 frames_after to shape id given [] = []
 frames_after to shape id given (batch ∷ batches) =

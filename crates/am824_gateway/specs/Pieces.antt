@@ -33,7 +33,7 @@ abbrev pub is_nominal : ℕ → Presented → ℕ → ℕ → Bool
 is_nominal rate batch first k =
     int_eq (sample_instant batch (first + k)) (sample_instant batch first +ℤ pos (nominal_offset rate k))
 
--- the first sample from sample k on that fails the test, or sample k + more if all before that pass
+-- the first of `more` samples, from sample k on, that fails the test, or sample k + more if none does
 abbrev pub going_on : (ℕ → Bool) → ℕ → ℕ → ℕ
 going_on test k zero = k
 going_on test k (suc more) = if test k then going_on test (suc k) more else k
@@ -46,9 +46,9 @@ piece_count to shape batch first =
 
 -- ---- block counts
 
--- The block count of the first data block of a packet of AM824, by that of the packet before it and its number of blocks:
--- blocks are counted on, and then up to the next multiple of SYT_INTERVAL. So the timestamp always belongs to the packet's
--- first block (IEC 61883-6), and the block count has a gap after a packet whose end is not at a multiple.
+-- The block count of the first data block of an AM824 packet, by the block count and the number of blocks of the packet before
+-- it: their sum, raised to a multiple of SYT_INTERVAL, modulo 256. So the timestamp always belongs to the packet's first block
+-- (IEC 61883-6), and the block count has a gap after a packet that does not end at a multiple.
 abbrev pub next_block : ℕ → ℕ → ℕ → ℕ
 next_block interval block count = div_ceil (block + count) interval * interval % 256
 
@@ -85,7 +85,7 @@ transit = 2000000
 abbrev pub arrival_at : ℤ → ℤ
 arrival_at instant = int_max (instant -ℤ pos transit) (pos 0)
 
--- 2^32 seconds: a capture cannot state an arrival at or after it
+-- 2^32 seconds, in nanoseconds: a capture cannot state an arrival at or after that time
 abbrev pub captures_end : ℕ
 captures_end = 2 ^ 32 * 1000000000
 
@@ -112,7 +112,8 @@ abbrev pub has_labels : To → List ℕ → Bool
 has_labels Am824 bytes = true
 has_labels Aaf bytes = are_linear bytes
 
--- A batch is samples of this shape: it is no unit of H.264, and has one value of 24 bits for each channel of each sample.
+-- A batch consists of samples of this shape: it is no unit of H.264, has one value of 24 bits for each channel of each sample,
+-- and has no other label than that of linear audio of 24 bits.
 abbrev pub has_shape : To → Shape → Presented → Bool
 has_shape to shape batch =
     not (is_unit batch)
@@ -124,7 +125,7 @@ abbrev pub overlaps : Option ℤ → Presented → Bool
 overlaps None batch = false
 overlaps (Some last) batch = int_le (sample_instant batch 0) last
 
--- why a batch of a stream of this shape is skipped, if it is, given what was given out before it
+-- why a batch of a stream of this shape is skipped, if it is, after what was given out before
 abbrev pub skip_by : To → Shape → Given → Presented → Option Skip
 skip_by to shape given batch =
     if not (has_shape to shape batch) then Some ShapeOff
@@ -132,8 +133,8 @@ skip_by to shape given batch =
     else if list_any (is_late batch) (pieces_of to shape batch given.block) then Some Range
     else None
 
--- Why a batch is skipped, if it is: it is not of the stream's shape, or the stream has none; or it does not begin after the
--- last sample that was given out; or one of its pieces would arrive too late for a capture.
+-- Why a batch is skipped, if it is: the stream has no shape or the batch another one; the batch does not begin after the last
+-- sample that was given out; or one of its pieces would arrive too late for a capture.
 abbrev pub skip_of : To → Option Shape → Given → Presented → Option Skip
 skip_of to None given batch = Some ShapeOff
 skip_of to (Some shape) given batch = skip_by to shape given batch

@@ -14,18 +14,18 @@ pub record Sample : Type 0 where
   pub instant : ℤ
   pub values : List ℕ
 
--- the bytes of sample j, if each sample has so many
+-- the bytes of sample j, if each sample has `size` bytes
 abbrev pub part : ℕ → ℕ → List ℕ → List ℕ
 part size j bytes = take size (drop (j * size) bytes)
 
 -- ---- what is presented to a gateway
 
--- the values of a sample by the bytes that are presented to a gateway: quadlets of AM824 have labels
+-- the values of a sample, without labels, in the bytes that are presented to a gateway to this format
 abbrev pub values_in : To → ℕ → List ℕ → List ℕ
 values_in Am824 channels bytes = bytes
 values_in Aaf channels bytes = unlabelled channels bytes
 
--- so many samples of a batch, from sample j on
+-- n samples of a batch, from sample j on
 abbrev pub batch_samples : To → Shape → Presented → ℕ → ℕ → List Sample
 batch_samples to shape batch j zero = []
 batch_samples to shape batch j (suc n) =
@@ -38,13 +38,14 @@ samples_presented to shape batch = batch_samples to shape batch 0 batch.count
 
 -- ---- what a gateway sends
 
--- the values of a sample by the bytes that a gateway sends
+-- the values of a sample, without labels, in the bytes that a gateway to this format sends
 abbrev pub values_out : To → ℕ → List ℕ → List ℕ
 values_out Am824 channels bytes = unlabelled channels bytes
 values_out Aaf channels bytes = bytes
 
--- So many samples of a packet that is stamped with this instant, from sample k on. They are counted from the timestamp at the
--- nominal rate, as listeners count those of a packet whose first sample is the stamped one (IEEE 1722-2016, 7; IEC 61883-6).
+-- n samples of a packet that is stamped with this instant, from sample k on. They are counted from the timestamp at the nominal
+-- rate, as listeners count the samples of a packet whose timestamp belongs to its first sample (IEEE 1722-2016, 7; IEC
+-- 61883-6).
 abbrev pub packet_samples : To → Shape → ℤ → List ℕ → ℕ → ℕ → List Sample
 packet_samples to shape instant payload k zero = []
 packet_samples to shape instant payload k (suc n) =

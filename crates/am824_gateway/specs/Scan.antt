@@ -1,4 +1,4 @@
--- Why a capture cannot be turned into the other format.
+-- Why a capture cannot be converted to the other format.
 use Rattle.std.specs.Prelude.{◌≡◌, ℕ, suc, ◌≤◌, ◌==◌, Bool, true, false, not, ◌||◌, nat_lt, if◌then◌else◌, List, [], ◌∷◌, Option, Some, None, IsSome, is_none}
 use Rattle.pcap_frames.specs.Capture.{Record}
 use Rattle.talk_plan.specs.Plan.{fdf_of}
@@ -14,7 +14,7 @@ use Rattle.am824_gateway.specs.Content.{content}
 
 -- ---- the shape of a stream
 
--- A shape that can be turned: a sample rate of IEC 61883-6, and 1 to 256 channels, because a data block has at most 256
+-- A shape that can be converted: a sample rate of IEC 61883-6, and 1 to 256 channels, because a data block has at most 256
 -- quadlets (IEC 61883-1).
 pub record IsShape (shape : Shape) : Type 0 where
   pub rate : IsSome (fdf_of shape.rate)
@@ -48,21 +48,21 @@ shape_in stream records = shape_from stream None records
 
 -- ---- faults
 
--- a fault, and whether it is there
+-- A fault, and whether a packet has it.
 pub record Row : Type 0 where
   pub fault : ScanFault
   pub holds : Bool
 
--- a fault, and whether it is there
+-- the row of a fault, and whether a packet has it
 abbrev pub row : ScanFault → Bool → Row
 row fault holds = record { fault = fault; holds = holds }
 
--- the first fault of a list that is there
+-- the first fault of a list that a packet has
 abbrev pub first_of : List Row → Option ScanFault
 first_of [] = None
 first_of (r ∷ rows) = if r.holds then Some r.fault else first_of rows
 
--- two formats are the same
+-- two formats are equal
 abbrev pub same_format : To → To → Bool
 same_format Am824 Am824 = true
 same_format Am824 Aaf = false
@@ -108,13 +108,13 @@ fault_from to stream first frame (r ∷ records) =
     fault_or frame (content_fault to first (content stream r.bytes))
     (fault_from to stream (shape_after first (content stream r.bytes)) (suc frame) records)
 
--- The first fault of a capture's records: the first of them that cannot be turned, and why.
+-- The first fault of a capture's records: the first record that cannot be converted, and why.
 abbrev pub first_fault : To → ℕ → List Record → Option FaultAt
 first_fault to stream records = fault_from to stream None 1 records
 
 -- ---- a scan
 
--- a scan: the format that the stream is to be turned into, the stream's id, and the shape of its first packet of samples
+-- a scan: the format to which the stream is to be converted, the stream's id, and the shape of its first packet of samples
 pub record Scanning : Type 0 where
   pub to : To
   pub stream : ℕ

@@ -16,14 +16,14 @@ use listener::{StreamPacket, packet_of_stream};
 /// What a gateway reads of a packet of audio samples.
 #[derive(Clone, Copy, Debug)]
 pub(crate) struct Samples {
-    /// Its format.
+    /// The packet's format.
     pub format: To,
-    /// Its samples are PCM of 24 bits, all of which are used.
+    /// Each sample has 24 bits, and all of them are used.
     pub whole: bool,
     /// The sample rate in Hz.
     pub rate: u32,
     pub channels: u16,
-    /// Each quadlet of AM824 is linear audio of 24 bits.
+    /// AM824: each quadlet is linear audio of 24 bits.
     pub linear: bool,
 }
 
@@ -32,7 +32,7 @@ pub(crate) struct Samples {
 pub(crate) enum Content {
     /// Nothing that can be presented.
     Silent,
-    /// H.264.
+    /// A packet of H.264.
     Video,
     Audio(Samples),
 }

@@ -1,4 +1,4 @@
-//! Batches that are presented are turned into packets of the other format.
+//! Converts the batches that are presented to packets of the other format.
 
 ghost use Rattle.std.specs.Prelude.{◌≡◌, ◌+◌, ◌*◌, ◌^◌, ◌<◌, ◌≤◌, ◌||◌, ◌∷◌, [], length, slice_get, take, Some, None, IfOk, IfErr, IfSome, OnOk, OnErr};
 ghost use Rattle.talker.specs.Frames.{sent_frame};
@@ -31,8 +31,8 @@ pub(crate) struct Current {
     pub first: u64,
 }
 
-/// Cuts the batches that a listener presents into packets of the other format. Listeners present these with the same values at
-/// the same instants. Memory is reserved when it is made.
+/// Cuts the batches that a listener presents into packets of the other format. Listeners present the samples of these packets
+/// with the same values at the same instants. Memory is reserved when the gateway is made.
 #[derive(Drop)]
 pub struct Gateway {
     to: To,
@@ -48,7 +48,7 @@ pub struct Gateway {
     current: Option<Current>,
     /// The pieces of the last batch that was not skipped.
     pieces: Vec<Piece>,
-    /// Where the next batch is cut, so that a skipped batch changes nothing.
+    /// The pieces of the next batch, until it is known that the batch is not skipped.
     spare: Vec<Piece>,
     /// The frame of the piece that was asked for last.
     frame: Vec<u8>,
@@ -83,7 +83,7 @@ impl Current {
             .write(out, number, batch.instant(piece.first), piece, values);
     }
 
-    /// Writes the frame of a piece of the batch to the front of memory, by its turn.
+    /// Writes the frame of a piece of the batch, which has this turn, into the first bytes of `out`.
     fn write_front(&self, piece: Piece, turn: Turn, out: &mut [u8])
         requires cut { IsCut self.now (piece ∷ []) }
         requires size { turn.size ≡ frame_size self.now.stream.to self.now.stream.shape piece }
@@ -114,7 +114,7 @@ fn value_size(to: To) -> usize
     }
 }
 
-/// Whether the batch is samples of this shape.
+/// Whether the batch consists of samples of this shape.
 fn has_shape(to: To, shape: Shape, batch: &Batch) -> bool
     requires { IsShape shape }
     ensures { result ≡ has_shape_by to shape batch.now }
@@ -138,8 +138,8 @@ impl Gateway {
     ghost use Rattle.std.specs.Borrow.{sem};
     ghost use Rattle.am824_gateway.specs.Lending.{EndsAs};
 
-    /// A gateway that was given no batch. It turns a stream of this shape into the format, and sends under this stream id. The
-    /// shape is the one that the scan found; without a shape all batches are skipped.
+    /// A gateway before its first batch. It converts a stream of this shape to the format `to`, and sends it under the stream
+    /// id `id`. The shape is the one that the scan found; without a shape all batches are skipped.
     pub fn begin(alloc: Global, to: To, shape: Option<Shape>, id: u64) -> Result<Self, NoMemory>
         requires { IfSome shape IsShape }
         ensures { IfOk result (λ gateway. gateway ≡ record { to = to; shape = shape; id = id; given = nothing_given; frames = [] }) }
@@ -162,8 +162,8 @@ impl Gateway {
         })
     }
 
-    /// Cuts the next batch that is presented into pieces, and returns their number. Fewer than 2^44 batches were given out. A
-    /// skipped batch changes nothing. It allocates nothing.
+    /// Cuts the next batch that is presented into pieces, and returns their number. Fewer than 2^44 batches may have been given
+    /// out before. A skipped batch changes nothing. It allocates nothing.
     ///
     /// A batch is skipped for the first of these reasons that holds: `ShapeOff`: there is no shape, the batch is a unit of
     /// H.264, it does not have one value of 24 bits for each channel of each sample, or a value has another label than 0x40.
@@ -217,7 +217,7 @@ impl Gateway {
         self.batches
     }
 
-    /// The number of packets that carry them.
+    /// The number of packets of all batches that were not skipped.
     pub fn packets(&self) -> u64
         ensures { result ≡ self.now.given.packets }
     {
@@ -254,7 +254,7 @@ impl Gateway {
         current.write(piece, current.first + u64::from(i), out);
     }
 
-    /// The frame of piece `i` of the last batch that was not skipped, counted from 0. It takes no memory.
+    /// The frame of piece `i` of the last batch that was not skipped, counted from 0. It allocates nothing.
     pub fn piece(&mut self, i: u32) -> Sent<'_>
         requires { i < length self.old.frames }
         ensures frame { slice_get self.old.frames i ≡ Some (sent_frame result) }

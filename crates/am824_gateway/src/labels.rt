@@ -8,7 +8,8 @@ use crate::scan::To;
 /// The label of linear audio of 24 bits.
 pub(crate) const LINEAR: u8 = 0x40;
 
-/// Whether each quadlet is linear audio of 24 bits. All are looked at, because usually all are.
+/// Whether each quadlet is linear audio of 24 bits. All quadlets are tested, even after one that is not, because usually all
+/// are.
 pub(crate) fn are_linear(quadlets: &[u8]) -> bool
     ensures { result ≡ are_linear_by quadlets.now }
 {
@@ -73,7 +74,7 @@ fn take_labels(out: &mut [u8], n: usize, quadlets: &[u8])
     }
 }
 
-/// Writes `n` values of 24 bits in the wanted format.
+/// Writes `n` values of 24 bits in the format `to`: with labels in AM824, without labels in PCM.
 pub(crate) fn turn_values(to: To, out: &mut [u8], n: usize, values: &[u8])
     requires room { length out.old ≡ n * value_out to }
     requires values { length values.now ≡ n * value_in to }

@@ -1,4 +1,4 @@
-//! Turns AAF and AM824 into each other, without changing a value or an instant.
+//! Converts AAF to AM824 and AM824 to AAF, without changing a value or an instant.
 #![tactic(auto)]
 
 mod content;

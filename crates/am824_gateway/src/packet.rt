@@ -28,7 +28,7 @@ const ETHERNET: usize = 18;
 /// The most bytes of samples in a packet.
 const SAMPLES_LIMIT: usize = 1476;
 
-/// What is the same in all packets of a stream: their format, their sample rate and channels, and their stream id.
+/// What all packets of a stream have in common: their format, their sample rate and channels, and their stream id.
 #[derive(Clone, Copy, Debug)]
 pub(crate) struct Stream {
     pub to: To,
@@ -36,7 +36,7 @@ pub(crate) struct Stream {
     pub id: u64,
 }
 
-/// Writes the Ethernet header of every frame, which is that of a talker's frames.
+/// Writes the Ethernet header, which is that of a talker's frames.
 fn write_ethernet(out: &mut [u8])
     requires { length out.old ≡ 18 }
     ensures { out.new ≡ spelling (frame_layout true) (ethernet []) }
@@ -58,7 +58,7 @@ fn write_ethernet(out: &mut [u8])
     };
 }
 
-/// The stream header of packet `n`, stamped with an instant, before a payload of this many bytes.
+/// The stream header of packet `n`, with the timestamp of `instant`, before a payload of `length` bytes.
 fn header_at(subtype: u8, id: u64, n: u64, instant: i64, length: u16) -> StreamHeader
     ensures { result ≡ header_by subtype id n instant length }
 {
@@ -133,7 +133,7 @@ fn aaf_packet<'a>(
 }
 
 impl Stream {
-    /// The bytes of a value as it is sent.
+    /// The number of bytes of a value that is sent.
     fn value_size(&self) -> usize
         ensures { result ≡ value_out self.now.to }
     {
@@ -143,7 +143,7 @@ impl Stream {
         }
     }
 
-    /// The bytes of a frame's headers.
+    /// The number of bytes of a frame's headers.
     fn headers(&self) -> usize
         ensures { result ≡ headers_of self.now.to }
     {
@@ -153,7 +153,7 @@ impl Stream {
         }
     }
 
-    /// The bytes of a piece's samples as they are sent.
+    /// The number of bytes of a piece's samples that are sent.
     #[tactic(auto, using(crate::proofs::PieceLemmas::fits))]
     fn samples_size(&self, piece: Piece) -> usize
         requires shape { IsShape self.now.shape }

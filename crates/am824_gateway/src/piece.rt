@@ -24,7 +24,7 @@ pub struct Piece {
     pub block: u8,
 }
 
-/// The most pieces of a batch: it has no more samples.
+/// The most pieces of a batch, which has at most this many samples.
 pub(crate) const MOST_PIECES: usize = 65_535;
 
 const NANOSECONDS: u64 = 1_000_000_000;
@@ -33,7 +33,7 @@ const NANOSECONDS: u64 = 1_000_000_000;
 /// (IEEE 802.1BA).
 const TRANSIT: i64 = 2_000_000;
 
-/// 2^32 seconds: a capture cannot state an arrival at or after it.
+/// 2^32 seconds, in nanoseconds. A capture cannot state an arrival at or after that time.
 const CAPTURES_END: i64 = (1 << 32) * 1_000_000_000;
 
 /// The time from sample 0 to sample `k` at a nominal rate, in nanoseconds.
@@ -75,7 +75,7 @@ fn most_frames(to: To, channels: u16) -> u32
     bytes / (value * u32::from(channels))
 }
 
-/// The block count of the packet after one with this block count and this number of blocks.
+/// The block count of the next packet, after a packet with the block count `block` and `count` data blocks.
 fn next_block(interval: u32, block: u8, count: u32) -> u8
     requires interval { IsSytInterval interval }
     requires count { count ≤ 65535 }
@@ -92,8 +92,7 @@ fn is_on_line(instant: i64, start: i64, offset: u64) -> bool
     i128::from(instant) == i128::from(start) + i128::from(offset)
 }
 
-/// The number of samples in the piece that begins with the sample at an instant. Afterwards the instants are at the first
-/// sample after the piece.
+/// The number of samples in the piece that begins at `instant`. Moves `instant` to the first sample after the piece.
 fn count_piece(instant: &mut Instant, batch: &Batch, rate: u32, most: u32) -> u32
     requires { BeginsPiece rate most batch.now instant.old }
     ensures { CountsPiece rate most batch.now instant.old instant.new result }
@@ -109,8 +108,8 @@ fn count_piece(instant: &mut Instant, batch: &Batch, rate: u32, most: u32) -> u3
     count
 }
 
-/// Whether a batch is one piece since its samples are on the nominal line of the first one, which is counted from its head. So
-/// no instant has to be found.
+/// Whether a batch can be seen to be one piece without the instants of its samples: its line has the nominal rate and begins at
+/// its first sample, and one packet can carry all samples.
 fn is_one_piece(to: To, shape: Shape, batch: &Batch) -> bool
     requires { IsShape shape }
     ensures { result ≡ true → IsOnePiece to shape batch.now }
@@ -121,8 +120,8 @@ fn is_one_piece(to: To, shape: Shape, batch: &Batch) -> bool
         && batch.count <= most_frames(to, shape.channels)
 }
 
-/// Cuts a batch into pieces; the first has this block count. Returns the block count of the packet after the last of them, and
-/// whether one of them would arrive at a time that a capture cannot state.
+/// Cuts a batch into pieces, the first of which has the block count `block`. Returns the block count of the next packet, and
+/// whether a piece would arrive at a time that a capture cannot state.
 pub(crate) fn cut(
     pieces: &mut Vec<Piece>,
     to: To,
@@ -165,7 +164,7 @@ fn cut_once(pieces: &mut Vec<Piece>, to: To, shape: Shape, batch: &Batch, block:
     (next, is_late_with(false, batch.instant(0)))
 }
 
-/// Cuts any batch, and finds the instant of each sample from the one before.
+/// Cuts any batch. Finds the instant of each sample from that of the sample before.
 fn cut_by_instants(
     pieces: &mut Vec<Piece>,
     to: To,

@@ -33,7 +33,7 @@ pub(crate) fn interval_of(rate: u32) -> u32
     }
 }
 
-/// The code of such a sample rate in AAF (IEEE 1722-2016, 7).
+/// The code, in AAF, of a sample rate that IEC 61883-6 has (IEEE 1722-2016, 7).
 pub(crate) fn nsr_of(rate: u32) -> u8
     requires { IsSome (fdf_by rate) }
     ensures value { result ≡ unwrap_or (rate_code rate) 0 }

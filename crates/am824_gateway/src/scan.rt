@@ -1,4 +1,4 @@
-//! What is checked in a capture before any of it is turned.
+//! What is checked in a capture before any of it is converted.
 
 ghost use Rattle.std.specs.Prelude.{◌≡◌, ◌≤◌, ◌++◌, ◌∷◌, [], ℕ, suc, List, length, None, Some, IfSome, IfErr, OnOk};
 ghost use Rattle.pcap_frames.specs.Capture.{Record};
@@ -8,7 +8,7 @@ use crate::content::{Content, Samples, content_of};
 use crate::rates::fdf_of;
 use std::marker::Model;
 
-/// The format that a stream is turned into.
+/// The format to which a stream is converted.
 #[derive(Clone, Copy, Debug, PartialEq, Eq)]
 pub enum To {
     /// AM824 (IEC 61883-6).
@@ -17,10 +17,10 @@ pub enum To {
     Aaf,
 }
 
-/// Why a capture cannot be turned.
+/// Why a capture cannot be converted.
 #[derive(Clone, Copy, Debug, PartialEq, Eq)]
 pub enum ScanFault {
-    /// A packet of the stream is of neither format, or it is of the wanted one already.
+    /// A packet of the stream is of neither format, or of the wanted format already.
     Kind,
     /// PCM samples do not have 24 bits, or not all bits of them are used.
     Format,
@@ -32,7 +32,7 @@ pub enum ScanFault {
     Label,
 }
 
-/// What is the same in all packets of a stream that is turned.
+/// What all packets of a stream that is converted have in common.
 #[derive(Clone, Copy, Debug, PartialEq, Eq)]
 pub struct Shape {
     /// The sample rate in Hz, one of those of IEC 61883-6.
@@ -41,7 +41,7 @@ pub struct Shape {
     pub channels: u16,
 }
 
-/// Looks through the records of a capture for what cannot be turned. It allocates nothing.
+/// Looks through the records of a capture for what cannot be converted. It allocates nothing.
 #[derive(Debug, Drop)]
 pub struct Scan {
     to: To,
@@ -102,7 +102,7 @@ impl Samples {
 }
 
 impl Scan {
-    /// A scan for what cannot be turned into the format in the stream with this id.
+    /// A scan for what cannot be converted to the format `to` in the stream with this id.
     pub fn new(to: To, stream: u64) -> Self
         ensures { HasScanned to stream [] result }
     {

@@ -3,10 +3,11 @@
 /// Why a batch is skipped.
 #[derive(Clone, Copy, Debug, PartialEq, Eq)]
 pub enum Skip {
-    /// It is not samples of the stream's sample rate and channels, or not of 24 bits.
+    /// The stream has no shape, the batch is a unit of H.264, its bytes do not fit the stream's channels, or a quadlet has
+    /// another label than 0x40.
     ShapeOff,
-    /// It does not begin after the last sample that was given out.
+    /// The batch does not begin after the last sample that was given out.
     Overlap,
-    /// A packet of it would arrive at 2^32 seconds or later, which a capture cannot state.
+    /// A packet of the batch would arrive at 2^32 seconds or later, which a capture cannot state.
     Range,
 }

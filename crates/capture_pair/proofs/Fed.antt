@@ -80,7 +80,7 @@ grows-b ShowsA ShowsA2 ShowsB ShowsB2 list other longer given m w fa fb first p 
 prefix-same : (xs ys : List Shown) → ys ≡ xs → IsPrefix xs ys
 prefix-same xs ys e = ([], append-nil xs ∙ sym e)
 
--- what is shown of more bytes begins with what is shown of these
+-- what is shown of some bytes is the beginning of what is shown of more bytes
 prefix-more : (bytes more : List ℕ) (n : ℕ) (old new : Feeding) → IsFed bytes n old → old.out_of_memory ≡ false → is_ended old ≡ false → is_ended new ≡ false → new.listener.plan ≡ old.listener.plan → IsPrefix (out old bytes) (out new (bytes ++ more))
 prefix-more bytes more n old new s free opened still plan =
     let others = records_first old.reader bytes more (whole_records bytes) (s.read free) in

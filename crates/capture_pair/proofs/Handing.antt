@@ -1,4 +1,4 @@
--- What a listener shows is handed on.
+-- What a listener shows is given to the matching.
 use Rattle.std.proofs.Common.{◌≡◌, ℕ, zero, suc, ◌+◌, ◌^◌, ◌<◌, ◌≤◌, Bool, true, false, cond, ◌⊎◌, inl, inr, List, [], ◌∷◌, ◌++◌, length, take, drop, Option, Some, None, refl, sym, ap, ◌∙◌, subst, append_assoc, append-nil, length-append, arith}
 use Rattle.std.specs.Prelude.{IfNone, slice_get}
 use Rattle.std.specs.Option.{option_to_list}
@@ -58,7 +58,7 @@ presented-split n xs = sym (presented-append (take n xs) (drop n xs)) ∙ ap pre
 taken-few : (n : ℕ) (xs : List Shown) → length (presented_of (take n xs)) ≤ n
 taken-few n xs = let a = presented-few (take n xs) in let b = take-few n xs in omega arith
 
--- the next item is a batch, or a flag
+-- with the next item, if that is a batch, there is one more batch
 next-batch : (n : ℕ) (xs : List Shown) (batch : Presented) → slice_get xs n ≡ Some (Present batch) → presented_of (take (n + 1) xs) ≡ presented_of (take n xs) ++ batch ∷ []
 next-batch n xs batch e =
     let one : n + 1 ≡ suc n = omega arith in
@@ -69,7 +69,7 @@ next-flag n xs x e f =
     let one : n + 1 ≡ suc n = omega arith in
     ap (λ k. presented_of (take k xs)) one ∙ ap presented_of (take-one n xs x e) ∙ presented-append (take n xs) (x ∷ []) ∙ ap (λ (l : List Presented). presented_of (take n xs) ++ l) f ∙ append-nil (presented_of (take n xs))
 
--- the batches so far with the next one are in order
+-- the batches so far and the next one are in order
 next-order : (n : ℕ) (xs : List Shown) (batch : Presented) → IsHeard xs → slice_get xs n ≡ Some (Present batch) → IsInOrder (presented_of (take n xs) ++ batch ∷ [])
 next-order n xs batch h e =
     subst IsInOrder (next-batch n xs batch e) (order-front (presented_of (take (n + 1) xs)) (presented_of (drop (n + 1) xs)) (subst IsInOrder (sym (presented-split (n + 1) xs)) h.order))
@@ -144,7 +144,7 @@ ended-on B list other n k given m e h = record {
 no-more : (which : Which) (list other : List Shown) (n k given : ℕ) (m : MatchingState) → MatchesOn which list other n k given m → MatchesOn which list other (n + 0) k given m
 no-more which list other n k given m h = subst (λ (i : ℕ). MatchesOn which list other i k given m) (omega arith) h
 
--- what is shown next was handed on
+-- the matching was given what is shown next
 pub hands-on : (which : Which) (list other : List Shown) (n k given : ℕ) (m : MatchingState) (next : Option Shown) (ended : Bool) → IsHeard list → IsHeard other → wanted m ≡ Some which → next ≡ slice_get list n → MatchesOn which list other n k given m
     → MatchesOn which list other (n + length (option_to_list next)) k given (handed which next ended m)
 hands-on which list other n k given m (Some (Present batch)) ended hl ho w e h = given-on which list other n k given m batch hl ho w (sym e) h
@@ -166,7 +166,7 @@ ends-no : {P : Type 0} (which : Which) (m : MatchingState) → wanted (ended_by 
 ends-no A m h = let e = wants-a (ended_by A m) h in absurd (cc)
 ends-no B m h = let e = wants-b (ended_by B m) h in absurd (cc)
 
--- nothing was handed on to a side that is still wanted after the last item
+-- Nothing was given to a side that is still wanted: its listener showed nothing, and has not ended.
 pub record Waits (next : Option Shown) (ended : Bool) : Type 0 where
   pub none : next ≡ None
   pub opened : ended ≡ false
@@ -236,7 +236,7 @@ given-open : (which : Which) (batch : Presented) (m : MatchingState) → open_si
 given-open A batch m = refl
 given-open B batch m = refl
 
--- what was handed on takes from the work, or nothing was and the side is wanted as before
+-- giving an item to the matching does not raise the sum of work and open sides
 pub handed-less : (which : Which) (next : Option Shown) (ended : Bool) (m : MatchingState) (was is : ℕ) → wanted m ≡ Some which → is + length (option_to_list next) ≤ was → is + open_sides (handed which next ended m) ≤ was + open_sides m
 handed-less which (Some (Present batch)) ended m was is w le = let e = given-open which batch m in omega arith
 handed-less which (Some (Flag frame seq reason)) ended m was is w le = omega arith
@@ -249,7 +249,7 @@ handed-fewer which (Some (Flag frame seq reason)) ended m was is w le = inr (ome
 handed-fewer which None true m was is w le = inr (let h = ended-less which m w in omega arith)
 handed-fewer which None false m was is w le = inl w
 
--- what was handed on takes from the work what it adds to the next batches
+-- giving an item to the matching does not raise the sum of work and next batches
 pub handed-nexts : (which : Which) (next : Option Shown) (ended : Bool) (m : MatchingState) (was is : ℕ)
     → is + length (option_to_list next) ≤ was → is + nexts_left (handed which next ended m) ≤ was + nexts_left m
 handed-nexts A (Some (Present batch)) ended m was is le = omega arith

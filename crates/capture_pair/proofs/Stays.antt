@@ -1,4 +1,4 @@
--- What a pair was given and has given stays, however its sides go on.
+-- What a pair has given stays, however its sides go on.
 use Rattle.std.proofs.Common.{◌≡◌, ℕ, zero, suc, ◌+◌, ◌≤◌, Bool, true, false, List, [], ◌∷◌, ◌++◌, length, take, drop}
 use Rattle.std.proofs.Common.{◌||◌, Option, Some, None, refl, sym, ap, ◌∙◌, subst, append_assoc, append-nil, length-append, arith}
 use Rattle.std.specs.Prelude.{slice_get}
@@ -50,13 +50,14 @@ longer-open xs ys ended opened first = record {
   none = λ t. never-both ended opened t;
 }
 
--- what is due of records comes first in what is shown of more
+-- what is due of records is the beginning of what is shown of more records
 due-shown : (plan : ListenPlan) (records more : List Record) → IsPrefix (due_of plan records) (shown_of plan (records ++ more))
 due-shown plan records more =
     prefix_twice (due_of plan records) (due_of plan (records ++ more)) (shown_of plan (records ++ more))
     (due_stays plan records more) (due_first plan (records ++ more))
 
--- what a listener presents of records comes first in all that is presented of more, which are none if it is closed
+-- what a listener presents of records is the beginning of all that is presented of more records; there are no more if it is
+-- closed
 pub shows-on : (plan : ListenPlan) (records more : List Record) (l : ListenState) → l.plan ≡ plan → (is_closed l ≡ true → more ≡ [])
     → Longer (presented_by l records) (presented_of (shown_of plan (records ++ more))) (is_closed l)
 shows-on plan records more l is none = at (is_closed l) refl
@@ -72,7 +73,7 @@ shows-on plan records more l is none = at (is_closed l) refl
         (subst (λ (s : List Shown). IsPrefix s (shown_of plan (records ++ more)))
         (ap (λ (p : ListenPlan). due_of p records) (sym is) ∙ sym (out_open l records e)) (due-shown plan records more))
 
--- and in what the listener presents once it was given more, or closed
+-- what a listener presents of records is the beginning of what it presents after it was given more, or closed
 pub presents-on : (records more : List Record) (old new : ListenState) → new.plan ≡ old.plan → (is_closed old ≡ true → (is_closed new ≡ true) × (more ≡ []))
     → Longer (presented_by old records) (presented_by new (records ++ more)) (is_closed old)
 presents-on records more old new plan closed = at (is_closed old) (is_closed new) refl refl
@@ -91,8 +92,8 @@ presents-on records more old new plan closed = at (is_closed old) (is_closed new
 
 -- ---- what is known begins with what a matching has worked through
 
--- Two sides present these batches, of which a matching was given the first items of two lists. A side that has ended for the
--- matching presents no more than its list, and has ended.
+-- Two sides present these batches. A matching was given the first items of two lists, with which they begin. A side that has
+-- ended for the matching presents no more than its list, and has ended.
 pub record Further (list other : List Shown) (xs ys : List Presented) (ended_a ended_b : Bool) (m : MatchingState) : Type 0 where
   pub more_a : List Presented
   pub more_b : List Presented
@@ -105,7 +106,7 @@ pub record Further (list other : List Shown) (xs ys : List Presented) (ended_a e
   pub over_a : m.ended_a ≡ true → ended_a ≡ true
   pub over_b : m.ended_b ≡ true → ended_b ≡ true
 
--- what a side presents after the first n items of a list: the batches that are left of it, and more
+-- what a side presents after the first n items of a list: the batches left in the list, and more
 abbrev left-of : List Shown → ℕ → List Presented → List Presented
 left-of list n more = presented_of (drop n list) ++ more
 
@@ -128,7 +129,7 @@ further-goes list other n k given xs ys ended_a ended_b m h f = record {
   is_over_b = f.over_b;
 }
 
--- what is known is what the matching has worked through, and what is known of the rest
+-- the known part is what the matching has worked through, and what is known of the rest
 pub further-known : (list other : List Shown) (n k given : ℕ) (xs ys : List Presented) (ended_a ended_b : Bool) (m : MatchingState)
     → (h : Matches list other n k given m) → (f : Further list other xs ys ended_a ended_b m)
     → known ended_a ended_b (merged xs ys)
@@ -156,7 +157,7 @@ front-within done more given e =
     let long = length-append (differences done) front.0 in
     omega arith
 
--- the differences that were given are the first of what is known
+-- the differences that were given are the first of the known ones
 pub further-take : (list other : List Shown) (n k given : ℕ) (xs ys : List Presented) (ended_a ended_b : Bool) (m : MatchingState)
     → (h : Matches list other n k given m) → Further list other xs ys ended_a ended_b m
     → take given (differences (known ended_a ended_b (merged xs ys))) ≡ differences h.matched.done
@@ -219,7 +220,7 @@ given-within records others given pair s ends =
     further-within (out pair.a records) (out pair.b others) s.shown_a s.shown_b given (presented_by pair.a records) (presented_by pair.b others)
     (is_closed pair.a) (is_closed pair.b) pair.matching s.matches (further-now records others pair ends)
 
--- the differences that a pair has given stay the first of what is known, whatever it is given further
+-- the differences that a pair has given stay the first of the known ones, whatever it is given later
 pub given-stays : (records others more more_others : List Record) (given : ℕ) (old new : PairState)
     → StandsFor records others given old → EndsAreClosed old → Continues more more_others old new
     → take given (differences (known_by new (records ++ more) (others ++ more_others))) ≡ take given (differences (known_by old records others))
@@ -230,7 +231,7 @@ given-stays records others more more_others given old new s ends c =
     ∙ sym (further-take (out old.a records) (out old.b others) s.shown_a s.shown_b given (presented_by old.a records) (presented_by old.b others)
     (is_closed old.a) (is_closed old.b) old.matching s.matches (further-now records others old ends))
 
--- and they are no more than are known then
+-- a pair that was given more has still given no more differences than are known
 pub given-within-more : (records others more more_others : List Record) (given : ℕ) (old new : PairState)
     → StandsFor records others given old → EndsAreClosed old → Continues more more_others old new
     → given ≤ length (differences (known_by new (records ++ more) (others ++ more_others)))
@@ -261,7 +262,7 @@ pub continues-close : (which : Which) (old new : PairState) → Changes which 0 
 continues-close A old new c = record { plan_a = c.plan_a; plan_b = c.plan_b; closed_a = λ t. (c.closed, refl); closed_b = λ t. (c.other_closed ∙ t, refl) }
 continues-close B old new c = record { plan_a = c.plan_a; plan_b = c.plan_b; closed_a = λ t. (c.other_closed ∙ t, refl); closed_b = λ t. (c.closed, refl) }
 
--- a record of A was taken
+-- the differences that were given stay after a record of A was taken
 pub taken-stays-a : (r : Record) (records others : List Record) (given : ℕ) (old new : PairState)
     → StandsFor records others given old → EndsAreClosed old → is_closed old.a ≡ false → Changes A 1 false old new
     → take given (differences (known_by new (records ++ r ∷ []) others)) ≡ take given (differences (known_by old records others))
@@ -269,7 +270,7 @@ taken-stays-a r records others given old new s ends opened c =
     ap (λ (l : List Record). take given (differences (known_by new (records ++ r ∷ []) l))) (sym (append-nil others))
     ∙ given-stays records others (r ∷ []) [] given old new s ends (continues-record-a r old new opened c)
 
--- a record of B was taken
+-- the differences that were given stay after a record of B was taken
 pub taken-stays-b : (r : Record) (records others : List Record) (given : ℕ) (old new : PairState)
     → StandsFor records others given old → EndsAreClosed old → is_closed old.b ≡ false → Changes B 1 false old new
     → take given (differences (known_by new records (others ++ r ∷ []))) ≡ take given (differences (known_by old records others))
@@ -277,7 +278,7 @@ taken-stays-b r records others given old new s ends opened c =
     ap (λ (l : List Record). take given (differences (known_by new l (others ++ r ∷ [])))) (sym (append-nil records))
     ∙ given-stays records others [] (r ∷ []) given old new s ends (continues-record-b r old new opened c)
 
--- a side was closed
+-- the differences that were given stay after a side was closed
 pub closed-stays : (which : Which) (records others : List Record) (given : ℕ) (old new : PairState) → StandsFor records others given old → EndsAreClosed old
     → Changes which 0 true old new → take given (differences (known_by new records others)) ≡ take given (differences (known_by old records others))
 closed-stays which records others given old new s ends c =
@@ -295,11 +296,11 @@ known-as old new records others pa pb ca cb =
     ∙ ap (λ (l : List Shown). known (is_closed old.a) (is_closed old.b) (merged (presented_by old.a records) (presented_of l)))
     (out_same old.b new.b others pb cb)
 
--- a pair that is asked for a difference knows as much as before
+-- a pair that is asked for a difference knows what it knew before
 pub known-kept : (old new : PairState) (records others : List Record) → Keeps old new → known_by new records others ≡ known_by old records others
 known-kept old new records others k = known-as old new records others k.plan_a k.plan_b k.closed_a k.closed_b
 
--- the next difference follows those that were given
+-- the first differences, with one more, are those that were given and the next one
 pub given-next : (list : List Difference) (given : ℕ) (d : Difference) → slice_get list given ≡ Some d → take (given + 1) list ≡ take given list ++ d ∷ []
 given-next list given d e = let one : given + 1 ≡ suc given = omega arith in ap (λ n. take n list) one ∙ at list given e
   where
@@ -308,7 +309,7 @@ given-next list given d e = let one : given + 1 ≡ suc given = omega arith in a
     at (x ∷ l) zero e = let s : x ≡ d = cc in ap (λ (z : Difference). z ∷ []) s
     at (x ∷ l) (suc n) e = ap (λ (z : List Difference). x ∷ z) (at l n e)
 
--- if there is no next one, all were given
+-- if there is no next difference, all were given
 pub given-all : (list : List Difference) (given : ℕ) → slice_get list given ≡ None → take given list ≡ list
 given-all [] zero e = refl
 given-all [] (suc n) e = refl
@@ -317,7 +318,7 @@ given-all (x ∷ list) (suc n) e = ap (λ (z : List Difference). x ∷ z) (given
 
 -- ---- where a capture cannot be read on
 
--- nothing is known of a rest that has no batch of an open side
+-- nothing of a rest is known if an open side has no batch in it
 open-none : (ended : Bool) (l : List Sided) (s : Which) → ended ≡ false → batches_of s l ≡ [] → is_settled ended s l ≡ false
 open-none ended l s opened none = ap (λ v. v || list_any (λ (y : Sided). is_side s y.side) l) opened ∙ none-batch s l none
 
@@ -350,7 +351,7 @@ order-rest-b list other n k given xs ys ended_a ended_b m h f =
 none-rest : (next : Option Presented) (us vs : List Presented) → next ≡ None → us ≡ [] → vs ≡ [] → rest_of next (us ++ vs) ≡ []
 none-rest next us vs e f g = ap (λ (o : Option Presented). rest_of o (us ++ vs)) e ∙ both-none us vs f g
 
--- A side that goes on is wanted, and all of its list was given: what is known was worked through, however the other side goes on.
+-- If A is wanted, is open, and all of its list was given, the known part is what was worked through, however B continues.
 known-done-a : (list other : List Shown) (n k given : ℕ) (xs ys : List Presented) (ended_a ended_b : Bool) (m : MatchingState)
     → (h : Matches list other n k given m) → (f : Further list other xs ys ended_a ended_b m)
     → wanted m ≡ Some A → n ≡ length list → f.more_a ≡ [] → ended_a ≡ false
@@ -387,7 +388,7 @@ shown-is : (plan : ListenPlan) (records : List Record) (l : ListenState) → l.p
     → presented_by l records ≡ presented_of (shown_of plan records)
 shown-is plan records l is closed = ap presented_of (out_ended l records closed) ∙ ap (λ (p : ListenPlan). presented_of (shown_of p records)) is
 
--- a pair wants more of A: what is known is what A has presented so far, as far as it goes, beside all that B presents
+-- a pair that wants more of A knows what is due of A, which may continue, beside all that is shown of B
 pub fault-a : (plan : ListenPlan) (records others more : List Record) (given : ℕ) (pair : PairState)
     → StandsFor records others given pair → HavePlan plan pair → EndsAreClosed pair → wanted_by pair ≡ Some A
     → is_closed pair.a ≡ false → (is_closed pair.b ≡ true → more ≡ [])
@@ -415,7 +416,7 @@ fault-a plan records others more given pair s plans ends w opened none =
     (is_closed pair.a) (is_closed pair.b) m s.matches (further-now records others pair ends) w (s.filled_a w) refl opened
     ∙ sym (known-done-a list other s.shown_a s.shown_b given xs ys false true m s.matches f w (s.filled_a w) refl refl)
 
--- the same of B
+-- a pair that wants more of B knows all that is shown of A, beside what is due of B, which may continue
 pub fault-b : (plan : ListenPlan) (records others more : List Record) (given : ℕ) (pair : PairState)
     → StandsFor records others given pair → HavePlan plan pair → EndsAreClosed pair → wanted_by pair ≡ Some B
     → is_closed pair.b ≡ false → (is_closed pair.a ≡ true → more ≡ [])
@@ -443,7 +444,7 @@ fault-b plan records others more given pair s plans ends w opened none =
     (is_closed pair.a) (is_closed pair.b) m s.matches (further-now records others pair ends) w (s.filled_b w) refl opened
     ∙ sym (known-done-b list other s.shown_a s.shown_b given xs ys true false m s.matches f w (s.filled_b w) refl refl)
 
--- once both captures are closed, all that both present is known
+-- once both captures are closed, all that both listeners present is known
 pub all-known : (plan : ListenPlan) (records others : List Record) (pair : PairState) → HavePlan plan pair → is_closed pair.a ≡ true → is_closed pair.b ≡ true
     → known_by pair records others ≡ merged (presented_of (shown_of plan records)) (presented_of (shown_of plan others))
 all-known plan records others pair plans a b =

@@ -24,7 +24,7 @@ use Rattle.capture_pair.specs.state.Taking.{ClosedOn, IsBegun, TookOn}
 use Rattle.capture_pair.proofs.Filling.{counts-all}
 use Rattle.capture_pair.proofs.Heard.{heard}
 
--- two lists of what is shown, the first of which the second begins with; a matching that was given the first n of it
+-- a matching that was given the first n items of a list was given the first n of a longer one
 pub more-a : (list longer other : List Shown) (n k given : ℕ) (m : MatchingState) → IsPrefix list longer → m.ended_a ≡ false → Matches list other n k given m → Matches longer other n k given m
 more-a list longer other n k given m first opened h = record {
   within_a = let a = h.within_a in let b = first_long list longer first in omega arith;
@@ -43,7 +43,7 @@ more-b list other longer n k given m first opened h = record {
   ended_b = λ t. let e = sym opened ∙ t in absurd (cc);
 }
 
--- A listener went on: of what it showed it has shown as much, and shows more after it.
+-- A listener continued: it has shown as many items, and what it shows begins with what it showed.
 pub record Extends (records then : List Record) (old new : ListenState) : Type 0 where
   pub stands : (n : ℕ) → IsGiven records n old → IsGiven then n new
   pub longer : IsPrefix (out old records) (out new then)
@@ -74,7 +74,7 @@ takes-b records others then given old new w e p = record {
   matches = more-b (out old.a records) (out old.b others) (out new then) p.shown_a p.shown_b given old.matching e.longer (lacks-open old.matching.ended_b old.matching.next_b (wants-b old.matching w)) p.matches;
 }
 
--- what the sides stand for is what the pair does
+-- a pair stands for the records for which its sides stand
 pub stands-as : (records others : List Record) (list other : List Shown) (given : ℕ) (a b : ListenState) (m : MatchingState) → Pairs (ShowsRecords a (OfRecords records)) (ShowsRecords b (OfRecords others)) list other given m → StandsFor records others given (record { a = a; b = b; matching = m })
 stands-as records others list other given a b m p = record {
   shown_a = p.shown_a;
@@ -86,7 +86,7 @@ stands-as records others list other given a b m p = record {
   filled_b = λ w. p.filled_b w ∙ ap length p.shows_b.1;
 }
 
--- and the other way round
+-- the sides stand for the records for which their pair stands
 pub sides-as : (records others : List Record) (given : ℕ) (pair : PairState) → StandsFor records others given pair → Pairs (ShowsRecords pair.a (OfRecords records)) (ShowsRecords pair.b (OfRecords others)) (out pair.a records) (out pair.b others) given pair.matching
 sides-as records others given pair p = record {
   shown_a = p.shown_a;
@@ -138,7 +138,7 @@ begun-settled wanted_plan a b m sa sb ea eb = record {
 
 -- ---- a record is taken, or a side is closed
 
--- what filling both sides does with what they show
+-- two listeners and a matching, before and after both sides are filled, with what the listeners show
 abbrev pub FillsBoth : ListenState → ListenState → MatchingState → ListenState → ListenState → MatchingState → Type 0
 FillsBoth a b m a2 b2 m2 = (ta tb : Taken) (list other : List Shown) (given : ℕ) → IsHeard list → IsHeard other → Holds (ShowsRecords a ta) (ShowsRecords b tb) list other given m → Pairs (ShowsRecords a2 ta) (ShowsRecords b2 tb) list other given m2
 

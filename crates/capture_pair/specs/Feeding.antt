@@ -21,27 +21,27 @@ abbrev pub fed_of : Which → FedPair → Feeding
 fed_of A pair = pair.a
 fed_of B pair = pair.b
 
--- the bytes of a side
+-- the bytes of the capture of a side
 abbrev pub bytes_of : Which → List ℕ → List ℕ → List ℕ
 bytes_of A bytes others = bytes
 bytes_of B bytes others = others
 
--- The side whose bytes are needed before more is known: A if it has not ended and has no next batch, else B in the same case, else
--- none.
+-- The side whose bytes are needed before more is known: A if it has not ended and has no next batch, else B if it has not ended
+-- and has no next batch, else none.
 abbrev pub wanted_by : FedPair → Option Which
 wanted_by pair = wanted pair.matching
 
--- both listeners have this plan
+-- Both listeners have this plan.
 pub record HavePlan (plan : ListenPlan) (pair : FedPair) : Type 0 where
   pub a : pair.a.listener.plan ≡ plan
   pub b : pair.b.listener.plan ≡ plan
 
--- both captures have at most 2^61 bytes
+-- Both captures have at most 2^61 bytes.
 pub record AreShort (bytes others : List ℕ) : Type 0 where
   pub a : length bytes ≤ 2 ^ 61
   pub b : length others ≤ 2 ^ 61
 
--- The known part of the merged list of what both present, given the bytes of A and of B.
+-- The known part of the merged list of what both listeners present, given the bytes of A and of B.
 abbrev pub known_by : FedPair → List ℕ → List ℕ → List Sided
 known_by pair bytes others = known (is_ended pair.a) (is_ended pair.b) (merged (presented_of (out pair.a bytes)) (presented_of (out pair.b others)))
 
@@ -49,16 +49,17 @@ known_by pair bytes others = known (is_ended pair.a) (is_ended pair.b) (merged (
 abbrev pub StandsFor : List ℕ → List ℕ → ℕ → FedPair → Type 0
 StandsFor bytes others given pair = Pairs (λ list n. IsFed bytes n pair.a) (λ list n. IsFed others n pair.b) (out pair.a bytes) (out pair.b others) given pair.matching
 
--- nothing more is known: what comes next in the merged list rests on what a listener presents later, or both have ended and are through
+-- nothing more is known: what comes next in the merged list depends on what a listener presents later, or both listeners have
+-- ended and all was compared
 abbrev pub IsThrough : FedPair → Type 0
 IsThrough pair = IsIdle pair.matching
 
--- The most differences that it can still give of what it was fed: one for each item that a listener can still show, and for each
--- next batch.
+-- The most differences that the pair can still give for what it was fed: one for each item that a listener can still show, and
+-- for each next batch.
 abbrev pub most_left : FedPair → ℕ
 most_left pair = (work pair.a + work pair.b) + nexts_left pair.matching
 
--- both listeners have their plans and readers, have ended or not, and found memory or not, as before
+-- The plans and readers of both listeners are unchanged, and so is whether each has ended or run out of memory.
 pub record Keeps (old new : FedPair) : Type 0 where
   pub plan_a : new.a.listener.plan ≡ old.a.listener.plan
   pub plan_b : new.b.listener.plan ≡ old.b.listener.plan
@@ -69,14 +70,14 @@ pub record Keeps (old new : FedPair) : Type 0 where
   pub memory_a : new.a.out_of_memory ≡ old.a.out_of_memory
   pub memory_b : new.b.out_of_memory ≡ old.b.out_of_memory
 
--- a listener has its plan and reader, has ended or not, and found memory or not, as before
+-- The plan and the reader of a listener are unchanged, and so is whether it has ended or run out of memory.
 pub record KeepsSide (old new : Feeding) : Type 0 where
   pub plan : new.listener.plan ≡ old.listener.plan
   pub reader : new.reader ≡ old.reader
   pub ended : is_ended new ≡ is_ended old
   pub memory : new.out_of_memory ≡ old.out_of_memory
 
--- the listener of the side that is not named is as before, but for what it has shown
+-- the listener of the other side than `which` is unchanged, except for what it has shown
 abbrev pub KeepsOther : Which → FedPair → FedPair → Type 0
 KeepsOther A old new = KeepsSide old.b new.b
 KeepsOther B old new = KeepsSide old.a new.a

@@ -27,21 +27,21 @@ abbrev pub other_of : Which → Which
 other_of A = B
 other_of B = A
 
--- The side whose records are needed before more is known: A if it has not ended and has no next batch, else B in the same case,
--- else none.
+-- The side whose records are needed before more is known: A if it has not ended and has no next batch, else B if it has not
+-- ended and has no next batch, else none.
 abbrev pub wanted_by : PairState → Option Which
 wanted_by pair = wanted pair.matching
 
--- both listeners have this plan
+-- Both listeners have this plan.
 pub record HavePlan (plan : ListenPlan) (pair : PairState) : Type 0 where
   pub a : pair.a.plan ≡ plan
   pub b : pair.b.plan ≡ plan
 
--- what a listener presents of records: of what is due, or of all once it is closed
+-- the batches that a listener presents of records: those that are due, or all once it is closed
 abbrev pub presented_by : ListenState → List Record → List Presented
 presented_by listener records = presented_of (out listener records)
 
--- The known part of the merged list of what both present, given the records of A and of B.
+-- The known part of the merged list of what both listeners present, given the records of A and of B.
 abbrev pub known_by : PairState → List Record → List Record → List Sided
 known_by pair records others = known (is_closed pair.a) (is_closed pair.b) (merged (presented_by pair.a records) (presented_by pair.b others))
 
@@ -54,8 +54,8 @@ pub record Matches (list other : List Shown) (n k given : ℕ) (m : MatchingStat
   pub ended_a : m.ended_a ≡ true → n ≡ length list
   pub ended_b : m.ended_b ≡ true → k ≡ length other
 
--- Two listeners show these lists, and a matching was given the batches of each as far as it is asked for, and has given `given`
--- differences: of the side that is wanted all was given.
+-- Two listeners show these lists. A matching was given the batches of each as far as it asked for them, all batches of the side
+-- that it wants, and has given `given` differences.
 pub record Pairs (ShowsA ShowsB : List Shown → ℕ → Type 0) (list other : List Shown) (given : ℕ) (m : MatchingState) : Type 0 where
   pub shown_a : ℕ
   pub shown_b : ℕ
@@ -69,16 +69,17 @@ pub record Pairs (ShowsA ShowsB : List Shown → ℕ → Type 0) (list other : L
 abbrev pub StandsFor : List Record → List Record → ℕ → PairState → Type 0
 StandsFor records others given pair = Pairs (λ list n. IsGiven records n pair.a) (λ list n. IsGiven others n pair.b) (out pair.a records) (out pair.b others) given pair.matching
 
--- nothing more is known: what comes next in the merged list rests on what a listener presents later, or both are closed and through
+-- nothing more is known: what comes next in the merged list depends on what a listener presents later, or both listeners are
+-- closed and all was compared
 abbrev pub IsThrough : PairState → Type 0
 IsThrough pair = IsIdle pair.matching
 
--- a side that has ended for the matching is closed
+-- A side that has ended for the matching is closed.
 pub record EndsAreClosed (pair : PairState) : Type 0 where
   pub a : pair.matching.ended_a ≡ true → is_closed pair.a ≡ true
   pub b : pair.matching.ended_b ≡ true → is_closed pair.b ≡ true
 
--- A pair goes on from another, given these further records of A and of B: the plans are the same, and a side that was closed is
+-- A pair continues another one, given these further records of A and of B: the plans are equal, and a side that was closed is
 -- closed and was given no more.
 pub record Continues (more more_others : List Record) (old new : PairState) : Type 0 where
   pub plan_a : new.a.plan ≡ old.a.plan
@@ -86,12 +87,12 @@ pub record Continues (more more_others : List Record) (old new : PairState) : Ty
   pub closed_a : is_closed old.a ≡ true → (is_closed new.a ≡ true) × (more ≡ [])
   pub closed_b : is_closed old.b ≡ true → (is_closed new.b ≡ true) × (more_others ≡ [])
 
--- The most differences that it can still give of what it was given: one for each item that a listener can still show, and for each
--- next batch.
+-- The most differences that the pair can still give for what it was given: one for each item that a listener can still show,
+-- and for each next batch.
 abbrev pub most_left : PairState → ℕ
 most_left pair = (work pair.a + work pair.b) + nexts_left pair.matching
 
--- both listeners have their plans, were given as many records, and are closed or open, as before
+-- Both listeners have the plans and the numbers of records that they had, and each is closed if it was.
 pub record Keeps (old new : PairState) : Type 0 where
   pub plan_a : new.a.plan ≡ old.a.plan
   pub plan_b : new.b.plan ≡ old.b.plan
@@ -100,8 +101,8 @@ pub record Keeps (old new : PairState) : Type 0 where
   pub closed_a : is_closed new.a ≡ is_closed old.a
   pub closed_b : is_closed new.b ≡ is_closed old.b
 
--- The listener of the side that is named was given one more record, or was closed; the other is as before but for what it has
--- shown.
+-- The listener of side `which` was given one more record, or was closed. The other listener is unchanged, except for what it
+-- has shown.
 pub record Changes (which : Which) (more : ℕ) (ended : Bool) (old new : PairState) : Type 0 where
   pub plan_a : new.a.plan ≡ old.a.plan
   pub plan_b : new.b.plan ≡ old.b.plan

@@ -1,4 +1,4 @@
--- A listener as one side of a pair: what it has taken, and what it keeps while it is asked for what it shows.
+-- A listener as one side of a pair: what it has taken, and what stays while it is asked for what it shows.
 use Rattle.std.specs.Prelude.{ℕ, Bool, List, Option}
 use Rattle.pcap_frames.specs.Capture.{Record}
 use Rattle.pcap_frames.specs.Reading.{Reading}
@@ -9,8 +9,8 @@ pub data Taken : Type 0 where
   OfRecords : List Record → Taken
   OfBytes : List ℕ → Taken
 
--- What a listener keeps while it is asked for what it shows: its plan and whether it has ended; of one of records also how many
--- it took, of one of bytes its reader and whether memory was once not found.
+-- What stays while a listener is asked for what it shows: its plan and whether it has ended; for a listener of records also how
+-- many it took; and for a listener of bytes also its reader, and whether it ran out of memory.
 pub record Kept : Type 0 where
   pub plan : ListenPlan
   pub frames : ℕ

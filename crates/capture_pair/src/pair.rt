@@ -1,4 +1,4 @@
-//! Two captures, in pieces of any length.
+//! Two captures whose bytes come in pieces of any length.
 
 ghost use Rattle.std.specs.Prelude.{◌≡◌, ◌↔◌, ◌+◌, ◌^◌, ◌≤◌, ◌++◌, [], ℕ, true, false, List, length, slice_get, None, Some, Err, IfNone, IfOk, option_map};
 ghost use Rattle.std.specs.Option.{option_to_list};
@@ -22,11 +22,11 @@ use listener_pair::{Difference, Matching, PairCounts, Which};
 use std::alloc::Global;
 use std::marker::Model;
 
-/// Two listeners with one plan, fed the bytes of two captures of a stream, and the differences of what they present. The bytes of
-/// each capture are fed in its order, and only as far as `wants` asks for them.
+/// Two listeners with one plan, fed the bytes of two captures of a stream, and the differences of what they present. The bytes
+/// of each capture are fed in its order, and only as far as `wants` asks for them.
 ///
-/// It tells of the records of both captures what a `RecordPair` does. What a listener flags is dropped, and ends nothing. Each capture
-/// has at most 2^61 bytes.
+/// It gives the differences that a `RecordPair` gives for the records of both captures. Items that a listener flags are
+/// dropped, and end nothing. Each capture has at most 2^61 bytes.
 #[derive(Drop)]
 pub struct Pair {
     a: ByteSource,
@@ -47,7 +47,7 @@ impl Model for Pair {
 }
 
 impl Pair {
-    /// A pair that was fed nothing. The plan is within the limits that `ListenPlan` names.
+    /// A pair before it is fed. The plan must be within the limits that `ListenPlan` names.
     pub fn begin(alloc: Global, plan: ListenPlan) -> Result<Self, NoMemory>
         requires plan { IsPlan (schedule_plan plan) }
         ensures stands { IfOk result (StandsFor [] [] 0) }
@@ -62,8 +62,8 @@ impl Pair {
         Ok(Pair { a, b, matching })
     }
 
-    /// The capture whose next bytes, or end, are needed before more is known: A if it has not ended and has no next batch, else B in
-    /// the same case, else None.
+    /// The capture whose next bytes, or end, are needed before more is known: A if it has not ended and has no next batch, else
+    /// B if it has not ended and has no next batch, else `None`.
     pub fn wants(&self) -> Option<Which>
         ensures wanted { result ≡ wanted_by self.now }
         ensures open { (which : Which) → result ≡ Some which → is_ended (fed_of which self.now) ≡ false }
@@ -72,12 +72,12 @@ impl Pair {
         self.matching.wants()
     }
 
-    /// Takes bytes of the capture that is wanted, up to the end of one record or of the piece, and answers how many. At most 2^62 bytes
-    /// of each may be taken.
+    /// Takes bytes of the capture that is wanted, up to the end of one record or of the piece, and returns how many. At most
+    /// 2^62 bytes of each capture may be taken.
     ///
-    /// If no fault is answered, `Ok(0)` comes exactly if the piece is empty. `Refused` is the capture's first refusal; what was accepted
-    /// stays, and that side is then ended by `end`. `Memory` comes if no memory is found for the samples of a record; every later `feed`
-    /// and `end` of that side answers `Memory`.
+    /// Without a fault, `Ok(0)` comes exactly if the piece is empty. `Refused` is the capture's first refusal; what was
+    /// accepted stays, and `end` then ends that side. `Memory` comes if there is no memory for the samples of a record; every
+    /// later `feed` and `end` of that side returns `Memory`.
     pub fn feed(&mut self, alloc: Global, which: Which, piece: &[u8]) -> Result<usize, ListenFault>
         requires wanted { wanted_by self.old ≡ Some which }
         requires bounded { taken (fed_of which self.old).reader + length piece.now ≤ 2 ^ 62 }
@@ -96,10 +96,10 @@ impl Pair {
         answer
     }
 
-    /// Says that the capture that is wanted ends with the bytes so far. Takes no memory.
+    /// Ends the capture that is wanted after the bytes so far. Allocates nothing.
     ///
-    /// `Refused` is the capture's first field that is not whole or that is refused, if there is one; what is compared is of the records
-    /// before it. After `Memory` by `feed` it answers `Memory`.
+    /// `Refused` is the capture's first field that is cut off or refused, if there is one; the records before it are compared.
+    /// After `Memory` by `feed` it returns `Memory`.
     pub fn end(&mut self, which: Which) -> Result<(), ListenFault>
         requires wanted { wanted_by self.old ≡ Some which }
         ensures stands { (bytes others : List ℕ) (given : ℕ) → AreShort bytes others → StandsFor bytes others given self.old → StandsFor bytes others given self.new }
@@ -113,8 +113,9 @@ impl Pair {
         answer
     }
 
-    /// The next difference of the known part of the merged list of what both listeners present. None comes exactly if no further one
-    /// is in it. The differences that can be given of what was given so far are finitely many. Takes no memory.
+    /// The next difference in the known part of the merged list of what both listeners present. `None` comes exactly if that
+    /// part has no further difference. For what was given so far, only finitely many differences can be given. Allocates
+    /// nothing.
     pub fn next_difference(&mut self) -> Option<Difference>
         ensures given { (bytes others : List ℕ) (given : ℕ) → AreShort bytes others → StandsFor bytes others given self.old → result ≡ slice_get (differences (known_by self.old bytes others)) given }
         ensures stands { (bytes others : List ℕ) (given : ℕ) → AreShort bytes others → StandsFor bytes others given self.old → StandsFor bytes others (given + length (option_to_list result)) self.new }
@@ -125,7 +126,8 @@ impl Pair {
         next_difference(&mut self.a, &mut self.b, &mut self.matching)
     }
 
-    /// The counts over the known part, once all its differences were given. A batch that is not paired yet counts as only.
+    /// The counts of the known part, after all its differences were given. A batch that is not paired yet counts as presented
+    /// by one side only.
     pub fn counts(&self) -> PairCounts
         ensures { IsThrough self.now → (bytes others : List ℕ) (given : ℕ) → AreShort bytes others → StandsFor bytes others given self.now → result ≡ counts_of (known_by self.now bytes others) }
     {
@@ -133,7 +135,7 @@ impl Pair {
     }
 }
 
-/// A listener that was fed nothing.
+/// A listener before it is fed.
 fn begin_source(alloc: Global, plan: ListenPlan) -> Result<ByteSource, NoMemory>
     requires plan { IsPlan (schedule_plan plan) }
     ensures begun { IfOk result (IsBegun plan) }
@@ -174,7 +176,7 @@ fn feed_one(alloc: Global, source: &mut ByteSource, piece: &[u8]) -> Result<usiz
     answer
 }
 
-/// Whether a listener found no memory.
+/// Whether a listener ran out of memory.
 fn is_out_of_memory(answer: &Result<usize, ListenFault>) -> bool
     ensures { result ≡ is_memory answer.now }
 {
@@ -185,7 +187,7 @@ fn is_out_of_memory(answer: &Result<usize, ListenFault>) -> bool
     }
 }
 
-/// Tells the listener of a side that its capture ends.
+/// Ends the capture of the listener of a side.
 fn end_on(a: &mut ByteSource, b: &mut ByteSource, which: Which) -> Result<(), ListenFault>
     requires open { IsOpenOn which a.old.listener b.old.listener }
     ensures { EndedOn which (result_err result) a.old.listener b.old.listener a.new.listener b.new.listener }

@@ -1,4 +1,4 @@
-//! Two captures, from one record at a time.
+//! Two captures whose records come one at a time.
 
 ghost use Rattle.std.specs.Prelude.{◌≡◌, ◌+◌, ◌^◌, ◌<◌, ◌≤◌, ◌++◌, ◌∷◌, [], ℕ, true, false, List, length, slice_get, None, Some, IfNone, IfOk, OnErr, OnOk};
 ghost use Rattle.std.specs.Option.{option_to_list};
@@ -21,12 +21,12 @@ use pcap_frames::RecordView;
 use std::alloc::Global;
 use std::marker::Model;
 
-/// Two listeners with one plan, given the records of two captures of a stream, and the differences of what they present. The records
-/// of each capture are given in its order, and only as far as `wants` asks for them.
+/// Two listeners with one plan, given the records of two captures of a stream, and the differences of what they present. The
+/// records of each capture are given in its order, and only as far as `wants` asks for them.
 ///
-/// A difference is given as soon as the batches are known that come before it in the merged list of what both present. What a
-/// listener flags is dropped, and ends nothing. Memory is reserved when the pair is made; later each packet's samples, and each
-/// whole unit, are copied once.
+/// A difference is given as soon as all batches are known that come before it in the merged list of what both present. Items
+/// that a listener flags are dropped, and end nothing. Memory is reserved when the pair is made; later each packet's samples,
+/// and each whole unit, are copied once.
 #[derive(Drop)]
 pub struct RecordPair {
     a: RecordSource,
@@ -49,7 +49,7 @@ impl Model for RecordPair {
 }
 
 impl RecordPair {
-    /// A pair that was given no record. The plan is within the limits that `ListenPlan` names.
+    /// A pair before its first record. The plan must be within the limits that `ListenPlan` names.
     pub fn begin(alloc: Global, plan: ListenPlan) -> Result<Self, NoMemory>
         requires plan { IsPlan (schedule_plan plan) }
         ensures stands { IfOk result (StandsFor [] [] 0) }
@@ -65,8 +65,8 @@ impl RecordPair {
         Ok(RecordPair { a, b, matching })
     }
 
-    /// The capture whose next record, or end, is needed before more is known: A if it has not ended and has no next batch, else B in
-    /// the same case, else None.
+    /// The capture whose next record, or end, is needed before more is known: A if it has not ended and has no next batch, else
+    /// B if it has not ended and has no next batch, else `None`.
     pub fn wants(&self) -> Option<Which>
         ensures wanted { result ≡ wanted_by self.now }
         ensures open { (which : Which) → result ≡ Some which → is_closed (listener_of which self.now) ≡ false }
@@ -76,8 +76,9 @@ impl RecordPair {
         self.matching.wants()
     }
 
-    /// Takes the next record of the capture that is wanted, of which fewer than 2^61 were taken. The record's time is from 0 to 2^62
-    /// ns. `NoMemory` comes if no memory is found for the packet's samples or the unit; the pair is then as it was.
+    /// Takes the next record of the capture that is wanted. Fewer than 2^61 records of that capture may have been taken. The
+    /// record's time is from 0 to 2^62 ns. `NoMemory` comes if there is no memory for the packet's samples or the unit; the
+    /// pair is then unchanged.
     pub fn take_record(
         &mut self,
         alloc: Global,
@@ -97,7 +98,7 @@ impl RecordPair {
         Ok(())
     }
 
-    /// Says that no record follows of the capture that is wanted. Takes no memory.
+    /// Ends the capture that is wanted: no record of it follows. Allocates nothing.
     pub fn close(&mut self, which: Which)
         requires wanted { wanted_by self.old ≡ Some which }
         ensures stands { (records others : List Record) (given : ℕ) → StandsFor records others given self.old → StandsFor records others given self.new }
@@ -107,8 +108,9 @@ impl RecordPair {
         fill_both(&mut self.a, &mut self.b, &mut self.matching);
     }
 
-    /// The next difference of the known part of the merged list of what both listeners present. None comes exactly if no further one
-    /// is in it. The differences that can be given of what was given so far are finitely many. Takes no memory.
+    /// The next difference in the known part of the merged list of what both listeners present. `None` comes exactly if that
+    /// part has no further difference. For what was given so far, only finitely many differences can be given. Allocates
+    /// nothing.
     pub fn next_difference(&mut self) -> Option<Difference>
         ensures given { (records others : List Record) (given : ℕ) → StandsFor records others given self.old → result ≡ slice_get (differences (known_by self.old records others)) given }
         ensures stands { (records others : List Record) (given : ℕ) → StandsFor records others given self.old → StandsFor records others (given + length (option_to_list result)) self.new }
@@ -120,7 +122,8 @@ impl RecordPair {
         next_difference(&mut self.a, &mut self.b, &mut self.matching)
     }
 
-    /// The counts over the known part, once all its differences were given. A batch that is not paired yet counts as only.
+    /// The counts of the known part, after all its differences were given. A batch that is not paired yet counts as presented
+    /// by one side only.
     pub fn counts(&self) -> PairCounts
         ensures { IsThrough self.now → (records others : List Record) (given : ℕ) → StandsFor records others given self.now → result ≡ counts_of (known_by self.now records others) }
     {
@@ -128,7 +131,7 @@ impl RecordPair {
     }
 }
 
-/// A listener that was given no record.
+/// A listener before its first record.
 fn begin_source(alloc: Global, plan: ListenPlan) -> Result<RecordSource, NoMemory>
     requires plan { IsPlan (schedule_plan plan) }
     ensures begun { IfOk result (IsBegun plan) }

@@ -1,4 +1,4 @@
-//! What two listeners show, matched.
+//! The matching of what two listeners show.
 
 ghost use Rattle.std.specs.Prelude.{◌≡◌, ◌⊎◌, ◌+◌, ◌<◌, ◌≤◌, List, ℕ, Some, None, IfNone, IsSome, length, slice_get};
 ghost use Rattle.std.specs.Option.{option_to_list};
@@ -14,8 +14,8 @@ use crate::source::Source;
 use listener_pair::{Difference, Matching, Which};
 use sample_schedule::Shown;
 
-/// Gives the matching what the listener of the side that it wants shows next: a batch is the next of the side, a flag is dropped,
-/// and if nothing is shown and the listener has ended, so has the side. Whether the listener is asked again.
+/// Gives the matching what the listener of the wanted side shows next: a batch is the side's next batch, and a flag is dropped.
+/// If nothing is shown and the listener has ended, the side ends. Returns whether the listener is to be asked again.
 fn hand_on(matching: &mut Matching, which: Which, next: Option<Shown>, ended: bool) -> bool
     requires { wanted matching.old ≡ Some which }
     ensures handed { matching.new ≡ handed which next ended matching.old }
@@ -46,7 +46,7 @@ fn is_wanted(matching: &Matching, which: Which) -> bool
     }
 }
 
-/// Gives the matching the next batch of a side, or that side's end, if it is wanted and known.
+/// Gives the matching the next batch of a side, or the side's end, if the side is wanted and either is known.
 fn fill<S: Source>(source: &mut S, matching: &mut Matching, which: Which)
     ensures filled { (taken : Taken) (list other : List ShownValue) (n k given : ℕ) → S.shows source.old taken list n → IsHeard list → IsHeard other → MatchesOn which list other n k given matching.old → Filled (S.shows source.new taken) which list other k given matching.new }
     ensures fills { Fills which (S.kept source.old).ended (S.is_quiet source.new) matching.old matching.new }
@@ -67,7 +67,8 @@ fn fill<S: Source>(source: &mut S, matching: &mut Matching, which: Which)
     }
 }
 
-/// Gives the matching the next batch, or the end, of each side that lacks it, as far as that is known: A's before B's.
+/// Gives the matching the next batch, or the end, of each side that lacks one, as far as either is known: first of A, then of
+/// B.
 pub fn fill_both<S: Source>(a: &mut S, b: &mut S, matching: &mut Matching)
     requires bounded { IsBounded (S.kept a.old).ended (S.kept b.old).ended matching.old }
     ensures pairs { (ta tb : Taken) (list other : List ShownValue) (given : ℕ) → IsHeard list → IsHeard other → Holds (S.shows a.old ta) (S.shows b.old tb) list other given matching.old → Pairs (S.shows a.new ta) (S.shows b.new tb) list other given matching.new }
@@ -82,7 +83,8 @@ pub fn fill_both<S: Source>(a: &mut S, b: &mut S, matching: &mut Matching)
     fill(b, matching, Which::B);
 }
 
-/// The next difference of the known part of what both listeners present. None comes exactly if no further one is in it.
+/// The next difference in the known part of what both listeners present. `None` comes exactly if that part has no further
+/// difference.
 pub fn next_difference<S: Source>(
     a: &mut S,
     b: &mut S,

@@ -7,26 +7,26 @@ ghost use Rattle.listener.specs.Listening.{is_closed};
 use listener::{Listener, RecordListener};
 use sample_schedule::Shown;
 
-/// One of two listeners, asked for what it shows.
+/// One of two listeners, which is asked for what it shows.
 pub trait Source {
     ghost use Rattle.std.specs.Prelude.{◌≡◌, ◌+◌, ◌≤◌, List, ℕ, IfNone, length, slice_get};
     ghost use Rattle.std.specs.Option.{option_to_list};
     ghost use Rattle.sample_schedule.specs.declared.shown.Shown.{Shown as ShownValue};
     ghost use Rattle.capture_pair.specs.Sources.{Kept, Taken};
 
-    /// It took this, shows this list of it, and has shown so many items of the list.
+    /// The listener took this, shows this list of it, and has shown this many items of the list.
     ghost shows: { Self → Taken → List ShownValue → ℕ → Type 0 };
 
-    /// All that it shows so far was shown.
+    /// The listener has shown all that it shows so far.
     ghost is_quiet: { Self → Type 0 };
 
-    /// What stays while it is asked for what it shows.
+    /// What stays while the listener is asked for what it shows.
     ghost kept: { Self → Kept };
 
-    /// The most items that it can still show.
+    /// The most items that the listener can still show.
     ghost work: { Self → ℕ };
 
-    /// The next item that is shown of what was taken so far. None comes exactly if all of that was shown.
+    /// The next item that is shown of what was taken so far. `None` comes exactly if all of that was shown.
     fn next_out(&mut self) -> Option<Shown>
         ensures given { (taken : Taken) (list : List ShownValue) (n : ℕ) → shows self.old taken list n → result ≡ slice_get list n }
         ensures shows { (taken : Taken) (list : List ShownValue) (n : ℕ) → shows self.old taken list n → shows self.new taken list (n + length (option_to_list result)) }
@@ -34,7 +34,7 @@ pub trait Source {
         ensures kept { kept self.new ≡ kept self.old }
         ensures less { work self.new + length (option_to_list result) ≤ work self.old };
 
-    /// Whether nothing more is taken: all that is left is shown then.
+    /// Whether the listener takes nothing more, so that all that is left is shown.
     fn has_ended(&self) -> bool
         ensures { result ≡ (kept self.now).ended };
 }
@@ -68,7 +68,7 @@ impl Source for RecordSource {
     }
 }
 
-/// A listener of bytes, whether its capture has ended, and whether memory was once not found.
+/// A listener of bytes, whether its capture has ended, and whether it ran out of memory.
 #[derive(Drop)]
 pub struct ByteSource {
     pub listener: Listener,

@@ -57,7 +57,7 @@ pieces_apart to shape n batch (suc most) first block is =
     let after : ℕ = first + piece_count to shape batch first in
     apart_by to shape n batch first block (pieces_from to shape batch most after next) (nat_lt first batch.count) refl is (begin_from to shape batch most after next) (pieces_apart to shape (suc n) batch most after next is)
 
--- a piece has as many samples as are counted where it begins
+-- a piece has as many samples as a gateway puts into a piece that begins there
 abbrev IsCounted : To → Shape → Presented → Piece → Type 0
 IsCounted to shape batch p = p.count ≡ piece_count to shape batch p.first
 
@@ -84,7 +84,7 @@ ends_within to shape n batch p is within count =
     let same = rw (← count) at same in
     subst (λ (x : ℤ). x ≤ℤ sample_instant batch (batch.count - 1)) (sym same) last
 
--- each of these pieces ends before all of the others begin
+-- a piece ends before all of these begin
 abbrev EndBefore : Shape → List Cut → Cut → Type 0
 EndBefore shape ys c = AllByRecursion (λ y. end_of shape c <ℤ y) (map cut_instant ys)
 

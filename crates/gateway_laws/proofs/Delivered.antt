@@ -79,7 +79,7 @@ item_is Am824 shape id frame c is small fine =
 
 -- ---- all deliveries
 
--- those of all frames, of which the first is the record of this number
+-- the deliveries of all frames; the first frame is the record of this number
 abbrev all_delivered : To → Shape → ℕ → ℕ → List Cut → List Delivery
 all_delivered to shape id frame [] = []
 all_delivered to shape id frame (c ∷ cs) = delivered to shape id frame c ∷ all_delivered to shape id (suc frame) cs
@@ -117,7 +117,7 @@ entries_are to shape id cs is small all =
 
 -- ---- what is presented
 
--- The schedule of a listener of the stream without a clock is that of the packets.
+-- The schedule of a listener of the stream without a clock has these entries.
 pub record IsSchedule (plan : ListenPlan) (records : List Record) (entries : List Entry) : Type 0 where
   pub without : (schedule_plan plan).clock ≡ false
   pub entries_is : entries_in plan records ≡ entries
@@ -138,6 +138,6 @@ pub is_schedule : (to : To) (shape : Shape) (id : ℕ) (cs : List Cut) (plan : L
     → Hears id plan (map record_of (map (cut_frame to shape id) cs)) → IsSchedule plan (map record_of (map (cut_frame to shape id) cs)) (packet_entries (packets_heard to shape 1 cs))
 is_schedule to shape id cs plan is small all hears = schedule_by id plan (map record_of (map (cut_frame to shape id) cs)) (packet_entries (packets_heard to shape 1 cs)) hears (entries_are to shape id cs is small all)
 
--- that of no records
+-- the schedule of no records
 pub empty_schedule : (id : ℕ) (plan : ListenPlan) → Hears id plan [] → IsSchedule plan [] (packet_entries [])
 empty_schedule id plan hears = schedule_by id plan [] [] hears (ap (map made_entry) (items_other [] (All-nil IsOther)))

@@ -1,4 +1,4 @@
--- What a listener reads of a gateway's frames carries the pieces.
+-- The packets that a listener reads of a gateway's frames carry the pieces.
 use Rattle.std.proofs.Common.{◌≡◌, ℕ, zero, suc, ◌+◌, ◌-◌, ◌*◌, ◌%◌, ◌^◌, ◌<◌, ◌≤◌, Bool, true, false, ℤ, pos, ◌≤ℤ◌, List, [], ◌∷◌, ◌++◌, Option, Some, None, inl, inr, refl, sym, arith}
 use Rattle.std.specs.Prelude.{if◌then◌else◌, min, nat_lt, unsigned_abs}
 use Rattle.std.specs.Int.{div_ceil, int_rem_euclid}
@@ -76,7 +76,7 @@ first_stamped Am824 shape p is e = rw e (whole (interval_of shape.rate) is)
 
 -- ---- pieces
 
--- what a piece has for its packet to be heard
+-- A listener can time the piece: it has samples, its block count is a multiple of SYT_INTERVAL, and it begins at 0 or later.
 pub record IsSound (interval : ℕ) (c : Cut) : Type 0 where
   pub some : 1 ≤ c.piece.count
   pub block : c.piece.block % interval ≡ 0

@@ -1,4 +1,4 @@
--- Items that come in their order are presented in it.
+-- Items that come in their order are presented in that order.
 use Rattle.std.proofs.Common.{◌≡◌, ℕ, zero, suc, ◌+◌, ◌<◌, ◌≤◌, Bool, true, false, ℤ, ◌<ℤ◌, List, [], ◌∷◌, ◌++◌, length, map, take, Option, Some, None, refl, sym, ap, subst, ◌∙◌, arith}
 use Rattle.std.specs.Prelude.{◌==◌, if◌then◌else◌, fold, int_le, int_lt, slice_get, Ok, Err}
 use Rattle.std.specs.List.{AllByRecursion, list_any}
@@ -19,7 +19,7 @@ use Rattle.sample_schedule.proofs.Judged.{as-judged}
 use Rattle.sample_schedule.proofs.LawLemmas.{accepted-presented}
 use Rattle.gateway_laws.specs.InOrder.{AreInOrder, IsNotFull, IsTimedAt}
 
--- the batches as they are accepted, from a place on
+-- the batches as they are accepted, the first at this place
 abbrev placed : ℕ → List Presented → List Accepted
 placed n [] = []
 placed n (b ∷ bs) = record { place = n; instant = first_instant b; batch = b } ∷ placed (suc n) bs
@@ -146,7 +146,7 @@ within [] k below e = absurd (omega arith)
 within (x ∷ xs) zero below e = absurd cc
 within (x ∷ xs) (suc k) below e = within xs k (omega (arith, below)) e
 
--- the first n are accepted, and are in order
+-- The first n items are accepted, and are in order.
 record AreTaken (clock : Clock) (plan : SchedulePlan) (entries : List Entry) (batches : List Presented) (n : ℕ) : Type 0 where
   accepted_is : accepted clock plan entries n ≡ placed 0 (take n batches)
   sorted_is : by_instant (placed 0 (take n batches)) ≡ placed 0 (take n batches)

@@ -63,7 +63,7 @@ never_off : (b : Bool) → (b && false) ≡ false
 never_off true = refl
 never_off false = refl
 
--- what the packet of a frame is, by its subtype
+-- The packet of a frame is this one, and is accepted.
 record IsPlain (pdu : List ℕ) (packet : AnyPacket) : Type 0 where
   packet_is : packet_of pdu ≡ packet
   accepted : packet_refusal pdu ≡ None
@@ -142,7 +142,7 @@ no_rest interval (inl e) = rw e refl
 no_rest interval (inr (inl e)) = rw e refl
 no_rest interval (inr (inr e)) = rw e refl
 
--- what is heard of records that are those of the pieces' frames
+-- what is presented of the records of the pieces' frames
 heard_of_cuts : (to : To) (shape : Shape) (id : ℕ) (batches : List Presented) (records : List Record) (plan : ListenPlan) → IsShape shape → id < 2 ^ 64 → AllByRecursion BeginsInTime batches
     → records ≡ map record_of (map (cut_frame to shape id) (cuts_after to shape nothing_given batches)) → Hears id plan records → Presents to (Some shape) batches (presented_of (shown_of plan records))
 heard_of_cuts to shape id batches records plan is small begins e hears =

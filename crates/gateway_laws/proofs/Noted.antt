@@ -1,4 +1,4 @@
--- Nothing is found in a gateway's frames.
+-- `check` finds nothing in a gateway's frames.
 use Rattle.std.proofs.Common.{◌≡◌, ℕ, suc, ◌+◌, ◌-◌, ◌%◌, true, List, [], ◌∷◌, ◌++◌, length, map, Option, Some, None, refl, sym, ap, subst, ◌∙◌, eq-eqb, arith}
 use Rattle.std.specs.Prelude.{◌==◌, ⊤, filter, reverse}
 use Rattle.std.proofs.lemmas.List.{reverse-append, map-append}
@@ -45,7 +45,7 @@ all_numbered to shape given (b ∷ bs) =
     (two_numbered given.packets (given.packets + length (pieces_of to shape b given.block)) xs (cuts_after to shape (given_with to shape given b) bs) (omega (arith, long)) (from_numbered given.packets b (pieces_of to shape b given.block)) (all_numbered to shape (given_with to shape given b) bs))
     (all_numbered to shape given bs)
 
--- the number after those of the first ones
+-- the number of a piece, by how many are before it
 number_at : (n : ℕ) (front later : List Cut) (c : Cut) → NumberedFrom n (front ++ c ∷ later) → c.number ≡ n + length front
 number_at n [] later c all = all.0 ∙ omega arith
 number_at n (x ∷ front) later c all = number_at (suc n) front later c all.1 ∙ omega arith
@@ -82,7 +82,7 @@ is_known to id (x ∷ cs) c = tracked_first to id x (map (cut_seen to id) cs ++ 
 one_step : (n : ℕ) → ((suc n % 256 + 256 - n % 256) % 256 == 1) ≡ true
 one_step n = eq-eqb ((suc n % 256 + 256 - n % 256) % 256) 1 (omega arith)
 
--- the last of a list, and what is before it
+-- A list has a last piece, and others before it.
 record Ends (cs : List Cut) : Type 0 where
   front : List Cut
   last : Cut

@@ -40,7 +40,7 @@ use Rattle.gateway_laws.proofs.Heard.{timestamp_small}
 
 -- ---- pieces
 
--- what a piece has for its packet to be written
+-- A packet can carry the piece: the piece lies in its batch, which has the stream's shape, and its block count is a byte.
 pub record IsCarried (to : To) (shape : Shape) (c : Cut) : Type 0 where
   pub within : IsWithin to shape c.batch c.piece
   pub size : length c.batch.bytes ≡ c.batch.count * (value_in to * shape.channels)
@@ -110,7 +110,7 @@ header_fits subtype id n instant long kind small size = (
   ),
 )
 
--- the code of a rate of IEC 61883-6, and its SYT_INTERVAL
+-- The code of a sample rate names it in IEC 61883-6, and gives its SYT_INTERVAL.
 pub record IsNamed (rate : ℕ) : Type 0 where
   pub named : rate_of_fdf (unwrap_or (fdf_of rate) 0) ≡ Some rate
   pub few : unwrap_or (fdf_of rate) 0 ≤ 6
@@ -126,7 +126,7 @@ named_by rate (Some fdf) e some =
 pub is_named : (shape : Shape) → IsShape shape → IsNamed shape.rate
 is_named shape is = named_by shape.rate (fdf_of shape.rate) refl is.rate
 
--- its code in AAF
+-- The code of a sample rate names it in AAF.
 pub record IsPcmRate (rate : ℕ) : Type 0 where
   pub named : rate_of (unwrap_or (rate_code rate) 0) ≡ Some rate
   pub few : unwrap_or (rate_code rate) 0 ≤ 10
@@ -204,7 +204,7 @@ iec_spells shape id c is small fine =
 
 -- ---- frames
 
--- the bytes are a frame of AVTP that holds a packet
+-- The bytes are a frame of AVTP that holds this packet.
 pub record Holds (bytes packet : List ℕ) : Type 0 where
   pub accepted : frame_refusal bytes ≡ None
   pub ethertype : (frame_of bytes).ethertype ≡ avtp_ethertype
@@ -216,7 +216,7 @@ holds packet =
     let same : ethernet (spelling_of packet) ≡ frame_of (packet_bytes packet) = one_frame (packet_bytes packet) (ethernet (spelling_of packet)) spelled in
     record { accepted = spelled.accepted; ethertype = sym (ap (λ (f : Frame). f.ethertype) same); packet_is = sym (ap (λ (f : Frame). f.payload) same) }
 
--- the frame of a piece is read as the packet that carries it
+-- The frame of a piece is read as the packet that carries the piece.
 pub record IsReadAaf (shape : Shape) (id : ℕ) (c : Cut) : Type 0 where
   pub holds : Holds (cut_frame Aaf shape id c).bytes (aaf_spelling (cut_aaf shape id c))
   pub accepted : aaf_refusal (aaf_spelling (cut_aaf shape id c)) ≡ None
@@ -265,7 +265,7 @@ iec_read shape id c is small fine =
 
 -- ---- of which stream
 
--- what the packet in a record shows to a reader of any format
+-- The packet in a record is of this stream, for a reader of any format.
 pub record IsOfStream (subtype id seq : ℕ) (bytes : List ℕ) : Type 0 where
   pub accepted : frame_refusal bytes ≡ None
   pub ethertype : (frame_of bytes).ethertype ≡ avtp_ethertype

@@ -54,7 +54,7 @@ record Body : Type 0 where
 abbrev body_of : To → Shape → Cut → Body
 body_of to shape c = record { instant = cut_instant c; count = c.piece.count; bytes = samples_of to shape c.batch c.piece }
 
--- the frame of packet n, whose first block has this count
+-- the frame of packet n, with the block count of its first block
 abbrev body_frame : To → Shape → ℕ → ℕ → ℕ → Body → SentFrame
 body_frame to shape id n block b = record {
   arrival = arrival_at b.instant;
@@ -63,7 +63,7 @@ body_frame to shape id n block b = record {
   bytes = packet_bytes (packet_of to shape id n b.instant (record { first = 0; count = b.count; block = block }) b.bytes);
 }
 
--- frames of which the first is packet n and has this block count
+-- the frames of bodies; packet n is the first, and has this block count
 abbrev body_frames : To → Shape → ℕ → ℕ → ℕ → List Body → List SentFrame
 body_frames to shape id n block [] = []
 body_frames to shape id n block (b ∷ bs) = body_frame to shape id n block b ∷ body_frames to shape id (suc n) (next_block (interval_of shape.rate) block b.count) bs
@@ -165,7 +165,7 @@ same_size : (to : To) → value_in (other to) ≡ value_out to
 same_size Am824 = refl
 same_size Aaf = refl
 
--- the same samples in another format
+-- a body whose samples are converted to another format
 abbrev turn_body : To → Shape → Body → Body
 turn_body on shape b = record { instant = b.instant; count = b.count; bytes = turned on (b.count * shape.channels) b.bytes }
 
@@ -173,7 +173,7 @@ turn_body on shape b = record { instant = b.instant; count = b.count; bytes = tu
 abbrev heard_of : To → Shape → ℕ → Cut → Presented
 heard_of to shape i c = counted_from_first (packet_heard to shape i c) (cut_instant c)
 
--- the one piece of it
+-- the one piece of what is presented of the packet that carries a piece
 abbrev piece_of : Cut → ℕ → Piece
 piece_of c block = record { first = 0; count = c.piece.count; block = block }
 
@@ -200,7 +200,7 @@ heard_start to shape i c is = starts_at (packet_heard to shape i c) (cut_instant
 heard_pieces : (to : To) (shape : Shape) (i : ℕ) (c : Cut) (block : ℕ) → IsShape shape → IsCarried to shape c → HasRoom (other to) shape c → pieces_of (other to) shape (heard_of to shape i c) block ≡ piece_of c block ∷ []
 heard_pieces to shape i c block is fine room = one_piece (other to) shape (heard_of to shape i c) block (record { begun = refl; num = refl; den = refl; fits = room }) (some_rate shape is) fine.within.some
 
--- the last sample that was given out is before all of these
+-- the last sample that was given out is before all of these instants
 abbrev IsOver : Option ℤ → List ℤ → Type 0
 IsOver None xs = ⊤
 IsOver (Some last) xs = AllByRecursion (λ y. last <ℤ y) xs
@@ -268,7 +268,7 @@ heard_again to shape id batches plan is small begins hears =
     ∙ stamped_presented clock_spot (schedule_plan plan) (packets_heard to shape 1 cuts) (map cut_instant cuts) schedule.without (stamped_all to shape (packets_heard to shape 1 cuts) cuts carry)
     (rise_all to shape nothing_given batches (all_rising batches begins)) schedule.room)
 
--- the bodies of what is turned again
+-- the bodies that a gateway sends of what is presented of another gateway's frames
 turned_again : (to : To) (shape : Shape) (id : ℕ) (batches : List Presented) (plan : ListenPlan) → IsShape shape → id < 2 ^ 64 → AllByRecursion BeginsInTime batches → Hears id plan (gateway_records to shape id batches)
     → AllByRecursion (HasRoom (other to) shape) (cuts_after to shape nothing_given batches)
     → map (body_of (other to) shape) (cuts_after (other to) shape nothing_given (presented_again plan to shape id batches)) ≡ map (turn_body (other to) shape) (map (body_of to shape) (cuts_after to shape nothing_given batches))

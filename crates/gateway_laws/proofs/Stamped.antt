@@ -47,7 +47,7 @@ timed_so clock plan prefix p x without is =
 
 -- ---- all of them
 
--- packet i and its instant
+-- Packet i is stamped with this instant, and this is its batch.
 record At (ps : List Packet) (xs : List ℤ) (i : ℕ) (b : Presented) : Type 0 where
   packet : Packet
   instant : ℤ

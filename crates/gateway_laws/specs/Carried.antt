@@ -1,4 +1,4 @@
--- Packets that carry the pieces of a gateway, and the samples that are heard of them.
+-- Packets that carry the pieces of a gateway, and the samples that listeners present of them.
 use Rattle.std.specs.Prelude.{◌≡◌, ℕ, zero, suc, ◌*◌, List, [], ◌∷◌, ⊤}
 use Rattle.sample_schedule.specs.declared.item.Packet.{Packet}
 use Rattle.sample_schedule.specs.Batches.{Presented, sample_instant}
@@ -10,7 +10,8 @@ use Rattle.am824_gateway.specs.Packets.{samples_of}
 use Rattle.am824_gateway.specs.Samples.{Sample, part, values_out}
 use Rattle.gateway_laws.specs.Stamped.{IsStamped}
 
--- The packet carries a piece: it is stamped with the instant of the piece's first sample, and has its samples at the stream's rate.
+-- The packet carries a piece: it is stamped with the instant of the piece's first sample, and has the piece's samples at the
+-- stream's rate.
 pub record CarriesCut (to : To) (shape : Shape) (p : Packet) (c : Cut) : Type 0 where
   pub stamped : IsStamped p (cut_instant c)
   pub rate : p.rate ≡ shape.rate
@@ -24,7 +25,7 @@ CarryCuts to shape [] (c ∷ cs) = ⊥
 CarryCuts to shape (p ∷ ps) [] = ⊥
 CarryCuts to shape (p ∷ ps) (c ∷ cs) = CarriesCut to shape p c × CarryCuts to shape ps cs
 
--- so many samples that are heard of a batch of the format that a gateway sends, from sample j on
+-- n samples that are heard of a batch of the format that a gateway sends, from sample j on
 abbrev pub heard_from : To → Shape → Presented → ℕ → ℕ → List Sample
 heard_from to shape batch j zero = []
 heard_from to shape batch j (suc n) =

@@ -12,7 +12,7 @@ use Rattle.sample_schedule.specs.Batches.{Presented}
 use Rattle.sample_schedule.specs.Schedule.{now_at, prefix_of, shown}
 use Rattle.sample_schedule.specs.Verdicts.{Clock, first_instant, timed}
 
--- an item is not flagged since the buffer is full
+-- an item is presented, or flagged for another reason than a full buffer
 abbrev pub IsNotFull : Shown → Type 0
 IsNotFull (Present batch) = Unit {0}
 IsNotFull (Flag frame seq reason) = reason ≢ Full
@@ -25,7 +25,7 @@ pub record IsTimedAt (clock : Clock) (plan : SchedulePlan) (entries : List Entry
   pub batch_is : timed clock plan (prefix_of plan entries i) item ≡ Ok batch
   pub early : now_at entries i ≤ℤ first_instant batch
 
--- Each entry is an item that is timed, the first instants rise, and none is flagged since the buffer is full.
+-- Each entry is an item that is timed, the first instants rise, and the buffer is never full.
 pub record AreInOrder (clock : Clock) (plan : SchedulePlan) (entries : List Entry) (batches : List Presented) : Type 0 where
   pub all : length batches ≡ length entries
   pub timed_at : (i : ℕ) (batch : Presented) → slice_get batches i ≡ Some batch → IsTimedAt clock plan entries i batch

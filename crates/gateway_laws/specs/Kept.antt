@@ -26,14 +26,14 @@ use Rattle.gateway_laws.specs.Noted.{nothing_found}
 
 -- ---- what listeners present
 
--- A listener of the stream with this id has no clock, and flags nothing of these records because its buffer is full.
+-- A listener of the stream with this id has no clock, and its buffer is never full for these records.
 pub record Hears (id : ℕ) (plan : ListenPlan) (records : List Record) : Type 0 where
   pub stream : plan.stream ≡ id
   pub clock : plan.clock ≡ None
   pub room : AllByRecursion IsNotFull (shown_of plan records)
 
--- What is presented of a gateway's capture is just the samples of the batches that it was given and did not skip: in order, once,
--- with the same values at the same instants. A stream without a shape has none.
+-- What is presented of a gateway's capture is exactly the samples of the batches that it was given and did not skip: in order,
+-- once, with the same values at the same instants. If the stream has no shape, nothing is presented.
 abbrev pub Presents : To → Option Shape → List Presented → List Presented → Type 0
 Presents to None batches heard = heard ≡ []
 Presents to (Some shape) batches heard = flat_map (samples_heard to shape) heard ≡ flat_map (samples_presented to shape) (given_batches to shape nothing_given batches)
@@ -54,7 +54,7 @@ pub record IsNotedAs (bytes : List ℕ) (seen : Seen) : Type 0 where
   pub reserved : has_reserved (packet_of (packet_in bytes)) ≡ seen.reserved
   pub stamp : stamp_is_off (packet_of (packet_in bytes)) ≡ seen.stamp_wrong
 
--- `check` notes something of each of these records, and finds nothing in it, after these notes
+-- `check` notes something of each of these records, after earlier notes, and finds nothing
 abbrev pub FindsNothingAfter : List Seen → List Record → Type 0
 FindsNothingAfter notes [] = ⊤
 FindsNothingAfter notes (r ∷ records) =
@@ -62,8 +62,9 @@ FindsNothingAfter notes (r ∷ records) =
 
 -- ---- both
 
--- The bytes are a whole capture of the frames of a gateway to this format, under this id, for these batches. A listener presents
--- just the samples of the batches that were not skipped, and `check` finds nothing.
+-- The bytes are a whole capture of the frames of a gateway to this format, under this id, for these batches. A listener without
+-- a clock, whose buffer is never full, presents exactly the samples of the batches that were not skipped, and `check` finds
+-- nothing.
 pub record Keeps (to : To) (shape : Option Shape) (id : ℕ) (batches : List Presented) (bytes : List ℕ) : Type 0 where
   pub records : whole_records bytes ≡ map record_of (gateway_frames to shape id batches)
   pub whole : first_refusal bytes ≡ None

@@ -13,10 +13,10 @@ abbrev pub subtype_to : To → ℕ
 subtype_to Am824 = iec_subtype
 subtype_to Aaf = aaf_subtype
 
--- what is noted of the frame that carries a piece: no reserved bit is set, and the timestamp is where the format has it
+-- what `check` notes of the frame that carries a piece: no reserved bit is set, and the timestamp is where the format has it
 abbrev pub cut_seen : To → ℕ → Cut → Seen
 cut_seen to id c = record { id = id; subtype = subtype_to to; seq = c.number % 256; mr = false; reserved = false; stamp_wrong = false }
 
--- nothing is found
+-- `check` finds nothing
 abbrev pub nothing_found : Findings
 nothing_found = record { reserved = false; step = None; hold = None; stamp = false; untracked = false }

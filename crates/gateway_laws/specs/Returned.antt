@@ -1,4 +1,4 @@
--- What a listener presents of the frames of a gateway, as they are captured.
+-- What a listener presents of a gateway's frames, as they are captured.
 use Rattle.std.specs.Prelude.{ℕ, List, map, Some}
 use Rattle.sample_schedule.specs.Batches.{Presented}
 use Rattle.talker.specs.Frames.{record_of}
@@ -14,6 +14,6 @@ use Rattle.am824_gateway.specs.Packets.{gateway_frames}
 abbrev pub gateway_records : To → Shape → ℕ → List Presented → List Record
 gateway_records to shape id batches = map record_of (gateway_frames to (Some shape) id batches)
 
--- the batches that a listener presents of them
+-- the batches that a listener presents of the records of a gateway's frames
 abbrev pub presented_again : ListenPlan → To → Shape → ℕ → List Presented → List Presented
 presented_again plan to shape id batches = presented_of (shown_of plan (gateway_records to shape id batches))

@@ -9,8 +9,8 @@ use Rattle.sample_schedule.specs.declared.item.Packet.{Packet}
 use Rattle.sample_schedule.specs.Batches.{Presented}
 use Rattle.sample_schedule.specs.Verdicts.{nominal_spot, samples_at}
 
--- A packet has samples of a known rate, and a certain timestamp, which belongs to its first sample and means this instant; it
--- came before that, and not before 0.
+-- The packet has samples of a known rate and a certain timestamp, which belongs to the first sample and means this instant. The
+-- instant is 0 or later, and the packet came no later than it.
 pub record IsStamped (p : Packet) (instant : ℤ) : Type 0 where
   pub certain : p.tu ≡ false
   pub some : 1 ≤ p.count
@@ -33,7 +33,7 @@ AreStamped (p ∷ ps) (x ∷ xs) = IsStamped p x × AreStamped ps xs
 abbrev pub counted_from_first : Packet → ℤ → Presented
 counted_from_first p instant = samples_at p (nominal_spot p.rate (record { instant = instant; first = neg_ℤ (pos 0) }))
 
--- those of each packet
+-- the batches of all packets, each counted from the instant of its first sample
 abbrev pub all_counted : List Packet → List ℤ → List Presented
 all_counted [] xs = []
 all_counted (p ∷ ps) [] = []

@@ -34,58 +34,62 @@ ghost use Rattle.listener.specs.Laws.{presented_of};
 ghost use Rattle.pcap_frames.specs.Capture.{Record};
 ghost use Rattle.gateway_laws.specs.Stamped.{AreStamped, all_counted, packet_entries};
 
-/// A schedule whose items all have instants, come before these, and are in their order presents all of them in this order, if none
-/// of them is flagged since the buffer is full.
+/// If all items of a schedule have instants, arrive no later than these, and come in the order of their instants, all are
+/// presented, in that order, unless the buffer is full for one of them.
 pub fn items_in_order_are_presented()
     ensures { (clock : Clock) (plan : SchedulePlan) (entries : List Entry) (batches : List Presented) → AreInOrder clock plan entries batches → map (λ (a : Accepted). a.batch) (presented (given clock plan entries)) ≡ batches }
 {}
 
-/// A listener without a clock presents all packets that are stamped on their first samples and come before these, if the instants
-/// rise and the buffer is never full: in their order, once, each sample counted at the nominal rate from the packet's own timestamp.
+/// Packets whose timestamps belong to their first samples, and which arrive in time and in the order of their timestamps, are
+/// all presented by a listener without a clock whose buffer is never full: in order, once, each sample counted at the nominal
+/// rate from its packet's own timestamp.
 pub fn stamped_packets_in_order_are_presented()
     ensures { (clock : Clock) (plan : SchedulePlan) (packets : List Packet) (instants : List ℤ) → plan.clock ≡ false → AreStamped packets instants → Rise instants
         → AllByRecursion IsNotFull (shown clock plan (packet_entries packets)) → map (λ (a : Accepted). a.batch) (presented (given clock plan (packet_entries packets))) ≡ all_counted packets instants }
 {}
 
-/// Of the packets that carry the pieces of any batches whose instants rise, a listener without a clock whose buffer is never full
-/// presents just the samples of the batches that were not skipped: in order, once, with the same values at the same instants.
+/// Of packets that carry the pieces of batches with rising instants, a listener without a clock whose buffer is never full
+/// presents exactly the samples of the batches that were not skipped: in order, once, with the same values at the same
+/// instants.
 pub fn packets_of_pieces_are_heard()
     ensures { (clock : Clock) (plan : SchedulePlan) (to : ToValue) (shape : ShapeValue) (given_before : GivenOut) (batches : List Presented) (packets : List Packet) → plan.clock ≡ false → IsShape shape → AllByRecursion HasRisingInstants batches
         → CarryCuts to shape packets (cuts_after to shape given_before batches) → AllByRecursion IsNotFull (shown clock plan (packet_entries packets))
         → flat_map (samples_heard to shape) (map (λ (a : Accepted). a.batch) (presented (given clock plan (packet_entries packets)))) ≡ flat_map (samples_presented to shape) (given_batches to shape given_before batches) }
 {}
 
-/// The frames of a gateway are such packets, as a listener reads them: each is stamped on its first sample, also in AM824, since
-/// the block count is raised to a multiple of SYT_INTERVAL; and its timestamp means the instant that was stamped, from 0 on.
+/// A listener reads the frames of a gateway as packets that carry the pieces of the batches. Each timestamp belongs to the
+/// packet's first sample, in AM824, too, because block counts are raised to a multiple of SYT_INTERVAL; and from instant 0 on a
+/// timestamp means the instant that was stamped.
 pub fn frames_carry_the_pieces()
     ensures { (to : ToValue) (shape : ShapeValue) (given_before : GivenOut) (frame : ℕ) (batches : List Presented) → IsShape shape → given_before.block % interval_of shape.rate ≡ 0 → AllByRecursion BeginsInTime batches
         → CarryCuts to shape (packets_heard to shape frame (cuts_after to shape given_before batches)) (cuts_after to shape given_before batches) }
 {}
 
-/// Nothing is found in the frames of a gateway, whatever the batches: by what is noted of them, their sequence numbers go on one by
-/// one, and the media clock never restarts.
+/// `check` finds nothing in the frames of a gateway, whatever the batches: sequence numbers have no gaps, and the media clock
+/// never restarts.
 pub fn nothing_is_found_in_frames()
     ensures { (to : ToValue) (shape : ShapeValue) (id : ℕ) (given_before : GivenOut) (batches : List Presented) (earlier later : List Cut) (c : Cut) → cuts_after to shape given_before batches ≡ earlier ++ c ∷ later
         → findings (map (cut_seen to id) earlier) (cut_seen to id c) ≡ nothing_found }
 {}
 
-/// The frames of a gateway make a whole capture that reads back. Of it a listener without a clock, whose buffer is never full,
-/// presents just the samples of the batches that were not skipped: in order, once, with the same values at the same instants. And
-/// `check` finds nothing in it. So it is if the batches begin at 0 or later and their instants rise, as those of each listener do.
+/// If the batches begin at 0 or later and their instants rise, as those of every listener do, the frames of a gateway are a
+/// whole capture that reads back. A listener without a clock, whose buffer is never full, presents exactly the samples of the
+/// batches that were not skipped, in order, once, with the same values at the same instants. `check` finds nothing in the
+/// capture.
 pub fn captures_of_pieces_are_kept()
     ensures { (to : ToValue) (shape : Option ShapeValue) (id : ℕ) (batches : List Presented) → IfSome shape IsShape → id < 2 ^ 64 → AllByRecursion BeginsInTime batches
         → Keeps to shape id batches (capture_of (gateway_frames to shape id batches)) }
 {}
 
-/// Each batch that a listener presents begins at 0 or later, and its instants rise, whatever the records and whether the listener
-/// has a clock. So it is of what is due while more records may follow.
+/// Each batch that a listener presents begins at 0 or later, and its instants rise, whatever the records and whether the
+/// listener has a clock or not. This holds of what is due, too, while more records may follow.
 pub fn presented_batches_begin_in_time()
     ensures shown { (plan : ListenPlan) (records : List Record) → AllByRecursion BeginsInTime (presented_of (shown_of plan records)) }
     ensures due { (plan : ListenPlan) (records : List Record) → AllByRecursion BeginsInTime (presented_of (due_of plan records)) }
 {}
 
-/// AM824 of a gateway comes back as the same bytes: it is turned into PCM, under any stream id, and what a listener presents of that
-/// is turned into AM824 under the first id. The listeners have no clock, and their buffers are never full.
+/// AM824 of a gateway that is converted to PCM, under any stream id, and back to AM824 under its first id, has the same bytes.
+/// The listeners have no clock, and their buffers are never full.
 pub fn am824_comes_back()
     ensures { (shape : ShapeValue) (id via : ℕ) (batches : List Presented) (there back : ListenPlan) → IsShape shape → id < 2 ^ 64 → via < 2 ^ 64 → AllByRecursion BeginsInTime batches
         → Hears id there (gateway_records Am824 shape id batches) → Hears via back (gateway_records Aaf shape via (presented_again there Am824 shape id batches))

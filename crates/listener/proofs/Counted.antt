@@ -42,7 +42,7 @@ items-next [] (suc n) = refl
 items-next (e ∷ es) zero = omega (arith, count-next is_item e [], due-one e)
 items-next (e ∷ es) (suc n) = omega (arith, count-next is_item e (take (suc n) es), count-next is_item e (take n es), items-next es n)
 
--- what is shown of the first places is as many as there are items
+-- as many items are shown of the first places as there are items among them
 each-below : (n : ℕ) (es : List Entry) (gs : List Given) → ((i : ℕ) → count_by (at i) gs ≡ times_due (slice_get es i)) → count_by (below n) gs ≡ count_by is_item (take n es)
 each-below zero es gs each = none-below gs
 each-below (suc n) es gs each = omega (arith, below-next n gs, each-below n es gs each, each n, items-next es n)
@@ -104,7 +104,7 @@ clock_kind : (clock : Option ℕ) (r : Record) → belongs_to_clock clock r.byte
 clock_kind None r e = absurd cc
 clock_kind (Some id) r e = is_crf (subtype_in r) (of_kind clock_kinds id r e)
 
--- a record counts as one of the stream if it belongs to it
+-- a record adds one to the count of the stream's records if it belongs to the stream
 one_counted : (stream : ℕ) (clock : Option ℕ) (i : ℕ) (r : Record) (rest : List (ℕ × Record)) (a b : Bool) → belongs stream_kinds stream r.bytes ≡ a → belongs_to_clock clock r.bytes ≡ b
     → count_by is_streamed (made (if a || b then (i, r) ∷ rest else rest)) ≡ counted a + count_by is_streamed (made rest)
 one_counted stream clock i r rest true b e f =
@@ -128,7 +128,7 @@ streamed-counted stream clock i (r ∷ records) =
 
 -- ---- each delivery of the stream is an item, or a fragment before the last of a unit
 
--- an item has its own delivery of the stream and those before it; a packet of the clock has none
+-- The sources of an item that belong to the stream are its last delivery and those before it. A packet of the clock has none.
 record IsWeighed (m : MadeItem) : Type 0 where
   weight : count_by is_streamed (sources m) ≡ counted (is_item m.entry) + length m.earlier
 

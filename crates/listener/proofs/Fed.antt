@@ -1,4 +1,4 @@
--- A listener that is fed, after a piece of a capture and after what it gives of it.
+-- A listener that is fed: its state after a piece of a capture and after each item that it gives.
 use Rattle.std.proofs.Common.{◌≡◌, ◌↔◌, ◌⊎◌, inl, inr, ℕ, zero, suc, ◌+◌, ◌-◌, ◌<◌, ◌≤◌, Bool, true, false, List, [], ◌∷◌, ◌++◌, length, take, Option, Some, None, IsSome, refl, sym, ap, ◌∙◌, subst, arith, append-nil, append_assoc, length-append}
 use Rattle.std.specs.Prelude.{IfNone, IfSome, Result, Ok, Err, slice_get}
 use Rattle.std.specs.Option.{option_to_list}
@@ -36,7 +36,7 @@ pub accepted : (refusal : Option Refusal) (n : ℕ) → IfSome refusal (λ r. �
 accepted None n e = refl
 accepted (Some r) n e = absurd cc
 
--- if two of three answers are impossible, it is the third
+-- if neither option has a value, one may replace the other
 pub other_quiet : {X Y : Type 0} (P Q : Type 0) (o : Option X) (p : Option Y) → o ≡ None → p ≡ None → (P ↔ (Q ⊎ IsSome o)) → (P ↔ (Q ⊎ IsSome p))
 other_quiet P Q None None first second tells = (
   λ h. elim (tells.0 h) [
@@ -65,19 +65,19 @@ nothing_more xs (Some r) e = absurd (omega (arith, ap length e, length-append xs
 
 -- ---- what was read
 
--- if no record is held, all were given up
+-- if no record is held, all whole records were given up
 pub all_read : (r : Reading) (bytes : List ℕ) (records : List Record) → HasRead r bytes records → held r ≡ None → records ≡ whole_records bytes
 all_read r bytes records read free =
     sym (append-nil records) ∙ (ap (λ (o : Option Record). records ++ option_to_list o) (sym free) ∙ records_are r bytes records read)
 
--- if all were given up, no record is held
+-- if all whole records were given up, no record is held
 pub none_held : (r : Reading) (bytes : List ℕ) → HasRead r bytes (whole_records bytes) → held r ≡ None
 none_held r bytes read = nothing_more (whole_records bytes) (held r) (records_are r bytes (whole_records bytes) read)
 
 pub refused_free : (r : Reading) (refusal : Refusal) → r.refusal ≡ Some refusal → held r ≡ None
 refused_free r refusal e = ap (λ (o : Option Refusal). held_by o r.style r.start r.part) e
 
--- a record that is read has a byte
+-- a record that is read has at least one byte
 pub held_few : (old new : Reading) (bytes piece : List ℕ) (n : ℕ) → HasRead old bytes (whole_records bytes) → GoesOn old (take n piece) new → length (option_to_list (held new)) ≤ n
 held_few old new bytes piece zero read goes =
     let same : bytes ++ [] ≡ bytes = append-nil bytes in
@@ -90,7 +90,7 @@ held_some old new bytes piece n read goes some = omega (arith, held_few old new 
 
 -- ---- a piece
 
--- a listener with nothing due
+-- a listener with nothing due has heard its bytes
 pub heard_here : (bytes : List ℕ) (given : ℕ) (fed : Feeding) → StandsFor bytes given fed → fed.out_of_memory ≡ false → fed.next ≡ None → HasHeard bytes given fed.reader fed.listener
 heard_here bytes given fed st memory quiet =
     let count : given + length (option_to_list fed.next) ≡ given = omega (arith, ap (λ (o : Option Shown). length (option_to_list o)) quiet) in
@@ -107,7 +107,7 @@ heard_on bytes more given fed new st memory quiet goes =
     let heard = heard_here bytes given fed st memory quiet in
     record { records = heard.records; read = goes bytes heard.records heard.read; stands = heard.stands }
 
--- a record that is borrowed has a byte
+-- a record that is borrowed has at least one byte
 pub lent_some : (reader : Reading) (piece : List ℕ) (size : ℕ) → size ≤ length piece → IsNext reader (take size piece) → 0 < size
 lent_some reader piece size within next = omega (arith, next_long reader (take size piece) next, length-take-le size piece within)
 
@@ -138,7 +138,7 @@ stands_fed bytes given reader mid new x b heard free next stands plan closed =
       next = next (whole_records bytes) given st ∙ ap (λ (o : List Shown). slice_get o given) (sym (out_same mid new (whole_records bytes) plan closed));
     }
 
--- a piece is refused
+-- a listener after a piece that is refused
 pub stands_refused : (bytes piece : List ℕ) (given : ℕ) (fed : Feeding) (new : Reading) (refusal : Refusal) → StandsFor bytes given fed → fed.out_of_memory ≡ false → GoesOn fed.reader piece new → new.refusal ≡ Some refusal
     → StandsFor (bytes ++ piece) given (record fed { reader = new })
 stands_refused bytes piece given fed new refusal st memory goes refused =
@@ -156,7 +156,7 @@ uncounted : (counts : Counts) (x : Shown) → without_shown (with_shown counts x
 uncounted counts (Present batch) = let back : counts.presented + 1 - 1 ≡ counts.presented = omega arith in ap (λ (n : ℕ). record counts { presented = n }) back
 uncounted counts (Flag frame seq reason) = let back : counts.flagged + 1 - 1 ≡ counts.flagged = omega arith in ap (λ (n : ℕ). record counts { flagged = n }) back
 
--- the counts without what is due next
+-- the counts without the item that is due next
 pub counted_before : (plan : ListenPlan) (records : List Record) (list : List Shown) (given : ℕ) (x : Shown) → Some x ≡ slice_get list given
     → without_shown (counts_of plan records (take (given + 1) list)) x ≡ counts_of plan records (take given list)
 counted_before plan records list given x is =
@@ -210,7 +210,7 @@ given_still bytes list old new has stands keeps =
 pub given_all : (bytes : List ℕ) (list : List Shown) (old new : Feeding) → HasGiven bytes list old → None ≡ slice_get (out old bytes) (length list) → Keeps old new → list ≡ out new bytes
 given_all bytes list old new has is keeps = prefix-all list (out old bytes) has.first (sym is) ∙ sym (out_kept bytes old new keeps)
 
--- what is shown of bytes comes first in what is shown of more
+-- what is shown of bytes is the beginning of what is shown of more bytes
 out_on : (bytes more : List ℕ) (old new : Feeding) → HasRead old.reader bytes (whole_records bytes) → is_ended old ≡ false → is_ended new ≡ false → new.listener.plan ≡ old.listener.plan
     → IsPrefix (out old bytes) (out new (bytes ++ more))
 out_on bytes more old new read opened still plan =
@@ -220,7 +220,7 @@ out_on bytes more old new read opened still plan =
 pub prefix_twice : (xs ys zs : List Shown) → IsPrefix xs ys → IsPrefix ys zs → IsPrefix xs zs
 prefix_twice xs ys zs first second = (first.0 ++ second.0, sym (append_assoc xs first.0 second.0) ∙ (ap (λ (l : List Shown). l ++ second.0) first.1 ∙ second.1))
 
--- more bytes were fed
+-- the list of all that was given is still that list after more bytes were fed
 pub given_on : (bytes more : List ℕ) (list : List Shown) (old new : Feeding) → HasGiven bytes list old → old.out_of_memory ≡ false → is_ended old ≡ false → is_ended new ≡ false → new.listener.plan ≡ old.listener.plan
     → StandsFor (bytes ++ more) (length list) new → HasGiven (bytes ++ more) list new
 given_on bytes more list old new has memory opened still plan stands = record {
@@ -228,21 +228,21 @@ given_on bytes more list old new has memory opened still plan stands = record {
   first = prefix_twice list (out old bytes) (out new (bytes ++ more)) has.first (out_on bytes more old new (has.stands.read memory) opened still plan);
 }
 
--- the capture has ended
+-- the list of all that was given is still that list after the capture has ended
 pub given_ended : (bytes : List ℕ) (list : List Shown) (old new : Feeding) → HasGiven bytes list old → is_ended old ≡ false → is_ended new ≡ true → new.listener.plan ≡ old.listener.plan
     → StandsFor bytes (length list) new → HasGiven bytes list new
 given_ended bytes list old new has opened ended plan stands =
     let first = out_at_end old.listener new.listener (whole_records bytes) opened ended plan in
     record { stands = stands; first = prefix_twice list (out old bytes) (out new bytes) has.first first }
 
--- nothing was given at the beginning
+-- at the beginning, the list of all that was given is empty
 pub given_none : (list : List Shown) (fed : Feeding) → list ≡ [] → StandsFor [] 0 fed → HasGiven [] list fed
 given_none list fed empty stands = record {
   stands = subst (λ (l : List Shown). StandsFor [] (length l) fed) (sym empty) stands;
   first = subst (λ (l : List Shown). IsPrefix l (out fed [])) (sym empty) (out fed [], refl);
 }
 
--- What is heard of bytes that have ended, once all of it was given.
+-- If the capture has ended and all was given, the list and the counts are what a listener shows of the bytes.
 pub heard_whole : (plan : ListenPlan) (bytes : List ℕ) (list : List Shown) (fed : Feeding) (counts : Counts) (refused : Option Refusal) → fed.listener.plan ≡ plan → is_ended fed ≡ true → list ≡ out fed bytes
     → counts ≡ counts_of fed.listener.plan (whole_records bytes) (take (length list) (out fed bytes)) → refused ≡ first_refusal bytes
     → record { shown = list; counts = counts; refused = refused } ≡ heard_of plan bytes
@@ -261,7 +261,7 @@ heard_whole plan bytes list fed counts refused same ended all counted first =
     heard_with : List Shown → Counts → Option Refusal → Heard
     heard_with shown counts refused = record { shown = shown; counts = counts; refused = refused }
 
--- if nothing is due, all that is counted was given
+-- if nothing is due, all items that are counted were given
 pub stands_quiet : (bytes : List ℕ) (given : ℕ) (fed : Feeding) → StandsFor bytes given fed → fed.next ≡ None → RecordsStandFor (whole_records bytes) given fed.listener
 stands_quiet bytes given fed st quiet =
     let same : given + length (option_to_list fed.next) ≡ given = ap (λ (o : Option Shown). given + length (option_to_list o)) quiet ∙ none given in

@@ -25,7 +25,7 @@ picks stream clock p = is_delivered stream clock p.1.bytes
 abbrev made_of : ℕ × Record → Delivery
 made_of p = delivery p.0 p.1
 
--- the deliveries of further records, of which the first has this number
+-- the deliveries of records, of which the first has this number
 abbrev deliveries_from : ℕ → Option ℕ → ℕ → List Record → List Delivery
 deliveries_from stream clock n records = map made_of (filter (picks stream clock) (enumerate_from n records))
 
@@ -46,7 +46,7 @@ pub none_more : (stream : ℕ) (clock : Option ℕ) (records : List Record) (r :
     → deliveries stream clock (records ++ r ∷ []) ≡ deliveries stream clock records
 none_more stream clock records r out = deliveries_further stream clock records (r ∷ []) ∙ rw out (append-nil (deliveries stream clock records))
 
--- one more delivery, or none, by whether the record is one
+-- one delivery more if the record is delivered, or none
 pub more_by : (b : Bool) (stream : ℕ) (clock : Option ℕ) (records : List Record) (r : Record) → is_delivered stream clock r.bytes ≡ b
     → length (deliveries stream clock (records ++ r ∷ [])) ≡ length (deliveries stream clock records) + cond b 1 0
 more_by true stream clock records r in_it =
@@ -94,7 +94,7 @@ of_none stream clock bytes e = by (belongs stream_kinds stream bytes) (belongs_t
 
 -- ---- an entry by its subtype
 
--- an arrival is kept in 64 bits
+-- an arrival does not change in 64 bits
 pub arrival_kept : (t : ℤ) → IsArrival t → to_z w64 (of_z w64 t) ≡ t
 arrival_kept t a = to_z-of_z (fits_signed_from_nat t a)
   where
@@ -103,7 +103,7 @@ arrival_kept t a = to_z-of_z (fits_signed_from_nat t a)
 
 -- ---- answers
 
--- which of two a choice between some and none took
+-- if a choice between an item and none gave an item, the test holds
 pub chosen : {X : Type 0} (b : Bool) (x y : X) → Some x ≡ (if b then Some y else None) → (b ≡ true) × (x ≡ y)
 chosen true x y e = (refl, cc)
 chosen false x y e = absurd (cc)

@@ -15,7 +15,7 @@ use Rattle.listener.specs.Items.{MadeItem, events_to, flagged, given_after, give
 use Rattle.listener.specs.Units.{flaw_of, in_stream, last_ones, waiting}
 use Rattle.listener.proofs.Made.{IsOther}
 
--- a delivery of a list that is an item by itself, and not a packet of H.264
+-- The item is made of one delivery of a list, which is no packet of H.264.
 pub record IsOneOf (ds : List Delivery) (made : MadeItem) : Type 0 where
   pub before : List Delivery
   pub delivery : Delivery
@@ -24,13 +24,13 @@ pub record IsOneOf (ds : List Delivery) (made : MadeItem) : Type 0 where
   pub other : IsOther delivery
   pub same : made_of_one delivery ≡ made
 
--- a delivery that is not presented
+-- The item is flagged: its delivery is not presented.
 pub record IsFlagOf (made : MadeItem) : Type 0 where
   pub why : Reason
   pub delivery : Delivery
   pub same : flagged why delivery ≡ made
 
--- a unit that a delivery of a list completes
+-- The item is a unit that a delivery of a list completes.
 pub record IsWholeOf (ds : List Delivery) (made : MadeItem) : Type 0 where
   pub before : List Delivery
   pub delivery : Delivery
@@ -95,7 +95,7 @@ after_kinds ds before (d ∷ rest) is =
     All-append (IsKind ds) (given_by before d) (given_after (before ++ d ∷ []) rest) (given_kinds ds before d rest is)
     (after_kinds ds (before ++ d ∷ []) rest (is ∙ sym (append_assoc before (d ∷ []) rest)))
 
--- the items of a list of deliveries
+-- each item of a list of deliveries is of one of these kinds
 pub all_kinds : (ds : List Delivery) → All (IsKind ds) (items_of ds)
 all_kinds ds =
     All-append (IsKind ds) (items_so_far ds) (left_at_end ds) (after_kinds ds [] ds refl) (flag_kinds ds BrokenUnit (waiting ds))

@@ -1,4 +1,4 @@
--- What is known by the packets that came is known to the listener.
+-- What is known by the packets that came, in terms of the journal, is known to the listener.
 use Rattle.std.proofs.Common.{◌≡◌, ◌≢◌, inl, inr, ℕ, zero, suc, ◌+◌, ◌%◌, ◌^◌, ◌<◌, Bool, true, false, ℤ, pos, List, [], ◌∷◌, All, Option, Some, None, is_some, refl, sym, ap, ◌∙◌, subst}
 use Rattle.std.specs.Prelude.{if◌then◌else◌, map, slice_get, take, IfSome, option_map, option_and_then}
 use Rattle.std.specs.List.{cons_option, filter_map}
@@ -45,7 +45,7 @@ use Rattle.listener.proofs.TrueList.{IsTrueEntry, audio, entries_true, followed,
 
 -- ---- the stamps of what came
 
--- the stamp that a listener notes of a copy is the packet's own
+-- the stamp that a listener notes for a copy of a packet is the packet's own
 stamp_by : (j : Journal) (lead n arrival : ℕ) (r : Option ℕ) → IsDelivered j lead (record { number = n; arrival = arrival }) → j.stamp n ≡ r
     → option_map (λ timestamp. record { seq = n % 256; mr = j.mr n; block = stamped_block (rule_of j.kind n); rate = j.rate; instant = unfolded timestamp (pos arrival) }) (option_map (λ (instant : ℕ). instant % 2 ^ 32) r)
     ≡ option_map (stamp_at j n) r
@@ -102,7 +102,7 @@ take_entries zero ds = refl
 take_entries (suc k) [] = refl
 take_entries (suc k) (d ∷ ds) = ap (λ (l : List Entry). entry_of d ∷ l) (take_entries k ds)
 
--- the delivery of an item of audio
+-- The item at a place is made of one delivery of audio.
 record IsOne (ds : List Delivery) (place : ℕ) (made : MadeItem) : Type 0 where
   delivery : Delivery
   there : slice_get ds place ≡ Some delivery

@@ -43,7 +43,7 @@ dropped c shift (suc k) [] (row ∷ rows) are = absurd are
 dropped c shift (suc k) (m ∷ ms) [] are = absurd are
 dropped c shift (suc k) (m ∷ ms) (row ∷ rows) are = dropped c shift k ms rows are.1
 
--- the row of a packet that came
+-- There is a row of a packet that came.
 record HasRow (c : ClockJournal) (shift : ℤ) (rows : List ClockRow) (m : ℕ) : Type 0 where
   row : ClockRow
   there : Contains rows row
@@ -66,7 +66,7 @@ kept c shift ms rows m are came =
     let h = row_of c shift (last_of 64 ms) (last_of 64 rows) m came.0 last came.1 came.2 in
     record { row = h.row; kept = rw all h.there; is = h.is }
 
--- a line is found for an instant if the packets of two points that cover it came
+-- a line is found for an instant if two packets came whose points cover it
 pub covered_line : (c : ClockJournal) (shift : ℤ) (rate : ℕ) (ms : List ℕ) (rows : List ClockRow) (instant : ℤ) → IsClock c → AreRows c shift ms rows → IsCoveredBy c shift rate ms instant → clock_spot rows shift instant rate ≢ None
 covered_line c shift rate ms rows instant is are by =
     let hand : ArePointsAtHand c shift rows by.earlier by.later = record {

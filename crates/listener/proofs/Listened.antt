@@ -88,13 +88,13 @@ out_open l records e = rw e refl
 pub out_ended : (l : ListenState) (records : List Record) → is_closed l ≡ true → out l records ≡ shown_of l.plan records
 out_ended l records e = rw e refl
 
--- two listeners of one plan, both closed or neither, show the same
+-- two listeners of one plan show equal lists, if both are closed or neither is
 pub out_same : (old new : ListenState) (records : List Record) → new.plan ≡ old.plan → is_closed new ≡ is_closed old → out new records ≡ out old records
 out_same old new records plan closed =
     ap (λ (p : ListenPlan). if is_closed new then shown_of p records else due_of p records) plan
     ∙ ap (λ (b : Bool). if b then shown_of old.plan records else due_of old.plan records) closed
 
--- what an open listener shows of records is shown first, whether more records follow or not
+-- what an open listener shows of records is the beginning of what is shown of more, whether it is closed then or not
 pub out_further : (old new : ListenState) (records more : List Record) → is_closed old ≡ false → is_closed new ≡ false → new.plan ≡ old.plan → IsPrefix (out old records) (out new (records ++ more))
 out_further old new records more opened still plan =
     let all = records ++ more in
@@ -133,7 +133,7 @@ never {X} false e f = absurd cc
 
 -- ---- a record
 
--- what a record adds to the entries, and a packet of the stream or none
+-- a listener after one more record, whose entries wait or were judged
 further : (records : List Record) (r : Record) (given : ℕ) (old new : ListenState) (more : List Entry) (b : Bool) → StandsFor records given old
     → new.plan ≡ old.plan → is_closed old ≡ false → is_closed new ≡ false → new.judge.plan ≡ old.judge.plan → new.judge.closed ≡ false
     → HasUnits (deliveries_of old.plan (records ++ r ∷ [])) new.units
@@ -167,7 +167,7 @@ judge_open records given l st opened = by l.judge.closed refl
 pub judges_open : (records : List Record) (given : ℕ) (l : ListenState) → StandsFor records given l → is_closed l ≡ false → Judges (entries_so_far_in l.plan records) given l.judge l.units
 judges_open records given l st opened = judges_as _ _ given l.judge l.units (entries_open l records opened) st.judges
 
--- a record that belongs neither to the stream nor to its clock
+-- a listener after a record that belongs neither to the stream nor to its clock
 pub stands_without : (records : List Record) (r : Record) (given : ℕ) (old new : ListenState) → StandsFor records given old
     → is_closed old ≡ false → is_delivered old.plan.stream old.plan.clock r.bytes ≡ false
     → new.plan ≡ old.plan → is_closed new ≡ false → new.judge ≡ old.judge → new.units ≡ old.units → new.counts ≡ with_record old.counts false
@@ -183,7 +183,7 @@ stands_without records r given old new st opened out_of_it plan still judge unit
     (subst (λ (j : JudgeState). Judges (entries_so_far_in old.plan records ++ []) given j new.units) (sym judge) (subst (λ (u : Gathered). Judges (entries_so_far_in old.plan records ++ []) given old.judge u) (sym units) judges))
     (of_none old.plan.stream old.plan.clock r.bytes out_of_it) counts
 
--- a record that belongs to one of them
+-- a listener after a record that belongs to the stream or to its clock
 pub stands_with : (records : List Record) (r : Record) (given : ℕ) (old new : ListenState) → StandsFor records given old
     → is_closed old ≡ false → is_delivered old.plan.stream old.plan.clock r.bytes ≡ true
     → new.plan ≡ old.plan → is_closed new ≡ false → new.judge.plan ≡ old.judge.plan → new.judge.closed ≡ false
@@ -204,7 +204,7 @@ stands_with records r given old new st opened in_it plan still schedule lasting 
 
 -- ---- an item is shown
 
--- a listener after the next item
+-- A listener is as before but for the next item, which was taken from it.
 pub record Goes (old new : ListenState) : Type 0 where
   pub plan : new.plan ≡ old.plan
   pub closed : is_closed new ≡ is_closed old
@@ -241,7 +241,7 @@ stands_next records given old new (Some y) x same st is goes judges counts =
 
 -- ---- the end
 
--- the judge was given these entries, and after them come those that only the end gives up
+-- the judge after the end: the entries that only the end gives up wait
 ended_judges : (plan : ListenPlan) (records : List Record) (given : ℕ) (judge : JudgeState) (old new : Gathered) → left old ≡ [] → map item_entry (left new) ≡ map made_entry (left_at_end (deliveries_of plan records))
     → Judges (entries_so_far_in plan records) given judge old → Judges (entries_in plan records) given judge new
 ended_judges plan records given judge old new none more j = record {
@@ -279,7 +279,7 @@ entries_few : (b : Bool) (plan : ListenPlan) (records : List Record) → length 
 entries_few true plan records = entries-few plan records
 entries_few false plan records = omega (arith, so-far-few plan records, entries-few plan records)
 
--- each entry that its judge took, or that waits, is a record
+-- an entry that the judge took, or that waits, has a record of its own
 pub taken_few : (records : List Record) (given : ℕ) (l : ListenState) → StandsFor records given l → taken l.judge + length (left l.units) ≤ l.counts.frames
 taken_few records given l st =
     let j = st.judges in
@@ -297,7 +297,7 @@ pub packets_few : (records : List Record) (given : ℕ) (l : ListenState) → St
 packets_few records given l st =
     omega (arith, ap (λ (c : Counts). c.packets) st.counts, ap (λ (c : Counts). c.frames) st.counts, deliveries-few l.plan.stream None records)
 
--- if one more item is shown, there are more records than were shown
+-- if one more item is shown, fewer items were shown before than there are records
 pub shown_few : (records : List Record) (given : ℕ) (l : ListenState) (x : Shown) → StandsFor records given l → Some x ≡ slice_get (out l records) given → l.counts.presented + l.counts.flagged < l.counts.frames
 shown_few records given l x st is =
     let within = slice_get_within (out l records) given x (sym is) in
@@ -355,7 +355,7 @@ still_rests old new closed judge units rests = record {
   };
 }
 
--- what is left to be shown is one less after an item
+-- after an item, at most one item less may still be shown
 pub work_less : (old new : Counts) (x : Shown) → new ≡ with_shown old x → old.presented + old.flagged < old.frames
     → new.frames - (new.presented + new.flagged) + 1 ≤ old.frames - (old.presented + old.flagged)
 work_less old new (Present batch) e some = omega (arith, some, ap (λ (c : Counts). c.frames) e, ap (λ (c : Counts). c.presented) e, ap (λ (c : Counts). c.flagged) e)

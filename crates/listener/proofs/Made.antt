@@ -1,4 +1,4 @@
--- What the deliveries of a capture are made into: each is in one item.
+-- Each delivery of a capture is in exactly one item.
 use Rattle.std.proofs.Common.{◌≡◌, ◌⊎◌, ℕ, zero, suc, ◌+◌, ◌-◌, ◌<◌, ◌≤◌, Bool, true, false, cond, List, [], ◌∷◌, ◌++◌, All, length, map, Option, Some, None, refl, sym, ap, ◌∙◌, subst, inl, inr, arith, append-nil, append_assoc, length-append}
 use Rattle.std.specs.Prelude.{◌==◌, ◌&&◌, not, if◌then◌else◌, count_by, slice_get}
 use Rattle.std.specs.List.{sum_by}
@@ -69,7 +69,8 @@ lost_holds (x ∷ xs) why e = by (is_within (x ∷ xs)) (is_complete (x ∷ xs))
     by true false p e = absurd cc
     by false c p e = refl
 
--- how many packets a packet gives up, how many are in its unit, and how many wait then
+-- the number of fragments that a packet gives up, the number in its unit, and the number that wait then, by what becomes of the
+-- packet
 abbrev Adds : Piece → ℕ → ℕ → ℕ → ℕ → Type 0
 Adds Whole h g s w = (g + (s - 1) ≡ h) × (w ≡ 0)
 Adds Held h g s w = g + w ≡ h + 1
@@ -149,7 +150,7 @@ waiting_more before d e =
     ap (λ (es : List Event). last_ones (length (held es)) (in_stream (before ++ d ∷ []))) (events_more before d e)
     ∙ ap (last_ones (length (held (events_to before d)))) (stream_more before d e)
 
--- the packets in an item after a delivery, and those that wait, are those that waited before and the delivery
+-- the packets in the items after a delivery, and those that wait, are the packets that waited before, and the delivery
 Keeps : (Delivery → Bool) → List Delivery → Delivery → List MadeItem → Type 0
 Keeps p before d own = tally p (given_up_by before d ++ own) + count_by p (last_ones (length (held (events_to before d))) (in_stream before ++ d ∷ [])) ≡ count_by p (waiting before) + count_by p (d ∷ [])
 
@@ -167,7 +168,7 @@ keeps_cut p before d own e same =
     let nothing = ap (count_by p) (none_last (in_stream before ++ d ∷ [])) in
     omega (arith, up_tally p before d own, up, none, nothing, same)
 
--- the last packets that came, by number
+-- as many of the last packets pass a test, if the numbers of these packets are equal
 ones : (p : Delivery → Bool) (n m : ℕ) (xs : List Delivery) → n ≡ m → count_by p (last_ones n xs) ≡ count_by p (last_ones m xs)
 ones p n m xs e = ap (λ (k : ℕ). count_by p (last_ones k xs)) e
 
@@ -398,7 +399,7 @@ two_in p (x ∷ ms) zero (suc k) m n e f lt some others =
     omega (arith, tally-cons p x ms, here, some, rest)
 two_in p (x ∷ ms) (suc i) (suc k) m n e f lt some others = let rest = two_in p ms i k m n e f (omega arith) some others in omega (arith, tally-cons p x ms, rest)
 
--- two items with a delivery in common are one, if there is only one such delivery
+-- two items that have a delivery which passes the test are at one place, if only one delivery passes it
 pub same_place : (p : Delivery → Bool) (ms : List MadeItem) (i k : ℕ) (m n : MadeItem) → tally p ms ≤ 1 → slice_get ms i ≡ Some m → slice_get ms k ≡ Some n → 1 ≤ count_by p (sources m) → 1 ≤ count_by p (sources n) → i ≡ k
 same_place p ms i k m n few e f some others = elim (cases_lt i k) [
   | inl before ↦ let two = two_in p ms i k m n e f before some others in absurd (omega arith)
@@ -408,7 +409,7 @@ same_place p ms i k m n few e f some others = elim (cases_lt i k) [
   ]
 ]
 
--- the item that has the delivery
+-- An item has a delivery that passes the test, and this is its place.
 pub record HasOne (p : Delivery → Bool) (ms : List MadeItem) : Type 0 where
   pub place : ℕ
   pub item : MadeItem

@@ -42,7 +42,7 @@ kept stream clock xs = filter (λ numbered. is_delivered stream clock numbered.1
 abbrev made : List (ℕ × Record) → List Delivery
 made xs = map (λ numbered. delivery numbered.0 numbered.1) xs
 
--- records that are counted from n
+-- the deliveries of records, of which the first has number n
 abbrev counted : ℕ → Option ℕ → ℕ → List Record → List Delivery
 counted stream clock n records = made (kept stream clock (enumerate_from n records))
 
@@ -99,7 +99,7 @@ distinct ds rises i k d e f g same = elim (cases_lt i k) [
 
 -- ---- the item of a delivery
 
--- a delivery's item has its frame and its sequence number
+-- An item has the frame and the sequence number of its delivery.
 record IsItemOf (d : Delivery) (item : Item) : Type 0 where
   frame : item_frame item ≡ d.frame
   seq : item_seq item ≡ d.seq
@@ -119,7 +119,7 @@ shown_so : (place : ℕ) (d : Delivery) (item : Item) (r : Result Accepted Reaso
 shown_so place d item (Ok a) is = refl
 shown_so place d item (Err reason) is = rw (is.frame, is.seq) refl
 
--- if an entry is an item, it is that of its delivery
+-- if the entry of a delivery is an item, it is the delivery's item
 pub item_by : (d : Delivery) (item : Item) → entry_of d ≡ OfItem item → item_of d ≡ item
 item_by d item e = by (d.subtype == crf_subtype) e
   where
@@ -129,7 +129,7 @@ item_by d item e = by (d.subtype == crf_subtype) e
 
 -- ---- items and their entries
 
--- the item of an entry has the frame and the sequence number of its last delivery
+-- The item of an entry has the frame and the sequence number of its last delivery.
 record IsOwn (m : MadeItem) : Type 0 where
   of_last : (item : Item) → m.entry ≡ OfItem item → IsItemOf m.last item
 
@@ -153,7 +153,7 @@ all_there (d ∷ ds) = All-cons (λ (d : Delivery). ⊤) d ds tt (all_there ds)
 all_own : (ds : List Delivery) → All IsOwn (items_of ds)
 all_own ds = items_all (λ d. ⊤) IsOwn ds owns (all_there ds)
 
--- an item of these is the entry at its place
+-- The item is the entry at this place of the list.
 record IsMade (ms : List MadeItem) (n : ℕ) (item : Item) : Type 0 where
   made : MadeItem
   there : slice_get ms n ≡ Some made
@@ -206,7 +206,7 @@ some_at p (y ∷ xs) (suc k) x e is = omega (arith, count-cons p y xs, some_at p
 contained_at : (xs : List Delivery) (d : Delivery) → (c : Contains xs d) → slice_get xs c.0 ≡ Some d
 contained_at xs d (k, within, there) = slice_get-get_or xs k d within ∙ ap Some there
 
--- a delivery of a list that passes a test
+-- The list has a delivery that passes a test.
 record IsFound (p : Delivery → Bool) (xs : List Delivery) : Type 0 where
   place : ℕ
   found : Delivery
@@ -229,7 +229,7 @@ contains_at xs k d e =
     let within = slice_get_within xs k d e in
     (k, within, one (slice_index_or xs k d) d (sym (slice_get-get_or xs k d within) ∙ e))
 
--- the deliveries of an item are some of the list
+-- all deliveries of an item are in the list
 abbrev AreIn : List Delivery → MadeItem → Type 0
 AreIn ds m = All (Contains ds) (sources m)
 
@@ -250,7 +250,7 @@ frames_few n ds rises = omega (arith, all_made (of_frame n) ds, one_frame n ds r
 itself : (n : ℕ) → (n == n) ≡ true
 itself n = eq-eqb n n refl
 
--- items with one frame are one
+-- items with one frame are at one place
 same_item_at : (ds : List Delivery) (i k : ℕ) (m n : MadeItem) → Rising ds → slice_get (items_of ds) i ≡ Some m → slice_get (items_of ds) k ≡ Some n → m.last.frame ≡ n.last.frame → i ≡ k
 same_item_at ds i k m n rises e f same =
     same_place (of_frame n.last.frame) (items_of ds) i k m n (frames_few n.last.frame ds rises) e f
@@ -317,7 +317,7 @@ not_bad clock plan es place (OfPacket packet) is = refl
 not_bad clock plan es place (OfUnit whole) is = refl
 not_bad clock plan es place (OfBad bad) is = absurd is
 
--- what is shown is an item's, as its verdict says
+-- what is shown is shown of an item, as its verdict says
 shown_as : (plan : ListenPlan) (records : List Record) (g : Given) → IsJudged clock_spot (schedule_plan plan) (entries_in plan records) g → IsShownItem plan records (given_shown g)
 shown_as plan records g j =
     let ms = items_in plan records in
@@ -342,7 +342,7 @@ no_other_shown plan records =
     shown_by_each (IsShownItem plan records) (given clock_spot (schedule_plan plan) (entries_in plan records))
     (λ g here. shown_as plan records g (all-judged clock_spot (schedule_plan plan) (entries_in plan records) g here))
 
--- what is shown is at the place of an item, and has its frame
+-- What is shown is at the place of an item, and has the item's frame.
 pub record IsPlaced (ms : List MadeItem) (g : Given) : Type 0 where
   pub made : MadeItem
   pub there : slice_get ms (place_of g) ≡ Some made

@@ -1,4 +1,4 @@
--- What is heard of a talker that keeps the rules keeps the headline.
+-- What is shown of a talker that keeps the rules keeps the headline.
 use Rattle.std.proofs.Common.{◌≡◌, ℕ, ℤ, List, [], ◌∷◌, ap, ◌∙◌}
 use Rattle.std.specs.Prelude.{Result}
 use Rattle.clock_track.specs.Rows.{clock_spot}

@@ -1,4 +1,4 @@
--- What is presented of copies is at the journal's instants.
+-- What is presented of copies of packets is at the journal's instants.
 use Rattle.std.proofs.Common.{Ok, is_some, ◌≡◌, ℕ, ◌+◌, ◌%◌, ◌^◌, ◌<◌, ◌≤◌, Bool, true, false, ℤ, pos, ◌+ℤ◌, List, All, Option, Some, None, refl, sym, subst, arith}
 use Rattle.std.specs.Prelude.{◌==◌, neg_ℤ, nat_lt, if◌then◌else◌, option_map, option_and_then, IfSome, Result, Err, IfOk}
 use Rattle.std.specs.List.{filter_map}
@@ -50,7 +50,7 @@ either : (b : Bool) (r : Option ℕ) → (if b then r else r) ≡ r
 either true r = refl
 either false r = refl
 
--- the packets of a stream are stamped where they have the sample that the timestamp belongs to
+-- a packet of a stream is stamped if it has the sample to which its timestamp belongs
 usable_by : (rule : HeadRule) (n count : ℕ) (r : Option ℕ) → 1 ≤ count → is_some r ≡ is_stamped rule n count
     → (if nat_lt (stamped_index rule) count then option_map (λ (instant : ℕ). instant % 2 ^ 32) r else None) ≡ option_map (λ (instant : ℕ). instant % 2 ^ 32) r
 usable_by Own n count r some stamped = rw (some_count count some) refl
@@ -92,7 +92,7 @@ from_stamp j n far (Some stamp) h = h
 eight : (n : ℕ) → n % 256 % 8 ≡ n % 8
 eight n = omega arith
 
--- a sequence number tells as much of how far back a head lies as the packet's number
+-- a packet's sequence number gives the distance to its head as its number does
 pub same_distance : (rule : HeadRule) (n count : ℕ) → distance rule (n % 256) count ≡ distance rule n count
 same_distance Own n count = refl
 same_distance Eight n count = rw (eight n) refl
@@ -149,20 +149,20 @@ by_line : (j : Journal) (n : ℕ) (h : Head) (o : Option Spot) → IsAudioKind j
 by_line j n h None heard t at = tt
 by_line j n h (Some spot) heard t at = λ k. at_clock j.kind j n k _ heard (spot_sample j n k h spot t at)
 
--- a listener follows the journal's stream, and if it has a clock, the journal's
+-- A listener follows the journal's stream, and the journal's clock if it has one.
 pub record IsFollowed (shift : ℤ) (j : Journal) (plan : SchedulePlan) : Type 0 where
   pub audio : IsAudio j
   pub kind : IsAudioKind j.kind
   pub clock : IsClock j.clock
   pub shifted : plan.clock ≡ true → plan.shift ≡ shift
 
--- what a listener knows is the journal's
+-- The entries that a listener knows are copies of the journal's packets.
 pub record IsTruePrefix (shift : ℤ) (j : Journal) (prefix : List Entry) : Type 0 where
   pub stamps : All (IsTrue j) (heads.stamps_of prefix)
   pub rows : All (IsTrueRow j.clock shift) (filter_map row_of prefix)
 
--- The samples of a packet's true head: on the nominal line of the head, or on the clock's, by whatever copies of the clock's
--- packets the listener has.
+-- The samples after a packet's true head are at the journal's instants: on the nominal line of the head, or on the clock's
+-- line, whatever copies of the clock's packets the listener has.
 spot_true : (shift : ℤ) (j : Journal) (plan : SchedulePlan) (n : ℕ) (prefix : List Entry) (h : Head) (by : Bool) → plan.clock ≡ by → IsFollowed shift j plan → IsTruePrefix shift j prefix → IsTrueHead j n h
     → IfSome (if by then option_map (moved h.first) (clock_spot (filter_map row_of prefix) plan.shift h.instant j.rate) else Some (nominal_spot j.rate h)) (IsTrueSpot by j n)
 spot_true shift j plan n prefix h true on is known t =
@@ -218,7 +218,7 @@ timed_true shift p plan n frame arrival prefix is true_ones came =
     (counted_true shift p plan n frame arrival prefix (heads.head_of plan prefix (sent p.times n frame arrival (carried (p.packet n)))) is true_ones came.known
     (head_true p.times plan n frame arrival (carried (p.packet n)) prefix is.audio came true_ones.stamps))
 
--- if it is known where the samples are, there is a batch
+-- The result is a batch, and not a reason.
 pub record IsOk (r : Result Presented Reason) : Type 0 where
   pub batch : Presented
   pub same : r ≡ Ok batch

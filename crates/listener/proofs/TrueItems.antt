@@ -1,4 +1,4 @@
--- What is made of a copy of a packet is that packet.
+-- The item of a copy of a packet has that packet's content.
 use Rattle.std.proofs.Common.{◌≡◌, ℕ, ◌%◌, ◌^◌, ◌<◌, Bool, true, false, ℤ, pos, List, [], ◌∷◌, All, Option, Some, None, refl, sym, ap, ◌∙◌, subst, inl, inr}
 use Rattle.std.specs.Prelude.{◌==◌, ◌⊎◌, is_some, if◌then◌else◌, unwrap_or, option_map, IfSome, map, filter}
 use Rattle.std.specs.List.{enumerate_from}
@@ -59,12 +59,12 @@ same_packet : (frame : ℕ) (a a' : ℤ) (s s' : ℕ) (m m' : Bool) (u u' : Bool
     ≡ OfPacket (record { frame = frame; arrival = a'; seq = s'; mr = m'; tu = u'; stamp = t'; rule = r'; rate = f'; count = c'; bytes = bytes })
 same_packet frame a a' s s' m m' u u' t t' r r' f f' c c' bytes e1 e2 e3 e4 e5 e6 e7 e8 = rw (e1, e2, e3, e4, e5, e6, e7, e8) refl
 
--- what the bytes of a delivery show
+-- The fields of a delivery are those of its bytes.
 pub record Shows (d : Delivery) : Type 0 where
   pub subtype : d.subtype ≡ bits 0 0 8 d.packet
   pub seq : d.seq ≡ bits 2 0 8 d.packet
 
--- every delivery of a list of records shows its own packet
+-- the fields of a delivery of a record are those of its packet
 shown_one : (i : ℕ) (r : Record) → Shows (delivery i r)
 shown_one i r = record { subtype = refl; seq = refl }
 

@@ -1,4 +1,4 @@
--- What is presented of a capture is packets of the journal.
+-- What is presented of a capture consists of packets of the journal.
 use Rattle.std.proofs.Common.{◌≡◌, ◌≢◌, ℕ, zero, suc, ◌+◌, Bool, true, false, cond, ℤ, List, [], ◌∷◌, All, length, Option, Some, None, refl, sym, ap, ◌∙◌, subst, inl, inr, arith}
 use Rattle.std.specs.Prelude.{◌⊎◌, ◌==◌, if◌then◌else◌, Contains, is_some, int_lt, option_and_then, IfSome, Result, Ok, Err, IfOk, map, fold, slice_get}
 use Rattle.std.specs.List.{cons_option, filter_map}
@@ -49,7 +49,7 @@ use Rattle.listener.proofs.TrueHeard.{IsBatchOf, IsFollowed, IsTruePrefix, timed
 
 -- ---- entries
 
--- an entry is made of a copy of a packet of audio
+-- The entry is made of a copy of an audio packet.
 pub record IsStreamEntry (items : List MadeItem) (p : PacketJournal) (lead : ℕ) (e : Entry) : Type 0 where
   pub heard : IsAudioKind p.times.kind
   pub delivery : Delivery
@@ -58,7 +58,7 @@ pub record IsStreamEntry (items : List MadeItem) (p : PacketJournal) (lead : ℕ
   pub listed : Contains items (made_of_one delivery)
   pub same : e ≡ OfItem (OfPacket (sent p.times number delivery.frame copy.arrival (carried (p.packet number))))
 
--- an entry is a unit that was made of copies of all its packets
+-- The entry is a unit that was made of copies of all its packets.
 pub record IsUnitEntry (items : List MadeItem) (p : PacketJournal) (lead : ℕ) (e : Entry) : Type 0 where
   pub part : ℕ → Part
   pub kind : p.times.kind ≡ H264 part
@@ -68,12 +68,12 @@ pub record IsUnitEntry (items : List MadeItem) (p : PacketJournal) (lead : ℕ) 
   pub is : IsUnitItem p part lead number made
   pub same : e ≡ made.entry
 
--- an entry is a packet that is not presented
+-- The entry is a packet that is not presented.
 pub record IsBadEntry (e : Entry) : Type 0 where
   pub bad : Bad
   pub same : e ≡ OfItem (OfBad bad)
 
--- an entry is a packet of the clock
+-- The entry is a packet of the clock.
 pub record IsClockEntry (shift : ℤ) (p : PacketJournal) (e : Entry) : Type 0 where
   pub arrival : ℤ
   pub row : ClockRow
@@ -89,7 +89,7 @@ audio_of SparseAaf j heard is = is.0
 audio_of (Am824 interval dbc) j heard is = is.0
 audio_of (H264 part) j heard is = absurd heard
 
--- the talker's packets are of one rate and one count
+-- a stream of audio that conforms has one rate and one count
 pub audio : (p : PacketJournal) → IsAudioKind p.times.kind → Conforms p.times → IsAudio p.times
 audio p heard is = audio_of p.times.kind p.times heard is.kind
 
@@ -97,7 +97,7 @@ shifted_by : (shift added : ℤ) (p : PacketJournal) (clock : Option ℕ) → Fo
 shifted_by shift added p None follows on = absurd cc
 shifted_by shift added p (Some id) follows on = follows.1
 
--- a listener follows a stream of audio
+-- a listener that hears a stream of audio follows it
 pub followed : (shift : ℤ) (p : PacketJournal) (plan : ListenPlan) (records : List Record) → HearsTalker shift p plan records → IsAudioKind p.times.kind → IsFollowed shift p.times (schedule_plan plan)
 followed shift p plan records h heard = record {
   audio = audio p heard h.conforming.times;
@@ -112,7 +112,7 @@ deliveries_are shift p plan records h =
     let copies = deliveries_copied p plan.clock plan.lead p.stream from.origins records from.copies in
     rw h.stream copies
 
--- none of them is a packet of H.264 if the stream is of audio
+-- no delivery is a packet of H.264 if the stream is of audio
 pub others : (shift : ℤ) (p : PacketJournal) (plan : ListenPlan) (records : List Record) → HearsTalker shift p plan records → IsAudioKind p.times.kind → All IsOther (deliveries_of plan records)
 others shift p plan records h heard =
     All-weaker (IsCopied p plan.lead) IsOther (λ d. copied_other shift p plan.lead d h.conforming heard) (deliveries_of plan records) (deliveries_are shift p plan records h)
@@ -123,7 +123,7 @@ true_entry items shift p lead d (OfStream n) is copy shows other listed =
     inl (inl (record { heard = heard; delivery = d; number = n; copy = copy; listed = listed; same = copy_entry shift p lead n d is heard copy shows }))
 true_entry items shift p lead d (OfClock m) is copy shows other listed = inr (inr (record { arrival = d.arrival; row = clock_row d; same = clock_entry shift p m d is copy shows; is_true = copy_row shift p m d is copy }))
 
--- the kind of a stream that has a packet of H.264
+-- The stream is of H.264.
 pub record IsVideoKind (kind : Kind) : Type 0 where
   pub part : ℕ → Part
   pub same : kind ≡ H264 part
@@ -140,7 +140,7 @@ video_kind_by (H264 part) d other e = record { part = part; same = refl }
 pub video_kind : (shift : ℤ) (p : PacketJournal) (lead : ℕ) (d : Delivery) → IsConforming shift p → IsCopied p lead d → (d.subtype == cvf_subtype) ≡ true → IsVideoKind p.times.kind
 video_kind shift p lead d is c e = video_kind_by p.times.kind d (λ heard. copied_other shift p lead d is heard c) e
 
--- what the deliveries of a capture are, one by one and in pairs
+-- The deliveries of a capture are copies, and adjacent ones are near each other.
 pub record AreHeard (shift : ℤ) (p : PacketJournal) (lead : ℕ) (ds : List Delivery) : Type 0 where
   pub conforming : IsConforming shift p
   pub copied : All (IsCopied p lead) ds
@@ -263,12 +263,12 @@ prefix_true items shift p lead es is all = record {
 
 -- ---- verdicts
 
--- what is accepted is heard from a delivery, at its first instant
+-- An accepted item is heard from a delivery, at its first instant.
 record IsHeardAccepted (by : Bool) (items : List MadeItem) (p : PacketJournal) (lead : ℕ) (a : Accepted) : Type 0 where
   is : IsHeardFrom by items p lead a.batch
   instant : a.instant ≡ first_instant a.batch
 
--- what is accepted is a packet of the journal
+-- An accepted item is a packet of the journal.
 pub record IsTrueAccepted (by : Bool) (p : PacketJournal) (a : Accepted) : Type 0 where
   pub is : IsOfJournal by p a.batch
   pub instant : a.instant ≡ first_instant a.batch
@@ -297,7 +297,7 @@ accepted_one : (by : Bool) (items : List MadeItem) (p : PacketJournal) (lead : �
 accepted_one by items p lead (Ok a) t = All-cons (IsHeardAccepted by items p lead) a [] (record { is = t.0; instant = t.1 }) (All-nil (IsHeardAccepted by items p lead))
 accepted_one by items p lead (Err reason) t = All-nil (IsHeardAccepted by items p lead)
 
--- an entry of the list, if there is one
+-- a fact about all entries holds for the entry at a place, if there is one
 entry_at : (P : Entry → Type 0) (es : List Entry) (n : ℕ) → All P es → IfSome (slice_get es n) P
 entry_at P [] n all = tt
 entry_at P (e ∷ es) zero all = All-head P e es all

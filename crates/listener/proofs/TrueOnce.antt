@@ -29,7 +29,7 @@ use Rattle.listener.proofs.TrueUnits.{video}
 
 -- ---- the same packet, the same samples
 
--- if two units of one packet each end with one packet, they begin with it, too
+-- if two units have a common last packet, they have a common first one
 one_start : (part : ℕ → Part) (from other n : ℕ) → AreUnit part from n → AreUnit part other n → from ≡ other
 one_start part from other n (inl a) (inl b) = a.0 ∙ sym b.0
 one_start part from other n (inl a) (inr b) = absurd (let e = sym a.1 ∙ b.last in cc)
@@ -118,7 +118,7 @@ nominal_due j n instant heard is known at =
 pub one_due : (a b : ℕ) (z : ℤ) → z ≡ pos a → z ≡ pos b → a ≡ b
 one_due a b z e f = omega (arith, ints)
 
--- packets that are due at one instant are one
+-- packets that are due at one instant are one packet
 due_once : (j : Journal) (n m : ℕ) → IsAudio j → n < j.packets → m < j.packets → j.due n ≡ j.due m → n ≡ m
 due_once j n m is here there same = elim (cases_lt n m) [
   | inl before ↦ let later = rising j is n m before there in absurd (omega arith)
@@ -128,7 +128,7 @@ due_once j n m is here there same = elim (cases_lt n m) [
   ]
 ]
 
--- with the clock and without, audio packets with one sequence number and one first instant are one
+-- audio packets with one sequence number and one first instant are one packet, with a clock or without
 audio_packet : (by : Bool) (p : PacketJournal) (n m : ℕ) (x : ℤ) → IsAudioKind p.times.kind → Conforms p.times → n < p.times.packets → m < p.times.packets → n % 256 ≡ m % 256 → IsAt by p.times n 0 x → IsAt by p.times m 0 x → n ≡ m
 audio_packet true p n m x heard is here there seq a b = told_apart p.times n m x is heard here there seq a b
 audio_packet false p n m x heard is here there seq a b =
@@ -152,7 +152,7 @@ packet_by SparseAaf by p n m x kind is here there seq a b = audio_packet by p n 
 packet_by (Am824 interval dbc) by p n m x kind is here there seq a b = audio_packet by p n m x (rw kind tt) is here there seq a b
 packet_by (H264 part) by p n m x kind is here there seq a b = video_packet by p part n m x kind (video p part kind is) here there seq a b
 
--- packets of one sequence number and one first instant are one
+-- packets with one sequence number and one first instant are one packet
 pub one_packet : (by : Bool) (p : PacketJournal) (n m : ℕ) (x : ℤ) → Conforms p.times → n < p.times.packets → m < p.times.packets → n % 256 ≡ m % 256 → IsAt by p.times n 0 x → IsAt by p.times m 0 x → n ≡ m
 one_packet by p n m x is here there seq a b = packet_by p.times.kind by p n m x refl is here there seq a b
 

@@ -30,18 +30,18 @@ use Rattle.listener.specs.Laws.{HearsTalker, ComesBefore, presented_of}
 use Rattle.listener.proofs.Shown.{IsPlaced, Rising, all_placed, deliveries_rise, is_presentable}
 use Rattle.listener.proofs.TrueList.{batches_are, given_true}
 
--- an accepted item, by its first instant and its place
+-- An accepted item has this first instant and this place.
 record IsPut (ms : List MadeItem) (a : Accepted) : Type 0 where
   instant : a.instant ≡ first_instant a.batch
   placed : IsPlaced ms (Presents a)
 
--- the frame numbers of those rise that may be presented
+-- the frame numbers of the items that may be presented rise
 unfoldable RisingItems : List MadeItem → Type 0
 RisingItems ms = (i k : ℕ) (m n : MadeItem) → slice_get ms i ≡ Some m → slice_get ms k ≡ Some n → is_presentable m.entry ≡ true → is_presentable n.entry ≡ true → i < k → m.last.frame < n.last.frame
 
 -- ---- each of these is an item at its own last delivery
 
--- the frame numbers of deliveries rise from this one on
+-- the frame numbers of deliveries rise, from this number on
 Climbs : ℕ → List Delivery → Type 0
 Climbs low [] = ⊤
 Climbs low (d ∷ ds) = (low ≤ d.frame) × Climbs (suc d.frame) ds
@@ -54,7 +54,7 @@ climbs low (d ∷ ds) rises above = (above 0 d refl, climbs (suc d.frame) ds (λ
 abbrev next_low : Bool → ℕ → ℕ → ℕ
 next_low presentable low frame = if presentable then suc frame else low
 
--- those of the items that may be presented
+-- the frame numbers of the items that may be presented rise, from this number on
 Ascends : ℕ → List MadeItem → Type 0
 Ascends low [] = ⊤
 Ascends low (m ∷ ms) = (is_presentable m.entry ≡ true → low ≤ m.last.frame) × Ascends (next_low (is_presentable m.entry) low m.last.frame) ms
@@ -68,7 +68,7 @@ lower low high (m ∷ ms) under all = ((λ e. let h = all.0 e in omega arith), b
     by true more rest = rest
     by false more rest = more rest
 
--- an item that has a delivery for its last
+-- the frame numbers still rise with one more item at the beginning
 one_ascends : (low : ℕ) (m : MadeItem) (ms : List MadeItem) → low ≤ m.last.frame → Ascends (suc m.last.frame) ms → Ascends low (m ∷ ms)
 unfolding Ascends
 one_ascends low m ms above rest = ((λ e. above), by (is_presentable m.entry))
@@ -77,7 +77,7 @@ one_ascends low m ms above rest = ((λ e. above), by (is_presentable m.entry))
     by true = rest
     by false = lower low (suc m.last.frame) ms (omega (arith, above)) rest
 
--- those that are flagged
+-- the frame numbers still rise with flagged items at the beginning
 flags_ascend : (low : ℕ) (why : Reason) (ds : List Delivery) (ms : List MadeItem) → Ascends low ms → Ascends low (map (flagged why) ds ++ ms)
 unfolding Ascends
 flags_ascend low why [] ms all = all

@@ -70,7 +70,7 @@ entry_there ds n d others e = entry_at (items_of ds) n (made_of_one d) (item_the
 one_instant_of : (x y : ℤ) → same_instant x y ≡ true → x ≡ y
 one_instant_of x y e = grind (arith, ints)
 
--- what is taken for a copy has the same first instant and sequence number
+-- An accepted item counts as a copy if it has this first instant and this sequence number.
 record IsLike (instant : ℤ) (seq : ℕ) (a : Accepted) : Type 0 where
   instant_is : a.instant ≡ instant
   seq_is : a.batch.seq ≡ seq
@@ -130,7 +130,7 @@ verdict_repeats : (plan : SchedulePlan) (now : ℤ) (earlier : List Accepted) (p
 unfolding verdict
 verdict_repeats plan now earlier place r batch e h copied = rw (e, lt_false (first_instant batch) now h, copied) refl
 
--- what the listener makes of the item
+-- The listener finds the instants of the item's samples.
 record IsTimed (p : PacketJournal) (plan : ListenPlan) (records : List Record) (place n : ℕ) (made : MadeItem) : Type 0 where
   item : Item
   entry : made.entry ≡ OfItem item
@@ -138,11 +138,11 @@ record IsTimed (p : PacketJournal) (plan : ListenPlan) (records : List Record) (
   timed_is : timed clock_spot (schedule_plan plan) (prefix_of (schedule_plan plan) (entries_in plan records) place) item ≡ Ok batch
   is : IsBatchOf (by_clock plan) p n made.last.frame batch
 
--- a listener's search finds where the samples of the item are
+-- a listener's search finds the line on which the samples of the item are
 abbrev IsKnownHere : ListenPlan → List Record → ℕ → MadeItem → Type 0
 IsKnownHere plan records place made = is_known (schedule_plan plan) (prefix_of (schedule_plan plan) (entries_in plan records) place) made.entry ≡ true
 
--- a listener's search for an audio packet
+-- a listener finds the instants of an audio packet
 audio_timed : (shift : ℤ) (p : PacketJournal) (plan : ListenPlan) (records : List Record) (place n : ℕ) (d : Delivery) → HearsTalker shift p plan records → IsAudioKind p.times.kind → Shows d → IsTimely p plan records place n (made_of_one d)
     → IsKnownHere plan records place (made_of_one d) → IsTimed p plan records place n (made_of_one d)
 audio_timed shift p plan records place n d h heard shows w k =
@@ -170,7 +170,7 @@ one_timed : (shift : ℤ) (p : PacketJournal) (plan : ListenPlan) (records : Lis
 one_timed shift p plan records place n d h shows other w k =
     audio_timed shift p plan records place n d h (audio_other shift p plan.lead n d h.conforming w.copy.last shows other) shows w k
 
--- a listener's search for a unit
+-- a listener finds the instant of a unit
 unit_timed : (shift : ℤ) (p : PacketJournal) (plan : ListenPlan) (records : List Record) (place n : ℕ) (made : MadeItem) → HearsTalker shift p plan records → IsWholeOf (deliveries_of plan records) made → IsTimely p plan records place n made
     → IsTimed p plan records place n made
 unfolding timed
@@ -216,7 +216,7 @@ earlier_true : (shift : ℤ) (p : PacketJournal) (plan : ListenPlan) (records : 
 earlier_true shift p plan records place h =
     accepted_true (items_in plan records) shift p (schedule_plan plan) (entries_in plan records) place (followed shift p plan records h) (entries_true shift p plan records h)
 
--- a copy that must be presented is accepted
+-- The item at a place is accepted as packet n.
 pub record IsAcceptedAs (p : PacketJournal) (plan : ListenPlan) (records : List Record) (place n : ℕ) (made : MadeItem) : Type 0 where
   pub item : Item
   pub entry : made.entry ≡ OfItem item
@@ -254,7 +254,7 @@ welcome_shown shift p plan records place n made h w =
     subst (λ (l : List Presented). Any (IsPresentedOf by p n made) l) (sym (batches_are gs))
     (any_batch (IsPresentedOf by p n made) (presented gs) (taken place t.batch) shown (record { frame = t.is.frame_is; is = t.is.is }))
 
--- a further copy is an item that is flagged
+-- The item at a place is flagged as a repeat.
 pub record IsFlaggedAs (plan : ListenPlan) (records : List Record) (place : ℕ) (made : MadeItem) : Type 0 where
   pub item : Item
   pub entry : made.entry ≡ OfItem item

@@ -1,4 +1,4 @@
--- A unit that is whole over copies is one unit of the journal.
+-- A whole unit of copies is one unit of the journal.
 use Rattle.std.proofs.Common.{◌≡◌, ◌⊎◌, ℕ, zero, suc, ◌+◌, ◌-◌, ◌%◌, ◌^◌, ◌<◌, ◌≤◌, Bool, true, false, ℤ, pos, List, [], ◌∷◌, ◌++◌, All, length, map, drop, Option, Some, None, is_some, refl, sym, ap, ◌∙◌, subst, inl, inr, arith, append_assoc, length-append}
 use Rattle.std.specs.Prelude.{◌==◌, if◌then◌else◌, ⊤, ◌+ℤ◌, option_map, IfSome}
 use Rattle.std.specs.List.{flat_map, range_with_len}
@@ -44,7 +44,7 @@ use Rattle.listener.proofs.TrueItems.{Shows}
 
 -- ---- a copy of a packet of H.264
 
--- what a copy of a packet of H.264 shows
+-- A copy of a packet of H.264 has these fields.
 pub record IsVideoCopy (p : PacketJournal) (part : ℕ → Part) (n : ℕ) (d : Delivery) : Type 0 where
   pub view : Cvf
   pub is : p.packet n ≡ H264Data view
@@ -74,13 +74,13 @@ pub video_copy : (shift : ℤ) (p : PacketJournal) (part : ℕ → Part) (lead n
 video_copy shift p part lead n d is kind copy shows =
     view_video p part n d (p.packet n) refl (subst (λ (k : Kind). IsPacket k p.times p.stream n (p.packet n)) kind (is.packets n copy.delivered.known)) copy.spelled shows
 
--- the rules of a stream of H.264
+-- a stream of H.264 that conforms keeps the rules of H.264
 pub video : (p : PacketJournal) (part : ℕ → Part) → p.times.kind ≡ H264 part → Conforms p.times → IsVideo p.times part
 video p part kind is = subst (λ (k : Kind). IsOfKind k p.times) kind is.kind
 
 -- ---- its fragment
 
--- a fragment that is packet n of the journal
+-- The fragment is packet n of the journal.
 pub record IsFragmentOf (p : PacketJournal) (part : ℕ → Part) (n : ℕ) (f : Fragment) : Type 0 where
   pub known : n < p.times.packets
   pub part_is : part_of f.part ≡ part n
@@ -132,7 +132,7 @@ close j part n m is here there e =
     let high = is.few n m there e in
     (omega arith, omega arith)
 
--- if both are stamped, the stamps are one
+-- two stamps, if both are there, are equal
 abbrev Agrees : Option ℕ → Option ℕ → Type 0
 Agrees r s = IfSome r (λ (x : ℕ). IfSome s (λ (y : ℕ). x ≡ y))
 
@@ -143,7 +143,7 @@ next_by j part n m (Some x) None kind is here there e f near first second agrees
 next_by j part n m (Some x) (Some y) kind is here there e f near first second agrees =
     close j part n m is here there (sym (is.one_instant n x here e) ∙ (agrees ∙ is.one_instant m y there f))
 
--- Two fragments that were delivered one after the other, of which the second continues the first.
+-- the second of two adjacent fragments continues the first
 before_part : (part : NalPart) (q : Part) → part_of part ≡ q → completes part ≡ false → (q ≡ First) ⊎ ((q ≡ Middle) ⊎ (q ≡ Last))
 before_part SingleNal q e h = absurd cc
 before_part FirstNal q e h = inl (sym e)
@@ -177,7 +177,7 @@ next_is p part n m t f g kind is near a b goes here there =
 
 -- ---- adjacent deliveries of the stream
 
--- Deliveries are copies of packets, the first of which is near packet n, and each later one near its predecessor.
+-- The deliveries are copies of packets: the first is near packet n, and each later one is near its predecessor.
 abbrev pub Chain : PacketJournal → ℕ → ℕ → List Delivery → Type 0
 Chain p lead n [] = ⊤
 Chain p lead n (x ∷ xs) = (m : ℕ) × (IsCopyOf p lead m x × (IsNear p.times n m × Chain p lead m xs))
@@ -285,7 +285,7 @@ unit_is p part n m f fs to all =
 
 -- ---- their parts
 
--- packets after packet n up to packet m continue its unit, and packet m ends it
+-- Packets after packet n up to packet m continue its unit, and packet m ends it.
 record Goes (part : ℕ → Part) (n m : ℕ) : Type 0 where
   middle : (k : ℕ) → n < k → k < m → part k ≡ Middle
   last : n < m → part m ≡ Last
@@ -314,7 +314,7 @@ single_of FirstNal e h = absurd cc
 single_of MiddleNal e h = absurd cc
 single_of LastNal e h = absurd cc
 
--- the packet after another one that does not end the unit
+-- the unit still ends with packet m, seen from the packet after packet n
 next_goes : (part : ℕ → Part) (n m : ℕ) → suc n < m → part (suc n) ≡ Middle → Goes part (suc n) m → Goes part n m
 next_goes part n m before here more = record {
   middle = λ k low high. elim (cases_lt (suc n) k) [
@@ -365,7 +365,7 @@ unit_ends part n m (inr are) = inr are.last
 
 -- ---- the instant
 
--- what ends a unit is stamped
+-- the packet that ends a unit is stamped
 pub end_stamped : (j : Journal) (part : ℕ → Part) (n : ℕ) → IsVideo j part → n < j.packets → Ends (part n) → is_some (j.stamp n) ≡ true
 end_stamped j part n is known ends = elim is.stamps [
   | inl all ↦ all n known
@@ -386,7 +386,7 @@ unit_instant p part lead n d is copy c ends =
 
 -- ---- a whole unit
 
--- a stretch that is whole
+-- A stretch of the events is a whole unit.
 record IsWholeRun (es : List Event) (run : List Fragment) : Type 0 where
   ends : EndsWith es run
   some : 1 ≤ length run
@@ -489,7 +489,7 @@ chained_of shift p part lead (OfClock m ∷ os) (d ∷ ds) is kind shows from ne
     let here = clock_kind shift p m d is from.0 (All-head Shows d ds shows) in
     subst (λ (l : List Delivery). AreChained p lead l) (sym (skip d ds (clock_skipped d here))) (chained_of shift p part lead os ds is kind (All-tail Shows d ds shows) from.1 near)
 
--- A unit is made of copies of consecutive packets.
+-- The item is made of copies of consecutive packets.
 pub record IsMade (p : PacketJournal) (lead : ℕ) (made : MadeItem) : Type 0 where
   pub number : ℕ
   pub copies : IsMadeOf p lead number made
@@ -534,7 +534,7 @@ unit_made shift p part lead ds made is kind chain shows w =
 abbrev unit_in : List Delivery → Delivery → WholeUnit
 unit_in before d = record { frame = d.frame; arrival = d.arrival; seq = d.seq; instant = unfolded (cvf_of d.packet).header.timestamp d.arrival; bytes = whole_unit (events_to before d) }
 
--- an item is the unit that ends with packet n
+-- The item is the unit that ends with packet n.
 pub record IsUnitItem (p : PacketJournal) (part : ℕ → Part) (lead n : ℕ) (made : MadeItem) : Type 0 where
   pub unit : WholeUnit
   pub entry : made.entry ≡ OfItem (OfUnit unit)

@@ -65,7 +65,7 @@ part_ends FirstNal e = absurd cc
 part_ends MiddleNal e = absurd cc
 part_ends LastNal e = inr refl
 
--- the fragment of a copy has no flaw
+-- The fragment of a copy has no flaw.
 record IsGood (d : Delivery) : Type 0 where
   streamed : (d.subtype == crf_subtype) ≡ false
   is_video : (d.subtype == cvf_subtype) ≡ true
@@ -167,7 +167,7 @@ inside_ends part (inl e) (inr f) = absurd (let g = sym e ∙ f in cc)
 inside_ends part (inr e) (inl f) = absurd (let g = sym e ∙ f in cc)
 inside_ends part (inr e) (inr f) = absurd (let g = sym e ∙ f in cc)
 
--- all are due at one instant
+-- all packets of a unit are due at one instant
 same_due : (j : Journal) (part : ℕ → Part) (from k left : ℕ) → IsVideo j part → AreUnit part from (k + left) → from ≤ k → k + left < j.packets → j.due k ≡ j.due (k + left)
 same_due j part from k zero is unit low known = let same : k ≡ k + zero = omega arith in ap j.due same
 same_due j part from k (suc left) is unit low known =
@@ -234,7 +234,7 @@ shorter f fs gs =
 
 -- ---- what a delivery gives
 
--- deliveries are the beginning of a unit, and are a stretch within the limits
+-- Deliveries are the beginning of a unit: they make one stretch, which is within the limits.
 record Begins (before : List Delivery) (d : Delivery) : Type 0 where
   good : IsGood d
   others : All IsGood before
@@ -266,7 +266,7 @@ last_empty {X} n = none (0 - n)
     none zero = refl
     none (suc k) = refl
 
--- the next delivery of the unit gives up nothing
+-- fragments within the limits are joined
 joined : (run : List Fragment) → 1 < length run → is_within run ≡ true → is_joined run ≡ true
 joined run some within = let test : nat_lt 1 (length run) ≡ true = grind (arith, nat_tests) in rw (test, within) refl
 
@@ -308,7 +308,7 @@ piece_is before d complete b e =
 
 -- ---- the deliveries of one unit
 
--- what is known of the beginning of a unit
+-- The deliveries have the fragments of all packets of one unit, in order and within the limits.
 record IsBegin (p : PacketJournal) (part : ℕ → Part) (lead from n : ℕ) (all : List Delivery) : Type 0 where
   good : All IsGood all
   fragments : AreFragmentsFrom p part from (fragments_at all)
@@ -404,7 +404,7 @@ first_given ds earlier last rest same none unit = rw (same, so_far_more earlier 
 in_its_stream : (xs : List Delivery) → length xs - length xs ≡ 0
 in_its_stream xs = omega arith
 
--- all deliveries that came before are those that the unit was made of
+-- the unit is made of all deliveries before its last one
 earlier_are : (earlier : List Delivery) (last : Delivery) → Begins earlier last → (unit_by earlier last).earlier ≡ earlier
 earlier_are earlier last b =
     let run = run_is earlier last b in
@@ -494,7 +494,7 @@ unit_welcome shift p plan records part from n earlier last rest h kind same u ea
 
 -- ---- a unit whose packets came in order, wherever in the capture
 
--- the deliveries before those of the unit, followed by them
+-- the events of a unit's deliveries come after those of the deliveries before
 events_after : (before front earlier : List Delivery) (last : Delivery) → in_stream before ≡ front ++ earlier → Begins earlier last → events_to before last ≡ map event_of front ++ map packet (run_at earlier last)
 events_after before front earlier last split b =
     let own : events before ≡ map event_of front ++ map event_of earlier = ap (map event_of) split ∙ map-append event_of front earlier in
@@ -522,7 +522,7 @@ whole_after p part lead from n before front earlier last split b begin =
     unit_last (inl e) = inl e.1
     unit_last (inr are) = inr are.last
 
--- the unit is the last that the delivery gives
+-- a delivery that completes a unit gives up some fragments, and then gives the unit
 given_after_all : (before : List Delivery) (last : Delivery) → IsGood last → piece (events_to before last) ≡ Whole → given_by before last ≡ given_up_by before last ++ unit_by before last ∷ []
 given_after_all before last good whole =
     ap (λ (t : Bool). if t then made_of_one last ∷ [] else given_up_by before last ++ own_by before last) good.streamed
@@ -557,7 +557,7 @@ shows_after ds before front earlier last rest same split all =
     let run : All Shows earlier = All-back Shows front earlier (subst (λ (l : List Delivery). All Shows l) split streamed) in
     All-append Shows earlier (last ∷ []) run (All-cons Shows last [] (All-head Shows last rest (All-back Shows before (last ∷ rest) there)) (All-nil Shows))
 
--- the unit is made of these deliveries
+-- An item of the list is made of these deliveries.
 pub record IsMadeUnit (items : List MadeItem) (before earlier : List Delivery) (last : Delivery) : Type 0 where
   pub listed : Contains items (unit_by before last)
   pub of : (unit_by before last).earlier ≡ earlier

@@ -1,4 +1,4 @@
--- When the first entry of a capture is judged, and what then has room.
+-- The time at which the first entry of a capture is judged, and the room that it finds.
 use Rattle.std.proofs.Common.{◌≡◌, ℕ, ◌+◌, ◌≤◌, Bool, true, false, ℤ, pos, ◌≤ℤ◌, List, [], ◌∷◌, Option, Some, None, refl, ap, arith}
 use Rattle.std.specs.Prelude.{◌==◌, nat_le, nat_lt, if◌then◌else◌, slice_get}
 use Rattle.std.specs.Int.{int_max}
@@ -35,7 +35,7 @@ has_room plan now size some fits = by (nat_le plan.buffer 0) (nat_lt plan.room (
     by : (a b : Bool) → a ≡ false → b ≡ false → (if a then true else b) ≡ false
     by a b e f = rw (e, f) refl
 
--- a delivery's item arrives when the delivery does
+-- the item of a delivery arrives when the delivery does
 refused_arrival : (d : Delivery) (o : Option Refusal) (item : Item) → item_arrival item ≡ d.arrival → item_arrival (refused_or d o item) ≡ d.arrival
 refused_arrival d None item e = e
 refused_arrival d (Some refusal) item e = refl

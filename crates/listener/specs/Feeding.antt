@@ -42,19 +42,19 @@ pub record StandsFor (bytes : List ℕ) (given : ℕ) (fed : Feeding) : Type 0 w
 
 -- ---- what a piece adds
 
--- the bytes that a listener was fed, after a piece to which it gives this answer
+-- the bytes that a listener was fed, after a piece for which `feed` returns this
 abbrev pub bytes_after : List ℕ → List ℕ → Result ℕ ListenFault → List ℕ
 bytes_after bytes piece (Ok n) = bytes ++ take n piece
 bytes_after bytes piece (Err (Refused refusal)) = bytes ++ piece
 bytes_after bytes piece (Err Memory) = bytes
 
--- the answer says that memory ran out
+-- `feed` returns that memory ran out
 abbrev pub is_memory : Result ℕ ListenFault → Bool
 is_memory (Ok n) = false
 is_memory (Err (Refused refusal)) = false
 is_memory (Err Memory) = true
 
--- how many items may still be given
+-- at most this many items may still be given
 abbrev pub work : Feeding → ℕ
 work fed = listener_work fed.listener + length (option_to_list fed.next)
 

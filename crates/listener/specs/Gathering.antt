@@ -22,7 +22,7 @@ pub record Gathered : Type 0 where
   pub taken : ℕ
   pub own : Option Item
 
--- a packet that is not presented
+-- the item of a packet that is not presented
 abbrev pub lost_item : Reason → Mark → Item
 lost_item reason mark = OfBad (record { frame = mark.frame; arrival = mark.arrival; seq = mark.seq; reason = reason })
 
@@ -34,6 +34,6 @@ item_entry item = OfItem item
 abbrev pub left : Gathered → List Item
 left u = map (lost_item (lost_for u.why)) (drop u.taken u.assembly.lost) ++ option_to_list u.own
 
--- the units were given these deliveries
+-- The units were given these deliveries, and hold the fragments that wait.
 pub record HasUnits (ds : List Delivery) (u : Gathered) : Type 0 where
   pub assembly : StandsFor u.assembly (events ds)

@@ -13,7 +13,7 @@ use Rattle.listener.specs.declared.plan.ListenPlan.{ListenPlan}
 use Rattle.packet_journal.specs.Deliveries.{Delivery, deliveries}
 use Rattle.listener.specs.Items.{MadeItem, entries, entries_so_far, items_of}
 
--- the part of a listener's plan that is its schedule's
+-- the schedule's part of a listener's plan
 abbrev pub schedule_plan : ListenPlan → SchedulePlan
 schedule_plan plan = record {
   buffer = plan.buffer;
@@ -67,8 +67,8 @@ counts_of plan records list = record {
   flagged = count_by is_flag list;
 }
 
--- What a listener shows of the bytes: the schedule of their whole records, which is that of those before the first
--- refusal; its counts; and the first refusal, if there is one.
+-- What a listener shows of a capture's bytes: the schedule of the whole records before the first refusal; its counts; and the
+-- first refusal, if there is one.
 abbrev pub heard_of : ListenPlan → List ℕ → Heard
 heard_of plan bytes =
     let records = whole_records bytes in

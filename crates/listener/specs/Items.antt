@@ -1,5 +1,5 @@
--- The items that the deliveries of a stream and of its clock are made into: packets of samples, units of H.264, packets that
--- are not presented, and CRF timestamps.
+-- The items that are made of the deliveries of a stream and of its clock: packets of samples, units of H.264, packets that are
+-- not presented, and CRF timestamps.
 use Rattle.std.specs.Prelude.{if◌then◌else◌, ℕ, ◌-◌, ◌==◌, ◌&&◌, not, false, List, [], ◌∷◌, ◌++◌, length, map, Option, Some, None, unwrap_or}
 use Rattle.avtp_base.specs.declared.refusal.Refusal.{Refusal}
 use Rattle.clock_track.specs.declared.clock_row.ClockRow.{ClockRow}
@@ -26,7 +26,8 @@ use Rattle.listener.specs.Units.{event_of, events, flaw_of, in_stream, last_ones
 use Rattle.packet_journal.specs.Packets.{audio_sample_type}
 
 -- A packet of AAF (IEEE 1722-2016, 7). Its timestamp counts if it is valid. In sparse mode a packet without a timestamp is
--- counted from the last packet before it that has one. The rate code for a rate that only the user knows gives no rate.
+-- counted from the last packet before it whose sequence number is a multiple of 8. The rate code for a rate that only the user
+-- knows gives no rate.
 abbrev pub samples_of : Delivery → Aaf → Item
 samples_of d v = OfPacket (record {
   frame = d.frame;
@@ -41,7 +42,8 @@ samples_of d v = OfPacket (record {
   bytes = v.payload;
 })
 
--- How a packet of IEC 61883-6 is stamped: by the SYT interval of its rate, if it has one. A no-data packet has neither.
+-- Which data block of an IEC 61883-6 packet is stamped, by its block count and the SYT interval of its rate. A no-data packet
+-- has neither rate nor interval.
 abbrev pub block_rule : ℕ → Option ℕ → HeadRule
 block_rule dbc None = Own
 block_rule dbc (Some interval) = Blocks dbc interval
@@ -146,7 +148,7 @@ flagged reason d = record {
   last = d;
 }
 
--- the reason that fragments are flagged with if they were given up for this
+-- the reason with which fragments are flagged, by why they were given up
 abbrev pub lost_for : LostFor → Reason
 lost_for Broken = BrokenUnit
 lost_for Long = LongUnit
@@ -177,13 +179,14 @@ unit_by before d = record {
   last = d;
 }
 
--- a good packet of H.264 completes a unit, or waits for the rest of it, or is lost
+-- the items of an H.264 packet without a flaw: the unit that it completes; none if it waits for the rest of its unit; or a
+-- flagged item if it is lost
 abbrev pub piece_by : List Delivery → Delivery → Piece → List MadeItem
 piece_by before d Whole = unit_by before d ∷ []
 piece_by before d Held = []
 piece_by before d (Lost why) = flagged (lost_for why) d ∷ []
 
--- what a packet of H.264 makes: a flagged item if it has a flaw, else what becomes of its part of a unit
+-- the items of a packet of H.264: a flagged item if it has a flaw, else those of a packet without a flaw
 abbrev pub video_by : List Delivery → Delivery → Option Reason → List MadeItem
 video_by before d None = piece_by before d (piece (events_to before d))
 video_by before d (Some reason) = flagged reason d ∷ []

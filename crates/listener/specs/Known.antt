@@ -19,7 +19,7 @@ clock_numbers [] = []
 clock_numbers (OfStream n ∷ os) = clock_numbers os
 clock_numbers (OfClock m ∷ os) = m ∷ clock_numbers os
 
--- the packets that came when the delivery at a place is judged: all up to it, and `look` more
+-- the packets that have come when the delivery at a place is judged: all up to it, and `look` more
 abbrev pub came_by : ListenPlan → ℕ → List Origin → List Origin
 came_by plan place origins = take (place + plan.look + 1) origins
 

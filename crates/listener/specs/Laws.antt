@@ -26,7 +26,7 @@ use Rattle.listener.specs.Heard.{entries_in, items_in, schedule_plan}
 use Rattle.listener.specs.Items.{MadeItem, sources}
 use Rattle.listener.specs.Known.{IsKnownItem}
 
--- The listener has no clock, or it listens to the talker's own and adds to its timestamps the shift that makes them the
+-- The listener has no clock, or it has the talker's clock and adds to the clock's timestamps the shift that makes them the
 -- journal's.
 abbrev pub FollowsClock : ℤ → PacketJournal → ℤ → Option ℕ → Type 0
 FollowsClock shift p added None = ⊤

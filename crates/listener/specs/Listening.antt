@@ -49,7 +49,7 @@ pub record StandsFor (records : List Record) (given : ℕ) (listener : ListenSta
   pub plan : listener.judge.plan ≡ schedule_plan listener.plan
   pub units : is_closed listener ≡ false → HasUnits (deliveries_of listener.plan records) listener.units
   pub judges : Judges (entries_by (is_closed listener) listener.plan records) given listener.judge listener.units
-  -- the judge's list ends with the records, once nothing waits
+  -- the judge is closed only if no more records follow and nothing waits
   pub ends : listener.judge.closed ≡ true → (is_closed listener ≡ true) × (left listener.units ≡ [])
   pub within : given ≤ length (out listener records)
   pub counts : listener.counts ≡ counts_of listener.plan records (take given (out listener records))

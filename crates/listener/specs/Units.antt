@@ -45,13 +45,13 @@ fragment_in d v = record {
 
 -- ---- events
 
--- what a delivery of H.264 does to units: it is a packet of a unit, or if it has a flaw it cuts them
+-- what a delivery of H.264 does to units: it adds a packet to them, or, if it has a flaw, ends the current one
 abbrev pub event_by : Delivery → Option Reason → Event
 event_by d None = packet (fragment_in d (cvf_of d.packet))
 event_by d (Some reason) = cut
 
--- What a delivery of the stream does to units: a packet of H.264 without a flaw is a packet of a unit, and no unit continues
--- across any other delivery.
+-- What a delivery of the stream does to units: a packet of H.264 without a flaw is added to them, and no unit continues across
+-- any other delivery.
 abbrev pub event_of : Delivery → Event
 event_of d = if d.subtype == cvf_subtype then event_by d (flaw_of d) else cut
 

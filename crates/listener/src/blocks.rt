@@ -12,7 +12,7 @@ use sample_schedule::{Item, Packet};
 use std::alloc::Global;
 use time_unfold::HeadRule;
 
-/// Which data block a packet's timestamp belongs to. A no-data packet has none.
+/// Which data block a packet's timestamp belongs to. A no-data packet has no data blocks.
 fn block_rule(cip: Cip) -> HeadRule
     ensures { result ≡ block_rule_of cip.dbc (syt_interval_of cip.fdf) }
 {

@@ -101,10 +101,10 @@ fn hear(alloc: Global, listener: &mut Listener, bytes: &[u8]) -> Result<Heard, N
 ///
 /// A record belongs to the stream if it is a readable Ethernet frame of AVTP, its packet is of a kind that is read (AAF, IEEE
 /// 1722-2016, 7; CVF of H.264, 8; IEC 61883-6), and its stream id is valid and the wanted one. A packet that its reader refuses
-/// is flagged as malformed. Adjacent fragments of H.264 are put together to one unit, which has the frame number and the
+/// is flagged as malformed. Adjacent fragments of H.264 are put together into one unit, which has the frame number and the
 /// presentation time of its last packet; a fragment that is in no whole unit is flagged as broken or too long. A record belongs
 /// to the media clock if all of this holds for a packet of CRF (IEEE 1722-2016, 10) with the clock's id. Record times are taken
-/// as nanoseconds of gPTP. The plan is within the limits that `ListenPlan` names.
+/// as nanoseconds of gPTP. The plan must be within the limits that `ListenPlan` names.
 ///
 /// Whatever the capture loses, repeats or reorders of the packets of a talker that keeps the rules and of its clock, what is
 /// shown keeps the headline: each packet that came in time, found room and has a known timestamp or clock reference is

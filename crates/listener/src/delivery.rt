@@ -18,13 +18,13 @@ use pcap_frames::{RecordView, read_frame};
 pub struct DeliveryView<'a> {
     /// The number of the record in the capture, from 1.
     pub frame: u64,
-    /// When it was captured, in nanoseconds of gPTP.
+    /// When the record was captured, in nanoseconds of gPTP.
     pub arrival: i64,
     /// The subtype of its packet.
     pub subtype: u8,
-    /// The sequence number.
+    /// The sequence number of its packet.
     pub seq: u8,
-    /// The AVTP packet.
+    /// Its AVTP packet.
     pub packet: &'a [u8],
 }
 
@@ -62,7 +62,7 @@ fn avtp_packet(frame: &[u8]) -> Option<AvtpPacket<'_>>
     })
 }
 
-/// The packet is of a kind that streams consist of and that is read.
+/// The subtype is one that a listener reads as a stream: IEC 61883, AAF or CVF.
 fn is_read(subtype: u8) -> bool
     ensures { result ≡ list_any (λ kind. subtype == kind) stream_kinds }
 {
@@ -101,8 +101,9 @@ pub fn packet_of_stream(stream: u64, frame: &[u8]) -> Option<StreamPacket<'_>>
     })
 }
 
-/// The record as a delivery of the plan's stream or of its clock, if it belongs to one of them: a readable Ethernet frame of
-/// AVTP, with a packet of a stream that is read or of a media clock, and with a valid stream id that is the wanted one.
+/// The record as a delivery of the plan's stream or of its clock, if it belongs to one of them: it is a readable Ethernet frame
+/// of AVTP, with a packet of IEC 61883, AAF or CVF for the stream or of CRF for the clock, and its stream id is valid and the
+/// wanted one.
 pub fn delivery_of<'a>(
     plan: &ListenPlan,
     frame: u64,

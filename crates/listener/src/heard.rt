@@ -7,7 +7,7 @@ use avtp_base::Refusal;
 use sample_schedule::Shown;
 use std::marker::Model;
 
-/// What is shown, in its order, which contracts see as a list.
+/// The items that are shown, in their order. Contracts see them as a list.
 #[derive(Debug, Drop)]
 pub struct ShownList {
     items: Vec<Shown>,
@@ -40,13 +40,13 @@ impl ShownList {
 /// How much of a capture a listener saw.
 #[derive(Clone, Copy, Debug, PartialEq, Eq)]
 pub struct Counts {
-    /// The whole records.
+    /// The number of whole records.
     pub frames: u64,
-    /// Those that belong to the stream.
+    /// The number of records that belong to the stream.
     pub packets: u64,
-    /// The batches that are presented.
+    /// The number of batches that are presented.
     pub presented: u64,
-    /// The items that are flagged.
+    /// The number of items that are flagged.
     pub flagged: u64,
 }
 
@@ -60,7 +60,7 @@ pub struct Heard {
 }
 
 impl Counts {
-    /// Nothing was counted yet.
+    /// The counts before the first record.
     pub(crate) fn none() -> Self
         ensures { result ≡ record { frames = 0; packets = 0; presented = 0; flagged = 0 } }
     {
@@ -72,7 +72,7 @@ impl Counts {
         }
     }
 
-    /// The counts with one more record, which belongs to the stream or not.
+    /// The counts with one more record. `in_stream` says whether it belongs to the stream.
     pub(crate) fn with_record(self, in_stream: bool) -> Self
         requires within { self.packets ≤ self.frames }
         requires few { self.frames < 2 ^ 63 }
@@ -102,7 +102,7 @@ impl Counts {
         }
     }
 
-    /// The counts without the item that was counted last.
+    /// The counts without this item, which was counted last.
     pub(crate) fn without_shown(self, shown: &Shown) -> Self
         ensures { result ≡ without_shown_of self shown.now }
     {

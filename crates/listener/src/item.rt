@@ -1,4 +1,4 @@
-//! The items that deliveries are made into, and the samples of AAF.
+//! The items that are made of deliveries, and the samples of AAF.
 
 ghost use Rattle.std.specs.Prelude.{◌≡◌, IfOk};
 ghost use Rattle.aaf_format.specs.Aaf.{aaf_shape};

@@ -60,8 +60,8 @@ pub fn carried_packets_are_heard()
     records_of_both_are_delivered();
 }
 
-/// A listener without a clock follows the talker, and so does one with the talker's clock and the shift that makes its
-/// timestamps the journal's.
+/// A listener without a clock follows the talker. A listener with the talker's clock follows it, too, if its shift makes the
+/// clock's timestamps those of the journal.
 pub fn clocks_are_followed()
     ensures without { (shift added : ℤ) (p : PacketJournal) → FollowsClock shift p added None }
     ensures with_it { (shift : ℤ) (p : PacketJournal) → FollowsClock shift p shift (Some p.clock) }
@@ -69,8 +69,8 @@ pub fn clocks_are_followed()
 
 /// Fragments are put together truly, whatever a capture loses, repeats or reorders of the H.264 packets of a talker that keeps
 /// the rules: each whole unit was made of one copy of each packet of one unit of the talker, in their order, and has this
-/// unit's bytes and its instant. Sequence numbers alone would not tell packets that are 256 apart; timestamps do, and for
-/// fragments without one, the condition that their packets are at most 254 apart does.
+/// unit's bytes and its instant. Sequence numbers alone would not distinguish packets that are 256 apart. Timestamps do, and
+/// for fragments without a timestamp, the condition that their packets are at most 254 apart does.
 pub fn units_are_true()
     ensures { (shift : ℤ) (p : PacketJournal) (plan : ListenPlan) (records : List Record) (place : ℕ) (made : MadeItem) (unit : Unit) (part : ℕ → Part) → HearsTalker shift p plan records → p.times.kind ≡ H264 part → slice_get (items_in plan records) place ≡ Some made → made.entry ≡ Entry.Item (Item.Unit unit)
         → (n : ℕ) × IsUnitFrom p part plan.lead n made unit }
@@ -89,15 +89,15 @@ pub fn units_are_whole()
 /// What is presented is true, whatever a capture loses, repeats or reorders of the packets of a talker that keeps the rules and
 /// of its clock, and wherever these restart. Each batch that is presented is one of the talker's packets or units, with its
 /// bytes, and is the packet that its own item was made of. Each of its samples is at the nanosecond of gPTP that the talker
-/// gave it, or that is counted from the timestamp that it belongs to: at the nominal rate, or for a listener with the clock, on
-/// the line through the two CRF timestamps that cover that timestamp.
+/// gave it, or that is counted from the timestamp to which the sample belongs: at the nominal rate, or for a listener with the
+/// clock, on the line through the two CRF timestamps that cover that timestamp.
 pub fn presented_are_true()
     ensures origin { (shift : ℤ) (p : PacketJournal) (plan : ListenPlan) (records : List Record) → HearsTalker shift p plan records → All (IsHeardFrom (by_clock plan) (items_in plan records) p plan.lead) (presented_of (shown_of plan records)) }
     ensures packet { (shift : ℤ) (p : PacketJournal) (plan : ListenPlan) (records : List Record) → HearsTalker shift p plan records → All (IsOfJournal (by_clock plan) p) (presented_of (shown_of plan records)) }
 {}
 
-/// A batch is at most one packet of the talker, so a statement that a batch is packet n can mean no other. A unit of H.264 has
-/// the number of its last packet.
+/// A batch is at most one packet of the talker: if it is packet n and packet m, n equals m. A unit of H.264 has the number of
+/// its last packet.
 pub fn batches_have_one_number()
     ensures { (shift : ℤ) (p : PacketJournal) (by : Bool) (n m : ℕ) (batch : Presented) → IsConforming shift p → IsOfPacket by p n batch → IsOfPacket by p m batch → n ≡ m }
 {}
@@ -120,16 +120,16 @@ pub fn listeners_agree()
     ensures { (shift : ℤ) (p : PacketJournal) (plan other : ListenPlan) (records others : List Record) → HearsTalker shift p plan records → HearsTalker shift p other others → by_clock other ≡ by_clock plan → All (λ a. All (Agree (by_clock plan) p a) (presented_of (shown_of other others))) (presented_of (shown_of plan records)) }
 {}
 
-/// A copy of a packet is presented if its timestamp is known, and with a clock two CRF timestamps that cover it, it came in
-/// time and found room, and no copy of the packet was accepted before, however many other packets are late, lost or untimed.
-/// What is presented has the number of its frame.
+/// A copy of a packet is presented if it is known (its timestamp, and with a clock two CRF timestamps that cover that), came in
+/// time, found room, and no copy of the packet was accepted before, however many other packets are late, lost or untimed. What
+/// is presented has the number of its frame.
 pub fn known_and_in_time_is_presented()
     ensures { (shift : ℤ) (p : PacketJournal) (plan : ListenPlan) (records : List Record) (place n : ℕ) (made : MadeItem) → HearsTalker shift p plan records → IsWelcome p plan records place n made → Any (IsPresentedOf (by_clock plan) p n made) (presented_of (shown_of plan records)) }
 {}
 
-/// The first packets of an H.264 stream must be presented together if they are all packets of one unit of the talker, in their
-/// order, the last came before the unit is due, each carries the unit's first byte, the unit is within the limits of units, and
-/// its bytes fit the room.
+/// The first deliveries of an H.264 stream must be presented as one unit under five conditions: they are all packets of one
+/// unit of the talker, in their order; the last comes no later than the unit is due; each carries the unit's first byte; the
+/// unit is within the limits of units; and its bytes fit the room.
 pub fn first_fragments_are_welcome()
     ensures { (shift : ℤ) (p : PacketJournal) (plan : ListenPlan) (records : List Record) (from n : ℕ) (part : ℕ → Part) (earlier : List Delivery) (last : Delivery) (rest : List Delivery) → HearsTalker shift p plan records → p.times.kind ≡ H264 part → deliveries_of plan records ≡ earlier ++ last ∷ rest
         → AreOfUnit p part plan.lead from n earlier last → last.arrival ≤ℤ pos (p.times.due n) → 1 ≤ plan.buffer → length (unit_bytes p from n) ≤ plan.room → IsWelcome p plan records 0 n (unit_by earlier last) }

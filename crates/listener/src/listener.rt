@@ -45,8 +45,8 @@ pub enum ListenFault {
 pub struct Listener {
     reader: Reader,
     listener: RecordListener,
-    /// What is due next. It is taken from the judge ahead of the request, so that `feed` can tell whether something is due;
-    /// only then does it return 0. The counts are the judge's without this item.
+    /// The item that is due next. It is taken from the judge before `next_out` asks for it, so that `feed` can tell whether
+    /// something is due. `counts` leaves it out.
     next: Option<Shown>,
     out_of_memory: bool,
 }
@@ -63,7 +63,7 @@ impl Model for Listener {
 }
 
 impl Listener {
-    /// A new listener. The plan is within the limits that `ListenPlan` names.
+    /// A new listener. The plan must be within the limits that `ListenPlan` names.
     pub fn begin(alloc: Global, plan: ListenPlan) -> Result<Self, NoMemory>
         requires plan { IsPlan (schedule_plan plan) }
         ensures stands { IfOk result (StandsFor [] 0) }
@@ -207,8 +207,8 @@ impl Listener {
     }
 }
 
-/// Gives the next record, whose bytes these are, to the listener without a copy. If there is no memory, the reader is
-/// unchanged.
+/// Gives the next record, whose bytes are `piece`, to the listener without a copy. If there is no memory, the listener and the
+/// reader are unchanged.
 fn take_lent(
     alloc: Global,
     reader: &mut Reader,
@@ -231,7 +231,7 @@ fn take_lent(
     Ok(())
 }
 
-/// Gives the record that the reader holds to the listener, if there is one. If there is no memory, the reader still holds it.
+/// Gives the record that the reader holds to the listener, if there is one. If there is no memory, the listener is unchanged.
 fn take_held(
     alloc: Global,
     reader: &mut Reader,

@@ -14,13 +14,13 @@ pub struct ListenPlan {
     pub clock: Option<u64>,
     /// The most batches that wait for their presentation time, 1 to 65,536.
     pub buffer: u32,
-    /// The most bytes that they have together, 1 to 1,073,741,824.
+    /// The most bytes of these batches together, 1 to 1,073,741,824.
     pub room: u32,
-    /// How many later items are read before an item is judged, 0 to 64.
+    /// How many items after an item are read before it is judged, 0 to 64.
     pub look: u32,
     /// How long before its presentation time a packet is expected (the max transit time), at most 1,000,000,000 ns.
     pub lead: u32,
-    /// What is added to each timestamp of the clock, from -1,000,000,000 to 1,000,000,000 ns.
+    /// The shift that is added to each timestamp of the clock, from -1,000,000,000 to 1,000,000,000 ns.
     pub shift: i64,
 }
 

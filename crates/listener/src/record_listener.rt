@@ -44,8 +44,8 @@ pub struct RecordListener {
     ended: bool,
     /// The judge was told that nothing follows.
     closed: bool,
-    /// All that is due was given, and nothing came since that could change that: only a record of the stream or its clock, or
-    /// the end, can. After a record of another stream the judge is not called.
+    /// All that is due was given, and neither a record of the stream or its clock nor the end came since. After a record of
+    /// another stream the judge is not called.
     idle: bool,
     counts: Counts,
 }
@@ -66,7 +66,7 @@ impl Model for RecordListener {
 }
 
 impl RecordListener {
-    /// A new listener. The plan is within the limits that `ListenPlan` names.
+    /// A new listener. The plan must be within the limits that `ListenPlan` names.
     pub fn begin(alloc: Global, plan: ListenPlan) -> Result<Self, NoMemory>
         requires plan { IsPlan (schedule_plan plan) }
         ensures stands { IfOk result (StandsFor [] 0) }
@@ -88,8 +88,8 @@ impl RecordListener {
         })
     }
 
-    /// Takes the next record. Nothing may be due of those before it, fewer than 2^62 were taken, and the listener is not
-    /// closed. The record's time is from 0 to 2^62 ns.
+    /// Takes the next record. All that is due of the earlier records must have been given, fewer than 2^62 records taken, and
+    /// the listener not closed. The record's time is from 0 to 2^62 ns.
     ///
     /// A record that belongs neither to the stream nor to its clock is counted and skipped. `NoMemory` comes if there is no
     /// memory for the packet's samples or the unit; the listener is then unchanged.
@@ -145,7 +145,7 @@ impl RecordListener {
         next
     }
 
-    /// Puts the next item that is shown into an empty place. Usually there is none, and nothing is moved.
+    /// Puts the next item that is shown into `next`, which must be empty. Usually there is no item, and nothing is moved.
     #[inline(always)]
     pub(crate) fn put_next(&mut self, next: &mut Option<Shown>)
         requires { next.old ≡ None }
@@ -195,8 +195,8 @@ impl RecordListener {
     }
 }
 
-/// Takes a delivery: timestamps of the clock are judged, and the first item that a delivery of the stream gives; the others
-/// wait.
+/// Takes a delivery. The judge gets the timestamps of a clock packet, or the first item that a packet of the stream gives; the
+/// other items wait.
 #[inline(always)]
 fn take_delivery(
     alloc: Global,
@@ -225,8 +225,8 @@ fn take_delivery(
     Ok(())
 }
 
-/// The next item that is shown. The items that wait are judged for it one after another, and once all items of a list that has
-/// ended are judged, the judge is closed.
+/// The next item that is shown. Waiting items are judged one after another until one is due. Once none waits and no more
+/// records follow, the judge is closed.
 #[inline(always)]
 fn next_shown(units: &mut Units, judge: &mut Judge, ended: bool, closed: &mut bool) -> Option<Shown>
     requires closed { closed.old ≡ judge.old.closed }
@@ -251,7 +251,8 @@ fn next_shown(units: &mut Units, judge: &mut Judge, ended: bool, closed: &mut bo
     }
 }
 
-/// Gives the judge the next item that waits, or closes it if none does and the list has ended. Returns whether it did either.
+/// Gives the next waiting item to the judge, or closes the judge if no item waits and no more records follow. Returns whether
+/// it did either.
 #[inline(always)]
 fn judge_next(units: &mut Units, judge: &mut Judge, ended: bool, closed: &mut bool) -> bool
     requires idle { IsIdleJudge judge.old }
@@ -271,7 +272,7 @@ fn judge_next(units: &mut Units, judge: &mut Judge, ended: bool, closed: &mut bo
     }
 }
 
-/// Closes the judge, if the list has ended and it was not closed before. Returns whether it did.
+/// Closes the judge if no more records follow and it is still open. Returns whether it did.
 fn close_ended(judge: &mut Judge, ended: bool, closed: &mut bool) -> bool
     requires idle { IsIdleJudge judge.old }
     requires closed { closed.old ≡ judge.old.closed }

@@ -62,7 +62,7 @@ fn mark_of(delivery: &DeliveryView<'_>) -> Mark
     }
 }
 
-/// A packet that is not presented.
+/// The item of a packet that is not presented.
 fn lost_item(mark: Mark, reason: Reason) -> Item
     ensures { result ≡ lost_item_of reason mark }
 {
@@ -137,7 +137,8 @@ fn unit_bytes(mut bytes: Vec<u8>, unit: &[u8]) -> Bytes
     Bytes::over(bytes)
 }
 
-/// The item of a packet that completes a unit of these bytes, or waits, or is lost. Memory for the unit is allocated already.
+/// The item of a packet: the unit of these bytes if the packet completes it, none if the packet waits, a flagged item if it is
+/// lost. Memory for the unit is allocated already.
 fn own_item(
     delivery: &DeliveryView<'_>,
     view: &CvfView<'_>,
@@ -165,7 +166,7 @@ fn own_item(
 }
 
 impl Units {
-    /// No delivery yet. Reserves the memory for the fragments of a unit.
+    /// Begins before the first delivery, and reserves the memory for the fragments of a unit.
     pub fn new(alloc: Global) -> Result<Self, NoMemory>
         ensures stands { IfOk result (HasUnits []) }
         ensures none { IfOk result (λ units. left units ≡ []) }
@@ -209,8 +210,8 @@ impl Units {
         self.next()
     }
 
-    /// A packet begins a unit, continues one, or is lost. `NoMemory` comes if there is no memory for the unit that it
-    /// completes, which is reserved before the packet is pushed.
+    /// Adds a packet, which begins a unit, continues one, or is lost. Memory for a unit that the packet may complete is
+    /// allocated first. If there is none, `NoMemory` comes and nothing changes.
     fn push(
         &mut self,
         alloc: Global,

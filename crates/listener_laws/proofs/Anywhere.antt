@@ -53,7 +53,7 @@ origin_at p lead (o ∷ os) (x ∷ ds) (suc j) d from at = let rest = origin_at 
 
 -- ---- when it is judged
 
--- nothing up to a place came after this instant
+-- if nothing up to a place came after this instant, the item there is judged no later than it
 judged_by : (shift : ℤ) (p : PacketJournal) (plan : ListenPlan) (records : List Record) (place instant : ℕ) → HearsTalker shift p plan records → IsAudioKind p.times.kind → place < length (deliveries_of plan records)
     → ((k : ℕ) (e : Delivery) → k ≤ place → slice_get (deliveries_of plan records) k ≡ Some e → e.arrival ≤ℤ pos instant) → time_of plan records place ≤ℤ pos instant
 judged_by shift p plan records zero instant h kind lt early =
@@ -80,7 +80,7 @@ timely_here shift p plan records place n d h kind c = record {
 
 -- ---- it is welcome
 
--- each delivery before the place is taken
+-- if Q holds for all packets before a place, each delivery before it is a copy of a packet for which Q holds
 before_it : (shift : ℤ) (p : PacketJournal) (plan : ListenPlan) (records : List Record) (Q : ℕ → Type 0) (os : List Origin) (place : ℕ) → HearsTalker shift p plan records → IsAudioKind p.times.kind → AreFrom p plan.lead os (deliveries_of plan records) → place < length (deliveries_of plan records)
     → ((j : ℕ) (o : Origin) → j < place → slice_get os j ≡ Some o → HoldsOf Q o) → (j : ℕ) → j < place → IsAtPlace p plan records Q os j
 before_it shift p plan records Q os place h kind from within holds j lt =

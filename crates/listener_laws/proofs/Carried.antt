@@ -8,7 +8,7 @@ use Rattle.packet_journal.specs.Deliveries.{Delivery, belongs, clock_kinds, deli
 use Rattle.packet_journal.specs.Delivered.{AreFrom, IsClockCopyOf, IsCopyOf, Origin, OfClock, OfStream}
 use Rattle.packet_journal.specs.Packets.{PacketJournal}
 
--- what is known of each record that carries a packet
+-- Each record that carries a packet belongs to the packet's stream or clock, and its delivery is a copy of the packet.
 pub record AreRead (p : PacketJournal) (lead : ℕ) : Type 0 where
   pub stream : (n : ℕ) (r : Record) → Carries p lead n r → belongs stream_kinds p.stream r.bytes ≡ true
   pub copy : (n frame : ℕ) (r : Record) → Carries p lead n r → IsCopyOf p lead n (delivery frame r)
@@ -36,7 +36,7 @@ kept_all p clock lead i [] (r ∷ rs) are hears all = absurd all
 kept_all p clock lead i (o ∷ os) [] are hears all = absurd all
 kept_all p clock lead i (o ∷ os) (r ∷ rs) are hears all = rw (delivered p clock lead o r are hears.0 all.0) (ap {B = List (ℕ × Record)} (λ l. (i, r) ∷ l) (kept_all p clock lead (i + 1) os rs are hears.1 all.1))
 
--- the deliveries of these records, counted from i
+-- the deliveries of all these records, counted from i
 abbrev pub numbered : ℕ → List Record → List Delivery
 numbered i rs = map (λ (x : ℕ × Record). delivery x.0 x.1) (enumerate_from i rs)
 
@@ -54,7 +54,7 @@ numbered_at i (suc n) (x ∷ rs) r e =
     let number : i + 1 + n ≡ i + suc n = omega arith in
     numbered_at (i + 1) n rs r e ∙ ap (λ (m : ℕ). Some (delivery m r)) number
 
--- they are copies of just these packets
+-- the deliveries of these records are copies of exactly these packets
 pub all_from : (p : PacketJournal) (lead i : ℕ) (os : List Origin) (rs : List Record) → AreRead p lead → AllCarryFrom p lead os rs → AreFrom p lead os (numbered i rs)
 all_from p lead i [] [] are all = tt
 all_from p lead i [] (r ∷ rs) are all = absurd all

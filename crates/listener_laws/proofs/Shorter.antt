@@ -1,4 +1,4 @@
--- What a listener hears of a capture, it hears of the capture's first records.
+-- If a listener hears a talker in a whole capture, it hears the talker in the capture's first records.
 use Rattle.std.proofs.Common.{◌≡◌, ℕ, ℤ, List, [], ◌∷◌, ◌++◌, refl, ap, subst}
 use Rattle.pcap_frames.specs.Capture.{Record}
 use Rattle.stream_journal.specs.Delivered.{AreNear}
@@ -17,7 +17,7 @@ near_front j [] ys near = tt
 near_front j (n ∷ []) ys near = tt
 near_front j (n ∷ m ∷ xs) ys near = (near.0, near_front j (m ∷ xs) ys near.1)
 
--- the origins of the first deliveries, and those of the others
+-- The origins of the first deliveries come first, and then those of the others.
 record HasFront (p : PacketJournal) (lead : ℕ) (os : List Origin) (ds : List Delivery) : Type 0 where
   front : List Origin
   back : List Origin

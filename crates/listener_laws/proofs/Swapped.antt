@@ -1,4 +1,4 @@
--- A copy of a packet that must be presented by the clock, and a further one.
+-- In the example, a copy of a packet must be presented by the clock, and another is a further copy.
 use Rattle.std.proofs.Common.{◌≡◌, ◌≢◌, inl, inr, ℕ, zero, suc, ◌+◌, ◌*◌, ◌^◌, ◌<◌, ◌≤◌, true, pos, ◌≤ℤ◌, List, [], ◌∷◌, length, take, Some, refl, sym, ap, subst, append-nil, arith}
 use Rattle.std.specs.Prelude.{slice_get}
 use Rattle.std.proofs.lemmas.Int.{ints}

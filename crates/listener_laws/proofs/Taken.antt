@@ -1,4 +1,4 @@
--- What a listener accepts of a capture of audio: only the packets that came.
+-- A listener accepts only packets that came, of a capture of audio.
 use Rattle.std.proofs.Common.{◌≡◌, ◌≢◌, ◌⊎◌, ℕ, zero, suc, ◌+◌, ◌*◌, ◌<◌, ◌≤◌, Bool, true, false, ℤ, ◌≤ℤ◌, List, [], ◌∷◌, ◌++◌, All, length, filter, take, Some, Ok, refl, sym, ap, ◌∙◌, subst, inl, inr, arith, append-nil, length-append}
 use Rattle.std.specs.Prelude.{Any, Err, IfOk, Result, int_le, slice_get}
 use Rattle.std.specs.List.{AllByRecursion}
@@ -39,7 +39,7 @@ use Rattle.listener.proofs.TrueTimely.{entry_there}
 
 -- ---- one delivery
 
--- an accepted item is packet k, at the packet's first instant
+-- The accepted item is packet k, at the packet's first instant.
 pub record IsPacketAt (by : Bool) (p : PacketJournal) (k : ℕ) (a : Accepted) : Type 0 where
   pub at : IsAt by p.times k 0 a.instant
   pub is : IsOfPacket by p k a.batch
@@ -60,8 +60,8 @@ unfolding verdict
 verdict_so P plan now earlier place (Err reason) is = tt
 verdict_so P plan now earlier place (Ok batch) is = decided_so P _ _ _ place batch is
 
--- The delivery at place j is a copy of the clock's packet, of which nothing is accepted; or of packet k of the stream, and nothing
--- is accepted of it, or that packet is.
+-- Delivery j is a copy of a packet of the clock, and nothing is accepted; or it is a copy of packet k of the stream, and the
+-- packet is accepted, or nothing is.
 abbrev pub IsTakenAt : PacketJournal → ListenPlan → List Record → ℕ → Origin → Type 0
 IsTakenAt p plan records j (OfClock m) = accepted_before plan records (suc j) ≡ accepted_before plan records j
 IsTakenAt p plan records j (OfStream k) =
@@ -127,7 +127,7 @@ numbers_more [] rest = refl
 numbers_more (OfStream n ∷ os) rest = ap (λ (l : List ℕ). n ∷ l) (numbers_more os rest)
 numbers_more (OfClock m ∷ os) rest = numbers_more os rest
 
--- an accepted item is a packet of which Q holds
+-- An accepted item is a packet for which Q holds.
 pub record IsSomeOf (Q : ℕ → Type 0) (by : Bool) (p : PacketJournal) (a : Accepted) : Type 0 where
   pub k : ℕ
   pub holds : Q k

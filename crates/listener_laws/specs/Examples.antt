@@ -25,11 +25,11 @@ recorded_stream arrival n = recorded arrival (aaf_spelling (silent n))
 abbrev pub recorded_clock : ℕ → ℕ → Record
 recorded_clock arrival m = recorded arrival (crf_spelling (clock_data m))
 
--- What a capture of `clocked_packets` has: packet 34 comes before packet 33, which comes twice.
+-- The packets in a capture of `clocked_packets`: two of its clock, then packet 34, and then packet 33 twice.
 abbrev pub swapped : List Origin
 swapped = OfClock 0 ∷ OfClock 1 ∷ OfStream 34 ∷ OfStream 33 ∷ OfStream 33 ∷ []
 
--- the records of that capture
+-- the records of a capture of `clocked_packets`: two of its clock, then packet 34, and then packet 33 twice
 abbrev pub swapped_records : List Record
 swapped_records =
     recorded_clock 1003000000 0 ∷
@@ -39,7 +39,7 @@ swapped_records =
     recorded_stream 1003400000 33 ∷
     []
 
--- a listener with the clock of `clocked_packets`, which adds a microsecond to its timestamps, with the other options as `listen`
--- has them by default
+-- a listener with the clock of `clocked_packets`, which adds a microsecond to the clock's timestamps, and with the default
+-- values of `listen` in all other options
 abbrev pub clocked_listener : ListenPlan
 clocked_listener = record { stream = 0x0200000000010001; clock = Some 0x0200000000010002; buffer = 4096; room = 67108864; look = 0; lead = 2000000; shift = pos 1000 }

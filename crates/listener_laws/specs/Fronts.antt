@@ -16,10 +16,10 @@ use Rattle.listener.specs.Laws.{AreOther, ComesBefore, IsFurther, IsHeardFrom, I
 abbrev pub IsSettled : ListenPlan → List Record → ℕ → Type 0
 IsSettled plan records place = place + plan.look < length (items_so_far (deliveries_of plan records))
 
--- What is shown of records and of any others after them begins with what is due of the first ones, and that is as the headline
--- says. Each batch is the talker's packet that its item was made of, with its bytes and at its instants; no packet is presented
--- twice; and first instants never fall. Of the items that are judged by the first records, those that must be presented are,
--- further copies are flagged as repeats, and each is shown once, as its verdict says.
+-- What is due of the first records is the beginning of what is shown, whatever records follow, and it is as the headline says.
+-- Each batch is the talker's packet that its item was made of, with its bytes and at its instants; no packet is presented
+-- twice; and first instants never fall. Of the items that are judged by the first records, those that must be presented are
+-- presented, further copies are flagged as repeats, and each item is shown once, as its verdict says.
 pub record IsTrueFront (p : PacketJournal) (plan : ListenPlan) (records others : List Record) : Type 0 where
   pub begins : IsPrefix (due_of plan records) (shown_of plan (records ++ others))
   pub genuine : All (IsHeardFrom (by_clock plan) (items_in plan records) p plan.lead) (presented_of (due_of plan records))

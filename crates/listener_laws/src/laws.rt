@@ -26,8 +26,8 @@ ghost use Rattle.listener_laws.specs.Fronts.{IsTrueFront};
 
 use listener::laws::{headline_holds, units_are_true, what_is_due_stays};
 
-/// If the first records of a capture are a talker's, what is due of them is as the headline says, whatever records follow: a
-/// capture that is cut short, or has records of others after them, is shown with this beginning.
+/// If the first records of a capture are a talker's, what is due of them is as the headline says, whatever records follow. What
+/// is shown of the capture begins with it, even if the capture is cut short or has records of others later.
 pub fn fronts_are_true()
     ensures { (shift : ℤ) (p : PacketJournal) (plan : ListenPlan) (records others : List Record) → HearsTalker shift p plan records → IsTrueFront p plan records others }
 {
@@ -35,14 +35,14 @@ pub fn fronts_are_true()
     what_is_due_stays();
 }
 
-/// A capture whose reading ends early has what a listener hears of a talker, if the whole one has. So what is due of the records
-/// that were read, before a fault or a limit, is a true front.
+/// If a whole capture has what a listener hears of a talker, so has its beginning. What is due of the records that were read
+/// before a fault or a limit is therefore a true front.
 pub fn shorter_captures_are_heard()
     ensures { (shift : ℤ) (p : PacketJournal) (plan : ListenPlan) (records others : List Record) → HearsTalker shift p plan (records ++ others) → HearsTalker shift p plan records }
 {}
 
 /// What a listener gives of a talker's records is as the headline says: all of it once the records have ended, and before that
-/// what is due, which is a true front. `RecordListener::next_out` gives just these items, one by one.
+/// what is due, which is a true front. `RecordListener::next_out` gives exactly these items, one by one.
 pub fn records_are_given_truly()
     ensures ended { (shift : ℤ) (p : PacketJournal) (listener : ListenState) (records : List Record) → is_closed listener ≡ true → HearsTalker shift p listener.plan records → KeepsHeadline shift p listener.plan records (out listener records) }
     ensures due { (shift : ℤ) (p : PacketJournal) (listener : ListenState) (records others : List Record) → is_closed listener ≡ false → HearsTalker shift p listener.plan records → (out listener records ≡ due_of listener.plan records) × IsTrueFront p listener.plan records others }
@@ -51,7 +51,9 @@ pub fn records_are_given_truly()
     fronts_are_true();
 }
 
-/// The same of a capture's bytes, in pieces of any length. `Listener::next_out` gives just these items, one by one.
+/// What a listener gives of the bytes of a talker's capture, in pieces of any length, is as the headline says: all of it once
+/// the capture has ended, and before that what is due, which is a true front. `Listener::next_out` gives exactly these items,
+/// one by one.
 pub fn bytes_are_given_truly()
     ensures ended { (shift : ℤ) (p : PacketJournal) (fed : Feeding) (bytes : List ℕ) → is_ended fed ≡ true → HearsTalker shift p fed.listener.plan (whole_records bytes) → KeepsHeadline shift p fed.listener.plan (whole_records bytes) (out_of fed bytes) }
     ensures due { (shift : ℤ) (p : PacketJournal) (fed : Feeding) (bytes : List ℕ) (others : List Record) → is_ended fed ≡ false → HearsTalker shift p fed.listener.plan (whole_records bytes) → (out_of fed bytes ≡ due_of fed.listener.plan (whole_records bytes)) × IsTrueFront p fed.listener.plan (whole_records bytes) others }
@@ -59,15 +61,15 @@ pub fn bytes_are_given_truly()
     records_are_given_truly();
 }
 
-/// A copy of an audio packet must be presented, wherever it is in a capture and whatever the capture loses, repeats or reorders,
-/// for listeners with the talker's clock and without: if the packets that came time it, nothing up to it was captured after its
-/// first instant, no copy of it came before, and the buffer has room for it.
+/// Anywhere in a capture, whatever it loses, repeats or reorders, and for listeners with the talker's clock or without, a copy
+/// of an audio packet must be presented if the packets that came time it, nothing up to it was captured after its first
+/// instant, no copy of it came before, and the buffer has room for it.
 pub fn copies_anywhere_are_welcome()
     ensures { (shift : ℤ) (p : PacketJournal) (plan : ListenPlan) (records : List Record) (place n : ℕ) (d : Delivery) → HearsTalker shift p plan records → IsAudioKind p.times.kind → MustBePresented p plan records place n d → IsWelcome p plan records place n (made_of_one d) }
 {}
 
-/// If the packet comes again, anywhere later, and nothing up to that copy was captured after the packet's first instant, the copy
-/// must be flagged as a repeat.
+/// If an audio packet that must be presented comes again, anywhere later, and nothing up to that copy was captured after the
+/// packet's first instant, the copy must be flagged as a repeat.
 pub fn copies_anywhere_are_further()
     ensures { (shift : ℤ) (p : PacketJournal) (plan : ListenPlan) (records : List Record) (earlier place n : ℕ) (made : MadeItem) (d : Delivery) → HearsTalker shift p plan records → IsAudioKind p.times.kind → IsWelcome p plan records earlier n made → earlier < place
         → ComesInTime p plan records place n d → IsFurther p plan records place n (made_of_one d) }
@@ -88,8 +90,8 @@ pub fn units_anywhere_are_further()
         → earlier < unit_place before last → UnitComesInTime p plan records part from n before last → IsFurther p plan records (unit_place before last) n (unit_by before last) }
 {}
 
-/// The headline alone demands this, wherever a copy or a unit is in a capture, with a clock or without: what keeps it presents the
-/// copy or the unit if that must be presented, and flags a further one as a repeat.
+/// The headline alone demands that a copy or a unit that must be presented is presented, and that a further one is flagged as a
+/// repeat: what keeps the headline does both, anywhere in a capture, with a clock or without.
 pub fn headline_demands()
     ensures presented { (shift : ℤ) (p : PacketJournal) (plan : ListenPlan) (records : List Record) (shown : List Shown) (place n : ℕ) (d : Delivery) → KeepsHeadline shift p plan records shown → HearsTalker shift p plan records → IsAudioKind p.times.kind → MustBePresented p plan records place n d
         → Any (IsPresentedOf (by_clock plan) p n (made_of_one d)) (presented_of shown) }
@@ -106,9 +108,8 @@ pub fn headline_demands()
     units_anywhere_are_further();
 }
 
-/// If a packet of H.264 completes a unit after those before it, which `Assembler::push` answers with `Whole`, then the unit is one
-/// of the talker's: it was put together from one copy of each packet of that unit, in their order, and has its bytes and its
-/// instant.
+/// If a packet of H.264 completes a unit, for which `Assembler::push` returns `Whole`, the unit is one of the talker's: it was
+/// put together from one copy of each packet of that unit, in their order, and has its bytes and its instant.
 pub fn assembled_units_are_true()
     ensures { (shift : ℤ) (p : PacketJournal) (plan : ListenPlan) (records : List Record) (part : ℕ → Part) (before : List Delivery) (d : Delivery) (rest : List Delivery) → HearsTalker shift p plan records → p.times.kind ≡ H264 part → deliveries_of plan records ≡ before ++ d ∷ rest
         → d.subtype ≡ cvf_subtype → flaw_of d ≡ None → piece (events_to before d) ≡ Whole → (n : ℕ) × IsUnitFrom p part plan.lead n (unit_by before d) (completed before d) }

@@ -1,4 +1,4 @@
-//! What is promised of a listener while a capture goes on, and of captures that end early.
+//! What a listener promises before a capture has ended, and for captures that end early.
 #![tactic(auto)]
 
 pub mod examples;

@@ -36,7 +36,7 @@ pairs-one : (n : ℕ) (u : List Placed) (x : Sided) → pairs_from n u (x ∷ []
 unfolding pairs_from
 pairs-one n u x = append-nil (pair_by (at_place n x) (partner_of (at_place n x) u))
 
--- the pairs of the first are a front of all
+-- the pairs of the first batches come first among the pairs of all batches
 pub pairs-front : (xs ys : List Sided) → (more : List Paired) × (pairs (xs ++ ys) ≡ pairs xs ++ more)
 pairs-front xs ys = (pairs_from (length xs) (unpaired xs) ys, pairs-append 0 (length xs) [] xs ys (omega arith))
 
@@ -151,7 +151,7 @@ counted-at n B b ps u (Some y) few ps-few asc e =
     (differ-more (filter_map difference_of ps) (difference_of (paired_with p y)) (let k = some-few difference_of ps in omega arith)
     ∙ ap length (sym (differences-append ps (paired_with p y ∷ []) ∙ ap (λ (l : List Difference). filter_map difference_of ps ++ l) (one-difference (difference_of (paired_with p y))))))
 
--- the counts of one batch more
+-- the counts after one more batch
 pub counted-next : (done : List Sided) (s : Which) (b : Presented) → length done < 2 ^ 63
     → counted s (option_map (paired_with (at_place (length done) (of_side s b))) (partner_of (at_place (length done) (of_side s b)) (unpaired done))) (counts_of done) ≡ counts_of (done ++ of_side s b ∷ [])
 counted-next done s b few =
@@ -160,7 +160,7 @@ counted-next done s b few =
     ∙ ap (λ (ps : List Paired). counts-with ps (unpaired_with p (unpaired done))) (sym (pairs-more done (of_side s b)))
     ∙ ap (λ (u : List Placed). counts-with (pairs (done ++ of_side s b ∷ [])) u) (sym (unpaired-next done (of_side s b)))
 
--- the differences of one batch more
+-- the differences after one more batch
 pub differences-next : (done : List Sided) (x : Sided) → differences (done ++ x ∷ []) ≡ differences done ++ option_to_list (difference_by_pair (option_map (paired_with (at_place (length done) x)) (partner_of (at_place (length done) x) (unpaired done))))
 differences-next done x =
     let p = at_place (length done) x in
@@ -168,7 +168,7 @@ differences-next done x =
     ∙ differences-append (pairs done) (pair_by p (partner_of p (unpaired done)))
     ∙ ap (λ (l : List Difference). differences done ++ l) (differences-by p (partner_of p (unpaired done)))
 
--- the differences of the first are a front of all
+-- the differences of the first batches come first among those of all batches
 pub differences-front : (xs ys : List Sided) → (more : List Difference) × (differences (xs ++ ys) ≡ differences xs ++ more)
 differences-front xs ys =
     let front = pairs-front xs ys in

@@ -34,7 +34,7 @@ known-here ea eb x rest a b =
     ∙ ap (λ v. cond (v && is_settled eb B (x ∷ rest)) (x ∷ known ea eb rest) []) a
     ∙ ap (λ v. cond v (x ∷ known ea eb rest) []) b
 
--- what comes before a batch that is settled is known
+-- what comes before batches that settle both sides is known
 known-before : (ea eb : Bool) (xs ys : List Sided) → is_settled ea A ys ≡ true → is_settled eb B ys ≡ true → known ea eb (xs ++ ys) ≡ xs ++ known ea eb ys
 known-before ea eb [] ys a b = refl
 known-before ea eb (x ∷ xs) ys a b =
@@ -63,7 +63,7 @@ own-here : (e : Bool) (r : Bool) → (e || (true || r)) ≡ true
 own-here true r = refl
 own-here false r = refl
 
--- the last batch of a side, and what comes then
+-- a list is known if its last batch and the batches after it settle both sides
 known-ends : (ea eb : Bool) (done front ys : List Sided) (x : Sided) → done ≡ front ++ x ∷ [] → is_settled ea A (x ∷ ys) ≡ true → is_settled eb B (x ∷ ys) ≡ true → known ea eb (done ++ ys) ≡ done ++ known ea eb ys
 known-ends ea eb done front ys x e a b =
     ap (λ (d : List Sided). known ea eb (d ++ ys)) e
@@ -120,7 +120,7 @@ first-b-at : (a b : Presented) (v : Bool) → cond v (Some B) (Some A) ≡ Some 
 first-b-at a b true e = refl
 first-b-at a b false e = absurd (cc)
 
--- the next batch of the side that is first comes first
+-- if A is first, A's next batch is the first of the next batches
 pub nexts-a : (na nb : Option Presented) (a : Presented) → first_side na nb ≡ Some A → na ≡ Some a → nexts na nb ≡ of_side A a ∷ nexts None nb
 nexts-a na nb a f e = subst (λ (n : Option Presented). nexts n nb ≡ of_side A a ∷ nexts None nb) (sym e) (nexts-a-at nb a (ap (λ (n : Option Presented). first_side n nb) (sym e) ∙ f))
   where
@@ -151,7 +151,7 @@ some-first : {P : Type 0} (v : Bool) → cond v (Some B) (Some A) ≡ None → P
 some-first true h = absurd (cc)
 some-first false h = absurd (cc)
 
--- nothing more is known, if a side lacks its next batch or both are through
+-- nothing more is known if a side lacks its next batch, or both sides have ended and have none
 pub idle-at : (ea eb : Bool) (na nb : Option Presented) → cond (is_some (cond (lacks ea na) (Some A) (cond (lacks eb nb) (Some B) None))) None (first_side na nb) ≡ None → known ea eb (nexts na nb) ≡ []
 idle-at false eb None nb h = unsettled-a eb nb
 idle-at true false na None h = unsettled-b true na

@@ -55,7 +55,7 @@ three true true w h = h
 three true false w h = absurd (cc)
 three false v w h = absurd (cc)
 
--- places below a bound
+-- all these batches have places below n
 abbrev AllBelow : ℕ → List Placed → Type 0
 AllBelow n u = AllByRecursion (λ y. y.place < n) u
 
@@ -118,7 +118,7 @@ eq-no a b n = eq-cases (either (a == b))
     eq-cases (inl hit) = absurd (n ((Decides-eqb a b).0 hit))
     eq-cases (inr miss) = miss
 
--- how many of the batches have a place
+-- the batch has this place
 abbrev at : ℕ → Placed → Bool
 at k y = y.place == k
 
@@ -134,12 +134,11 @@ none-below k lo hi (y ∷ u) h lt =
     let p = h.0 in
     filter-no (at k) y u (eq-no y.place k (λ e. absurd (omega arith))) ∙ none-below k (suc y.place) hi u h.1 (omega arith)
 
--- A batch that is paired later was there, and only once: of the pairs of later batches at most so many have a place below as are
--- not paired there, and at most one has any other.
+-- how many of the pairs the batch at place k is in
 abbrev Paired-at : ℕ → List Paired → ℕ
 Paired-at k ps = length (filter (is_in k) ps)
 
--- how often a place can still be paired
+-- the batch at place k is in at most one further pair, and in none if it came and is not among the unpaired batches
 abbrev Bound : ℕ → ℕ → List Placed → ℕ → Type 0
 Bound k place u times = (k < place → times ≤ length (filter (at k) u)) × (place ≤ k → times ≤ 1)
 

@@ -70,7 +70,7 @@ put-first x (y ∷ ys) h = ap (λ v. cond v (y ∷ put_before x ys) (x ∷ y ∷
 put-later : (x y : Sided) (ys : List Sided) → first_instant y.batch <ℤ first_instant x.batch → put_before x (y ∷ ys) ≡ y ∷ put_before x ys
 put-later x y ys h = ap (λ v. cond v (y ∷ put_before x ys) (x ∷ y ∷ ys)) (lt_true (first_instant y.batch) (first_instant x.batch) h)
 
--- x is put before all of A's, which are later, and all others, which are not earlier
+-- x is put before all batches of A, which are later, and before all others, which are not earlier
 skip : (x : Sided) (xs : List Presented) (l : List Sided) → AllByRecursion (λ a. first_instant x.batch <ℤ first_instant a) xs → AllByRecursion (NotBefore x) l
     → by_instant (all_of A xs ++ x ∷ l) ≡ x ∷ by_instant (all_of A xs ++ l)
 skip x [] l h n = by-cons x l ∙ put-first x (by_instant l) (all-by (NotBefore x) l n)
@@ -189,7 +189,7 @@ pub batches-one : (s : Which) (z : Presented) → batches_of s (of_side s z ∷ 
 batches-one A z = refl
 batches-one B z = refl
 
--- what comes after the last batch of a side comes after all
+-- a batch that follows the last batch of its side in the list follows all batches of the list
 before-end : (s : Which) (done : List Sided) (b : Presented) → IsSorted done → EndsOn s done → IsInOrder (batches_of s done ++ b ∷ []) → AllByRecursion (λ x. MayPrecede x (of_side s b)) done
 before-end s done b sorted (inl none) order = subst (AllByRecursion (λ x. MayPrecede x (of_side s b))) (sym none) tt
 before-end s done b sorted (inr (front, z, e)) order =

@@ -168,11 +168,11 @@ known-is xs ys given m s =
 pub idle-known : (xs ys : List Presented) (given : ℕ) (m : MatchingState) (s : StandsFor xs ys given m) → IsIdle m → known_of m xs ys ≡ s.done
 idle-known xs ys given m s idle = known-is xs ys given m s ∙ ap (λ (l : List Sided). s.done ++ l) idle ∙ append-nil s.done
 
--- the counts of the known part, once nothing more is known
+-- once nothing more is known, the counts are those of the known part
 pub idle-counts : (xs ys : List Presented) (given : ℕ) (m : MatchingState) → StandsFor xs ys given m → IsIdle m → m.counts ≡ counts_of (known_of m xs ys)
 idle-counts xs ys given m s idle = s.counts ∙ ap counts_of (sym (idle-known xs ys given m s idle))
 
--- no difference is left of the known part
+-- once nothing more is known, no difference of the known part is left
 pub idle-none : (xs ys : List Presented) (given : ℕ) (m : MatchingState) → StandsFor xs ys given m → IsIdle m → slice_get (differences (known_of m xs ys)) given ≡ None
 idle-none xs ys given m s idle =
     ap (λ (l : List Sided). slice_get (differences l) given) (idle-known xs ys given m s idle)
@@ -209,7 +209,7 @@ few-done xs ys given m s =
     let few = s.few in
     omega arith
 
--- what a batch leaves of those that wait
+-- What waits after a batch came is what is not paired of the last 512 batches.
 pub record Left (x : Placed) (u own_then other_then : List Placed) (pair : Option Paired) : Type 0 where
   pub made : pair ≡ option_map (paired_with x) (partner_of x u)
   pub owns : own_then ≡ window x.side (suc x.place) (unpaired_with x u)
@@ -255,8 +255,8 @@ window-more done s r b then e =
     e ∙ ap (λ n. window r n (unpaired_with (at_place (length done) (of_side s b)) (unpaired done))) (sym (more-done done (of_side s b)))
     ∙ ap (window r (length (done ++ of_side s b ∷ []))) (sym (unpaired-next done (of_side s b)))
 
--- A batch that came stands for itself: what the matching was given is as before, and one more difference was given if the batch
--- made a pair that differs.
+-- After a batch came, the matching was given what it was given before, and has given one more difference if the batch made a
+-- pair that differs.
 pub record Advances (xs ys : List Presented) (given : ℕ) (old new : MatchingState) (difference : Option Difference) : Type 0 where
   pub stands : StandsFor xs ys (given + length (option_to_list difference)) new
   pub first : IfSome difference (λ d. slice_get (differences (known_of new xs ys)) given ≡ Some d)
@@ -355,7 +355,7 @@ pub steps : (xs ys : List Presented) (given : ℕ) (s : Which) (old new : Matchi
 steps xs ys given A old new b pair s side is t = steps-a xs ys given old new b pair s side is t
 steps xs ys given B old new b pair s side is t = steps-b xs ys given old new b pair s side is t
 
--- the side that is next has a next batch
+-- this side has no next batch
 abbrev NextAt : Which → Option Presented → Option Presented → Type 0
 NextAt A na nb = na ≡ None
 NextAt B na nb = nb ≡ None

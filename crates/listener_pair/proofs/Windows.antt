@@ -14,7 +14,7 @@ use Rattle.listener_pair.specs.state.Window.{kept, paired_with, takes, without_p
 
 -- ---- places that ascend
 
--- places from lo up, each above the one before, and below hi
+-- the places of the batches rise, from lo on and below hi
 abbrev pub IsAscending : ℕ → ℕ → List Placed → Type 0
 IsAscending lo hi [] = lo ≤ hi
 IsAscending lo hi (y ∷ ys) = (lo ≤ y.place) × IsAscending (suc y.place) hi ys
@@ -147,7 +147,7 @@ pub find-passes : (t : Placed → Bool) (ys : List Placed) (x : Placed) → find
 find-passes t [] x h = absurd (cc)
 find-passes t (y ∷ ys) x h = passes-at t y ys x (find-passes t ys x) h (either (t y))
 
--- one fewer of those that pass another test, which the first passes
+-- without the first batch that passes a test, one batch fewer passes another test, if that batch passes it
 fewer-at : (t q : Placed → Bool) (y : Placed) (ys : List Placed) (x : Placed) → q x ≡ true → (find t ys ≡ Some x → suc (length (filter q (without_first t ys))) ≡ length (filter q ys)) → find t (y ∷ ys) ≡ Some x
     → (t y ≡ true) ⊎ (t y ≡ false) → suc (length (filter q (without_first t (y ∷ ys)))) ≡ length (filter q (y ∷ ys))
 fewer-at t q y ys x qx rest h (inl hit) =
@@ -236,7 +236,7 @@ window-at n y W V true true false e same less step = same refl ∙ sym (ap (λ k
 window-at n y W V true false true e same less step = let f = less refl in absurd (cc)
 window-at n y W V true false false e same less step = step
 
--- one place further, at most the first is let go
+-- from one place to the next, at most the first waiting batch is dropped
 pub window-next : (s : Which) (n lo hi : ℕ) (ys : List Placed) → IsAscending lo hi ys → window s (suc n) ys ≡ without_passed (suc n) (window s n ys)
 window-next s n lo hi [] h = refl
 window-next s n lo hi (y ∷ ys) h =
@@ -257,7 +257,7 @@ others-left x u None e =
     ∙ sym (without-none (takes x) (window (other_side x.side) x.place u) (sym (find-within (may_pair x) (takes x) (QO x) (may-pair-is x) u) ∙ e))
 others-left x u (Some y) e = without-within (may_pair x) (takes x) (QO x) (may-pair-is x) u
 
--- what is left of the other side's once x came
+-- the batches that wait on the other side after x came
 pub others-next : (x : Placed) (u : List Placed) → IsAscending 0 x.place u
     → window (other_side x.side) (suc x.place) (unpaired_with x u) ≡ without_passed (suc x.place) (without_first (takes x) (window (other_side x.side) x.place u))
 others-next x u h =
@@ -278,7 +278,7 @@ own-left x u (Some y) e =
     without-apart (may_pair x) (is_within x.side (suc x.place)) (λ z p. partner-apart (suc x.place) x z p) u
     ∙ sym (append-nil (window x.side (suc x.place) u))
 
--- what is left of x's own side once it came
+-- the batches that wait on x's own side after x came
 pub own-next : (x : Placed) (u : List Placed) → IsAscending 0 x.place u
     → window x.side (suc x.place) (unpaired_with x u) ≡ without_passed (suc x.place) (window x.side x.place u) ++ kept x (option_map (paired_with x) (find (may_pair x) u))
 own-next x u h =
@@ -303,6 +303,6 @@ room-from : (s : Which) (n lo : ℕ) (ys : List Placed) → IsAscending lo n ys 
 room-from s n lo [] h = omega arith
 room-from s n lo (y ∷ ys) h = room-at s n y ys h.1 (room-from s n (suc y.place) ys h.1) (either (nat_le (suc n) (y.place + 512)))
 
--- there is room for one more
+-- there is room for one more waiting batch
 pub room-next : (s : Which) (n : ℕ) (u : List Placed) → IsAscending 0 n u → length (without_passed (suc n) (window s n u)) < 512
 room-next s n u h = subst (λ (l : List Placed). length l < 512) (window-next s n 0 n u h) (room-from s n 0 u h)

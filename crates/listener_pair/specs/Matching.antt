@@ -24,13 +24,13 @@ pub record MatchingState : Type 0 where
   pub waiting_b : List Placed
   pub counts : PairCounts
 
--- a side that has not ended lacks its next batch
+-- a side has not ended, and has no next batch
 abbrev pub lacks : Bool → Option Presented → Bool
 lacks true next = false
 lacks false None = true
 lacks false (Some batch) = false
 
--- the side whose next batch, or end, the matching wants: A's before B's
+-- the side whose next batch, or end, the matching wants: first A, then B
 abbrev pub wanted : MatchingState → Option Which
 wanted m = if lacks m.ended_a m.next_a then Some A else if lacks m.ended_b m.next_b then Some B else None
 
@@ -95,8 +95,8 @@ is_within side place y = is_side side y.side && nat_le place (y.place + 512)
 abbrev pub window : Which → ℕ → List Placed → List Placed
 window side place list = filter (is_within side place) list
 
--- The matching was given these batches of A and of B, each list in order, and has given the differences `given`. `done` is the
--- part of the merged list that it has worked through.
+-- The matching was given these batches of A and of B, each list in order, and has given `given` differences. `done` is the part
+-- of the merged list that it has worked through.
 pub record StandsFor (xs ys : List Presented) (given : ℕ) (m : MatchingState) : Type 0 where
   pub few : length xs + length ys < 2 ^ 63
   pub done : List Sided

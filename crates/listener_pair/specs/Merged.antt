@@ -48,8 +48,8 @@ is_side B B = true
 abbrev pub is_settled : Bool → Which → List Sided → Bool
 is_settled ended side list = ended || list_any (λ x. is_side side x.side) list
 
--- The known part of a merged list, given which sides have ended: each batch that has a batch of every side that has not ended
--- at its place or after it. However the two sides go on, it stays the front of the merged list.
+-- The known part of a merged list, given which sides have ended: each batch for which every side that has not ended has a batch
+-- at its place or after it. However the two sides go on, the known part stays the beginning of the merged list.
 unfoldable pub known : Bool → Bool → List Sided → List Sided
 known ended_a ended_b [] = []
 known ended_a ended_b (x ∷ rest) =

@@ -21,12 +21,12 @@ sample_way a b j =
     then (if bytes_eq (sample_bytes a j) (sample_bytes b j) then None else Some (Bytes j))
     else Some (At j (sample_instant a j) (sample_instant b j))
 
--- a way, or if there is none, another
+-- the first way, or if there is none, the second
 abbrev pub or_way : Option Way → Option Way → Option Way
 or_way (Some way) other = Some way
 or_way None other = other
 
--- how the first of the first n samples that differs does so
+-- how the first differing sample among the first n samples differs
 unfoldable pub first_way : Presented → Presented → ℕ → Option Way
 first_way a b zero = None
 first_way a b (suc n) = or_way (first_way a b n) (sample_way a b n)

@@ -28,7 +28,7 @@ pub struct Difference {
     pub way: Way,
 }
 
-/// The number of pairs, of batches of A and of B that are in none, and of pairs that differ.
+/// The numbers of pairs, of batches of A and of B that are in no pair, and of pairs that differ.
 #[derive(Clone, Copy, Debug, PartialEq, Eq)]
 pub struct PairCounts {
     pub matched: u64,
@@ -41,7 +41,7 @@ impl PairCounts {
     ghost use Rattle.std.specs.Prelude.{◌≡◌};
     ghost use Rattle.listener_pair.specs.state.Window.{with_alone, with_pair};
 
-    /// No batch and no pair.
+    /// The counts before the first batch.
     pub(crate) fn none() -> Self
         ensures { result ≡ record { matched = 0; only_a = 0; only_b = 0; differ = 0 } }
     {
@@ -53,7 +53,7 @@ impl PairCounts {
         }
     }
 
-    /// These counts and one more batch of a side, which is in no pair.
+    /// The counts with one more batch of a side, which is in no pair.
     pub(crate) fn with_alone(self, side: Which) -> Self
         ensures { result ≡ with_alone side self }
     {
@@ -69,8 +69,8 @@ impl PairCounts {
         }
     }
 
-    /// These counts and one more pair: of a new batch of a side and a batch of the other side that was in no pair. The pair may
-    /// differ.
+    /// The counts with one more pair: of a new batch of `side` and a batch of the other side that was in no pair. `differs`
+    /// says whether the pair differs.
     pub(crate) fn with_pair(self, side: Which, differs: bool) -> Self
         ensures { result ≡ with_pair side differs self }
     {

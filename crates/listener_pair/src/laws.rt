@@ -11,14 +11,14 @@ ghost use Rattle.listener_pair.specs.Matching.{IsSorted, batches_of};
 ghost use Rattle.listener_pair.specs.Merged.{Sided, known, merged};
 ghost use Rattle.listener_pair.specs.Pairs.{pairs};
 
-/// A pair of the front of a merged list stays a pair, and a difference stays a difference: those of the front come first among
-/// those of the whole list.
+/// The pairs and differences of the beginning of a merged list stay if the list goes on: they come first among those of the
+/// whole list.
 pub fn pairs_stay()
     ensures pairs { (list more : List Sided) → IsPrefix (pairs list) (pairs (list ++ more)) }
     ensures differences { (list more : List Sided) → IsPrefix (differences list) (differences (list ++ more)) }
 {}
 
-/// The known part is the front of the merged list, and all of it after both sides have ended.
+/// The known part is the beginning of the merged list, and all of it after both sides have ended.
 pub fn known_comes_first()
     ensures first { (ended_a ended_b : Bool) (list : List Sided) → IsPrefix (known ended_a ended_b list) list }
     ensures all { (list : List Sided) → known true true list ≡ list }
@@ -39,7 +39,8 @@ pub fn merged_is_the_only_one()
     ensures { (list : List Sided) → IsSorted list → merged (batches_of A list) (batches_of B list) ≡ list }
 {}
 
-/// Each batch is in one pair or in none: of each side, the pairs and the batches in none are as many as its batches.
+/// Each batch is in one pair or in none: for each side, the pairs and the side's batches in no pair add up to the side's
+/// batches.
 pub fn counts_add_up()
     ensures a { (xs ys : List Presented) → (counts_of (merged xs ys)).matched + (counts_of (merged xs ys)).only_a ≡ length xs }
     ensures b { (xs ys : List Presented) → (counts_of (merged xs ys)).matched + (counts_of (merged xs ys)).only_b ≡ length ys }

@@ -22,15 +22,15 @@ use std::marker::Model;
 /// Matches what two listeners present. It is given the batches of each, one at a time, and gives the differences of the batches
 /// that are pairs. It gives a difference as soon as all batches that come before it in merged order are known.
 ///
-/// Memory is reserved when it is made. A batch is dropped when it is paired, or when none of the 512 batches after it was its
-/// partner.
+/// Memory is reserved when the matching is made. A batch is dropped when it is paired, or when none of the 512 batches after it
+/// was its partner.
 #[derive(Drop)]
 pub struct Matching {
     next_a: Option<Timed>,
     next_b: Option<Timed>,
     ended_a: bool,
     ended_b: bool,
-    /// How many batches came in merged order.
+    /// The number of batches that came so far, in merged order.
     place: u64,
     waiting_a: VecDeque<Placed>,
     waiting_b: VecDeque<Placed>,
@@ -106,8 +106,8 @@ impl Matching {
         }
     }
 
-    /// The next difference of the known part of the merged list, and `None` exactly if there is no further one. Each difference
-    /// takes a next batch. Allocates nothing.
+    /// The next difference in the known part of the merged list. `None` comes exactly if that part has no further difference.
+    /// Each difference uses up the next batch of a side. Allocates nothing.
     pub fn next_difference(&mut self) -> Option<Difference>
         ensures given { (xs ys : List Presented) (given : ℕ) → StandsFor xs ys given self.old → result ≡ slice_get (differences (known_of self.old xs ys)) given }
         ensures stands { (xs ys : List Presented) (given : ℕ) → StandsFor xs ys given self.old → StandsFor xs ys (given + length (option_to_list result)) self.new }
@@ -134,7 +134,7 @@ impl Matching {
         self.counts
     }
 
-    /// Whether a batch is the next of a side.
+    /// Makes a batch the next one of a side.
     fn put(&mut self, which: Which, batch: Timed)
         ensures { self.new ≡ given_to which batch self.old }
     {
@@ -189,8 +189,8 @@ impl Matching {
         }
     }
 
-    /// Takes the next batch of the known part, which is of this side. Returns the difference of the pair that it makes, if it
-    /// makes one that differs.
+    /// Takes the next batch of the known part, which is of this side. Returns the difference of the batch's pair, if it makes a
+    /// pair that differs.
     fn step(&mut self, side: Which) -> Option<Difference>
         requires { next_side self.old ≡ Some side }
         ensures stands { (xs ys : List Presented) (given : ℕ) → StandsFor xs ys given self.old → StandsFor xs ys (given + length (option_to_list result)) self.new }

@@ -22,7 +22,8 @@ fn reaches(side: Which, x: &Timed, y: &Timed) -> bool
     }
 }
 
-/// Whether a batch of a side may be paired with an unpaired one of the other side that is near enough in the merged list.
+/// Whether batch `x` of a side may be paired with the unpaired batch `y` of the other side, if both are near enough in the
+/// merged list.
 #[tactic(auto, unfolding(crate::specs::Pairs::fits))]
 pub fn fits(side: Which, x: &Timed, y: &Timed) -> bool
     ensures { result ≡ fits_of side x.now y.now }

@@ -19,7 +19,7 @@ fn sample_bytes(batch: &Batch, j: u32) -> &[u8]
     &bytes[start..start + size]
 }
 
-/// How a sample of A's batch and one of B's differ, if they do.
+/// How sample `j` of a batch of A and of one of B differs, if it does.
 #[tactic(auto, unfolding(crate::specs::Ways::sample_way))]
 fn sample_way(a: &Batch, b: &Batch, j: u32) -> Option<Way>
     requires a { j < a.now.count }
@@ -41,7 +41,7 @@ fn sample_way(a: &Batch, b: &Batch, j: u32) -> Option<Way>
     None
 }
 
-/// How the first sample that differs does so.
+/// How the first differing sample differs, if there is one.
 fn first_of_samples(a: &Batch, b: &Batch) -> Option<Way>
     requires { b.now.count ≡ a.now.count }
     ensures { result ≡ first_way a.now b.now a.now.count }
@@ -55,8 +55,8 @@ fn first_of_samples(a: &Batch, b: &Batch) -> Option<Way>
     None
 }
 
-/// The way in which a batch of A and one of B differ, if they do. If both have the same line and equal bytes, no sample is
-/// looked at.
+/// The way in which a batch of A and one of B differ, if they do. Batches with the same line and equal bytes are not compared
+/// sample by sample.
 #[tactic(auto, unfolding(crate::specs::Ways::way_of))]
 pub fn way_of(a: &Batch, b: &Batch) -> Option<Way>
     ensures { result ≡ way a.now b.now }

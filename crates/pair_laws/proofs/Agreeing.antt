@@ -210,14 +210,14 @@ pairs-none : (by : Bool) (p : PacketJournal) (ps : List Paired) → Conforms p.t
 pairs-none by p [] is h = refl
 pairs-none by p (x ∷ ps) is h = ap (λ (o : Option Difference). cons_option o (filter_map difference_of ps)) (pair-none by p x is h.0) ∙ pairs-none by p ps is h.1
 
--- of any list of what two listeners present of one talker, each pair is of one packet or unit, and none differs
+-- in a list of what two listeners present of one talker, each pair is of one packet or unit
 pub list-one : (by : Bool) (p : PacketJournal) (list : List Sided) → Conforms p.times → AllByRecursion (λ (x : Sided). IsPresentedOfTalker by p x.batch) list → AllByRecursion (IsOneOf by p) (pairs list)
 list-one by p list is h = pairs-one by p (pairs list) is (pairs-are list) (pairs-all (IsPresentedOfTalker by p) 0 [] list tt h)
 
 pub list-none : (by : Bool) (p : PacketJournal) (list : List Sided) → Conforms p.times → AllByRecursion (λ (x : Sided). IsPresentedOfTalker by p x.batch) list → differences list ≡ []
 list-none by p list is h = pairs-none by p (pairs list) is (list-one by p list is h)
 
--- what two listeners with one choice of the clock present of one talker
+-- what two listeners present of one talker is the talker's, if both have the clock or neither does
 both-presented : (shift : ℤ) (p : PacketJournal) (plan other : ListenPlan) (records others : List Record) → HearsTalker shift p plan records → HearsTalker shift p other others → by_clock other ≡ by_clock plan
     → AllByRecursion (λ (x : Sided). IsPresentedOfTalker (by_clock plan) p x.batch) (merged (presented_of (shown_of plan records)) (presented_of (shown_of other others)))
 both-presented shift p plan other records others h k e =

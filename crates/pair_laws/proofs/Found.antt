@@ -87,7 +87,7 @@ fits-one s by p n x y is px py ox oy = fits-at s x y (oy.seq ∙ sym ox.seq) (on
 
 -- ---- what other batches do
 
--- a batch of the talker that is not packet n
+-- The batch is of the talker, but is not packet n.
 pub record IsElse (by : Bool) (p : PacketJournal) (n : ℕ) (b : Presented) : Type 0 where
   pub talker : IsPresentedOfTalker by p b
   pub other : IsOfPacket by p n b → ⊥
@@ -98,7 +98,7 @@ AllElse by p n us = AllByRecursion (λ u. IsElse by p n u.batch) us
 may-fits : (x u : Placed) → may_pair x u ≡ true → fits x.side x.batch u.batch ≡ true
 may-fits x u h = both-right (nat_le x.place (u.place + 512) && not (is_side x.side u.side)) (fits x.side x.batch u.batch) h
 
--- of two batches of which one is packet n and the other is not, none may be paired with the other
+-- a batch of packet n and a batch that is not packet n may not be paired
 no-pair : (by : Bool) (p : PacketJournal) (n : ℕ) (x u : Placed) → Conforms p.times → IsPresentedOfTalker by p x.batch → IsOfPacket by p n x.batch → IsElse by p n u.batch → may_pair x u ≡ true → ⊥
 no-pair by p n x u is tx ox e h =
     let same = one-that-fits x.side by p n e.talker.is.number x.batch u.batch tx.pace e.talker.pace is ox e.talker.is.is (may-fits x u h) in
@@ -121,14 +121,14 @@ first-of : (by : Bool) (p : PacketJournal) (n : ℕ) (x w : Placed) (l r : List 
 first-of by p n x w [] r is tx ox h may = ap (λ v. cond v (Some w) (find (may_pair x) r)) may
 first-of by p n x w (u ∷ l) r is tx ox h may = ap (λ v. cond v (Some u) (find (may_pair x) (l ++ w ∷ r))) (false-of (may_pair x u) (no-pair by p n x u is tx ox h.0)) ∙ first-of by p n x w l r is tx ox h.1 may
 
--- none of the packet is left once x was paired
+-- after a batch of packet n is paired, no other batch of the packet waits
 without-found : (by : Bool) (p : PacketJournal) (n : ℕ) (x w : Placed) (l r : List Placed) → Conforms p.times → IsPresentedOfTalker by p x.batch → IsOfPacket by p n x.batch → AllElse by p n l → AllElse by p n r → may_pair x w ≡ true → AllElse by p n (without_first (may_pair x) (l ++ w ∷ r))
 without-found by p n x w [] r is tx ox hl hr may = subst (AllElse by p n) (sym (ap (λ v. cond v r (w ∷ without_first (may_pair x) r)) may)) hr
 without-found by p n x w (u ∷ l) r is tx ox hl hr may =
     subst (AllElse by p n) (sym (ap (λ v. cond v (l ++ w ∷ r) (u ∷ without_first (may_pair x) (l ++ w ∷ r))) (false-of (may_pair x u) (no-pair by p n x u is tx ox hl.0))))
     (hl.0, without-found by p n x w l r is tx ox hl.1 hr may)
 
--- the batch waits among others
+-- The batch of packet n waits among batches of other packets.
 record Waits (by : Bool) (p : PacketJournal) (n : ℕ) (w : Placed) (us : List Placed) : Type 0 where
   before : List Placed
   after : List Placed
@@ -164,7 +164,7 @@ left-waits by p n x w us None no-w e h = record {
 }
 left-waits by p n x w us (Some u) no-w e h = subst (λ (k : List Placed). Waits by p n w (without_first (may_pair x) k)) (sym h.split) (without-waits by p n (may_pair x) w h.before h.after no-w h.all_before h.all_after)
 
--- others come, and it waits on
+-- a batch of packet n still waits after batches of other packets came
 goes-by : (by : Bool) (p : PacketJournal) (n : ℕ) (w : Placed) (place : ℕ) (us : List Placed) (mid : List Sided) → Conforms p.times → IsPresentedOfTalker by p w.batch → IsOfPacket by p n w.batch → AllByRecursion (λ x. IsElse by p n x.batch) mid → Waits by p n w us → Waits by p n w (unpaired_from place us mid)
 goes-by by p n w place us [] is tw ow all h = subst (Waits by p n w) (sym (unpaired-nil place us)) h
 goes-by by p n w place us (x ∷ mid) is tw ow all h =
@@ -221,12 +221,12 @@ any-here P before x after h = (length before, x, within before, there before, h)
 any-later : {X : Type 0} (P : X → Type 0) (before : List X) (x : X) (list after : List X) → list ≡ x ∷ after → P x → Any P (before ++ list)
 any-later P before x list after e h = subst (λ (l : List _). Any P (before ++ l)) (sym e) (any-here P before x after h)
 
--- two batches are a pair, and none of packet n is left
+-- Two batches are a pair, and no batch of packet n waits.
 record AreFound (by : Bool) (p : PacketJournal) (n : ℕ) (a b : Presented) (list : List Sided) : Type 0 where
   pair : Any (IsPairOf a b) (pairs list)
   left : AllElse by p n (unpaired list)
 
--- of a list, a batch of packet n, others, and another of packet n of the other side, near enough: the two are a pair
+-- a batch of packet n and one of the other side, with at most 511 batches of other packets between them, are a pair
 meets : (by : Bool) (p : PacketJournal) (n : ℕ) (front mid rest : List Sided) (w z : Sided) → Conforms p.times → IsPresentedOfTalker by p w.batch → IsPresentedOfTalker by p z.batch → IsOfPacket by p n w.batch → IsOfPacket by p n z.batch → is_side z.side w.side ≡ false
     → AllByRecursion (λ x. IsElse by p n x.batch) front → AllByRecursion (λ x. IsElse by p n x.batch) mid → AllByRecursion (λ x. IsElse by p n x.batch) rest → length (w ∷ mid) ≤ 512 → AreFound by p n w.batch z.batch (front ++ w ∷ (mid ++ z ∷ rest))
 meets by p n front mid rest w z is tw tz ow oz sides hf hm hr near =
@@ -266,7 +266,7 @@ meets by p n front mid rest w z is tw tz ow oz sides hf hm hr near =
 
 -- ---- where the two stand
 
--- a list of both sides up to a batch of one, and from it on
+-- A list of both sides is split at a batch of one side.
 record Split (s : Which) (list : List Sided) (before : List Presented) (x : Presented) (after : List Presented) : Type 0 where
   front : List Sided
   rest : List Sided
@@ -301,7 +301,7 @@ split-at s (y ∷ list) before x after e = by s y.side y.batch before e (λ f. s
     by A B c bs e skip go = one-more A list bs x after (of_side B c) [] refl (skip e)
     by B A c bs e skip go = one-more B list bs x after (of_side A c) [] refl (skip e)
 
--- a list is what comes before an item, that item, and what comes after it
+-- A list is what comes before an item, that item, and what comes after it.
 record Cut (list : List Presented) (x : Presented) : Type 0 where
   before : List Presented
   after : List Presented
@@ -312,7 +312,7 @@ cut-at [] i x e = absurd (cc)
 cut-at (y ∷ list) zero x e = let same : y ≡ x = cc in record { before = []; after = list; is = ap (λ (z : Presented). z ∷ list) same }
 cut-at (y ∷ list) (suc i) x e = let h = cut-at list i x e in record { before = y ∷ h.before; after = h.after; is = ap (λ (l : List Presented). y ∷ l) h.is }
 
--- an item of two lists, one after the other, is in the first or in the second
+-- An item of two lists, one after the other, is in the first one.
 record InFirst (front back before : List Presented) (x : Presented) (after : List Presented) : Type 0 where
   mid : List Presented
   is : front ≡ before ++ x ∷ mid
@@ -358,7 +358,7 @@ told-from : (l : List Presented) (a : Presented) (after : List Presented) → Ar
 told-from [] a after h = h.0
 told-from (v ∷ l) a after h = told-from l a after h.1
 
--- the others of a side, before and after its batch of the packet
+-- No batch of a side before or after its batch of packet n is that packet.
 record Others (by : Bool) (p : PacketJournal) (n : ℕ) (before after : List Presented) : Type 0 where
   before_all : AllByRecursion (IsElse by p n) before
   after_all : AllByRecursion (IsElse by p n) after
@@ -381,7 +381,7 @@ both-else by p n (x ∷ l) a b = at x.side x.batch a b (λ c d. both-else by p n
     at A c a b ih = (a.0, ih a.1 b)
     at B c a b ih = (b.0, ih a b.1)
 
--- between two batches at one instant there are few others
+-- between two batches with one first instant there are at most 511 batches
 few-between : (front back rest : List Sided) (head y : Sided) (xs ys : List Presented) → IsSorted (front ++ head ∷ (back ++ y ∷ rest)) → first_instant head.batch ≡ first_instant y.batch → batches_of A (front ++ head ∷ (back ++ y ∷ rest)) ≡ xs → batches_of B (front ++ head ∷ (back ++ y ∷ rest)) ≡ ys
     → IsPresentation xs → IsPresentation ys → length (head ∷ back) ≤ 512
 few-between front back rest head y xs ys s same ea eb px py =
@@ -409,7 +409,7 @@ seqs-small by p (x ∷ l) all = (small x.seq all.0.is.number all.0.is.is.seq, se
     small : (q n : ℕ) → q ≡ n % 256 → q < 256
     small q n e = omega arith
 
--- what each side presents, and one batch of each that are one packet
+-- Both sides present batches of the talker, and one batch of each is packet n.
 record Given (by : Bool) (p : PacketJournal) (n : ℕ) (xs ys : List Presented) (a b : Presented) : Type 0 where
   talkers_a : AreTalkers by p xs
   talkers_b : AreTalkers by p ys
@@ -468,7 +468,7 @@ found-at by p n xs ys a b list x1 x2 y1 y2 is g sorted ea eb ex ey = at (locate 
         (sa.whole ∙ ap (λ (l : List Sided). l ++ of_side A a ∷ sa.rest) sb.whole ∙ append_assoc sb.front (of_side B b ∷ sb.rest) (of_side A a ∷ sa.rest)) ex ey sb.ahead
         (sym (batches-append A sb.front (of_side B b ∷ sb.rest)) ∙ ap (batches_of A) (sym sb.whole) ∙ sa.ahead) (ap (λ (l : List Presented). l ++ batches_of B sa.rest) sb.behind ∙ sym h.then) sa.behind refl
 
--- two batches that two listeners present of one packet are found
+-- two batches of one packet, which two listeners present, are a pair, and no batch of the packet waits
 captures-found : (shift : ℤ) (p : PacketJournal) (plan other : ListenPlan) (records others : List Record) → HearsTalker shift p plan records → HearsTalker shift p other others → by_clock other ≡ by_clock plan → (n i k : ℕ) (a b : Presented)
     → slice_get (presented_of (shown_of plan records)) i ≡ Some a → slice_get (presented_of (shown_of other others)) k ≡ Some b → IsOfPacket (by_clock plan) p n a → IsOfPacket (by_clock plan) p n b → AreFound (by_clock plan) p n a b (merged (presented_of (shown_of plan records)) (presented_of (shown_of other others)))
 captures-found shift p plan other records others h g e n i k a b there_a there_b oa ob =
@@ -485,12 +485,12 @@ captures-found shift p plan other records others h g e n i k a b there_a there_b
     (record { talkers_a = tx; talkers_b = ty; is_a = px; is_b = py; of_a = oa; of_b = ob; talker_a = talker-in (by_clock plan) p ca.before a ca.after xs ca.is tx; talker_b = talker-in (by_clock plan) p cb.before b cb.after ys cb.is ty })
     m.sorted m.a m.b ca.is cb.is
 
--- two batches that two listeners present of one packet are a pair
+-- two batches of one packet, which two listeners present, are a pair
 pub captures-paired : (shift : ℤ) (p : PacketJournal) (plan other : ListenPlan) (records others : List Record) → HearsTalker shift p plan records → HearsTalker shift p other others → by_clock other ≡ by_clock plan → (n i k : ℕ) (a b : Presented)
     → slice_get (presented_of (shown_of plan records)) i ≡ Some a → slice_get (presented_of (shown_of other others)) k ≡ Some b → IsOfPacket (by_clock plan) p n a → IsOfPacket (by_clock plan) p n b → Any (IsPairOf a b) (pairs (merged (presented_of (shown_of plan records)) (presented_of (shown_of other others))))
 captures-paired shift p plan other records others h g e n i k a b there_a there_b oa ob = (captures-found shift p plan other records others h g e n i k a b there_a there_b oa ob).pair
 
--- of a packet that both listeners present, no batch is in no pair
+-- no batch is without a partner that is of a packet which both listeners present
 pub captures-leave-none : (shift : ℤ) (p : PacketJournal) (plan other : ListenPlan) (records others : List Record) → HearsTalker shift p plan records → HearsTalker shift p other others → by_clock other ≡ by_clock plan → (n i k : ℕ) (a b : Presented)
     → slice_get (presented_of (shown_of plan records)) i ≡ Some a → slice_get (presented_of (shown_of other others)) k ≡ Some b → IsOfPacket (by_clock plan) p n a → IsOfPacket (by_clock plan) p n b → AllByRecursion (IsOfAnother (by_clock plan) p n) (unpaired (merged (presented_of (shown_of plan records)) (presented_of (shown_of other others))))
 captures-leave-none shift p plan other records others h g e n i k a b there_a there_b oa ob =

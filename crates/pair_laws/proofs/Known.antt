@@ -65,7 +65,7 @@ known-shown shift p plan records others ended_a ended_b h k =
     known-none shift p plan records (presented_of (shown_of plan records)) (presented_of (shown_of plan others)) ended_a ended_b h
     (presented-of-talker shift p plan records h) (presented-of-talker shift p plan others k)
 
--- what a listener presents so far is the talker's
+-- what a listener presents so far is of the talker
 presents-talker : (shift : ℤ) (p : PacketJournal) (plan : ListenPlan) (records : List Record) (l : ListenState)
     → HearsTalker shift p plan records → l.plan ≡ plan → AreTalkers plan p (presented_by l records)
 presents-talker shift p plan records l h is = at (is_closed l) refl

@@ -1,4 +1,4 @@
--- What one listener presents: at one first instant each batch has a sequence number of its own.
+-- Batches that one listener presents at one first instant have different sequence numbers.
 use Rattle.std.proofs.Common.{◌≡◌, ◌≢◌, ℕ, ◌<◌, Bool, true, false, ℤ, List, [], ◌∷◌, map, refl, sym, ap, ◌∙◌, subst}
 use Rattle.std.specs.List.{AllByRecursion}
 use Rattle.clock_track.specs.Rows.{clock_spot}

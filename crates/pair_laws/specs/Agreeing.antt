@@ -13,20 +13,20 @@ pub record HasPace (rate : ℕ) (batch : Presented) : Type 0 where
   pub least : 7000000000 * batch.line.den ≤ 8 * (rate * batch.line.num)
   pub spacing : 8 * (rate * batch.line.num) ≤ 9000000000 * batch.line.den
 
--- of audio the samples of a batch keep the talker's pace; of H.264 the batch is a unit
+-- a batch of audio keeps the talker's pace; a batch of H.264 is a unit
 abbrev pub KeepsPace : Kind → ℕ → Presented → Type 0
 KeepsPace DenseAaf rate batch = HasPace rate batch
 KeepsPace SparseAaf rate batch = HasPace rate batch
 KeepsPace (Am824 interval dbc) rate batch = HasPace rate batch
 KeepsPace (H264 part) rate batch = is_unit batch ≡ true
 
--- A batch is one packet or unit of the journal, by the clock or without, and keeps the talker's pace, as all do that a listener
--- presents of it.
+-- A batch is one packet or unit of the journal, by the clock or without, and keeps the talker's pace, as all batches do that a
+-- listener presents of the talker.
 pub record IsPresentedOfTalker (by : Bool) (p : PacketJournal) (batch : Presented) : Type 0 where
   pub is : IsOfJournal by p batch
   pub pace : KeepsPace p.times.kind p.times.rate batch
 
--- both batches of a pair are one packet or unit of the journal
+-- Both batches of a pair are one packet or unit of the journal.
 pub record IsOneOf (by : Bool) (p : PacketJournal) (pair : Paired) : Type 0 where
   pub number : ℕ
   pub earlier : IsOfPacket by p number pair.earlier.batch
@@ -36,6 +36,6 @@ pub record IsOneOf (by : Bool) (p : PacketJournal) (pair : Paired) : Type 0 wher
 abbrev pub IsOfAnother : Bool → PacketJournal → ℕ → Placed → Type 0
 IsOfAnother by p number x = IsOfPacket by p number x.batch → ⊥
 
--- two batches are a pair, in the one order or the other
+-- two batches are a pair, in either order
 abbrev pub IsPairOf : Presented → Presented → Paired → Type 0
 IsPairOf a b pair = ((pair.earlier.batch ≡ a) × (pair.later.batch ≡ b)) ⊎ ((pair.earlier.batch ≡ b) × (pair.later.batch ≡ a))

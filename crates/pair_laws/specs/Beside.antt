@@ -1,21 +1,21 @@
--- What holds of two captures that are one.
+-- What holds of a capture beside itself.
 use Rattle.std.specs.Prelude.{◌≡◌, ◌≢◌, ℕ, ◌<◌, ⊤, List, [], ◌∷◌}
 use Rattle.std.specs.List.{AllByRecursion}
 use Rattle.sample_schedule.specs.Batches.{Presented}
 use Rattle.sample_schedule.specs.Verdicts.{first_instant}
 use Rattle.listener_pair.specs.Merged.{IsInOrder}
 
--- two batches that are presented: at one first instant their sequence numbers differ
+-- two batches with one first instant have different sequence numbers
 abbrev pub AreTold : Presented → Presented → Type 0
 AreTold x y = first_instant x ≡ first_instant y → x.seq ≢ y.seq
 
--- each batch of a list is told from each later one
+-- any two batches of a list with one first instant have different sequence numbers
 abbrev pub AreAllTold : List Presented → Type 0
 AreAllTold [] = ⊤
 AreAllTold (x ∷ rest) = AllByRecursion (AreTold x) rest × AreAllTold rest
 
--- The list is as what one listener presents: by first instant, no two batches have both one first instant and one sequence
--- number, and a sequence number is a byte.
+-- The list is one that a listener may present: it is in the order of first instants, no two batches have both one first instant
+-- and one sequence number, and each sequence number is a byte.
 pub record IsPresentation (list : List Presented) : Type 0 where
   pub order : IsInOrder list
   pub told : AreAllTold list

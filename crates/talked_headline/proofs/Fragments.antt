@@ -115,7 +115,7 @@ unit_size plan input last_stamp from n e few =
     let bodies = all_short plan input last_stamp from (suc n - from) e in
     omega (arith, length-append (first_byte ((journal plan input).packet from)) (flat_map (λ (k : ℕ). carried ((journal plan input).packet k)) (range_with_len from (suc n - from))), byte, bodies, few)
 
--- no packet carries more than 1,428 bytes, and each unit has one byte besides
+-- a unit has at most 1,500 bytes for each of its packets: none carries more than 1,428, and the unit has one byte besides
 pub unit_small : (plan : TalkPlan) (input : List ℕ) (last_stamp : Bool) (from n : ℕ) → plan.kind ≡ H264 last_stamp → from ≤ n → length (unit_bytes (journal plan input) from n) ≤ (suc n - from) * 1500
 unit_small plan input last_stamp from n e low =
     let byte : length (first_byte ((journal plan input).packet from)) ≡ 1 = ap (λ (view : PacketView). length (first_byte view)) (packet_is plan input last_stamp from e) in
@@ -130,7 +130,7 @@ pub record HasFrames (plan : TalkPlan) (input : List ℕ) (lead a k : ℕ) : Typ
   pub carry : AllCarry (journal plan input) lead (range_with_len a k) (map record_of sent)
   pub long : length sent ≡ k
 
--- each packet has its frame
+-- packets beside each other have these frames
 pub frames_of : (plan : TalkPlan) (input : List ℕ) (lead a k : ℕ) → ((i : ℕ) → i < a + k → (f : SentFrame) × ((slice_get (frames plan input) i ≡ Some f) × Carries (journal plan input) lead i (record_of f))) → HasFrames plan input lead a k
 frames_of plan input lead a zero each = record { sent = []; same = λ places. refl; carry = tt; long = refl }
 frames_of plan input lead a (suc k) each =
@@ -145,7 +145,7 @@ frames_of plan input lead a (suc k) each =
 
 -- ---- their deliveries
 
--- records of the stream, numbered from i on
+-- the deliveries of records that all belong to the stream, numbered from i on
 unfoldable pub numbered : ℕ → List Record → List Delivery
 numbered i [] = []
 numbered i (r ∷ rs) = delivery i r ∷ numbered (i + 1) rs

@@ -38,13 +38,13 @@ stream_is plan input = id_by (audio_by plan.kind plan) plan input
 pub video_plan : (plan : TalkPlan) (last_stamp : Bool) → plan.kind ≡ H264 last_stamp → IsVideoPlan plan → IsPlan plan
 video_plan plan last_stamp e p = subst (λ (k : TalkKind). IsPlanOf k plan) (sym e) p
 
--- any listener can tell its packets apart by when they come
+-- a listener with any lead can tell the packets of an H.264 plan apart
 pub video_expects : (plan : TalkPlan) (last_stamp : Bool) (lead : ℕ) → plan.kind ≡ H264 last_stamp → Expects plan lead
 video_expects plan last_stamp lead e = rw e tt
 
 -- ---- the first frame of a capture
 
--- a frame that came before it was due
+-- The frame of packet n came no later than the packet is due.
 pub record IsEarly (plan : TalkPlan) (input : List ℕ) (n : ℕ) (f : SentFrame) : Type 0 where
   pub there : slice_get (frames plan input) n ≡ Some f
   pub early : f.arrival ≤ℤ pos ((journal plan input).times.due n)

@@ -30,7 +30,7 @@ pub fn talked_is_heard()
     losses_are_delivered();
 }
 
-/// So does the whole capture that `talk` makes of the plan.
+/// The whole capture that `talk` makes of an audio plan meets the whole premise of the headline, too.
 pub fn whole_capture_is_heard()
     ensures { (plan : TalkPlan) (input : List ℕ) (listen : ListenPlan) → ListensTo plan input listen → HearsTalker (pos 0) (journal plan input) listen (whole_records (capture plan input)) }
 {
@@ -39,8 +39,8 @@ pub fn whole_capture_is_heard()
     capture_reads_back();
 }
 
-/// What a listener shows of such a capture keeps the headline, if the talker takes the plan and the listener listens to its
-/// stream.
+/// What a listener shows of a capture of an audio plan and of its clock keeps the headline, if the talker takes the plan and
+/// the listener listens to its stream.
 pub fn talked_keeps_headline()
     ensures { (plan : TalkPlan) (input places : List ℕ) (listen : ListenPlan) → ListensTo plan input listen
         → KeepsHeadline (pos 0) (journal plan input) listen (captured plan input places) (shown_of listen (captured plan input places)) }
@@ -58,8 +58,8 @@ pub fn talked_video_is_heard()
     losses_are_delivered();
 }
 
-/// What a listener shows of such a capture keeps the headline: each unit that is presented is a whole unit of the plan, with
-/// its bytes and at its instant.
+/// What a listener shows of a capture of an H.264 plan keeps the headline, on the premises of `talked_video_is_heard`: each
+/// unit that is presented is a whole unit of the plan, with its bytes and at its instant.
 pub fn talked_video_keeps_headline()
     ensures { (plan : TalkPlan) (input places : List ℕ) (listen : ListenPlan) → ListensToVideo plan input places listen
         → KeepsHeadline (pos 0) (journal plan input) listen (captured plan input places) (shown_of listen (captured plan input places)) }
@@ -68,8 +68,8 @@ pub fn talked_video_keeps_headline()
     headline_holds();
 }
 
-/// If the first captured packets of an H.264 plan are all packets of one of its units, in their order, or the one packet that
-/// has it whole, and there is room for the unit, it must be presented, whatever follows.
+/// A unit of an H.264 plan must be presented, whatever follows, if its packets are the first ones of the capture, in order, and
+/// there is room for the unit. It may be one packet.
 pub fn talked_unit_is_welcome()
     ensures { (plan : TalkPlan) (input places : List ℕ) (listen : ListenPlan) (from n : ℕ) → ListensToVideo plan input (range_with_len from (n - from) ++ n ∷ places) listen → HasRoomForUnit plan input listen from n
         → (made : MadeItem) × IsWelcome (journal plan input) listen (captured plan input (range_with_len from (n - from) ++ n ∷ places)) 0 n made }

@@ -30,7 +30,7 @@ use Rattle.talked_headline.proofs.Fragments.{numbered}
 
 -- ---- the packet that it is counted from
 
--- packet n is counted from the stamped packet `far.packets` before it, with one restart bit
+-- Packet n is counted from the stamped packet `far.packets` before it, and there is no restart between the two.
 pub record IsBack (j : Journal) (n : ℕ) : Type 0 where
   pub far : Distance
   pub back : distance (rule_of j.kind n) n j.count ≡ Some far
@@ -123,7 +123,7 @@ all_from p lead a zero i (r ∷ rs) each all = absurd all
 all_from p lead a (suc k) i [] each all = absurd all
 all_from p lead a (suc k) i (r ∷ rs) each all = (each a i r all.0, all_from p lead (a + 1) k (i + 1) rs each all.1)
 
--- the first `size` packets of a whole capture are packets a to a + m - 1
+-- The first `size` packets of a capture of `count` packets from packet a on are packets a to a + m - 1.
 record IsFront (size a count : ℕ) : Type 0 where
   m : ℕ
   numbers : stream_numbers (take size (map OfStream (range_with_len a count))) ≡ range_with_len a m

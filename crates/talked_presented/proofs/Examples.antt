@@ -112,7 +112,7 @@ video_fits input last_stamp limit = record {
   lead = refl;
 }
 
--- packets 0, 2, 1 and 1 again: the first copy of packet 1 must be presented
+-- packets are due at most 3 ns before the instant of the plan
 due_later : (n : ℕ) → first_instant (plain false) n ≤ (journal (plain false) silence).times.due n + 3
 due_later n = due_before (plain false) silence n (plain_plan false)
 

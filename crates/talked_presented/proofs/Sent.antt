@@ -57,7 +57,7 @@ use Rattle.talked_presented.proofs.Whole.{AreTimely}
 
 -- ---- the journal of a plan of audio
 
--- the journal has the plan's rate and count, and packets are sent when the plan says
+-- The journal has the plan's rate and count, and packets are sent when the plan says.
 pub record HasTimes (plan : TalkPlan) (s : Stream) : Type 0 where
   pub rate : s.journal.times.rate ≡ plan.rate
   pub count : s.journal.times.count ≡ plan.count
@@ -71,7 +71,7 @@ times_by (H264 last_stamp) plan input kind = absurd kind
 pub has_times : (plan : TalkPlan) (input : List ℕ) → IsAudioPlan plan → HasTimes plan (stream_of plan input)
 has_times plan input p = times_by plan.kind plan input p.kind
 
--- a packet is due at most a nanosecond after the plan's lead has passed since it was sent
+-- a packet is due at most a nanosecond later than the plan's lead after it was sent
 pub due_after : (plan : TalkPlan) (input : List ℕ) (n : ℕ) → IsAudioPlan plan → (journal plan input).times.due n ≤ first_instant plan n + 1
 due_after plan input n p =
     let has = has_format plan p in
@@ -170,7 +170,7 @@ pub due_head : (j : Journal) (n : ℕ) (o : Option Head) → IsAudioKind j.kind 
 due_head j n None kind is known e some = absurd cc
 due_head j n (Some head) kind is known e some = at_nominal j.kind j n 0 _ kind (record { head = head; is_head = e; at = is.first_instants n head known e })
 
--- the item of a copy with a head is timely, if it is known and came before the packet is due
+-- the item of a copy that has a head is timely if it is known and came no later than the packet is due
 pub timely_of : (shift : ℤ) (p : PacketJournal) (plan : ListenPlan) (records : List Record) (place n : ℕ) (d : Delivery) → HearsTalker shift p plan records → IsAudioKind p.times.kind → plan.clock ≡ None → slice_get (deliveries_of plan records) place ≡ Some d
     → (copy : IsCopyOf p plan.lead n d) → IsSome (head_of p.times n) → IsKnownCopy p plan records place (record { number = n; arrival = copy.arrival }) → time_of plan records place ≤ℤ pos (p.times.due n) → IsTimely p plan records place n (made_of_one d)
 timely_of shift p plan records place n d h kind off at copy some known early =
@@ -239,7 +239,7 @@ whole_caught plan input listen p none limit expects h are =
 pub caught_at : (plan : TalkPlan) (input : List ℕ) (listen : ListenPlan) (rs : List Record) (n : ℕ) → IsWhole plan input listen rs → n < (journal plan input).times.packets → IsCaughtAt (journal plan input) (stream_of plan input) listen rs n (OfStream n)
 caught_at plan input listen rs n w lt = w.each n (OfStream n) (packet_at 0 (journal plan input).times.packets n n lt (omega arith))
 
--- so if each has a head and is known, each is timely
+-- if each packet has a head and is known, each is timely
 pub are_timely : (plan : TalkPlan) (input : List ℕ) (listen : ListenPlan) (rs : List Record) → IsAudioPlan plan → plan.crf ≡ None → IsAudioKind (journal plan input).times.kind → listen.clock ≡ None → HoldsLead plan listen
     → (w : IsWhole plan input listen rs)
     → ((n : ℕ) → n < (journal plan input).times.packets → IsSome (head_of (journal plan input).times n))

@@ -1,4 +1,4 @@
--- What a listener makes of a whole capture of H.264: each unit, of all its packets.
+-- The items of a whole capture of H.264: each unit, made of all its packets.
 use Rattle.std.proofs.Common.{◌≡◌, ◌⊎◌, ℕ, zero, suc, ◌+◌, ◌-◌, ◌*◌, ◌<◌, ◌≤◌, true, pos, List, [], ◌∷◌, ◌++◌, length, map, filter, refl, sym, ap, ◌∙◌, subst, inl, inr, arith, length-append}
 use Rattle.std.specs.Prelude.{Contains}
 use Rattle.std.specs.List.{AllByRecursion, range_with_len}
@@ -33,7 +33,7 @@ use Rattle.talked_presented.proofs.UnitRuns.{find_end, one_end, unit_low, unit_e
 abbrev pub first_ones : (ℕ → Delivery) → ℕ → List Delivery
 first_ones d m = map d (range_with_len 0 m)
 
--- the listener hears the first m packets
+-- The listener hears the first m packets.
 pub record IsHeardFront (p : PacketJournal) (plan : ListenPlan) (d : ℕ → Delivery) (m : ℕ) : Type 0 where
   pub records : List Record
   pub heard : HearsTalker (pos 0) p plan records
@@ -203,6 +203,6 @@ first_made : (p : PacketJournal) (part : ℕ → Part) (plan : ListenPlan) (d : 
 unfolding is_within last_stretch is_complete
 first_made p part plan d = record { ends = []; items = []; so_far = refl; none = refl; frames = tt; units = refl; last_ones = refl }
 
--- all packets of a whole capture make their units
+-- the packets of a whole capture make all its units
 pub all_units : (p : PacketJournal) (part : ℕ → Part) (plan : ListenPlan) (d : ℕ → Delivery) → IsVideoCapture p part plan d → AreMade p part plan d p.times.packets
 all_units p part plan d w = all_from p.times.packets p part plan d 0 w (first_made p part plan d) (omega arith) (omega arith) (inl refl)

@@ -1,4 +1,4 @@
--- The packets of a stream of H.264 are one unit after another.
+-- A stream of H.264 consists of units, one after another.
 use Rattle.std.proofs.Common.{◌≡◌, ◌⊎◌, ℕ, zero, suc, ◌+◌, ◌-◌, ◌<◌, ◌≤◌, true, false, [], ◌∷◌, filter, refl, sym, ap, ◌∙◌, subst, inl, inr, arith}
 use Rattle.std.specs.List.{range_with_len}
 use Rattle.std.proofs.lemmas.Bool.{cases_lt}
@@ -9,7 +9,7 @@ use Rattle.packet_journal.specs.Units.{AreUnit}
 use Rattle.talked_presented.specs.Whole.{ends_unit}
 use Rattle.talked_presented.proofs.Counted.{more_range}
 
--- a unit begins with packet m: the number of its last packet
+-- A unit begins with packet m, and ends with this packet.
 pub record HasEnd (j : Journal) (part : ℕ → Part) (m : ℕ) : Type 0 where
   pub n : ℕ
   pub known : n < j.packets
@@ -21,7 +21,7 @@ inside_ends q (inl e) (inr f) = let g = sym e ∙ f in cc
 inside_ends q (inr e) (inl f) = let g = sym e ∙ f in cc
 inside_ends q (inr e) (inr f) = let g = sym e ∙ f in cc
 
--- packets after m up to j are middle fragments
+-- all packets after m, up to j, are middle fragments
 abbrev AreMiddle : (ℕ → Part) → ℕ → ℕ → Type 0
 AreMiddle part m j = (i : ℕ) → m < i → i ≤ j → part i ≡ Middle
 
@@ -37,7 +37,7 @@ one_more_middle part m j middle e i from to = elim (cases_lt j i) [
   | inr before ↦ middle i from before
 ]
 
--- the end of the unit is found among the packets after j
+-- a unit that begins with packet m, whose packets up to k do not end it, ends with a later packet
 scan : (fuel : ℕ) (j : Journal) (part : ℕ → Part) (m k : ℕ) → IsVideo j part → m ≤ k → suc k + fuel ≡ j.packets → part m ≡ First → AreMiddle part m k → HasEnd j part m
 scan zero j part m k is le sum first middle =
     let all : j.packets ≡ suc k = omega arith in

@@ -39,7 +39,7 @@ use Rattle.talked_presented.proofs.UnitsPresented.{AreTimelyUnits, units_present
 abbrev pub front_records : Stream → ℕ → ℕ → List Record
 front_records s a m = map record_of (map (frame_of s) (range_with_len a m))
 
--- delivery n
+-- the delivery of the frame of packet n
 abbrev pub delivered : Stream → ℕ → Delivery
 delivered s n = delivery (1 + n) (record_of (frame_of s n))
 
@@ -133,7 +133,7 @@ units_timely plan input listen h conforming carry belong copies =
       bytes = h.room.bytes;
     }
 
--- so each unit is presented
+-- each unit of a plan of H.264 is presented
 pub video_presented : (plan : TalkPlan) (input : List ℕ) (listen : ListenPlan) → HearsUnits plan input listen → IsConforming (pos 0) (journal plan input)
     → AllCarry (journal plan input) listen.lead (range_with_len 0 (journal plan input).times.packets) (records plan input)
     → ((n : ℕ) (r : Record) → Carries (journal plan input) listen.lead n r → belongs stream_kinds (journal plan input).stream r.bytes ≡ true)

@@ -32,17 +32,17 @@ use Rattle.talked_presented.proofs.Accepting.{AcceptsEach, AreOf, IsAcceptedAt, 
 
 -- ---- a packet of the journal
 
--- the accepted item is packet n
+-- The accepted item is packet n.
 pub record IsPacketAt (p : PacketJournal) (n : ℕ) (a : Accepted) : Type 0 where
   pub due : a.instant ≡ pos (p.times.due n)
   pub is : IsOfPacket false p n a.batch
 
--- the item at place n is packet n, which is known and came in time
+-- The item at place n is packet n, which is known and came in time.
 pub record IsTimelyAt (p : PacketJournal) (plan : ListenPlan) (records : List Record) (n : ℕ) : Type 0 where
   pub made : MadeItem
   pub timely : IsTimely p plan records n n made
 
--- Each packet is timely, and when it is judged, fewer than `buffer` packets up to it are not yet due.
+-- Each packet is timely, and when it is judged, fewer than `buffer` earlier packets are not yet due.
 pub record AreTimely (shift : ℤ) (p : PacketJournal) (plan : ListenPlan) (records : List Record) : Type 0 where
   pub heard : HearsTalker shift p plan records
   pub kind : IsAudioKind p.times.kind

@@ -18,8 +18,9 @@ sent_copy plan input n = record { number = n; arrival = (stream_of plan input).a
 abbrev pub waiting_at : TalkPlan → List ℕ → ℕ → List ℕ → List ℕ
 waiting_at plan input n packets = filter (λ (k : ℕ). nat_le ((stream_of plan input).arrival n) ((journal plan input).times.due k)) packets
 
--- Packet n of a plan without a clock is captured after the packets `before`, and the packets `after` follow. It has a timestamp,
--- or can be counted from one of those that came up to it and `look` more; and no packet before it was captured after it is due.
+-- Packet n of a plan without a clock is captured after the packets `before`, and the packets `after` follow. It has a
+-- timestamp, or can be counted from one of those that came up to it and `look` more; and no packet before it was captured after
+-- packet n is due.
 pub record ComesInTime (plan : TalkPlan) (input : List ℕ) (listen : ListenPlan) (before : List ℕ) (n : ℕ) (after : List ℕ) : Type 0 where
   pub talk : ListensTo plan input listen
   pub alone : plan.crf ≡ None

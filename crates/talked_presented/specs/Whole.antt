@@ -1,4 +1,4 @@
--- What is shown of a capture that nothing is missing from.
+-- What is shown of a whole capture of a plan.
 use Rattle.std.specs.Prelude.{◌≡◌, ◌+◌, ◌*◌, ◌^◌, ◌<◌, ◌≤◌, ⊤, ℕ, Bool, true, false, pos, List, [], ◌∷◌, filter, length, Option, None, IsSome}
 use Rattle.std.specs.List.{range_with_len}
 use Rattle.stream_journal.specs.Journal.{Part, Single, First, Middle, Last, head_of}
@@ -23,8 +23,8 @@ ArePresented by p (n ∷ ns) [] = ⊥
 ArePresented by p (n ∷ ns) (Present batch ∷ rest) = IsOfPacket by p n batch × ArePresented by p ns rest
 ArePresented by p (n ∷ ns) (Flag frame seq reason ∷ rest) = ⊥
 
--- The listener's buffer has room for all packets that are sent in 4/3 of the plan's lead and a nanosecond, and 1,500 bytes for
--- each: no packet carries more.
+-- The listener's buffer has room for all packets that are sent in 4/3 of the plan's lead, with 1 ns added to the lead, and has
+-- 1,500 bytes for each: no packet carries more.
 pub record HoldsLead (plan : TalkPlan) (listen : ListenPlan) : Type 0 where
   pub packets : 4 * ((plan.lead + 1) * plan.rate) < 3 * (listen.buffer * (plan.count * 1000000000))
   pub bytes : listen.buffer * 1500 ≤ listen.room
@@ -34,8 +34,8 @@ pub record IsCloseLead (plan : TalkPlan) (lead : ℕ) : Type 0 where
   pub from : plan.lead * plan.rate ≤ lead * plan.rate + 59 * (plan.count * 1000000000)
   pub to : lead * plan.rate ≤ plan.lead * plan.rate + 59 * (plan.count * 1000000000)
 
--- A listener counts packets without a timestamp from that of another, which it does if it expects them at about the time when
--- the plan sends them. If each packet is stamped, any lead will do.
+-- A listener times packets without a timestamp by another packet's, if it expects them at about the time at which the plan
+-- sends them. If each packet is stamped, any lead will do.
 abbrev pub ExpectsCounted : TalkKind → TalkPlan → ℕ → Type 0
 ExpectsCounted (Aaf format false) plan lead = ⊤
 ExpectsCounted (Aaf format true) plan lead = IsCloseLead plan lead
@@ -43,7 +43,7 @@ ExpectsCounted Am824 plan lead = plan.count < interval_of plan.rate → IsCloseL
 ExpectsCounted (H264 last_stamp) plan lead = ⊤
 
 -- The listener can present each packet of the plan, which sends no clock: each packet has a timestamp or one that it is counted
--- from, and there is room for all that wait.
+-- from, and the buffer has room for all packets that wait.
 pub record HearsAll (plan : TalkPlan) (input : List ℕ) (listen : ListenPlan) : Type 0 where
   pub talk : ListensTo plan input listen
   pub alone : plan.crf ≡ None
@@ -87,14 +87,15 @@ ends_unit Last = true
 abbrev pub unit_ends : TalkPlan → List ℕ → List ℕ
 unit_ends plan input = filter (λ (n : ℕ). ends_unit (part_sent input n)) (range_with_len 0 (journal plan input).times.packets)
 
--- When a packet is sent, each packet that is not yet due is among the last `buffer` ones, and the room holds 1,500 bytes for each
--- of these and for 255 packets more, which is the most that a unit has.
+-- Whenever a packet is sent, the buffer has room for all packets that are not yet due. It has 1,500 bytes for each packet that
+-- it may hold and for 255 more, the most packets that a unit has.
 pub record HoldsUnits (plan : TalkPlan) (input : List ℕ) (listen : ListenPlan) : Type 0 where
   pub packets : (k n : ℕ) → k ≤ n → n < (journal plan input).times.packets → (stream_of plan input).arrival n ≤ (journal plan input).times.due k
       → n < k + listen.buffer
   pub bytes : (listen.buffer + 255) * 1500 ≤ listen.room
 
--- The listener can present each unit of a plan of H.264: there is room for all that wait. It may have any lead.
+-- The listener can present each unit of a plan of H.264: the buffer has room for all units that wait. The listener may have any
+-- lead.
 pub record HearsUnits (plan : TalkPlan) (input : List ℕ) (listen : ListenPlan) : Type 0 where
   pub last_stamp : Bool
   pub kind : plan.kind ≡ H264 last_stamp
@@ -105,7 +106,7 @@ pub record HearsUnits (plan : TalkPlan) (input : List ℕ) (listen : ListenPlan)
   pub clock : FollowsClock (pos 0) (journal plan input) listen.shift listen.clock
   pub room : HoldsUnits plan input listen
 
--- a plan of H.264 with the default lead of `talk`, 2 ms, sends this input
+-- A plan of H.264 with the default lead of `talk`, 2 ms, sends this input.
 pub record IsDefaultVideo (plan : TalkPlan) (input : List ℕ) : Type 0 where
   pub last_stamp : Bool
   pub kind : plan.kind ≡ H264 last_stamp

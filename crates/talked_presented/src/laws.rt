@@ -41,8 +41,8 @@ pub fn defaults_are_heard()
     capture_reads_back();
 }
 
-/// Everything is presented of a whole capture of an audio plan without a clock: each packet is presented once, in order, and
-/// nothing is flagged.
+/// If each packet of an audio plan without a clock has a timestamp or is counted from one, and the listener has room for what
+/// is sent during the lead, all of a whole capture is presented: each packet once, in order, and nothing is flagged.
 pub fn whole_capture_is_presented()
     ensures { (plan : TalkPlan) (input : List ℕ) (listen : ListenPlan) → HearsAll plan input listen
         → ArePresented false (journal plan input) (range_with_len 0 (journal plan input).times.packets) (shown_of listen (whole_records (capture plan input))) }
@@ -53,8 +53,9 @@ pub fn whole_capture_is_presented()
     carried_clock_packet_is_delivered();
 }
 
-/// If the plan has the default lead of `talk`, a listener with the default options of `listen` presents everything, whatever the
-/// rate, the channels and the sample frames of a packet.
+/// An audio plan with the default lead of `talk`, without a clock, and, if it is sparse AAF or AM824, without restarts: a
+/// listener with the default options of `listen` presents all of it, at any rate, with any number of channels and of sample
+/// frames in a packet.
 pub fn defaults_present_all()
     ensures hears { (plan : TalkPlan) (input : List ℕ) → HasDefaultLead plan input → HearsAll plan input (default_listener plan.id) }
     ensures presented { (plan : TalkPlan) (input : List ℕ) → HasDefaultLead plan input
@@ -85,8 +86,8 @@ pub fn defaults_present_by_clock()
     clocked_capture_is_presented();
 }
 
-/// Everything is presented of a whole capture of an H.264 plan: each unit is presented once, in order, and nothing is flagged,
-/// whether each packet has a timestamp or only the last one of each unit.
+/// If the listener has room for the units that wait, all of a whole capture of an H.264 plan is presented: each unit once, in
+/// order, and nothing is flagged, whether each packet has a timestamp or only the last one of each unit.
 pub fn whole_video_is_presented()
     ensures { (plan : TalkPlan) (input : List ℕ) (listen : ListenPlan) → HearsUnits plan input listen
         → ArePresented (by_clock listen) (journal plan input) (unit_ends plan input) (shown_of listen (whole_records (capture plan input))) }
@@ -106,8 +107,9 @@ pub fn defaults_present_all_units()
     whole_video_is_presented();
 }
 
-/// A listener with the default options of `listen` hears a capture of an H.264 plan with the default lead of `talk`: a whole one,
-/// and if each packet has a timestamp any other, whatever it loses, repeats or reorders. It has room for each unit of the plan.
+/// A listener with the default options of `listen` hears a whole capture of an H.264 plan with the default lead of `talk`. If
+/// each packet has a timestamp, it hears any other capture of the plan, too, whatever that loses, repeats or reorders. It has
+/// room for each unit of the plan.
 pub fn defaults_hear_units()
     ensures whole { (plan : TalkPlan) (input : List ℕ) → IsDefaultVideo plan input → ListensToVideo plan input (range_with_len 0 (journal plan input).times.packets) (default_listener plan.id) }
     ensures stamped { (plan : TalkPlan) (input places : List ℕ) → (is : IsDefaultVideo plan input) → is.last_stamp ≡ false → ListensToVideo plan input places (default_listener plan.id) }
@@ -116,9 +118,9 @@ pub fn defaults_hear_units()
     journal_conforms();
 }
 
-/// A captured copy of an audio packet must be presented, wherever it is in a capture and whatever the capture loses, repeats or
-/// reorders, if the packet has a timestamp or can be counted from one that came, no packet up to it was captured after it is due,
-/// it is the first copy, and the buffer has room for it.
+/// Anywhere in a capture of an audio plan without a clock, whatever the capture loses, repeats or reorders, a copy of a packet
+/// must be presented if the packet has a timestamp or can be counted from one that came, no packet up to it was captured after
+/// it is due, it is the first copy, and the buffer has room for it.
 pub fn talked_copy_is_welcome()
     ensures { (plan : TalkPlan) (input before after : List ℕ) (n : ℕ) (listen : ListenPlan) → MustBePresented plan input listen before n after
         → (made : MadeItem) × IsWelcome (journal plan input) listen (captured plan input (before ++ n ∷ after)) (length before) n made }
@@ -130,8 +132,8 @@ pub fn talked_copy_is_welcome()
     copies_anywhere_are_welcome();
 }
 
-/// If the packet comes again, anywhere later in the capture, and no packet up to that copy was captured after it is due, the copy
-/// is a further one, and must be flagged as a repeat.
+/// If a packet that must be presented comes again, anywhere later in the capture, and no packet up to that copy was captured
+/// after the repeated packet is due, the copy is a further one, and must be flagged as a repeat.
 pub fn talked_copy_is_further()
     ensures { (plan : TalkPlan) (input before between after : List ℕ) (n : ℕ) (listen : ListenPlan) → MustBePresented plan input listen before n (between ++ n ∷ after) → ComesInTime plan input listen (before ++ n ∷ between) n after
         → (made : MadeItem) × IsFurther (journal plan input) listen (captured plan input ((before ++ n ∷ between) ++ n ∷ after)) (length (before ++ n ∷ between)) n made }
@@ -158,14 +160,16 @@ pub fn talked_unit_anywhere_is_welcome()
     units_anywhere_are_welcome();
 }
 
-/// If exactly these packets are shown, a listener's counts say so: as many are presented, and none is flagged.
+/// If exactly these packets are presented and nothing is flagged, the listener's counts say this: as many items are presented,
+/// and none is flagged.
 pub fn presented_are_counted()
     ensures presented { (by : Bool) (p : PacketJournal) (packets : List ℕ) (plan : ListenPlan) (records : List Record) → ArePresented by p packets (shown_of plan records) → (counts_of plan records (shown_of plan records)).presented ≡ length packets }
     ensures flagged { (by : Bool) (p : PacketJournal) (packets : List ℕ) (plan : ListenPlan) (records : List Record) → ArePresented by p packets (shown_of plan records) → (counts_of plan records (shown_of plan records)).flagged ≡ 0 }
 {}
 
-/// Plans of each kind, without a clock and with one, have the default lead and can be timed whole, whatever they send. And if packets 0, 2, 1 and 1 of a plan
-/// are captured, in this order, the first copy of packet 1 must be presented. So must a unit of one packet that comes twice.
+/// Plans of each kind, with a clock and without, have the default lead, and each of their packets can be timed, whatever they
+/// send. If packets 0, 2, 1 and 1 of a plan are captured, in this order, the first copy of packet 1 must be presented. So must a
+/// unit of one packet that comes twice.
 pub fn examples_are_so()
     ensures dense { (input : List ℕ) → length input ≤ most_input → HasDefaultLead (plain false) input }
     ensures sparse { (input : List ℕ) → length input ≤ most_input → HasDefaultLead (plain true) input }

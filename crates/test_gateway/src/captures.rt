@@ -1,4 +1,4 @@
-//! Captures of an audio stream, spelled byte by byte as the standards have it, from the words of a table's row.
+//! Captures of an audio stream, written byte by byte as the standards say, from the words of a table's row.
 
 ghost use Rattle.std.specs.Prelude.{◌≤◌, ◌<◌};
 
@@ -30,7 +30,7 @@ struct Source {
     start: u64,
     /// The block count of the first data block.
     dbc: u64,
-    /// After how many packets the stream restarts, or 0; and how far presentation times jump then, in nanoseconds.
+    /// The number of packets after which the stream restarts, or 0; and how far presentation times jump then, in nanoseconds.
     restart: u64,
     jump: u64,
     /// How long before its first instant a packet is captured, in nanoseconds.
@@ -120,7 +120,7 @@ fn source_of(words: &str) -> Source {
     source
 }
 
-/// The time of so many samples, in whole nanoseconds.
+/// The time of this many samples, in whole nanoseconds.
 fn span(samples: u64, rate: u64) -> u64 {
     samples.saturating_mul(SECOND) / rate.max(1)
 }
@@ -194,7 +194,7 @@ fn block_of(source: &Source, n: u64) -> u64
     source.dbc.saturating_add(n.saturating_mul(source.count)) % 256
 }
 
-/// Adds the values of packet `n`: no two of them in a row are the same. AM824 has labels.
+/// Adds the values of packet `n`, each different from the one before it. AM824 has labels.
 fn add_samples(bytes: &mut Vec<u8>, source: &Source, n: u64) -> Result<(), NoMemory> {
     let values = source.count.saturating_mul(source.channels).min(1_000);
     for k in 0..values {
@@ -217,7 +217,7 @@ const ETHERNET: [u8; 18] = [
     0x22, 0xf0,
 ];
 
-/// Adds the part of the stream header that both formats have up to the timestamp.
+/// Adds the part of the stream header that both formats have, up to the timestamp.
 fn add_header(bytes: &mut Vec<u8>, source: &Source, n: u64, times: &Times) -> Result<(), NoMemory> {
     let flags = 0x80 | (if times.mr { 8 } else { 0 }) | (if times.stamp.is_some() { 1 } else { 0 });
     bytes.extend_from_slice(&ETHERNET)?;

@@ -7,7 +7,7 @@ use sequence_track::{Findings, Seen, Tracker};
 use std::alloc::Global;
 use std::test::Fail;
 
-/// Nothing is found.
+/// What `check` finds in a packet without findings.
 pub const NOTHING: Findings = Findings {
     reserved: false,
     step: None,
@@ -30,7 +30,7 @@ fn seen_in(frame: &[u8]) -> Option<Seen> {
     })
 }
 
-/// Whether each record holds a packet of a stream in which nothing is found.
+/// Whether each record holds a packet of a stream in which `check` finds nothing.
 pub fn is_clean(alloc: Global, records: &[Recorded]) -> Result<bool, Fail> {
     let mut tracker = Tracker::begin(alloc)?;
     for record in records {

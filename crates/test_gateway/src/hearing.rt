@@ -22,7 +22,7 @@ fn without_labels(alloc: Global, quadlets: &[u8]) -> Result<Vec<u8>, NoMemory> {
     Ok(values)
 }
 
-/// Adds the samples of a batch, of which each value may have a label.
+/// Adds the samples of a batch. Each value may have a label.
 fn add_samples(
     alloc: Global,
     samples: &mut Vec<Heard>,

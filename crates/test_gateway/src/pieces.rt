@@ -1,4 +1,4 @@
-//! Where batches are cut, which are skipped, and the frames of the pieces.
+//! Where batches are cut, which of them are skipped, and the frames of the pieces.
 
 ghost use Rattle.std.specs.Prelude.{IfSome};
 ghost use Rattle.am824_gateway.specs.Scan.{IsShape};
@@ -12,9 +12,9 @@ use std::alloc::Global;
 use std::test::Fail;
 use vectors_avtp::row_of;
 
-/// Streams that are turned into AM824: the number of batches and packets with what is skipped, and the instants and counts of the
-/// packets. The first rows have batches that touch, overlap, and lie apart; in the next, packets arrive at the last nanosecond that a
-/// capture can state, and after it.
+/// Streams that are converted to AM824: the number of batches and packets with what is skipped, and the instants and counts of
+/// the packets. The first rows have batches that touch, overlap, and lie apart; in the next, packets arrive at the last
+/// nanosecond that a capture can state, and after it.
 const TO_AM824: &str = "\
 packets=1 => 1 1: 1002000000*6
 packets=1, packets=1 start=1002104167 => 2 2: 1002000000*6 1002104167*6
@@ -32,8 +32,8 @@ packets=1 start=4294967295999000000 lead=9000000 count=246, packets=1 start=4294
 packets=0 => 0 0:
 ";
 
-/// The same to PCM. In the first row the timestamp of the first packet belongs to its fifth block, and the second packet is counted
-/// from there.
+/// Streams that are converted to PCM, with the same numbers, instants and counts. In the first row the timestamp of the first
+/// packet belongs to its fifth block, and the second packet is counted from there.
 const TO_AAF: &str = "\
 am824 channels=1 packets=2 dbc=12 start=4999916666 | 1@30=2a05f200 => 2 4: 4999916666*1 4999937500*5 5000041666*1 5000062500*5
 am824 packets=1 => 1 1: 1002000000*6
@@ -66,7 +66,7 @@ fn batches_are_cut_where_they_leave_the_nominal_line(rt: HostRuntime) -> Result<
     Ok(())
 }
 
-/// Shapes that are not the stream's: the rate and channels, or none.
+/// Shapes other than the stream's: a rate and channels, or none.
 const SHAPES: &str = "\
 48000 2 | packets=2 => 2 2
 44100 2 | packets=1 => 1 6
@@ -114,8 +114,8 @@ fn batches_of_another_shape_are_skipped(rt: HostRuntime) -> Result<(), Fail> {
     Ok(())
 }
 
-/// A stream of PCM, the place of a frame that is made of it, and how that frame begins: from the packet on, without the stream id.
-/// The block count is raised to a multiple of the SYT interval, which it often is already, and wraps after 256.
+/// A stream of PCM, the place of a frame that is made of it, and how that frame begins: from the packet on, without the stream
+/// id. The block count is raised to a multiple of the SYT interval if it is none, and wraps after 255.
 const FRAMES: &str = "\
 packets=1 | 0 => 1000000000 00810000 3bb94e80 0000000000385fa03f0200009002ffff
 packets=2 | 1 => 1000125000 00810100 3bbb36c8 0000000000385fa03f0200089002ffff
@@ -159,7 +159,7 @@ const AS_PCM: &str =
 const AS_AM824: &str =
     "91e0f000fe000200000000018100600222f00081000002000000000100013bb94e800000000000385fa03f0200009002ffff40000102400304054006070840090a0b400c0d0e400f101140121314401516174018191a401b1c1d401e1f2040212223";
 
-/// A frame of a unit of H.264 of three bytes, as many as a sample of one channel has.
+/// A frame with a unit of H.264 that has three bytes, as many as a sample of one channel.
 const UNIT: &str =
     "91e0f000fe000200000000018100600222f00381000002000000000100013bb94e8002010000000730003bb94e8067420a";
 

@@ -8,9 +8,9 @@ use std::alloc::Global;
 use std::test::Fail;
 use vectors_avtp::row_of;
 
-/// Streams, bytes of frames that are changed (`2@34=02` in the second one), and what a scan for a gateway to AM824 finds: a fault and
-/// the number of its frame, or the shape. In a frame of PCM byte 18 is the subtype, 19 has `sv`, 21 `tu`, 29 ends the stream id, 34
-/// is the format, 35 and 36 have the rate and the channels, 37 is the bit depth, and 38 and 39 are the length.
+/// Streams, bytes of frames that are changed (`2@34=02` in the second frame), and what a scan for a gateway to AM824 finds: a
+/// fault and the number of its frame, or the shape. In a frame of PCM byte 18 is the subtype, 19 has `sv`, 21 `tu`, 29 ends the
+/// stream id, 34 is the format, 35 and 36 have the rate and the channels, 37 is the bit depth, and 38 and 39 are the length.
 const TO_AM824: &str = "\
 packets=3 | => 48000 2
 rate=192000 channels=256 count=1 | => 192000 256
@@ -49,7 +49,8 @@ count=8 | 2@34=02 2@36=03 => Format at 2
  | 2@19=80 2@35=40 => Rate at 2
 ";
 
-/// The same to PCM. In a frame of AM824 byte 43 is DBS, 45 DBC, 47 FDF, and the first quadlet begins at 50.
+/// Streams, bytes of frames that are changed, and what a scan for a gateway to PCM finds. In a frame of AM824 byte 43 is DBS,
+/// 45 DBC, 47 FDF, and the first quadlet begins at 50.
 const TO_AAF: &str = "\
 am824 | => 48000 2
 am824 rate=176400 channels=256 count=1 | => 176400 256
@@ -84,7 +85,7 @@ fn put(frame: &mut Vec<u8>, at: usize, bytes: &[u8]) {
     }
 }
 
-/// Changes bytes of frames, in the words of a row.
+/// Changes bytes of frames as the words of a row say.
 pub fn change(alloc: Global, records: &mut Vec<Recorded>, words: &str) -> Result<(), NoMemory> {
     for word in words.split_ascii_whitespace() {
         let (place, digits) = word.split_once('=').unwrap_or((word, ""));
@@ -98,7 +99,7 @@ pub fn change(alloc: Global, records: &mut Vec<Recorded>, words: &str) -> Result
     Ok(())
 }
 
-/// The records of a row's streams, with its changes.
+/// The records of a row's streams, with the row's changes.
 pub fn changed(alloc: Global, row: &str) -> Result<Vec<Recorded>, NoMemory> {
     let (streams, changes) = row.split_once('|').unwrap_or((row, ""));
     let mut records = records_of(alloc, streams)?;

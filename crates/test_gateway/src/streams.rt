@@ -1,5 +1,5 @@
-//! Streams that are turned and turned back: all rates, channels, counts beside the longest piece, sparse PCM, AM824 that is stamped
-//! in a later block, restarts and losses.
+//! Streams that are converted and converted back: all rates, channels, counts near the longest piece, sparse PCM, AM824 that is
+//! stamped in a later block, restarts and losses.
 
 use crate::captures::{Recorded, records_of};
 use crate::checking::is_clean;
@@ -11,8 +11,8 @@ use std::process::Abort;
 use std::test::Fail;
 use vectors_avtp::row_of;
 
-/// A stream of PCM, how many batches a listener presents of it, and how many packets of AM824 these make. A packet of AM824 has at
-/// most 1468 bytes of quadlets.
+/// A stream of PCM, how many batches a listener presents of it, and how many packets of AM824 these make. A packet of AM824 has
+/// at most 1,468 bytes of quadlets.
 const PCM: &str = "\
 rate=32000 => 3 3
 rate=44100 => 3 3
@@ -55,8 +55,8 @@ rate=44100 start=0 packets=40 => 40 40
 start=4294967296000000000 => 3 3
 ";
 
-/// A stream of AM824, how many batches a listener presents of it, and how many packets of PCM these make. If the timestamp belongs
-/// to a later block, the samples before and after it are not all on the nominal line of the first one.
+/// A stream of AM824, how many batches a listener presents of it, and how many packets of PCM these make. If the timestamp
+/// belongs to a later block, the samples before and after that block are not all on the nominal line of the first sample.
 const AM824: &str = "\
 am824 => 3 5
 am824 rate=32000 packets=5 => 5 5
@@ -108,8 +108,9 @@ fn are_same(a: &[Recorded], b: &[Recorded]) -> bool {
     true
 }
 
-/// A row's stream is turned into as many packets, which present the same values at the same instants and in which nothing is found.
-/// Turned back, it does so again; and AM824 of a gateway, turned into PCM and back, is the same frames.
+/// Checks that a row's stream is converted to as many packets as the row says, that these present the same values at the same
+/// instants, and that `check` finds nothing in them. It checks this again for the way back, and that AM824 of a gateway,
+/// converted to PCM and back, is the same frames.
 fn check_row(rt: &impl Abort, alloc: Global, to: To, line: &str) -> Result<(), Fail> {
     let (words, wanted) = row_of(line)?;
     let back = match to {

@@ -1,4 +1,4 @@
-//! A capture is scanned, listened to, and turned into the other format.
+//! Scans a capture, listens to it, and converts it to the other format.
 
 ghost use Rattle.std.specs.Prelude.{◌≡◌, ◌+◌, ◌^◌, ◌<◌, ◌≤◌, length, IfOk, IfSome, OnOk};
 ghost use Rattle.sample_schedule.specs.Limits.{IsPlan};
@@ -13,7 +13,7 @@ use sample_schedule::{Batch, Shown};
 use std::alloc::Global;
 use std::test::Fail;
 
-/// A listener of the stream that looks so many items ahead.
+/// A listener of the stream that looks this many items ahead.
 pub fn plan_of(look: u32) -> ListenPlan
     ensures { IsPlan (schedule_plan result) }
 {
@@ -28,7 +28,7 @@ pub fn plan_of(look: u32) -> ListenPlan
     }
 }
 
-/// What is shown of records.
+/// What a listener shows of records.
 pub fn heard(alloc: Global, records: &[Recorded], look: u32) -> Result<Heard, Fail> {
     let bytes = capture_of(alloc, records)?;
     if bytes.len() > 100_000_000 {
@@ -74,7 +74,7 @@ fn copy_of(alloc: Global, batch: &Batch) -> Result<Batch, NoMemory>
     })
 }
 
-/// The frame of a piece, as it is written.
+/// The frame of a piece, as `write` writes it.
 fn record_of(alloc: Global, gateway: &Gateway, i: u32) -> Result<Recorded, Fail>
     requires { i < length gateway.now.frames }
 {
@@ -89,7 +89,7 @@ fn record_of(alloc: Global, gateway: &Gateway, i: u32) -> Result<Recorded, Fail>
     })
 }
 
-/// The last piece is lent as it is written.
+/// Checks that the last piece is lent as it is written.
 fn check_lent(alloc: Global, gateway: &mut Gateway, i: u32) -> Result<(), Fail>
     requires { i < length gateway.old.frames }
     ensures { gateway.new ≡ gateway.old }
@@ -102,7 +102,7 @@ fn check_lent(alloc: Global, gateway: &mut Gateway, i: u32) -> Result<(), Fail>
     Ok(())
 }
 
-/// Puts a batch, and adds its frames or why it is skipped.
+/// Gives a batch to the gateway, and adds its frames or the reason why it is skipped.
 fn turn_batch(
     alloc: Global,
     gateway: &mut Gateway,
@@ -150,7 +150,7 @@ fn turn_all(
     Ok(())
 }
 
-/// What a gateway of this shape makes of records that are listened to.
+/// What a gateway of this shape makes of what a listener presents of records.
 pub fn turn_as(
     alloc: Global,
     to: To,

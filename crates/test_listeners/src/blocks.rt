@@ -4,7 +4,7 @@ use crate::captures::{AUDIO, Captured, Format};
 use crate::hearing::{ROW, Row, check_rows};
 use std::test::Fail;
 
-/// Six data blocks counted from 12. The one with number 16 is stamped.
+/// Six data blocks counted from 12. Block 16 is stamped.
 pub const STAMPED: Captured =
     captured!(AUDIO, format: Format::Blocks, arrival: 4_997_916_666, stamp: Some(5_000_000_000), changes: &[(27, 12)]);
 

@@ -4,7 +4,7 @@ use avtp_base::NoMemory;
 use std::alloc::Global;
 use vectors_avtp::{changed, vector};
 
-/// Which test vector a packet is made of.
+/// The test vector from which a packet is made.
 #[derive(Clone, Copy)]
 pub enum Format {
     Audio,
@@ -13,18 +13,18 @@ pub enum Format {
     Clock,
 }
 
-/// A packet as it is captured, in a frame of its own: a vector's packet with some bytes changed.
+/// A packet as it is captured, in a frame of its own: the packet of a vector with some bytes changed.
 #[derive(Clone, Copy)]
 pub struct Captured {
     pub format: Format,
-    /// When it was captured, in nanoseconds.
+    /// When the packet was captured, in nanoseconds.
     pub arrival: u64,
     pub seq: u8,
-    /// Its timestamp, `None` if it is not valid. A packet of a stream has the last 32 bits of it.
+    /// The packet's timestamp, or `None` if it is not valid. A packet of a stream has the low 32 bits of this number.
     pub stamp: Option<u64>,
     /// Bytes of the packet that are changed, each at its offset.
     pub changes: &'static [(usize, u8)],
-    /// How many bytes of the frame are captured at most, and how many zero bytes follow them.
+    /// The most bytes of the frame that are captured, and the number of zero bytes after them.
     pub len: usize,
     pub zeros: usize,
 }
@@ -76,7 +76,7 @@ fn packet_of(alloc: Global, row: &Captured) -> Result<Vec<u8>, NoMemory> {
     changed(packet, row.changes, 80, 0)
 }
 
-/// Puts the record of a frame after a capture.
+/// Adds the record of a frame to a capture.
 fn put(bytes: &mut Vec<u8>, arrival: u64, frame: &[u8]) -> Result<(), NoMemory> {
     let size = frame.len() as u64;
     for number in [arrival / SECOND, arrival % SECOND, size, size] {

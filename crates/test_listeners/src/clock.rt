@@ -1,4 +1,4 @@
-//! Packets with their media clock.
+//! Packets of a stream with its media clock.
 
 use crate::captures::{AUDIO, Captured, Format};
 use crate::hearing::{ROW, Row, check_rows, plan_of, seen_of};
@@ -51,8 +51,8 @@ fn packets_are_judged_once_the_look_ahead_is_known(rt: HostRuntime) -> Result<()
     check_rows(&rt, rt.alloc(), &ROWS)
 }
 
-/// Bytes of a clock packet that are changed so that it has no valid timestamp, and whether it still belongs to the clock:
-/// another version, uncertain times, another type, no interval; no valid id, and another one.
+/// Changed bytes of a clock packet, so that it has no valid timestamp, and whether it still belongs to the clock: another
+/// version, uncertain times, another type, no interval; no valid id, and another id.
 const POINTLESS: [(&[(usize, u8)], bool); 6] = [
     (&[(1, 0x90)], true),
     (&[(1, 0x81)], true),
@@ -62,7 +62,8 @@ const POINTLESS: [(&[(usize, u8)], bool); 6] = [
     (&[(11, 0x03)], false),
 ];
 
-/// Such a packet of the clock counts for the look-ahead, and the timestamps before and after it stay joined.
+/// A packet of the clock without a valid timestamp counts for the look-ahead, and the timestamps before and after it stay
+/// joined.
 #[test]
 fn a_clock_packet_without_points_is_waited_for(rt: HostRuntime) -> Result<(), Fail> {
     for row in &POINTLESS {

@@ -3,7 +3,7 @@
 use soak_run::{Noise, soak_deliveries};
 use std::test::Fail;
 
-/// The first numbers that are drawn from a seed, which counts modulo 2^31.
+/// The first numbers that are drawn from a seed, which is taken modulo 2^31.
 const DRAWS: [(u64, &[u32]); 3] = [
     (1, &[16_838, 5_758]),
     (2_147_483_649, &[16_838, 5_758]),
@@ -20,8 +20,8 @@ fn numbers_are_drawn_from_a_seed(rt: HostRuntime) {
     }
 }
 
-/// The number of packets, the number of copies that are delivered, a place among these, and the arrivals and packets from there
-/// on.
+/// The number of packets; the number of copies that are delivered; a place among these; and the arrivals and packets from that
+/// place on.
 const ROWS: [(u32, usize, usize, &[(i64, u64)]); 6] = [
     (0, 0, 0, &[]),
     (1, 1, 0, &[(1_002_480_000, 0)]),

@@ -24,14 +24,14 @@ const NOTHING: Findings = Findings {
 /// The most streams that are tracked.
 const MOST: u64 = 1024;
 
-/// A packet: its sequence number, its restart bit, and whether it has both a reserved bit and a wrong stamp; and the step and
-/// the hold that are found.
+/// A packet: its sequence number, its restart bit, and whether it has both a reserved bit and a wrong timestamp; and the step
+/// and the hold that are found.
 type Noted = (u8, bool, bool, Option<u8>, Option<u32>);
 
 /// Separate streams, each with its packets in order.
 const STREAMS: [&[Noted]; 4] = [
-    // Each finding alone, and all together. The first change of the restart bit ends a value that did not begin with a change;
-    // the next value lasts for four packets, and the one after it for one.
+    // Each finding alone, and all together. The first change of the restart bit ends a value that began with the stream. The
+    // next value lasts for four packets, and the one after it for one.
     &[
         (0, false, false, None, None),
         (1, true, false, None, None),
@@ -106,7 +106,7 @@ fn each_packet_has_the_findings_of_its_stream(rt: HostRuntime) -> Result<(), Fai
     Ok(())
 }
 
-/// Two streams have each id, with different subtypes. No packet of the 1,025th stream is tracked; the streams before it stay
+/// Each id has two streams, with different subtypes. No packet of the 1,025th stream is tracked; the streams before it stay
 /// tracked.
 #[test]
 fn the_first_1024_subtypes_with_ids_are_tracked(rt: HostRuntime) -> Result<(), Fail> {

@@ -11,13 +11,13 @@ use std::alloc::Global;
 use std::process::Abort;
 use std::test::Fail;
 
-/// What a listener shows of a capture.
+/// A listener, the packets that are captured, and what the listener shows of them.
 #[derive(Drop)]
 pub struct Row {
     pub name: &'static str,
     pub buffer: u32,
     pub room: u32,
-    /// How far a listener with a clock looks ahead; `None` listens without a clock.
+    /// How many items a listener with a clock looks ahead, or `None` for a listener without a clock.
     pub look: Option<u32>,
     pub captured: &'static [Captured],
     pub seen: &'static str,
@@ -61,7 +61,8 @@ pub fn heard(alloc: Global, plan: &ListenPlan, bytes: &[u8]) -> Result<Heard, Fa
     Ok(whole(alloc, plan, bytes)?)
 }
 
-/// An item's line: the numbers of its frame and of its packet; and the first instant if it is presented, or else the reason.
+/// The line of an item: the numbers of its frame and of its packet, and the first instant if it is presented, or else the
+/// reason.
 pub fn line_of(alloc: Global, shown: &Shown) -> Result<String, NoMemory> {
     match shown {
         Shown::Present(batch) => {
@@ -85,7 +86,7 @@ pub fn seen_of(alloc: Global, plan: &ListenPlan, captured: &[Captured]) -> Resul
     Ok(text)
 }
 
-/// Each row's packets are shown as the row states.
+/// Checks that each row's packets are shown as the row says.
 pub fn check_rows(rt: &impl Abort, alloc: Global, rows: &[Row]) -> Result<(), Fail> {
     for row in rows {
         let plan = plan_of(row.buffer, row.room, row.look);

@@ -3,11 +3,11 @@
 use soak_run::soak;
 use std::test::Fail;
 
-/// A number of packets; and of their deliveries, how many there are, and how many are presented, late, repeated, without a
+/// A number of packets; and the numbers of their deliveries, and of those that are presented, late, repeated, without a
 /// timestamp, and without room.
 type Row = (u32, [u64; 6]);
 
-/// The numbers for at most ten packets were worked out by hand, and the others by another program that follows the rules of
+/// The numbers for at most ten packets were worked out by hand. The others come from another program that follows the rules of
 /// the noise, of the deliveries and of the listener.
 const ROWS: [Row; 7] = [
     (0, [0, 0, 0, 0, 0, 0]),

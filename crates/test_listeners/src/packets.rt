@@ -1,4 +1,4 @@
-//! Packets of PCM, alone and together.
+//! Packets of PCM, one at a time and several together.
 
 use crate::captures::{AUDIO, Captured};
 use crate::hearing::{ROW, Row, check_rows, plan_of, seen_of};
@@ -94,8 +94,8 @@ fn packets_come_in_order_once_and_within_the_buffer(rt: HostRuntime) -> Result<(
     check_rows(&rt, rt.alloc(), &ROWS)
 }
 
-/// Bytes of a packet that are changed, and how many bytes of its frame are captured; and why the packet is flagged, or nothing
-/// if it does not belong to the stream. A packet begins at byte 18 of its frame.
+/// Changed bytes of a packet, how many bytes of its frame are captured, and why the packet is flagged, or nothing if it does
+/// not belong to the stream. A packet begins at byte 18 of its frame.
 const CHANGED: [(&[(usize, u8)], usize, &str); 24] = [
     (&[(3, 0x01)], 66, "1/0 Uncertain, "),
     (&[(21, 0)], 66, "1/0 Empty, "),

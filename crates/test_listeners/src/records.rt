@@ -1,4 +1,4 @@
-//! Captures that hold other records than packets of the stream, and captures in pieces.
+//! Captures with records that are not of the stream, and captures in pieces.
 
 use crate::hearing::{heard, line_of, plan_of};
 use avtp_base::{Field, Refusal};
@@ -7,7 +7,7 @@ use std::alloc::Global;
 use std::test::Fail;
 use vectors_avtp::{changed, vector};
 
-/// The first vector with some bytes changed, cut, and with zero bytes after it; how many packets of the stream it has; and its
+/// The first vector with some bytes changed, cut, and followed by zero bytes; how many packets of the stream it has; and its
 /// first refusal.
 struct Row {
     name: &'static str,
@@ -83,8 +83,8 @@ fn a_record_is_counted_whatever_it_holds(rt: HostRuntime) -> Result<(), Fail> {
     Ok(())
 }
 
-/// What is heard of a capture that comes in pieces, up to a length and after it: the first item that is shown, the counts, and
-/// the fault of the record after the first, both when it is fed and at the end.
+/// What a listener shows of a capture in two pieces, cut at `cut`: the first item that is shown; the counts; and the faults
+/// that `feed` and `end` return after the first record.
 fn heard_in_pieces(
     alloc: Global,
     bytes: &[u8],

@@ -19,7 +19,7 @@ const MIDDLE: Captured = captured!(SINGLE, seq: 1, changes: &[(28, 0x7c), (29, 0
 
 const LAST: Captured = captured!(SINGLE, seq: 2, changes: &[(28, 0x7c), (29, 0x45), (31, 3)]);
 
-/// The unit that these three fragments make.
+/// The unit that the fragments `FIRST`, `MIDDLE` and `LAST` make.
 const UNIT: [u8; 7] = [0x65, 0, 1, 0, 2, 0, 3];
 
 const FIRST_UNSTAMPED: Captured = captured!(FIRST, stamp: None);
@@ -159,7 +159,7 @@ fn bytes_of(heard: &Heard) -> Option<&[u8]> {
     }
 }
 
-/// Fragments with 65,529 zero bytes of a unit, and last fragments with 447 and 448 bytes.
+/// Long fragments: the first and the middle ones have 65,529 zero bytes of a unit, the last ones 447 and 448.
 const LONG_FIRST: Captured =
     captured!(SINGLE, changes: &[(20, 0xff), (21, 0xff), (28, 0x7c), (29, 0x85)], len: 48, zeros: 65_529);
 
@@ -172,8 +172,8 @@ const LONG_LAST: Captured =
 const LONGER_LAST: Captured =
     captured!(LONG_LAST, changes: &[(20, 0x01), (21, 0xc6), (28, 0x7c), (29, 0x45)], zeros: 448);
 
-/// The first, the middle and the last fragments of a unit, how many middle ones there are, how many bytes are presented, and
-/// how many fragments are flagged because the unit is too long.
+/// The first, the middle and the last fragment of a unit; how many middle fragments there are; how many bytes are presented, if
+/// the unit is; and how many fragments are flagged because the unit is too long.
 type Long = ([Captured; 3], u16, Option<usize>, usize);
 
 const LONG: [Long; 3] = [

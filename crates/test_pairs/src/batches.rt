@@ -1,4 +1,4 @@
-//! Batches as rows of a table spell them.
+//! Batches as they are written in the rows of a table.
 
 use avtp_base::Bytes;
 use sample_schedule::Batch;
@@ -7,7 +7,7 @@ use std::collections::VecDeque;
 use std::test::Fail;
 use time_unfold::Line;
 
-/// The first instant of a batch, the time of `den` of its samples in nanoseconds, and their number.
+/// The first instant of a batch, in nanoseconds; the time of `den` of its samples, in nanoseconds; and their number.
 #[derive(Clone, Copy)]
 struct Samples {
     first: u32,
@@ -24,12 +24,12 @@ fn byte(text: &str) -> u8 {
     text.parse::<u8>().unwrap_or(0)
 }
 
-/// The parts of a text before and after a sign; all of it is before, and `other` after, if the sign is not there.
+/// The parts of a text before and after a sign. Without the sign, all of the text is before it, and `other` after it.
 fn split<'a>(text: &'a str, sign: char, other: &'a str) -> (&'a str, &'a str) {
     text.split_once(sign).unwrap_or((text, other))
 }
 
-/// The samples that a word spells before its bytes: `1000` are six samples of 48 kHz from instant 1,000, `1000*3` three,
+/// The samples that a word gives before its bytes: `1000` are six samples of 48 kHz from instant 1,000, `1000*3` three,
 /// `1000/44100` six of 44.1 kHz, and `1000u` is a unit.
 fn samples_of(word: &str) -> Samples {
     if let Some(first) = word.strip_suffix('u') {
@@ -71,8 +71,8 @@ fn batch_of(frame: u64, seq: u8, samples: Samples, bytes: Bytes) -> Result<Batch
     })
 }
 
-/// The batch that a word spells: the sequence number, `@`, the samples, and their bytes after `=`. Without these each sample has
-/// one byte, 0.
+/// The batch that a word gives: the sequence number, `@`, the samples, and their bytes after `=`. Without bytes after `=`, each
+/// sample has one byte, 0.
 fn batch(alloc: Global, frame: u64, word: &str) -> Result<Batch, Fail> {
     let (seq, rest) = split(word, '@', "");
     let (rest, digits) = split(rest, '=', "");
@@ -85,7 +85,7 @@ fn batch(alloc: Global, frame: u64, word: &str) -> Result<Batch, Fail> {
     batch_of(frame, byte(seq), samples, Bytes::over(bytes))
 }
 
-/// The batches of a listener, in frames numbered from 1. `9x` before a word is nine such batches.
+/// The batches of a listener, in frames numbered from 1. `9x` before a word means nine equal batches.
 pub fn batches_of(alloc: Global, words: &str) -> Result<VecDeque<Batch>, Fail> {
     let mut batches = VecDeque::new(alloc);
     let mut frame = 0u64;

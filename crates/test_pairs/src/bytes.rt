@@ -12,7 +12,7 @@ use std::alloc::Global;
 use std::test::Fail;
 use vectors_avtp::{bytes_of, refusal_text, row_of};
 
-/// The captures A and B, and what is said of them: the first refusal of a capture when it ends, the differences and the counts.
+/// The captures A and B, and what is found: the first refusal of a capture when it ends, the differences and the counts.
 const ROWS: &str = "\
 pcap | pcap => matched 1 only 0 0 differ 0
 pcap | pcap 105=fb => 1 1 seq 0 Bytes { sample: 5 }, matched 1 only 0 0 differ 1
@@ -30,7 +30,7 @@ pcap 01000000 80969800 42000000 42000000 frame 142=01 152=3c51e500 | pcap 105=fb
 /// The most bytes of a piece.
 const MOST: usize = 1_000;
 
-/// A pair, how many pieces it may still be fed, and which captures have ended.
+/// A pair, how many more pieces it may be fed, and which captures have ended.
 #[derive(Drop)]
 struct Bounded {
     pair: Pair,
@@ -65,7 +65,7 @@ fn has_ended(bounded: &Bounded, which: Which) -> bool
     }
 }
 
-/// Feeds a piece of the side that is wanted, and returns how many bytes were taken; after a refusal all of them are.
+/// Feeds a piece of the wanted side, and returns how many bytes were taken: all of them after a refusal.
 fn feed(alloc: Global, bounded: &mut Bounded, which: Which, piece: &[u8]) -> Result<usize, Fail>
     requires { wanted_by bounded.old.pair ≡ Some which }
 {
@@ -80,7 +80,7 @@ fn feed(alloc: Global, bounded: &mut Bounded, which: Which, piece: &[u8]) -> Res
     }
 }
 
-/// Ends the side that is wanted, and returns its refusal.
+/// Ends the wanted side, and returns its refusal.
 fn end(alloc: Global, bounded: &mut Bounded, which: Which) -> Result<String, Fail>
     requires { wanted_by bounded.old.pair ≡ Some which }
 {
@@ -98,8 +98,8 @@ fn end(alloc: Global, bounded: &mut Bounded, which: Which) -> Result<String, Fai
     }
 }
 
-/// Feeds at most so many bytes of the side that is wanted, of those that are left, or ends it. Returns what is left, and the
-/// refusal at the end.
+/// Feeds at most this many of the bytes that are left of the wanted side, or ends it. Returns what is left, and the refusal at
+/// the end.
 fn put<'a>(
     alloc: Global,
     bounded: &mut Bounded,
@@ -116,7 +116,7 @@ fn put<'a>(
     Ok((left.get(n..).unwrap_or(&[]), String::new(alloc)))
 }
 
-/// What is said of two captures that are fed in pieces of this length.
+/// What is found in two captures that are fed in pieces of this length.
 fn compared(alloc: Global, a: &[u8], b: &[u8], most: usize) -> Result<String, Fail> {
     let mut bounded = begin(alloc)?;
     let (mut left_a, mut left_b) = (a, b);

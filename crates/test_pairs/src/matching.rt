@@ -12,7 +12,7 @@ use std::collections::VecDeque;
 use std::test::Fail;
 use vectors_avtp::row_of;
 
-/// The batches of A, those of B, and what is said of them.
+/// The batches of A, those of B, and the differences and counts that the matching gives.
 const ROWS: &str = "\
  |  => matched 0 only 0 0 differ 0
 0@0 |  => matched 0 only 1 0 differ 0
@@ -58,7 +58,7 @@ const ROWS: &str = "\
 0@0*1 | 0@0*1/44100 => matched 1 only 0 0 differ 0
 ";
 
-/// The next batch of a side that is wanted, or its end.
+/// Gives the matching the next batch of the wanted side, or its end.
 fn put(matching: &mut Matching, which: Which, next: Option<Batch>)
     requires { wanted matching.old ≡ Some which }
 {
@@ -68,7 +68,7 @@ fn put(matching: &mut Matching, which: Which, next: Option<Batch>)
     }
 }
 
-/// What is said of the batches of two listeners.
+/// The differences and counts of the batches of two listeners.
 fn matched(alloc: Global, mut a: VecDeque<Batch>, mut b: VecDeque<Batch>) -> Result<String, Fail> {
     let mut matching = Matching::begin(alloc)?;
     let mut text = String::new(alloc);

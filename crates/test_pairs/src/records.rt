@@ -1,4 +1,4 @@
-//! Records of two captures, each given as far as it is wanted.
+//! Records of two captures, each given only as far as it is wanted.
 
 ghost use Rattle.std.specs.Prelude.{◌≡◌, ◌+◌, ◌≤◌, ◌^◌, Some};
 ghost use Rattle.capture_pair.specs.Pairing.{wanted_by};
@@ -12,8 +12,8 @@ use std::collections::VecDeque;
 use std::test::Fail;
 use vectors_avtp::{bytes_of, row_of};
 
-/// The records of A and of B, each with the millisecond in which it was captured; then what comes in turn: `a` and `b` are records
-/// that were wanted, `-a` and `-b` are the ends, and differences stand where they were known.
+/// The records of A and of B, each with the millisecond in which it was captured; then what happens in turn: `a` and `b` are
+/// records that were wanted, `-a` and `-b` are the ends, and differences are where they became known.
 const ROWS: &str = "\
 1000 frame | 1000 frame => a -a b -b matched 1 only 0 0 differ 0
 1000 frame | 1000 frame 65=fb => a -a b -b 1 1 seq 0 Bytes { sample: 5 }, matched 1 only 0 0 differ 1
@@ -25,7 +25,7 @@ const ROWS: &str = "\
 1000 frame, 1010 frame 20=01 30=3c51e500 | 1000 frame 65=fb, 1010 frame 20=01 30=3c51e500 => a a b b -a 1 1 seq 0 Bytes { sample: 5 }, -b matched 2 only 0 0 differ 1
 ";
 
-/// A pair, and how many records it may still be given.
+/// A pair, and how many more records it may be given.
 #[derive(Drop)]
 struct Bounded {
     pair: RecordPair,
@@ -45,7 +45,7 @@ fn next_difference(bounded: &mut Bounded) -> Option<Difference> {
     bounded.pair.next_difference()
 }
 
-/// A record of a capture: the millisecond, and the frame.
+/// A record of a capture: the millisecond in which it was captured, and the frame.
 #[derive(Drop)]
 struct Record {
     millisecond: u32,
@@ -64,7 +64,7 @@ fn records_of(alloc: Global, text: &str) -> Result<VecDeque<Record>, Fail> {
     Ok(records)
 }
 
-/// Gives the next record of the side that is wanted, or its end.
+/// Gives the pair the next record of the wanted side, or the side's end.
 fn put(
     alloc: Global,
     bounded: &mut Bounded,
@@ -90,7 +90,7 @@ fn put(
     Ok("")
 }
 
-/// What comes in turn of two captures.
+/// What happens in turn when two captures are compared.
 fn compared(
     alloc: Global,
     mut a: VecDeque<Record>,

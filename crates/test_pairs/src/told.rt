@@ -1,4 +1,4 @@
-//! The plan of two listeners, and what is said of them, as rows of a table have it.
+//! The plan of two listeners, and the texts of differences and counts in the rows of a table.
 
 ghost use Rattle.sample_schedule.specs.Limits.{IsPlan};
 ghost use Rattle.listener.specs.Heard.{schedule_plan};
@@ -33,7 +33,7 @@ pub fn difference_text(alloc: Global, difference: Difference) -> Result<String, 
     format!(in alloc; "{frame_a} {frame_b} seq {seq} {way:?}, ")
 }
 
-/// The numbers of pairs, of batches that are in none, and of pairs that differ.
+/// The numbers of pairs, of batches of A and of B that are in no pair, and of pairs that differ.
 pub fn counts_text(alloc: Global, counts: PairCounts) -> Result<String, AllocError> {
     let PairCounts {
         matched,

@@ -11,14 +11,14 @@ use Rattle.am824_gateway.specs.declared.scan.Shape.{Shape}
 use Rattle.am824_gateway.specs.declared.scan.To.{To}
 use Rattle.am824_gateway.specs.Pieces.{block_after, going_on, is_late, is_nominal, most_frames, pieces_of}
 
--- the first sample of a piece, in a batch of this rate, of which a packet has at most so many samples
+-- A piece begins at this sample of a batch, at this rate, and a packet has at most `most` samples.
 pub record BeginsPiece (rate most : ℕ) (batch : Presented) (i : Instant) : Type 0 where
   pub is : IsInstantOf i batch
   pub inside : i.j < batch.count
   pub some_rate : 1 ≤ rate
   pub some : 1 ≤ most
 
--- the piece that begins there has so many samples, and the instant is that of the first sample after it
+-- The piece that begins at the old instant has `count` samples, and the new instant is that of the first sample after it.
 pub record CountsPiece (rate most : ℕ) (batch : Presented) (old new : Instant) (count : ℕ) : Type 0 where
   pub value : count ≡ going_on (is_nominal rate batch old.j) 1 (min most (batch.count - old.j) - 1)
   pub some : 1 ≤ count
@@ -26,15 +26,15 @@ pub record CountsPiece (rate most : ℕ) (batch : Presented) (old new : Instant)
   pub after : new.j ≡ old.j + count
   pub is : IsInstantOf new batch
 
--- A batch is cut: its pieces, of which the first has the count `block`, the block count of the packet after them, and whether
--- one of them would arrive when a capture can no longer tell.
+-- A batch is cut into `pieces`, the first of which has the block count `block`. `next` is the block count of the packet after
+-- them, and `late` says whether a piece would arrive at a time that a capture cannot state.
 pub record CutsBatch (to : To) (shape : Shape) (batch : Presented) (block : ℕ) (pieces : List Piece) (next : ℕ) (late : Bool) : Type 0 where
   pub cut : pieces ≡ pieces_of to shape batch block
   pub following : next ≡ block_after (interval_of shape.rate) block (pieces_of to shape batch block)
   pub in_time : late ≡ list_any (is_late batch) (pieces_of to shape batch block)
   pub few : length pieces ≤ batch.count
 
--- the samples are on the nominal line of the first one, and one packet can carry them
+-- The samples are on the nominal line of the first one, and one packet can carry them.
 pub record IsOnePiece (to : To) (shape : Shape) (batch : Presented) : Type 0 where
   pub begun : batch.from ≡ pos 0
   pub num : batch.line.num ≡ 1000000000

@@ -14,14 +14,14 @@ use Rattle.am824_gateway.specs.Packets.{frames_from}
 use Rattle.am824_gateway.specs.Pieces.{is_late, most_frames}
 use Rattle.am824_gateway.specs.Scan.{IsShape}
 
--- a piece lies within its batch, fits one packet, and arrives in time
+-- A piece lies within its batch, fits one packet, and arrives in time.
 pub record IsWithin (to : To) (shape : Shape) (batch : Presented) (p : Piece) : Type 0 where
   pub inside : p.first + p.count ≤ batch.count
   pub some : 1 ≤ p.count
   pub fits : p.count ≤ most_frames to shape.channels
   pub in_time : is_late batch p ≡ false
 
--- the batch is of the stream's shape, and its pieces lie within it
+-- The batch is of the stream's shape, and its pieces lie within it.
 pub record IsCut (c : Current) (pieces : List Piece) : Type 0 where
   pub shape : IsShape c.stream.shape
   pub presentable : IsPresentable c.batch
@@ -33,17 +33,18 @@ abbrev pub IsCutFrom : Option Current → List Piece → Type 0
 IsCutFrom None pieces = pieces ≡ []
 IsCutFrom (Some c) pieces = IsCut c pieces
 
--- the frames of that batch
+-- the frames of the last batch that was not skipped, if there is one
 abbrev pub frames_in : Option Current → List Piece → List SentFrame
 frames_in None pieces = []
 frames_in (Some c) pieces = frames_from c.stream.to c.stream.shape c.stream.id c.first c.batch pieces
 
--- the packets before those of that batch
+-- the number of packets before those of the last batch that was not skipped
 abbrev pub first_in : Option Current → ℕ
 first_in None = 0
 first_in (Some c) = c.first
 
--- There is room for the pieces of any batch, twice, and for the longest frame.
+-- The invariant of every gateway: its last batch is cut into its pieces, its numbers are within bounds, and there is room for
+-- the pieces of any batch, twice, and for the longest frame.
 pub record IsGateway (g : Inside) : Type 0 where
   pub shape : IfSome g.shape IsShape
   pub cut : IsCutFrom g.current g.pieces.items

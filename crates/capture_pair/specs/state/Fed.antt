@@ -12,7 +12,7 @@ use Rattle.listener_pair.specs.declared.difference.Which.{Which}
 use Rattle.listener_pair.specs.declared.difference.Which.TheVariants.{A, B}
 use Rattle.capture_pair.specs.declared.source.ByteSource.{ByteSource}
 
--- a listener that was fed nothing
+-- A listener was fed nothing, and is open.
 pub record IsBegun (wanted : ListenPlan) (source : ByteSource) : Type 0 where
   pub stands : IsFed [] 0 source.listener
   pub plan : source.listener.listener.plan ≡ wanted
@@ -21,22 +21,22 @@ pub record IsBegun (wanted : ListenPlan) (source : ByteSource) : Type 0 where
   pub none : taken source.listener.reader ≡ 0
   pub memory : source.listener.out_of_memory ≡ false
 
--- a listener that may be fed or ended
+-- A listener may be fed or ended.
 pub record IsOpen (fed : Feeding) : Type 0 where
   pub opened : is_ended fed ≡ false
   pub quiet : IsQuiet fed
 
--- the listener of the side that is named may be fed or ended
+-- the listener of side `which` may be fed or ended
 abbrev pub IsOpenOn : Which → Feeding → Feeding → Type 0
 IsOpenOn A a b = IsOpen a
 IsOpenOn B a b = IsOpen b
 
--- the listener of the side that is named may be fed so many bytes
+-- the listener of side `which` may be fed n more bytes
 abbrev pub IsBoundedOn : Which → ℕ → Feeding → Feeding → Type 0
 IsBoundedOn A n a b = taken a.reader + n ≤ 2 ^ 62
 IsBoundedOn B n a b = taken b.reader + n ≤ 2 ^ 62
 
--- a listener was fed a piece
+-- A listener was fed a piece, and `feed` returned this.
 pub record FedBy (piece : List ℕ) (result : Result ℕ ListenFault) (old new : Feeding) : Type 0 where
   pub stands : (bytes : List ℕ) (n : ℕ) → IsFed bytes n old → IsFed (bytes_after bytes piece result) n new
   pub within : IfOk result (λ n. n ≤ length piece)
@@ -48,7 +48,7 @@ pub record FedBy (piece : List ℕ) (result : Result ℕ ListenFault) (old new :
   pub lasting : old.out_of_memory ≡ true → result ≡ Err Memory
   pub taken : taken new.reader ≤ taken old.reader + length piece
 
--- a listener was told that its capture ends, and answered this fault or none
+-- A listener was told that its capture ends, and `end` returned this fault or none.
 pub record EndedBy (fault : Option ListenFault) (old new : Feeding) : Type 0 where
   pub stands : (bytes : List ℕ) (n : ℕ) → IsFed bytes n old → IsFed bytes n new
   pub refused : old.out_of_memory ≡ false → (bytes : List ℕ) (n : ℕ) → IsFed bytes n old → fault ≡ option_map Refused (first_refusal bytes)
@@ -56,12 +56,12 @@ pub record EndedBy (fault : Option ListenFault) (old new : Feeding) : Type 0 whe
   pub lasting : old.out_of_memory ≡ true → (fault ≡ Some Memory) × (new ≡ old)
   pub plan : new.listener.plan ≡ old.listener.plan
 
--- the listener of the side that is named was fed a piece, and the other is as it was
+-- the listener of side `which` was fed a piece, and the other is unchanged
 abbrev pub FedOn : Which → List ℕ → Result ℕ ListenFault → Feeding → Feeding → Feeding → Feeding → Type 0
 FedOn A piece result a b then_a then_b = FedBy piece result a then_a × (then_b ≡ b)
 FedOn B piece result a b then_a then_b = FedBy piece result b then_b × (then_a ≡ a)
 
--- the listener of the side that is named was told that its capture ends, and the other is as it was
+-- the listener of side `which` was told that its capture ends, and the other is unchanged
 abbrev pub EndedOn : Which → Option ListenFault → Feeding → Feeding → Feeding → Feeding → Type 0
 EndedOn A fault a b then_a then_b = EndedBy fault a then_a × (then_b ≡ b)
 EndedOn B fault a b then_a then_b = EndedBy fault b then_b × (then_a ≡ a)

@@ -15,32 +15,32 @@ pub use Rattle.capture_pair.specs.Sources.{Kept, OfBytes, OfRecords, Taken}
 
 -- ---- a listener
 
--- a listener of records took these, shows this list, and has shown n of it
+-- a listener of records took these records, shows this list, and has shown n items of it
 abbrev pub ShowsRecords : ListenState → Taken → List Shown → ℕ → Type 0
 ShowsRecords listener (OfRecords records) list n = IsGiven records n listener × (list ≡ out listener records)
 ShowsRecords listener (OfBytes bytes) list n = ⊥
 
--- a listener of bytes took these, shows this list, and has shown n of it
+-- a listener of bytes took these bytes, shows this list, and has shown n items of it
 abbrev pub ShowsBytes : Feeding → Taken → List Shown → ℕ → Type 0
 ShowsBytes fed (OfRecords records) list n = ⊥
 ShowsBytes fed (OfBytes bytes) list n = IsFed bytes n fed × (list ≡ out_fed fed bytes)
 
--- what a listener of records keeps
+-- what stays of a listener of records while it is asked for what it shows
 abbrev pub kept_of_records : ListenState → Kept
 kept_of_records listener = record { plan = listener.plan; frames = listener.counts.frames; ended = is_closed listener; reader = None; out_of_memory = false }
 
--- what a listener of bytes keeps
+-- what stays of a listener of bytes while it is asked for what it shows
 abbrev pub kept_of_bytes : Feeding → Kept
 kept_of_bytes fed = record { plan = fed.listener.plan; frames = 0; ended = is_closed fed.listener; reader = Some fed.reader; out_of_memory = fed.out_of_memory }
 
 -- ---- what a listener shows is handed on
 
--- The list is of few items, and its batches are in order.
+-- The list has at most 2^61 items, and its batches are in order.
 pub record IsHeard (list : List Shown) : Type 0 where
   pub few : length list ≤ 2 ^ 61
   pub order : IsInOrder (presented_of list)
 
--- the matching once what the listener of a wanted side shows next was handed on
+-- the matching after it was given what the listener of the wanted side shows next
 abbrev pub handed : Which → Option Shown → Bool → MatchingState → MatchingState
 handed which (Some (Present batch)) ended m = given_to which batch m
 handed which (Some (Flag frame seq reason)) ended m = m
@@ -52,7 +52,7 @@ is_passed (Some (Present batch)) = false
 is_passed (Some (Flag frame seq reason)) = true
 is_passed None = false
 
--- a matching, by the lists of the side that is named and of the other
+-- what a matching was given, by the lists of side `which` and of the other side
 abbrev pub MatchesOn : Which → List Shown → List Shown → ℕ → ℕ → ℕ → MatchingState → Type 0
 MatchesOn A list other n k given m = Matches list other n k given m
 MatchesOn B list other n k given m = Matches other list k n given m
@@ -63,14 +63,15 @@ pub record Going (Shows : List Shown → ℕ → Type 0) (which : Which) (list o
   pub shows : Shows list n
   pub matches : MatchesOn which list other n k given m
 
--- A listener was asked for the next batch of its side, and the matching was given it or the side's end, as far as it is known.
+-- A listener was asked for the next batch of its side, and the matching was given that batch or the side's end, as far as
+-- either is known.
 pub record Filled (Shows : List Shown → ℕ → Type 0) (which : Which) (list other : List Shown) (k given : ℕ) (m : MatchingState) : Type 0 where
   pub n : ℕ
   pub shows : Shows list n
   pub matches : MatchesOn which list other n k given m
   pub filled : wanted m ≡ Some which → n ≡ length list
 
--- Two listeners show these lists, and a matching was given the first of them.
+-- Two listeners show these lists, and a matching was given the first items of each.
 pub record Holds (ShowsA ShowsB : List Shown → ℕ → Type 0) (list other : List Shown) (given : ℕ) (m : MatchingState) : Type 0 where
   pub shown_a : ℕ
   pub shown_b : ℕ
@@ -87,12 +88,12 @@ pub record IsSettled (ended_a ended_b : Bool) (QuietA QuietB : Type 0) (m : Matc
   pub quiet_a : wanted m ≡ Some A → QuietA
   pub quiet_b : wanted m ≡ Some B → QuietB
 
--- a side has ended only if its listener has
+-- A side has ended only if its listener has.
 pub record IsBounded (ended_a ended_b : Bool) (m : MatchingState) : Type 0 where
   pub over_a : m.ended_a ≡ true → ended_a ≡ true
   pub over_b : m.ended_b ≡ true → ended_b ≡ true
 
--- a side that has not ended counts once
+-- 1 for a side that has not ended, 0 for one that has
 abbrev pub one_if_open : Bool → ℕ
 one_if_open true = 0
 one_if_open false = 1
@@ -101,12 +102,12 @@ one_if_open false = 1
 abbrev pub open_sides : MatchingState → ℕ
 open_sides m = one_if_open m.ended_a + one_if_open m.ended_b
 
--- a side of a matching has ended
+-- a side has ended for a matching
 abbrev pub ended_of : Which → MatchingState → Bool
 ended_of A m = m.ended_a
 ended_of B m = m.ended_b
 
--- the side that is not named has the next batch that it had, and has ended if it had
+-- the other side than `which` has the same next batch as before, and has ended if it had
 abbrev pub IsOtherSame : Which → MatchingState → MatchingState → Type 0
 IsOtherSame A old new = (new.next_b ≡ old.next_b) × (new.ended_b ≡ old.ended_b)
 IsOtherSame B old new = (new.next_a ≡ old.next_a) × (new.ended_a ≡ old.ended_a)
@@ -119,8 +120,8 @@ wants_side A (Some B) = false
 wants_side B (Some A) = false
 wants_side which None = false
 
--- What filling a side does: nothing if it is not wanted; if it is still wanted then, its listener is quiet and has not ended, and
--- the matching is as it was. The side has ended only if its listener has, and the other side is as it was.
+-- Filling a side changes nothing if the side is not wanted. If it is still wanted afterwards, its listener is quiet and has not
+-- ended, and the matching is unchanged. The side has ended only if its listener has, and the other side is unchanged.
 pub record Fills (which : Which) (ended : Bool) (Quiet : Type 0) (old new : MatchingState) : Type 0 where
   pub idle : wants_side which (wanted old) ≡ false → new ≡ old
   pub same : wanted new ≡ Some which → new ≡ old

@@ -21,8 +21,8 @@ pub record HasHeard (bytes : List ℕ) (given : ℕ) (reader : Reading) (listene
   pub read : HasRead reader bytes records
   pub stands : RecordsStandFor records given listener
 
--- The invariant of every listener: it was fed some bytes, each record of which has at least one; if nothing is due, everything
--- was given; and nothing is due after memory has run out.
+-- The invariant of every listener: it was fed some bytes; unless they were refused, it counted at most as many records as
+-- bytes; if nothing is due, everything was given; and nothing is due after memory has run out.
 pub record IsSound (fed : Feeding) : Type 0 where
   pub bytes : List ℕ
   pub given : ℕ

@@ -34,12 +34,12 @@ pub record CutsFirst (item : Item) (old new : Gathered) (answer : Option Item) :
   pub first : left between ≡ option_to_list answer ++ left new
   pub stands : (ds : List Delivery) → HasUnits ds between → HasUnits ds new
 
--- the units after a delivery
+-- After a delivery, the units include it, and hold the items that it gives.
 pub record Gives (ds : List Delivery) (d : Delivery) (new : Gathered) : Type 0 where
   pub has : HasUnits (ds ++ d ∷ []) new
   pub gives : map item_entry (left new) ≡ map made_entry (given_by ds d)
 
--- the item of a packet that completes a unit of these bytes, or waits, or is lost
+-- the item of a packet: the unit of these bytes if the packet completes it, none if it waits, a flagged item if it is lost
 abbrev pub own_item : Delivery → ℤ → List ℕ → Piece → Option Item
 own_item d instant unit Whole = Some (OfUnit (record { frame = d.frame; arrival = d.arrival; seq = d.seq; instant = instant; bytes = unit }))
 own_item d instant unit Held = None
@@ -53,14 +53,14 @@ pub record Pushes (d : Delivery) (v : Cvf) (old new : Gathered) : Type 0 where
   pub own : (es : List Event) → StandsFor old.assembly es
       → new.own ≡ own_item d (unfolded v.header.timestamp d.arrival) (whole_unit (es ++ packet (fragment_in d v) ∷ [])) (piece (es ++ packet (fragment_in d v) ∷ []))
 
--- a packet that has a flaw is in no unit
+-- a packet without a flaw is added to the units; a packet with a flaw ends the current unit and is flagged
 abbrev pub Takes : Option Reason → Delivery → Cvf → Gathered → Gathered → Type 0
 Takes None d v old new = Pushes d v old new
 Takes (Some reason) d v old new = Cuts (lost_item reason (mark_of d)) old new
 
 -- ---- between two calls
 
--- a packet came at a time that a schedule accepts
+-- the packet of an event came at a time that a schedule accepts
 abbrev pub IsTimelyEvent : Event → Type 0
 IsTimelyEvent cut = ⊤
 IsTimelyEvent (packet f) = IsArrival f.mark.arrival

@@ -13,11 +13,11 @@ use Rattle.listener.specs.declared.heard.Counts.{Counts}
 use Rattle.listener.specs.Gathering.{Gathered, left}
 use Rattle.listener.specs.Listening.{ListenState, is_closed, IsIdle, Judges, StandsFor}
 
--- one more record, which belongs to the stream or not
+-- the counts with one more record, which belongs to the stream or not
 abbrev pub with_record : Counts → Bool → Counts
 with_record counts in_stream = record counts { frames = counts.frames + 1; packets = counts.packets + cond in_stream 1 0 }
 
--- one more item was shown, or one less
+-- the counts with one more item shown, or with one less
 abbrev pub with_shown : Counts → Shown → Counts
 with_shown counts (Present batch) = record counts { presented = counts.presented + 1 }
 with_shown counts (Flag frame seq reason) = record counts { flagged = counts.flagged + 1 }
@@ -35,7 +35,7 @@ pub record Rests (listener : ListenState) : Type 0 where
 abbrev pub shown_by : Bool → SchedulePlan → List Entry → List Shown
 shown_by ended plan entries = if ended then shown clock_spot plan entries else due clock_spot plan entries
 
--- A judge was closed or not: not if more may follow or if it was closed before.
+-- The judge is closed if no more records follow and it was open, and is unchanged otherwise.
 pub record Closes (ended did : Bool) (old new : JudgeState) : Type 0 where
   pub stands : (entries : List Entry) (given : ℕ) → JudgeStandsFor clock_spot entries given old → JudgeStandsFor clock_spot entries given new
   pub plan : new.plan ≡ old.plan

@@ -6,7 +6,7 @@ use Rattle.packet_journal.specs.Deliveries.{Delivery, clock_kinds, is_wanted}
 use Rattle.listener.specs.declared.delivery.AvtpPacket.{AvtpPacket}
 use Rattle.listener.specs.declared.delivery.DeliveryView.{DeliveryView}
 
--- a packet of AVTP with its first fields, without its location in memory
+-- An AVTP packet with its first fields, without its location in memory.
 pub record Found : Type 0 where
   pub peeked : Peeked
   pub bytes : List ℕ
@@ -18,7 +18,7 @@ avtp_shape p = record { peeked = p.peeked; bytes = p.bytes.now }
 abbrev pub delivery_shape : DeliveryView → Delivery
 delivery_shape d = record { frame = d.frame; arrival = d.arrival; subtype = d.subtype; seq = d.seq; packet = d.packet.now }
 
--- the first fields of a packet are those of a packet of the clock, if there is one
+-- a packet's first fields make it a packet of the clock, if there is a clock
 abbrev pub is_of_clock : Option ℕ → Peeked → Bool
 is_of_clock None peeked = false
 is_of_clock (Some id) peeked = is_wanted clock_kinds id peeked

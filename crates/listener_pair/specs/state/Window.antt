@@ -26,7 +26,7 @@ takes_by side batch y = fits side batch y.batch
 abbrev pub takes : Placed → Placed → Bool
 takes x = takes_by x.side x.batch
 
--- what waits, without the first one if that is not among the 512 before a place
+-- the waiting batches, without the first one if that is not among the 512 before a place
 abbrev pub without_passed : ℕ → List Placed → List Placed
 without_passed place [] = []
 without_passed place (y ∷ ys) = if nat_le place (y.place + 512) then y ∷ ys else ys
@@ -48,32 +48,33 @@ abbrev pub kept : Placed → Option Paired → List Placed
 kept x None = x ∷ []
 kept x (Some pair) = []
 
--- x came before the place `next`, to what waits on its own side and on the other, and made this pair or none
+-- x came to the batches that wait on its own side and on the other side, and made this pair or none; `next` is the place of the
+-- next batch.
 pub record Enters (x : Placed) (next : ℕ) (own other own_then other_then : List Placed) (pair : Option Paired) : Type 0 where
   pub made : pair ≡ made x other
   pub others : other_then ≡ without_passed next (without_first (takes x) other)
   pub owns : length (without_passed next own) < 512 → own_then ≡ without_passed next own ++ kept x pair
 
--- x came to what waits in a matching
+-- x came to the batches that wait in a matching
 abbrev pub EntersSide : Which → Placed → ℕ → MatchingState → MatchingState → Option Paired → Type 0
 EntersSide A x next old new pair = Enters x next old.waiting_a old.waiting_b new.waiting_a new.waiting_b pair
 EntersSide B x next old new pair = Enters x next old.waiting_b old.waiting_a new.waiting_b new.waiting_a pair
 
--- a count that rises by one, and stays at its type's maximum
+-- a count plus one, or the greatest count of its type
 abbrev pub risen : ℕ → ℕ
 risen n = min (n + 1) (2 ^ 64 - 1)
 
--- a count that rises by one if a condition holds
+-- a count plus one if a condition holds
 abbrev pub risen_if : Bool → ℕ → ℕ
 risen_if true n = risen n
 risen_if false n = n
 
--- a batch of a side is in no pair
+-- the counts with one more batch of a side, which is in no pair
 abbrev pub with_alone : Which → PairCounts → PairCounts
 with_alone A counts = record counts { only_a = risen counts.only_a }
 with_alone B counts = record counts { only_b = risen counts.only_b }
 
--- a batch of a side was paired with one of the other
+-- the counts with one more pair: of a new batch of a side and a batch of the other side that was in no pair
 abbrev pub with_pair : Which → Bool → PairCounts → PairCounts
 with_pair A differs counts = record counts { matched = risen counts.matched; only_b = counts.only_b - 1; differ = risen_if differs counts.differ }
 with_pair B differs counts = record counts { matched = risen counts.matched; only_a = counts.only_a - 1; differ = risen_if differs counts.differ }
