@@ -23,7 +23,7 @@ struct Scale {
     high: i64,
 }
 
-/// Writes a place in a picture with two decimals.
+/// A place in a picture, in tenths of the picture's unit, which is written with one decimal.
 #[derive(Clone, Copy)]
 struct Place(u64);
 
@@ -95,7 +95,7 @@ fn scale_of(spread: &Spread) -> Option<Scale> {
     })
 }
 
-/// How far down a value is, in tenths of the picture's unit.
+/// How far down a value is in the picture.
 fn down(scale: Scale, value: i64) -> Place {
     let all = u128::from(scale.high.abs_diff(scale.low)).max(1);
     let value = value.max(scale.low).min(scale.high);
@@ -106,7 +106,7 @@ fn down(scale: Scale, value: i64) -> Place {
     Place(u64::try_from(tenths.unwrap_or(0)).unwrap_or(0))
 }
 
-/// How far right a time is, in tenths of the picture's unit.
+/// How far right a time is in the picture.
 fn right(since: u64, duration: u64) -> Place {
     let tenths = u128::from(since)
         .saturating_mul(u128::from(WIDTH * 10))
@@ -120,7 +120,7 @@ fn begin_of(trace: &Trace, column: &Column) -> u64 {
     column.slot.saturating_mul(trace.width())
 }
 
-/// Three lines across, and one at 0 if that is in the picture.
+/// Draws three lines across the picture, and one at 0 if that is in it.
 fn write_rules<W: Write>(out: &mut W, scale: Scale) -> io::Result<()> {
     write!(
         out,
@@ -133,7 +133,7 @@ fn write_rules<W: Write>(out: &mut W, scale: Scale) -> io::Result<()> {
     write!(out, "\"/>")
 }
 
-/// A line from top to bottom at each place where packets are missing.
+/// Draws a line from top to bottom at each place where packets are missing.
 fn write_losses<W: Write>(out: &mut W, trace: &Trace, duration: u64) -> io::Result<()> {
     write!(out, "<path class=\"loss\" d=\"")?;
     for column in trace.columns().iter() {

@@ -14,14 +14,14 @@ use stream_report::{
 /// The most streams that are counted apart.
 pub const MOST_STREAMS: usize = 1024;
 
-/// What is counted for captures, which are read as one.
+/// The counts of all captures, which are read as if they were one.
 #[derive(Drop)]
 pub struct Report {
     alloc: Global,
     /// Whether pictures of the streams are wanted.
     pictured: bool,
     places: HashMap<StreamKey, usize>,
-    /// The stream of the last packet, which often is that of the next.
+    /// The stream of the last packet, which is often the next packet's, too.
     last: Option<(StreamKey, usize)>,
     /// The streams, in the order in which they were first seen.
     pub streams: Vec<Stream>,
@@ -127,7 +127,7 @@ impl Report {
         }
     }
 
-    /// The stream with this key, which begins here if it is new. `None` if the most streams are counted already.
+    /// The stream with this key, which begins here if it is new. `None` if it is new and 1,024 streams are tracked already.
     fn stream(
         &mut self,
         key: StreamKey,
@@ -142,7 +142,8 @@ impl Report {
         Ok(self.streams.get_mut(place))
     }
 
-    /// Begins a stream, and answers its place: one where there is none if the most streams are tracked already.
+    /// Begins a stream, and returns its place. If 1,024 streams are tracked already, it begins none, and the place is past the
+    /// end.
     fn begin(&mut self, key: StreamKey, sender: &Sender, at: At) -> Result<usize, NoMemory> {
         let place = self.streams.len();
         if place < MOST_STREAMS {
@@ -154,7 +155,7 @@ impl Report {
         Ok(place)
     }
 
-    /// The place of the stream of this key, if it has begun.
+    /// The place of the stream with this key, if it has begun.
     fn known(&self, key: StreamKey) -> Option<usize> {
         match self.last {
             Some((last, place)) if last == key => Some(place),

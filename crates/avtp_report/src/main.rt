@@ -25,7 +25,7 @@ use std::process::ExitCode;
 use std::{env, fs, io};
 use stream_report::{Verdict, verdicts_of};
 
-/// How a run ends, with the statuses of the command `avtp`.
+/// How a run ends. The statuses are those of the command `avtp`.
 #[derive(Clone, Copy)]
 enum Status {
     Done,
@@ -51,7 +51,7 @@ impl Status {
     }
 }
 
-/// The program's name, which stands before what it says on standard error.
+/// The program's name, which begins each of its lines on standard error.
 const PROGRAM: &str = "avtp-report";
 
 const USAGE: &str = "usage: avtp-report [--html OUT] FILE..";
@@ -114,7 +114,8 @@ fn print_status(rt: &HostRuntime, written: io::Result<()>) -> Status {
 /// What standard output is called on standard error.
 const STANDARD_OUTPUT: &str = "standard output";
 
-/// How a run ends that could not write a file. Standard error says why, unless memory ran out or the reader of a pipe is gone.
+/// The status of a run that could not write a file. Standard error says why, unless memory ran out or the reader of a pipe is
+/// gone.
 fn unwritten(rt: &HostRuntime, name: &str, error: &io::Error) -> Status {
     if error.kind() == ErrorKind::OutOfMemory {
         return Status::Memory;
@@ -188,7 +189,8 @@ fn all_verdicts(alloc: Global, reading: &Reading) -> Result<Vec<Vec<Verdict>>, N
     Ok(all)
 }
 
-/// The places of the streams, by their worst verdict; those without one come last; equal ones stay in order.
+/// The places of the streams in the order of their worst verdicts. Streams without a verdict come last. Streams whose worst
+/// verdicts have equal ranks stay in order.
 fn worst_first(alloc: Global, verdicts: &[Vec<Verdict>]) -> Result<Vec<usize>, NoMemory> {
     let mut order = Vec::new(alloc);
     for (place, of) in verdicts.iter().enumerate() {
@@ -218,7 +220,7 @@ fn make_page(rt: &HostRuntime, name: &str, told: &Told<'_>) -> io::Result<()> {
     out.flush()
 }
 
-/// How a run ends after its table and page were written.
+/// The status of a run after its table and page were written.
 fn ended(told: &Told<'_>) -> Status {
     for file in told.reading.files.iter() {
         match file.ending {

@@ -25,7 +25,7 @@ pub fn class_name(class: Option<Class>) -> &'static str {
     }
 }
 
-/// A stream's format in words, and the events of its first packet.
+/// A stream's format and the number of events in its first packet, in words.
 #[derive(Clone, Copy)]
 pub struct InWords(pub Format, pub u32);
 

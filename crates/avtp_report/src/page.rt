@@ -207,7 +207,7 @@ fn write_others<W: Write>(out: &mut W, reading: &Reading) -> io::Result<()> {
     writeln!(out, "</dl>")
 }
 
-/// Writes what the columns hold.
+/// Writes what each column of the table holds.
 fn write_columns<W: Write>(out: &mut W) -> io::Result<()> {
     writeln!(out, "<h2>The columns</h2>\n<dl>")?;
     for heading in HEADINGS.iter() {

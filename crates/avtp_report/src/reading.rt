@@ -24,12 +24,12 @@ pub enum Ending {
 #[derive(Drop)]
 pub struct File {
     pub name: String,
-    /// Its frames, up to where it was read.
+    /// The number of frames that were read of it.
     pub frames: u64,
     pub ending: Ending,
 }
 
-/// What was read.
+/// The captures that were read, and the report on them.
 #[derive(Drop)]
 pub struct Reading {
     pub files: Vec<File>,
@@ -39,8 +39,8 @@ pub struct Reading {
 /// The most bytes of a file that are read.
 const LIMIT: u64 = 1 << 62;
 
-/// Reads the captures that the words name, of which one may be that of the page. The first that is not read to its end is the
-/// last, and standard error says why.
+/// Reads the captures that the words name. The word at `html`, if given, names the page instead. The first capture that is not
+/// read to its end is the last one read, and standard error says why.
 pub fn read_files(
     rt: &HostRuntime,
     alloc: Global,

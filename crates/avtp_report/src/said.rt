@@ -4,7 +4,7 @@ use crate::units::{Grouped, Packets, Signed, Span, Thousandths};
 use std::fmt;
 use stream_report::{At, ClockGuess, FieldCount, Tally, Verdict};
 
-/// A verdict on a stream in words. Where there are several files, a frame is told with its file's number.
+/// A verdict on a stream in words. If there are several files, a frame is given with its file's number.
 #[derive(Clone, Copy)]
 pub struct Said<'a> {
     pub verdict: Verdict,
@@ -32,7 +32,7 @@ impl fmt::Display for Said<'_> {
     }
 }
 
-/// A frame, with its file.
+/// A frame in words: its number, with that of its file if there are several files.
 #[derive(Clone, Copy)]
 struct Place {
     word: &'static str,
@@ -61,7 +61,7 @@ impl Said<'_> {
         }
     }
 
-    /// Says where something was seen first.
+    /// Says in which frame something was first seen.
     fn say_where<W: fmt::Write>(
         &self,
         word: &'static str,
@@ -194,7 +194,7 @@ impl Said<'_> {
         self.say_where("in", restarts, f)
     }
 
-    /// Says how many packets, and what of them.
+    /// Says how many packets there are, and what is wrong with them.
     fn say_plain<W: fmt::Write>(&self, verdict: Verdict, f: &mut fmt::Formatter<W>) -> fmt::Result {
         let (packets, words) = plain(verdict);
         say(packets, f, words)?;
@@ -202,7 +202,7 @@ impl Said<'_> {
     }
 }
 
-/// What is counted, and the words after the number of packets.
+/// The count of packets, and the words that follow it.
 fn plain(verdict: Verdict) -> (Tally, &'static str) {
     match verdict {
         Verdict::Senders { packets } => (packets, "of another sender, VLAN or destination"),

@@ -5,7 +5,7 @@
 pub enum Words {
     Help,
     Version,
-    /// A report of the words that are names of captures, and a page whose name is at this place.
+    /// A report on the captures that the words name, and a page if `html` is the place of its name.
     Report { html: Option<usize> },
     Faulty,
 }
@@ -13,7 +13,7 @@ pub enum Words {
 /// The option before the name of a page.
 const HTML: &str = "--html";
 
-/// What words ask for.
+/// What the words ask for.
 pub fn read_words(words: &[String]) -> Words {
     if let [word] = words {
         match word.as_str() {
@@ -48,7 +48,7 @@ fn read_names(words: &[String]) -> Words {
     Words::Report { html }
 }
 
-/// Whether the page, named at this place, would be written to a file that is read.
+/// Whether the page would be written to a file that is read as a capture.
 fn is_also_read(words: &[String], html: Option<usize>) -> bool {
     let Some(page) = html else {
         return false;
@@ -64,7 +64,7 @@ fn is_also_read(words: &[String], html: Option<usize>) -> bool {
     false
 }
 
-/// Whether the word at a place is the name of a capture, where that of the page is at this one.
+/// Whether the word at `place` names a capture: it is neither `--html`, just before the page's name, nor the page's name.
 pub fn is_capture(html: Option<usize>, place: usize) -> bool {
     match html {
         Some(page) => place != page && place.saturating_add(1) != page,

@@ -1,4 +1,4 @@
--- What holds of the arguments that a program has, holds of those that its system tells.
+-- A fact about the arguments of a program is a fact about those that its system tells.
 use Rattle.std.proofs.Common.{◌≡◌, ℕ, List, Option, Some, None, subst, refl}
 use Rattle.std.specs.Prelude.{IfSome, IsSome}
 use Rattle.avtp_base.specs.States.{SinkState}
@@ -9,6 +9,6 @@ pub said_as : (P : List (List ℕ) → Type 0) (told : Option (List (List ℕ)))
 said_as P None words same holds = tt
 said_as P (Some said) words same holds = subst P same (holds refl)
 
--- it is enough that less is as it was
+-- what was refused is still refused if less is said to be unchanged
 pub refuses_as : {position : ℕ} {still other : Type 0} {out out' : SinkState} {ended : Status} → RefusesWords position still out out' ended → (still → other) → RefusesWords position other out out' ended
 refuses_as refuses weaker = record { whole = refuses.whole; written = refuses.written; grows = refuses.grows; kept = weaker refuses.kept; write = refuses.write; not_write = refuses.not_write }

@@ -16,21 +16,20 @@ use Rattle.avtp_tool.specs.Yield.{HandsOn}
 
 -- The sinks of a system's files, and their paths.
 module _ {S : Type 0} (path : S → List ℕ) (state : S → SinkState) where
-  -- A device writes the raw samples that were asked for, to the file with that name and with that silence, and it has taken
-  -- nothing yet.
+  -- A device writes raw samples to the file that was asked for, with the silence that was asked for, and has taken nothing yet.
   pub record WritesRaw (asked : NamedRaw) (device : RawDevice S) : Type 0 where
     pub name : path (raw_sink device) ≡ asked.file.name
     pub silence : silence_in device ≡ silence_as asked.silence
     pub failed : raw_failed device ≡ false
     pub new : HasTakenRaw state (state (raw_sink device)) device []
 
-  -- A device writes the units that were asked for, to the file with that name, and it has taken nothing yet.
+  -- A device writes units to the file that was asked for, and has taken nothing yet.
   pub record WritesUnits (asked : NamedFile) (device : AnnexBDevice S) : Type 0 where
     pub name : path (annexb_sink device) ≡ asked.name
     pub failed : annexb_failed device ≡ false
     pub new : HasTakenUnits state (state (annexb_sink device)) device []
 
-  -- there is a live device as was asked for, or none was asked for
+  -- there is a live device that does what was asked for, or none if none was asked for
   abbrev pub IsFor : {Asked D : Type 0} → (Asked → D → Type 0) → Option Asked → Option (Outlet D) → Type 0
   IsFor Writes None None = ⊤
   IsFor Writes None (Some outlet) = ⊥
@@ -50,11 +49,12 @@ module _ {S : Type 0} (path : S → List ℕ) (state : S → SinkState) where
     pub run : HasRun request (HandsOn (λ begun now items. AreOutput state items begun now) before after) (after ≡ before)
         (nat_lt (failures_of before) (failures_of after)) shelf shelf' out out' ended
 
--- memory ran out for the arguments or the devices, so nothing was done
+-- memory ran out for the arguments or the devices, and nothing was done
 abbrev pub IsLacking : Type 0 → Status → Type 0
 IsLacking untouched ended = (ended ≡ status.Memory) × untouched
 
--- What a program with these arguments did. `still` says that the shelf is unchanged, and `untouched` that the sink is.
+-- What a program with these arguments did. `still` says that the shelf is unchanged, and `untouched` that the shelf and the
+-- sink are.
 pub record HasEnded {S : Type 0} (path : S → List ℕ) (state : S → SinkState) (arguments : List (List ℕ)) (still untouched : Type 0)
     (shelf shelf' : ShelfState) (out out' : SinkState) (ended : Status) : Type 0 where
   pub runs : (request : Request) → IsCommandLine arguments request → IsLacking untouched ended ⊎ RunsWith path state request shelf shelf' out out' ended

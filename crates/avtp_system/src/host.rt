@@ -8,7 +8,7 @@ use avtp_tool::Status;
 use std::env;
 use std::io::ErrorKind;
 
-/// The system that the program was started on. It does not tell its arguments.
+/// The system that the program was started on. Contracts do not know its arguments.
 #[derive(Drop)]
 pub struct Host {
     pub rt: HostRuntime,

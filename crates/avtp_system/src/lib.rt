@@ -19,7 +19,7 @@ use std::process::ExitCode;
 use std::thread::Threads;
 pub use system::System;
 
-/// The program's name, which stands before what it says on standard error.
+/// The program's name, which begins each of its lines on standard error.
 const PROGRAM: &str = "avtp";
 
 /// Does what the arguments ask for, over real files and standard output, and returns the exit status. If a file or standard

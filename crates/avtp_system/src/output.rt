@@ -3,8 +3,7 @@
 use avtp_files::FaultTeller;
 use std::io::{self, ErrorKind, Print, Write};
 
-/// Standard output, which tells on standard error why a write fails. It tells nothing if its reader is gone, as `head` is after
-/// some lines.
+/// Standard output, which says on standard error why a write fails. It says nothing if the reader has ended, as `head` does.
 #[derive(Drop)]
 pub struct Output<'a> {
     rt: &'a HostRuntime,

@@ -36,7 +36,7 @@ pub fn run_over<
     }
 }
 
-/// The devices that the words ask for.
+/// The devices that the words ask for: none if they are not a command line of `listen`.
 fn outputs_for<S: Sink + Drop, Y: System<S>>(
     alloc: Global,
     system: &Y,
@@ -96,7 +96,7 @@ fn units_device<S: Sink + Drop, Y: System<S>>(
     Ok(AnnexBDevice::over(file))
 }
 
-/// The files of `listen` other than the one with this name: its captures, and what its other device writes.
+/// The files that `listen` opens, other than the one with this name: its captures, and the file of its other device.
 fn other_files(alloc: Global, asked: &Listen<'_>, name: &str) -> Result<Vec<String>, NoMemory> {
     let mut others = Vec::new(alloc);
     for file in asked.files {

@@ -18,7 +18,8 @@ pub trait System<S> {
 
     /// The arguments after the program's name.
     ///
-    /// A system that tells them fails only if memory runs out. Another one returns `Words` for arguments that are not text.
+    /// A system that tells its arguments fails only if memory runs out. Any other system returns `Words` if an argument is not
+    /// text.
     fn words(&self) -> Result<Vec<String>, Status>
         ensures said { IfOk result (λ words. IfSome (told self.now) (λ said. texts words.items ≡ said)) }
         ensures fault { IfErr result (λ status. IsSome (told self.now) → status ≡ Status.Memory) };

@@ -35,7 +35,7 @@ ends v = rw (start_then v (spelled (end_of v))) (simp append_assoc)
 pub is_end : (e : AafEnd) → IsEnd e (spelled e)
 is_end e v same = subst (λ (k : AafEnd). aaf_content v ++ newline ≡ aaf_start v ++ spelled k) same (ends v)
 
--- what is after a start is the line's last bytes
+-- the bytes after a start are the last bytes of the line
 pub last_of : (start text : List ℕ) (len : ℕ) → len ≡ length text → drop (length (start ++ text) - len) (start ++ text) ≡ text
 last_of start text len whole =
     let seam : length (start ++ text) - len ≡ length start = omega (arith, whole, length-append start text) in

@@ -20,7 +20,7 @@ range_split a (suc j) more =
     let here : (a + 1) + j ≡ a + suc j = omega arith in
     ap (range_with_len a) all ∙ ap (λ ns. a ∷ ns) (range_split (a + 1) j more ∙ ap (λ n. range_with_len (a + 1) j ++ n ∷ range_with_len (n + 1) more) here)
 
--- numbers from 0 up to n, around j
+-- the numbers from 0 to n - 1, split at j
 numbers : (n j : ℕ) → j < n → range_with_len 0 n ≡ range_with_len 0 j ++ j ∷ range_with_len (j + 1) (n - j - 1)
 numbers n j lt =
     let all : n ≡ j + suc (n - j - 1) = omega (arith, lt) in

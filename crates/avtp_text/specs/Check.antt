@@ -20,11 +20,11 @@ packet_start number id = finding_start number ++ codes "id " ++ id_text id ++ co
 abbrev pub packet_line : ℕ → ℕ → List ℕ → List ℕ
 packet_line number id finding = packet_start number id ++ finding ++ newline
 
--- the name of a finding, if it is made
+-- the name of a finding, if there is one
 abbrev pub found : Bool → List ℕ → List (List ℕ)
 found is_found name = if is_found then name ∷ [] else []
 
--- the label of a finding with its number, if it is made
+-- the label of a finding and its number, if there is one
 abbrev pub counted : Option ℕ → List ℕ → List (List ℕ)
 counted count label = option_to_list (option_map (λ n. label ++ decimal n) count)
 
@@ -41,7 +41,7 @@ finding_texts f =
 abbrev pub findings_lines : ℕ → ℕ → Findings → List ℕ
 findings_lines number id f = flat_map (packet_line number id) (finding_texts f)
 
--- the line at the end of a capture: its records, the streams that are tracked, and the findings
+-- the line at the end of a capture: how many records were read, streams are tracked, and findings were made
 unfoldable pub end_check_line : ℕ → ℕ → ℕ → List ℕ
 end_check_line frames streams findings =
     codes "end frames " ++ decimal frames

@@ -16,7 +16,7 @@ use Rattle.avtp_text.specs.Pieces.{newline}
 unfoldable pub capture_line : List ℕ → List ℕ
 capture_line name = codes "capture " ++ name ++ newline
 
--- the bytes of sample j, of all channels: its share of the batch
+-- the bytes of all channels of sample j of a batch, whose samples all have the same size
 abbrev pub sample_bytes : Presented → ℕ → List ℕ
 sample_bytes batch j = take (length batch.bytes / batch.count) (drop (j * (length batch.bytes / batch.count)) batch.bytes)
 
@@ -55,7 +55,7 @@ reason_text Long = codes "long"
 unfoldable pub flag_line : ℕ → ℕ → Reason → List ℕ
 flag_line frame seq reason = codes "flag frame " ++ decimal frame ++ codes " seq " ++ decimal seq ++ codes " " ++ reason_text reason ++ newline
 
--- the lines of an item: one for each sample of a batch, or that of a flag
+-- the lines of an item: one for each sample of a batch, or one for a flag
 abbrev pub shown_lines : Shown → List ℕ
 shown_lines (Present batch) = batch_lines batch
 shown_lines (Flag frame seq reason) = flag_line frame seq reason
@@ -64,7 +64,8 @@ shown_lines (Flag frame seq reason) = flag_line frame seq reason
 abbrev pub list_lines : List Shown → List ℕ
 list_lines list = flat_map shown_lines list
 
--- the line at the end of a capture: its records, the packets of the stream among them, and what became of these
+-- the line at the end of a capture: how many records it has, how many of them are packets of the stream, and how many items
+-- were presented and flagged
 unfoldable pub end_listen_line : Counts → List ℕ
 end_listen_line counts =
     codes "end frames " ++ decimal counts.frames

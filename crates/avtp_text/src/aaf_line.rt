@@ -71,7 +71,7 @@ fn prepend_end(line: &mut Line, end: &AafEnd)
     line.prepend_flag(" tv ", end.tv);
 }
 
-/// A stream id and its text.
+/// A stream id and its hexadecimal digits.
 #[derive(Drop)]
 struct IdText {
     id: u64,
@@ -89,7 +89,7 @@ impl IdText {
         IdText { id, digits }
     }
 
-    /// Makes this the text of another id.
+    /// Makes this the text of another stream id.
     #[inline(always)]
     fn set(&mut self, id: u64)
         ensures { self.new.id ≡ id }
@@ -130,7 +130,7 @@ pub struct AafLine {
 }
 
 impl AafLine {
-    /// A line with an end, and no packet yet.
+    /// A line of which only the end is written.
     pub fn new() -> Self {
         let end = AafEnd {
             tv: false,

@@ -17,7 +17,7 @@ pub struct PacketPair {
     pub seq: u8,
 }
 
-/// Puts before the line which packet it is about.
+/// Puts the packet's frame in each capture and its sequence number before the line.
 #[tactic(auto, unfolding(crate::specs::Agree::differ_start))]
 fn prepend_pair(line: &mut Line, pair: PacketPair)
     requires { 70 + length line.old ≤ LONGEST }
@@ -31,7 +31,7 @@ fn prepend_pair(line: &mut Line, pair: PacketPair)
 }
 
 impl Text {
-    /// Says that different numbers of samples are presented of a packet.
+    /// Prints that the listeners present different numbers of a packet's samples.
     #[tactic(auto, unfolding(crate::specs::Agree::differ_count_line))]
     pub fn differ_count<S: Sink>(
         &mut self,
@@ -49,7 +49,7 @@ impl Text {
         self.print(out, line.as_slice())
     }
 
-    /// Says that a sample of a packet is presented at different instants, in nanoseconds.
+    /// Prints that the listeners present a sample of a packet at different instants, in nanoseconds.
     #[tactic(auto, unfolding(crate::specs::Agree::differ_at_line))]
     pub fn differ_at<S: Sink>(
         &mut self,
@@ -69,7 +69,7 @@ impl Text {
         self.print(out, line.as_slice())
     }
 
-    /// Says that a sample of a packet has different bytes.
+    /// Prints that a sample of a packet has different bytes in the two captures.
     #[tactic(auto, unfolding(crate::specs::Agree::differ_bytes_line))]
     pub fn differ_bytes<S: Sink>(
         &mut self,
@@ -86,7 +86,8 @@ impl Text {
         self.print(out, line.as_slice())
     }
 
-    /// Says how many packets both listeners present, how many the one or the other alone, and how many of the former differ.
+    /// Prints how many packets both listeners present, how many only one of them presents, and how many of those that both
+    /// present differ.
     #[tactic(auto, unfolding(crate::specs::Agree::end_agree_line))]
     pub fn end_agree<S: Sink>(
         &mut self,

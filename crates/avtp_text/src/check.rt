@@ -16,7 +16,7 @@ const FINDING: usize = 80;
 /// Room for the five findings that a packet may have.
 const FINDINGS: usize = 5 * FINDING;
 
-/// Puts the frame that a line is about before it.
+/// Puts the number of a finding's frame before the line.
 #[tactic(auto, unfolding(crate::specs::Check::finding_start))]
 fn prepend_finding(line: &mut Line, number: u64)
     requires { 35 + length line.old ≤ LONGEST }
@@ -27,7 +27,7 @@ fn prepend_finding(line: &mut Line, number: u64)
     line.prepend_u64("finding frame ", number);
 }
 
-/// Puts the packet that a line is about before it.
+/// Puts the frame's number and the stream id of a finding's packet before the line.
 #[tactic(auto, unfolding(crate::specs::Check::packet_start))]
 fn prepend_packet(line: &mut Line, number: u64, id: u64)
     requires { 55 + length line.old ≤ LONGEST }
@@ -40,7 +40,7 @@ fn prepend_packet(line: &mut Line, number: u64, id: u64)
 }
 
 impl Text {
-    /// Adds a finding in a packet, if it is made. There is room for it.
+    /// Adds the line of a finding in a packet if `is_found`. There must be room for the line.
     fn push_found(&mut self, number: u64, id: u64, is_found: bool, name: &str)
         requires short { length name.now ≤ 8 }
         requires room { length self.old + FINDING ≤ ROOM }
@@ -55,7 +55,7 @@ impl Text {
         }
     }
 
-    /// Adds a finding in a packet with its number, if it is made. There is room for it.
+    /// Adds the line of a finding that has a number, if there is one. There must be room for the line.
     fn push_counted(&mut self, number: u64, id: u64, count: Option<u32>, label: &str)
         requires short { length label.now ≤ 8 }
         requires room { length self.old + FINDING ≤ ROOM }
@@ -70,7 +70,7 @@ impl Text {
         }
     }
 
-    /// Adds all that is found in a packet. There is room for it.
+    /// Adds a line for each finding in a packet. There must be room for the lines.
     fn push_findings(&mut self, number: u64, id: u64, findings: &Findings)
         requires { length self.old + FINDINGS ≤ ROOM }
         ensures { self.new ≡ self.old ++ findings_lines number id findings.now }

@@ -1,4 +1,4 @@
-//! The lines of `gateway`: why a stream cannot be turned, which packets were left out, and what was written. Records are
+//! The lines of `gateway`: why a stream cannot be converted, which packets were skipped, and what was written. Records are
 //! numbered from 1.
 
 ghost use Rattle.std.specs.Prelude.{◌≤◌, length};
@@ -11,7 +11,7 @@ use avtp_base::Failed;
 use avtp_files::Sink;
 
 impl Text {
-    /// Says what is wrong with the packet that keeps a stream from being turned.
+    /// Prints which packet keeps a stream from being converted, and what is wrong with it.
     #[tactic(auto, unfolding(crate::specs::Gateway::gateway_input_line))]
     pub fn gateway_input<S: Sink>(
         &mut self,
@@ -29,7 +29,7 @@ impl Text {
         self.print(out, line.as_slice())
     }
 
-    /// Says why a packet is left out.
+    /// Prints why a packet is skipped.
     #[tactic(auto, unfolding(crate::specs::Gateway::skip_line))]
     pub fn skip<S: Sink>(&mut self, out: &mut S, frame: u64, reason: &str) -> Result<(), Failed>
         requires { length reason.now ≤ 16 }
@@ -42,7 +42,7 @@ impl Text {
         self.print(out, line.as_slice())
     }
 
-    /// Says how many packets were presented, written and left out.
+    /// Prints how many packets were presented, written and skipped.
     #[tactic(auto, unfolding(crate::specs::Gateway::gateway_line))]
     pub fn gateway<S: Sink>(
         &mut self,

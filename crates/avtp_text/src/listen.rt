@@ -17,7 +17,7 @@ use avtp_files::Sink;
 use listener::Counts;
 use sample_schedule::{Batch, Instant, Reason, Shown};
 
-/// A longer sample is printed in pieces of this many bytes.
+/// A sample that is longer than a line is printed in pieces of this many bytes.
 const PIECE: usize = 2_048;
 
 /// Puts the due time of a sample, and the frame that it came in, before the line.
@@ -31,7 +31,7 @@ fn prepend_due(line: &mut Line, instant: i64, frame: u64)
     line.prepend_i64("at ", instant);
 }
 
-/// Puts a reason before the line.
+/// Puts the reason of a flag before the line.
 #[tactic(auto, using(crate::proofs::Names::name_fits))]
 fn prepend_reason(line: &mut Line, reason: Reason)
     requires { 40 + length line.old ≤ LONGEST }

@@ -34,7 +34,7 @@ pub fn prepend_place(line: &mut Line, seq: u8, j: u32)
     line.prepend_u32(" seq ", seq as u32);
 }
 
-/// The numbers from `least` to below `limit`.
+/// The numbers from `least` to `limit - 1`.
 #[derive(Clone, Copy)]
 struct Numbers {
     least: u32,
@@ -44,7 +44,7 @@ struct Numbers {
 impl Numbers {
     const NONE: Self = Numbers { least: 0, limit: 0 };
 
-    /// Numbers that have as many digits as this one.
+    /// Numbers that all have as many digits as `number`; an empty range if that has more than three digits.
     #[tactic(auto, using(crate::proofs::Digits::as_long_one, crate::proofs::Digits::as_long_two, crate::proofs::Digits::as_long_three))]
     fn as_long_as(number: u32) -> Self
         ensures { (n : ℕ) → result.least ≤ n → n < result.limit → length (decimal n) ≡ length (decimal number) }
@@ -162,7 +162,7 @@ impl KeptLine {
 #[derive(Drop)]
 pub struct SampleLine {
     line: KeptLine,
-    /// The packet.
+    /// The packet: the number of its frame, and its sequence number.
     frame: u64,
     seq: u8,
     /// How many bytes a sample has.

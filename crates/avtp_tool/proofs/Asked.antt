@@ -155,7 +155,7 @@ talk_asked (words.H264 last_stamp) line asked is says rules =
 
 -- ---- what is heard
 
--- a shift that words give
+-- a shift that the words ask for is within its bounds
 small_shift : (z : ℤ) → unsigned_abs z ≤ 10 ^ 9 → (neg_ℤ (pos 1000000000) ≤ℤ z) × (z ≤ℤ pos 1000000000)
 small_shift (pos n) small = (omega (arith, ints), omega (arith, ints, small))
 small_shift (negsuc n) small = (omega (arith, ints, small), omega (arith, ints))
@@ -164,7 +164,7 @@ shift_within : (o : Option (List ℕ)) (z : ℤ) → MatchOption o (z ≡ pos 0)
 shift_within None z given = rw given (omega (arith, ints), omega (arith, ints))
 shift_within (Some word) z given = small_shift z given.size
 
--- a listener that words ask for
+-- a listener that the words ask for is within its bounds
 listener_within : (settings : List Setting) (id : List ℕ) (asked : ListenerOptions) → SaysListener settings id asked → (asked.limit ≤ 2 ^ 40) × IsSchedulePlan (schedule_plan (plan_of asked))
 listener_within settings id asked says =
     let limit = given_within (value_in (codes "--limit") settings) 1 (2 ^ 40) (2 ^ 40) asked.limit (omega arith) (omega arith) says.limit in

@@ -1,4 +1,4 @@
--- What a run comes to where no fault of reading comes.
+-- What a run comes to if no fault of reading comes.
 use Rattle.std.proofs.Common.{◌≡◌, ℕ, ℤ, ◌≤◌, ◌<◌, List, [], ◌∷◌, ◌++◌, length, take, Option, Some, None, Bool, true, false, if◌then◌else◌, inl, inr, refl, sym, ap, subst, ◌∙◌}
 use Rattle.std.proofs.lemmas.Bool.{cases_lt, le-leb, lt-leb}
 use Rattle.std.proofs.lemmas.List.{take_all}
@@ -157,7 +157,7 @@ complete_of (gateway asked) files cause failed came ended yields made none o =
 
 -- ---- the headline
 
--- what files yield that are read to their end, and those after them
+-- what files yield splits at a file before which all are read to their ends
 yield_split : (ends : List ℕ → Status) (yields : List ℕ → Yield) (earlier more : List (List ℕ)) → is_done (in_order_status ends earlier) ≡ true → in_order_yield ends yields (earlier ++ more) ≡ with_more (in_order_yield ends yields earlier) (in_order_yield ends yields more)
 unfolding in_order_status in_order_yield
 yield_split ends yields [] more done = refl
@@ -177,7 +177,7 @@ items_at : (asked : Listening) (name : List ℕ) (records : List Record) (refuse
 items_at asked name records None = refl
 items_at asked name records (Some refusal) = refl
 
--- a file that is read to its end
+-- what a file yields that is at most as long as the limit
 whole_file : (asked : Listening) (name bytes : List ℕ) → length bytes ≤ asked.listener.limit → file_yield (listen_report asked name) asked.listener.limit (Some bytes) ≡ heard_yield asked name (records_in bytes) (at_end (refusal_in bytes))
 whole_file asked name bytes fits =
     ap (λ (prefix : List ℕ). heard_yield asked name (records_in prefix) (end_of asked.listener.limit bytes)) (take_all asked.listener.limit bytes fits)

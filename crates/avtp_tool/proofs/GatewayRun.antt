@@ -32,11 +32,11 @@ use Rattle.avtp_tool.specs.Status.{status_of}
 
 -- ---- if no fault of reading comes
 
--- a fault of reading ends no reading without one
+-- no capture ends with a fault of reading by its bytes alone
 never_fault : (limit : ℕ) (bytes : List ℕ) → end_of limit bytes ≡ end.ReadFault → ⊥
 never_fault limit bytes e = (subst (λ (h : End). EndsAt limit (Some bytes) ⊥ h (take limit bytes)) e (ends_here limit bytes ⊥)).0
 
--- by the scan's fault, and by how it ended
+-- the outcome without faults, given the scan's fault, if any, and how the scan ended
 here_by : (asked : Turning) (files : Files) (fault : Type 0) (bytes : List ℕ) (at : Option FaultAt) (how : End) → files asked.input ≡ Some bytes → fault_in asked (records_of asked bytes) ≡ at → end_of asked.listener.limit bytes ≡ how
     → GatewayOutcome asked files fault (came_by asked at how) (ended_by asked (records_of asked bytes) at how) (text_by asked (records_of asked bytes) at how) (made_by asked (records_of asked bytes) at how)
 here_by asked files fault bytes (Some at) how is found ends = faulty bytes at is found refl refl refl refl
@@ -57,11 +57,11 @@ gateway_here asked files fault = at (files asked.input) refl where
 
 -- ---- any other outcome needs a fault of reading
 
--- what it comes to, given what a shelf tells of IN
+-- what a run comes to, given what a shelf tells of IN
 abbrev pub TurnsOut : Turning → List (List ℕ) → Status → List ℕ → Option (List ℕ) → Option (List ℕ) → Type 0
 TurnsOut asked came ended text made told = (came ≡ gateway_came asked told) × (ended ≡ gateway_ended asked told) × (text ≡ gateway_report asked told) × (made ≡ gateway_made asked told)
 
--- given the scan's fault, and how it ended
+-- what a run comes to, given the scan's fault, if any, and how the scan ended
 abbrev pub TurnsBy : Turning → List Record → List (List ℕ) → Status → List ℕ → Option (List ℕ) → Option FaultAt → End → Type 0
 TurnsBy asked records came ended text made at how = (came ≡ came_by asked at how) × (ended ≡ ended_by asked records at how) × (text ≡ text_by asked records at how) × (made ≡ made_by asked records at how)
 
@@ -72,7 +72,7 @@ turns_told asked {came} {ended} {text} {made} files bytes at how is found ends b
     (subst (λ (a : Option FaultAt). TurnsBy asked (records_of asked bytes) came ended text made a (end_of asked.listener.limit bytes)) (sym found)
     (subst (TurnsBy asked (records_of asked bytes) came ended text made at) ends by))
 
--- a scan that was cut short
+-- a scan that was cut short, and the outcome of its run
 cut_by : (asked : Turning) (records : List Record) (came : List (List ℕ)) (ended : Status) (text : List ℕ) (made : Option (List ℕ)) (how : End) → how ≢ end.Whole → came ≡ asked.input ∷ [] → ended ≡ status_of how → text ≡ side_line asked.listener.limit how → made ≡ None
     → TurnsBy asked records came ended text made None how
 cut_by asked records came ended text made end.Whole other c e t m = absurd (other refl)

@@ -28,11 +28,11 @@ use Rattle.avtp_tool.proofs.Outcomes.{counts_failed, ends_not, sink_failed, sink
 use Rattle.avtp_tool.proofs.PlanRuns.{tells_all, through_as}
 use Rattle.avtp_tool.proofs.Yields.{gives_then, Joins, more_none, part_before, part_none, part_then, part_whole}
 
--- text behind items that were handed on
+-- a text that follows items adds no item
 joins_text : (handed : List Shown → Type 0) → Joins handed HandsNothing handed
 joins_text handed xs ys first none = subst handed (sym (append-nil xs) ∙ ap (λ (l : List Shown). xs ++ l) (sym none)) first
 
--- ---- no device failed, or not all was done
+-- ---- no device failed, or not everything was done
 
 -- a run ends as it would without devices
 abbrev pub IsPlain : Bool → Result Status Failed → Type 0
@@ -70,7 +70,7 @@ plain_tells {s} {t} {handed} {before} {now} asked all fault failed result plain 
       (w.0 ∙ sym is.0, subst (Gives handed before now) (sym same) w.1, w.2)
   whole_at (Err e) plain whole = tt
 
--- ---- a device failed where all was done
+-- ---- a device failed, and everything else was done
 
 noticed : (failed : Bool) (ended : Status) → failed ≡ true → status.Done ≡ ended → (status.DeviceFault ≡ device_status failed ended) × (device_fault_line ≡ device_notice failed ended)
 noticed failed ended is done = rw (is, sym done) (refl, refl)
@@ -106,12 +106,12 @@ module _ {s t : ShelfState} {handed : List Shown → Type 0} {before : Option (L
 
 -- ---- the run
 
--- nothing is made
+-- a run of `listen` makes no file
 tells_listening : {s t : ShelfState} {handed : List Shown → Type 0} {before now : Option (List ℕ)} {result : Result Status Failed} {asked : Listening} {all : Files} {fault : Type 0} {failed : Bool} → TellsRun (ListenOutcome asked all fault failed) handed s t before now result
     → TellsRun (λ came ended yields. Outcome (listen asked) all fault failed came ended yields None) handed s t before now result
 tells_listening told = record { came = told.came; ended = told.ended; yields = told.yields; outcome = (told.outcome, refl); whole = told.whole; part = told.part }
 
--- no run but one that was done tells of a device
+-- a run that does not end with a device's fault had no failed device if it was done
 tells_plain : (asked : Listening) (failed : Bool) (result : Result Status Failed) → IsPlain failed result → (result ≡ Ok status.DeviceFault → ⊥) → TellsDevices (listen asked) failed result
 tells_plain asked failed result plain never = record { fault = λ e. absurd (never e); quiet = λ listens done. false_from_ne_true failed (plain done) }
 
@@ -156,7 +156,7 @@ pub err_plain : (failed : Bool) (result : Result Status Failed) → IsErr result
 err_plain failed (Ok s) err = absurd cc
 err_plain failed (Err e) err = λ done is. absurd (let same : is_err {T = Status} (Err e) ≡ is_err {E = Failed} (Ok status.Done) = ap is_err done in cc)
 
--- more had failed after than before, as the two numbers tell
+-- if one count is less than another, the comparison in the code says so
 pub less_is : {a b x y : ℕ} → a ≡ x → b ≡ y → a < b → nat_lt x y ≡ true
 less_is first second less = rw (sym first, sym second) (lt-ltb _ _ less)
 

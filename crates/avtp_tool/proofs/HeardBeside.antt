@@ -37,8 +37,8 @@ use Rattle.avtp_tool.proofs.HearingTo.{shows_none}
 
 -- ---- two files that are open
 
--- A file was read in slot k, whose number is now `now`, and another written in slot w, each in any number of calls. `done` is how the
--- last write ended.
+-- A file was read in slot k, which is now slot `now`, and another was written in slot w, each in any number of calls. `done` is
+-- how the last write ended.
 pub record ReadsAndWrites (s t : ShelfState) (k now w : ℕ) (how : Option End) (done : Result Unit Failed) : Type 0 where
   pub slot : now ≡ k
   pub live : IsSome (t.slots k)
@@ -50,7 +50,7 @@ pub record ReadsAndWrites (s t : ShelfState) (k now w : ℕ) (how : Option End) 
   pub writing : IsCounted s.writing_faults t.writing_faults done
   pub asked : AsksNothing s t
 
--- One call read a file in slot k: all else is unchanged.
+-- One call read a file in slot k, and all else is unchanged.
 pub record OnlyMoves (t u : ShelfState) (k : ℕ) : Type 0 where
   pub files : KeepsFiles t.files u.files
   pub others : KeepsOthers t.slots u.slots k
@@ -82,7 +82,7 @@ live_same None y same live = absurd cc
 live_same (Some x) None same live = absurd cc
 live_same (Some x) (Some y) same live = refl
 
--- two slots whose files had different names still have
+-- the files of two slots still have different names
 still_apart : {s t : ShelfState} {k now w : ℕ} {how : Option End} {done : Result Unit Failed} → ReadsAndWrites s t k now w how done → (v : ℕ) → v ≡ w → (j : ℕ) → name_in s.slots j ≢ name_in s.slots w → name_in t.slots j ≢ name_in t.slots v
 still_apart {s} {t} {w = w} beside v slot j apart same =
     apart (sym (named_as (s.slots j) (t.slots j) (beside.same j)) ∙ same ∙ ap (name_in t.slots) slot ∙ named_as (s.slots w) (t.slots w) (beside.same w))
@@ -102,14 +102,14 @@ module _ {s t u : ShelfState} {k now w : ℕ} {how : Option End} {old new : Writ
     asked = λ names was. writes.asked names (beside.asked names was);
   }
 
-  -- and what is left to read in slot k is as it was, if the names differ
+  -- what is left to read in slot k is unchanged if the names differ
   pub left_written : ReadsAndWrites s t k now w how (Ok tt) → old.slot ≡ w → WritesSlot t u old new done → name_in s.slots k ≢ name_in s.slots w → left_in u.slots now ≡ left_in t.slots now
   left_written beside slot writes apart =
       subst (λ (n : ℕ). left_in u.slots n ≡ left_in t.slots n) (sym beside.slot) (writes.slots.left k (still_apart beside old.slot slot k apart))
 
 -- ---- a read
 
--- the shelf t as it would be if nothing had been read in slot k since it was s
+-- the shelf t with slot k and the count of reading faults as they were in s
 abbrev rewound : ShelfState → ShelfState → ℕ → ShelfState
 rewound s t k = record t { slots = λ j. if j == k then s.slots k else t.slots j; reading_faults = s.reading_faults }
 
@@ -122,7 +122,7 @@ rewound_other s t k j differ = (let test : (j == k) ≡ false = grind (arith, na
 rewound_left : (s t : ShelfState) (k : ℕ) → left_in (rewound s t k).slots k ≡ left_in s.slots k
 rewound_left s t k = ap (option_and_then (λ (o : Open). o.left)) (rewound_slot s t k)
 
--- only slot k was read since then
+-- from the rewound shelf to t, only slot k was read
 reads_since : {s t : ShelfState} {k now w : ℕ} {how : Option End} {done : Result Unit Failed} → ReadsAndWrites s t k now w how done → ReadsCapture (rewound s t k) t k now how
 reads_since {s} {t} {k} beside = record {
   reads = record {
@@ -138,7 +138,7 @@ reads_since {s} {t} {k} beside = record {
   counted = beside.counted;
 }
 
--- a listener of which nothing is known since it is closed
+-- this listener, once it is closed
 abbrev shut : ListenState → ListenState
 shut listener = record listener { ended = true }
 
@@ -198,7 +198,7 @@ module _ {s t u : ShelfState} {first a b : Sourcing} {fresh l m : ListenState} {
             shows.shown limit bytes (subst (λ (o : Option (List ℕ)). HasGiven limit bytes o first []) (sym (rewound_left s t (slot_of first))) given) stands going;
       }
 
--- something else was written
+-- another file was written, and what was heard is unchanged
 pub heard_still : {s t u : ShelfState} {first source : Sourcing} {fresh listener : ListenState} {stage : Stage} {items : List Shown} → u.reading_faults ≡ t.reading_faults → left_in u.slots (slot_of source) ≡ left_in t.slots (slot_of source)
     → IsHeard s t first source fresh listener stage items → IsHeard s u first source fresh listener stage items
 heard_still {s} {t} {u} {source = source} {listener = listener} {stage} {items} quiet same heard = record {
@@ -212,13 +212,13 @@ heard_still {s} {t} {u} {source = source} {listener = listener} {stage} {items} 
 pub presented_flag : (items : List Shown) (frame seq : ℕ) (reason : Reason) → presented_of (items ++ Flag frame seq reason ∷ []) ≡ presented_of items
 presented_flag items frame seq reason = presented-append items (Flag frame seq reason ∷ []) ∙ append-nil (presented_of items)
 
--- as many items are batches as are presented
+-- there are as many batches among the items as were presented
 pub presented_count : (items : List Shown) → count_by is_present items ≡ length (presented_of items)
 presented_count [] = refl
 presented_count (Present batch ∷ items) = omega (arith, count-next is_present (Present batch) items, presented_count items)
 presented_count (Flag frame seq reason ∷ items) = omega (arith, count-next is_present (Flag frame seq reason) items, presented_count items)
 
--- what is shown where the reading ended is the first of what is shown of a capture that was read whole
+-- what is shown before the place where the reading ended is the first part of what is shown of a whole capture
 first_of_whole : (plan : ListenPlan) (records : List Record) (how : End) → IsPrefix (shown_by plan records how) (shown_by plan records end.Whole)
 first_of_whole plan records end.Whole = ([], append-nil (shown_by plan records end.Whole))
 first_of_whole plan records (end.Refused refusal) = ([], append-nil (shown_by plan records end.Whole))

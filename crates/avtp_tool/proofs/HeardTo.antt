@@ -42,14 +42,14 @@ use Rattle.listener.proofs.Fed.{prefix_twice}
 
 -- ---- what is shown
 
--- what is shown where the reading ended begins with what was due
+-- what is shown of a capture begins with what is due, however its reading ended
 shown_first : (plan : ListenPlan) (records : List Record) (how : End) → IsPrefix (due_of plan records) (shown_by plan records how)
 shown_first plan records end.Whole = due_first plan records
 shown_first plan records (end.Refused refusal) = due_first plan records
 shown_first plan records end.ReadFault = ([], append-nil (due_of plan records))
 shown_first plan records end.Limit = ([], append-nil (due_of plan records))
 
--- a listener that is closed where all is shown shows this
+-- what a listener shows that is closed exactly if all is shown
 out_at : (how : End) (listener : ListenState) (records : List Record) → is_closed listener ≡ is_all how → out listener records ≡ shown_by listener.plan records how
 out_at end.Whole listener records closed = rw closed refl
 out_at (end.Refused refusal) listener records closed = rw closed refl
@@ -61,7 +61,7 @@ due_within plan items records all how first given =
     let longer = subst (λ (rs : List Record). IsPrefix (due_of plan records) (due_of plan rs)) first.1 (due_stays plan records first.0) in
     prefix_twice items (due_of plan records) (shown_by plan all how) given (prefix_twice (due_of plan records) (due_of plan all) (shown_by plan all how) longer (shown_first plan all how))
 
--- what is shown of the records before the place where the reading ended is the first of what is shown of the file
+-- what is shown of the records up to the end of the reading is the first part of what is shown of the file
 ended_within : (plan : ListenPlan) (limit : ℕ) (bytes : List ℕ) (fault : Type 0) (items : List Shown) (records : List Record) (how : End) → IsPrefix records (records_in (take limit bytes)) → EndsAfter limit bytes fault how records
     → IsPrefix items (shown_by plan records how) → IsPrefix items (shown_by plan (records_in (take limit bytes)) (end_of limit bytes))
 ended_within plan limit bytes fault items records end.ReadFault first ends given = due_within plan items records (records_in (take limit bytes)) (end_of limit bytes) first given
@@ -90,7 +90,7 @@ IsCutYield asked handed name bytes before now = GivesPart handed before now (fil
 pub name_cut : {handed : List Shown → Type 0} {before now : Option (List ℕ)} (asked : Listening) (name bytes : List ℕ) → handed [] → AppendsPrefix before now (capture_line name) → IsCutYield asked handed name bytes before now
 name_cut {before = before} {now} asked name bytes none prefix = part_text none _ (prefix_before before now _ _ (prefix_before before now (capture_line name) _ prefix))
 
--- a text of the first items is a prefix of that of all
+-- the text of the first items is a prefix of the text of all items
 text_cut : {before now : Option (List ℕ)} (name : List ℕ) (items all : List Shown) (line : List ℕ) → IsPrefix items all → AppendsPrefix before now (shown_text name items) → AppendsPrefix before now (shown_text name all ++ line)
 text_cut {before} {now} name items all line first prefix =
     let text : shown_text name items ++ list_lines first.0 ≡ shown_text name all =
@@ -169,7 +169,7 @@ listen_told asked name bytes fault how counts before heard ends = record {
       tells_end (shown_text name items) items (refl, ap (λ (c : Counts). yields_with (shown_text name items ++ last_line asked.listener.limit c how) items) heard.counted) heard.lines heard.items ends;
 }
 
--- how the records were heard, by what the call answered
+-- how the records were heard, given what the call returned
 pub ended_as : (result : Result Heard Failed) (heard made : Heard) → result ≡ Ok heard → heard ≡ made → result ≡ Ok made
 ended_as result heard made is same = is ∙ ap (λ (h : Heard). Ok h) same
 

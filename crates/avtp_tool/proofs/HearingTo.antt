@@ -32,7 +32,7 @@ use Rattle.listener.proofs.Fed.{prefix_twice}
 
 -- ---- lists
 
--- with the item that comes next, or none
+-- with the next item, or with none, a prefix stays a prefix
 prefix_out : (xs ys : List Shown) (next : Option Shown) → IsPrefix xs ys → next ≡ slice_get ys (length xs) → IsPrefix (xs ++ option_to_list next) ys
 prefix_out xs ys None first at = subst (λ (l : List Shown). IsPrefix l ys) (sym (append-nil xs)) first
 prefix_out xs ys (Some x) first at = prefix-more xs ys x first (sym at)
@@ -42,7 +42,7 @@ prefix_out xs ys (Some x) first at = prefix-more xs ys x first (sym at)
 take_length : {X : Type 0} (n : ℕ) (xs : List X) → n ≤ length xs → length (take n xs) ≡ n
 take_length n xs within = omega (arith, length-take n xs)
 
--- as many items were shown as were presented or flagged, and not more than records were taken
+-- as many items were shown as were presented and flagged, and at most as many as records were taken
 pub shown_count : (listener : ListenState) (records : List Record) (given : ℕ) → StandsFor records given listener
     → (listener.counts.presented + listener.counts.flagged ≡ given) × (given ≤ listener.counts.frames)
 shown_count listener records given stands =
@@ -74,7 +74,7 @@ module _ {old new : ListenState} (count : ℕ) (stable : IsStable old) (stands :
             let after = shown_count new on.0 (sound.given + count) on.1 in
             omega (arith, before.0, before.1, after.0, after.1, fewer)
 
--- the same where no item was shown
+-- a listener that takes more records has shown the items that it had shown
 pub stands_still : {old new : ListenState} (more : List Record) → ((records : List Record) (given : ℕ) → StandsFor records given old → StandsFor (records ++ more) given new) → (records : List Record) (given : ℕ) → StandsFor records given old
     → (others : List Record) × StandsFor others (given + 0) new
 stands_still {old} {new} more stands records given was = (records ++ more, subst (λ (n : ℕ). StandsFor (records ++ more) n new) (omega arith) (stands records given was))
@@ -110,7 +110,7 @@ ended_live (Some file) s o live is = is
 -- ---- one step
 
 module _ {s t : ShelfState} {begun source : Sourcing} {first old new : ListenState} {stage : Stage} {items : List Shown} where
-  -- an item more was shown, or none
+  -- one more item was shown, or none
   shows_out : (result : Option Shown) → pull_at stage ≡ None → Keeps old new
       → ((records : List Record) (given : ℕ) → StandsFor records given old → result ≡ slice_get (out old records) given)
       → ((records : List Record) (given : ℕ) → StandsFor records given old → StandsFor records (given + length (option_to_list result)) new)
@@ -131,7 +131,7 @@ module _ {s t : ShelfState} {begun source : Sourcing} {first old new : ListenSta
         };
   }
 
-  -- none is left of what is shown once the reading has ended
+  -- nothing is left to show once the reading has ended
   shows_all : (how : End) → stage ≡ Showing how → Keeps old new
       → ((records : List Record) (given : ℕ) → StandsFor records given old → None ≡ slice_get (out old records) given)
       → ((records : List Record) (given : ℕ) → StandsFor records given old → StandsFor records (given + 0) new)
@@ -156,7 +156,7 @@ module _ {s t : ShelfState} {begun source : Sourcing} {first old new : ListenSta
 
 -- ---- one record
 
--- what was shown is shown first once a record more was taken, and at the end
+-- the items that were due are still the first ones after more records
 due_grows : (old new : ListenState) (records more : List Record) (items : List Shown) → is_closed old ≡ false → is_closed new ≡ false → new.plan ≡ old.plan → IsPrefix items (out old records) → IsPrefix items (out new (records ++ more))
 due_grows old new records more items going on plan first = prefix_twice items (out old records) (out new (records ++ more)) first (out_further old new records more going on plan)
 
@@ -195,7 +195,7 @@ module _ {s t u : ShelfState} {begun old_source source : Sourcing} {first old ne
             };
       })
 
-  -- the record was not taken, and the listener is as it was
+  -- the record was not taken, and the listener is unchanged
   pub shows_no_memory : old_source.ended ≡ None → GivesNext t u old_source source None → new ≡ old → {stage : Stage} → stage ≡ Reading → Shows s t begun old_source first old stage items → Shows s u begun source first new NoMemory items
   shows_no_memory none next same reading showing =
       let shows = subst (λ (y : Stage). Shows s t begun old_source first old y items) reading showing in
@@ -238,7 +238,7 @@ module _ {s t u : ShelfState} {begun old_source source : Sourcing} {first old ne
 
 -- ---- what holds of every hearing
 
--- an item more was shown, or none
+-- one more item was shown, or none
 pub sound_on : {stage : Stage} {source : Sourcing} {old new : ListenState} (count : ℕ) → IsSoundAt stage source old → Keeps old new → ((records : List Record) (given : ℕ) → StandsFor records given old → StandsFor records (given + count) new) → IsSoundAt stage source new
 sound_on count sound keeps stands =
     record { bounded = omega (arith, sound.bounded, keeps.frames); going = sound.going; closed = keeps.closed ∙ sound.closed; stable = stable_on count sound.stable (λ records given was. (records, stands records given was)) }
@@ -247,9 +247,9 @@ sound_on count sound keeps stands =
 pub sound_over : {stage : Stage} {source : Sourcing} {listener : ListenState} (how : End) → stage ≡ Showing how → IsSoundAt stage source listener → IsSoundAt (Ended how) source listener
 sound_over how is sound = record { bounded = omega (arith, sound.bounded); going = refl; closed = sound.closed ∙ ap closed_at is; stable = sound.stable }
 
--- ---- going on
+-- ---- the hearing goes on
 
--- what is shown does not change, and not more can be shown
+-- the hearing goes on if nothing is shown and no more items can be shown
 pub goes_still : {t u : ShelfState} {old_source source : Sourcing} {old new : ListenState} {stage stage' : Stage}
     → ((begun : ShelfState) (first : Sourcing) (fresh : ListenState) (earlier : List Shown) → Shows begun t first old_source fresh old stage earlier → Shows begun u first source fresh new stage' earlier)
     → IsSome (u.slots (slot_of source)) → left_of stage' source new ≤ left_of stage old_source old → GoesOn t u old_source source old new stage stage' []
@@ -276,7 +276,7 @@ goes_out {source = source} {stage = stage} result live going sound keeps at stan
   left = left_on (length (option_to_list result)) sound.stable (λ records given was. (records, stands records given was)) stage stage source source (omega (arith, keeps.frames));
 }
 
--- nothing came out of it, once the reading has ended
+-- nothing is left in the listener once the reading has ended
 pub goes_over : {s : ShelfState} {source : Sourcing} {old new : ListenState} {stage : Stage} (how : End) → stage ≡ Showing how → IsSome (s.slots (slot_of source)) → IsSoundAt stage source old → Keeps old new
     → ((records : List Record) (given : ℕ) → StandsFor records given old → None ≡ slice_get (out old records) given)
     → ((records : List Record) (given : ℕ) → StandsFor records given old → StandsFor records (given + 0) new) → GoesOn s s source source old new stage (Ended how) []

@@ -21,7 +21,7 @@ after_more one earlier (x ∷ records) r =
     ap (λ rest. one earlier x ++ rest) (after_more one (earlier ++ x ∷ []) records r ∙ ap (λ (rs : List Record). after one (earlier ++ x ∷ []) records ++ one rs r) (append_assoc earlier (x ∷ []) records))
     ∙ sym (append_assoc (one earlier x) (after one (earlier ++ x ∷ []) records) (one (earlier ++ x ∷ records) r))
 
--- one more record
+-- the lines of a list of records and one more
 pub each_more : {A : Type 0} (one : List Record → Record → List A) (records : List Record) (r : Record) → of_each one (records ++ r ∷ []) ≡ of_each one records ++ one records r
 each_more one records r = after_more one [] records r
 
@@ -40,7 +40,7 @@ each_first one records others = after_first one [] records others
 pub prefix_kept : (before mid now : Option (List ℕ)) (text : List ℕ) → Appends before mid text → Keeps mid now → AppendsPrefix before now text
 prefix_kept before mid now text appends keeps = prefix_whole before now text (Appends-kept before mid now text appends keeps)
 
--- a text of the first records is a prefix of that of all
+-- the text of the first records is a prefix of the text of all
 pub some_first : {limit : ℕ} {bytes : List ℕ} {remains : Option (List ℕ)} {source : Sourcing} {before now : Option (List ℕ)} {records : List Record} (text : List Record → List ℕ)
     → ((first others : List Record) → (rest : List ℕ) × (text (first ++ others) ≡ text first ++ rest)) → HasGiven limit bytes remains source records → AppendsPrefix before now (text records) → AppendsPrefix before now (text (records_in (take limit bytes)))
 some_first {limit} {bytes} {remains} {source} {before} {now} {records} text longer given prefix =

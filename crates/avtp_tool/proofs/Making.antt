@@ -42,7 +42,7 @@ part_kept None made f g keeps = keeps
 part_kept (Some name) None f g keeps = keeps
 part_kept (Some name) (Some bytes) f g keeps = inl keeps
 
--- files stood so before
+-- files that were unchanged before the output was made
 pub output_after : (output made : Option (List ℕ)) (f g k : Option Files) → KeepsFiles f g → MakesOutput output made g k → MakesOutput output made f k
 output_after None made f g k keeps makes = KeepsFiles-trans f g k keeps makes
 output_after (Some name) None f g k keeps makes = KeepsFiles-trans f g k keeps makes
@@ -66,9 +66,9 @@ pub slots_here : (output : Option (List ℕ)) (files : Option Files) (slots : Sl
 slots_here None files slots = λ j. refl
 slots_here (Some name) files slots = slots_still files slots name
 
--- ---- a file that was made, or not
+-- ---- a file that was made, or could not be made
 
--- it was made, and writing it failed
+-- the file was made, and writing it failed
 pub unmade_part : {s t : ShelfState} (name bytes : List ℕ) → PutsPrefix s.files t.files name bytes → KeepsSlotsBut s.files s.slots t.slots name → t.reading_faults ≡ s.reading_faults → s.writing_faults ≤ t.writing_faults → Rose s.writing_faults t.writing_faults
     → (Asks (name ∷ []) s t) → MakesFile s t name bytes (Err open_fault.Failed)
 unmade_part name bytes part slots reading falls rose asked = record {
@@ -138,27 +138,27 @@ prefix_further rest split p = record { prefix = p.prefix; rest = p.rest ++ rest;
 pub whole_prefix : (f g : Option Files) (name bytes : List ℕ) → PutsFile f g name bytes → PutsPrefix f g name bytes
 whole_prefix f g name bytes put = record { prefix = bytes; rest = []; split = sym (append-nil bytes); put = put }
 
--- ---- runs that make it, or not
+-- ---- runs that make a file, or do not come to it
 
--- it was made, and the run ends as it may
+-- the file was made, and the run failed or ended with `Done`
 pub makes_whole : {f g : Option Files} {name bytes : List ℕ} (result : Result Status Failed) → PutsFile f g name bytes → IfOk result (λ s. s ≡ status.Done) → Makes name bytes f g result
 makes_whole {f} {g} {name} {bytes} (Ok s) put is = record { done = λ e. put; part = inr (whole_prefix f g name bytes put); untouched = λ done. absurd (done is) }
 makes_whole {f} {g} {name} {bytes} (Err e) put is = record { done = λ e. absurd cc; part = inr (whole_prefix f g name bytes put); untouched = tt }
 
--- it could not be made
+-- the file could not be made
 pub makes_part : {f g : Option Files} {name bytes : List ℕ} (fault : OpenFault) → MakesPrefix f g name bytes → Makes name bytes f g (Ok (unmade_as fault))
 makes_part open_fault.Memory part = record { done = λ e. absurd cc; part = part; untouched = λ done write memory. absurd (memory refl) }
 makes_part open_fault.Missing part = record { done = λ e. absurd cc; part = part; untouched = λ done write. absurd (write refl) }
 makes_part open_fault.Failed part = record { done = λ e. absurd cc; part = part; untouched = λ done write. absurd (write refl) }
 
--- the run never came to it
+-- the run did not come to the file
 pub makes_none : {name bytes : List ℕ} (f : Option Files) (result : Result Status Failed) → (result ≡ Ok status.Done → ⊥) → Makes name bytes f f result
 makes_none {name} {bytes} f result never = record { done = λ e. absurd (never e); part = inl (KeepsFiles-refl f); untouched = kept result } where
   kept : (r : Result Status Failed) → IfOk r (λ s. s ≢ status.Done → s ≢ status.WriteFault → s ≢ status.Memory → KeepsFiles f f)
   kept (Ok s) = λ done write memory. KeepsFiles-refl f
   kept (Err e) = tt
 
--- the files stood so before
+-- the files were unchanged before the run came to the file
 pub makes_after : {a b c : Option Files} {name bytes : List ℕ} {result : Result Status Failed} → KeepsFiles a b → Makes name bytes b c result → Makes name bytes a c result
 makes_after {a} {b} {c} {name} {bytes} {result} keeps m = record {
   done = λ e. KeepsFiles-puts a b c name bytes keeps (m.done e);
@@ -171,7 +171,7 @@ makes_after {a} {b} {c} {name} {bytes} {result} keeps m = record {
 
 -- ---- all else that a run leaves
 
--- the run never came to the file
+-- a run that did not come to the file wrote nothing
 pub writes_none : {s : ShelfState} (name : List ℕ) (result : Result Status Failed) → (IsDone result → ⊥) → (result ≡ Ok status.WriteFault → ⊥) → WritesOnly s s name result
 writes_none {s} name result not_done not_failed = record {
   files = files_still (Some name) s.files;
@@ -188,7 +188,7 @@ writes_none {s} name result not_done not_failed = record {
   ] refl
   never (Err e) other = tt
 
--- it came to the file, and all else is as it was
+-- a run came to the file, and changed nothing else
 pub writes_made : {s t : ShelfState} {bytes : List ℕ} (name : List ℕ) (made : Result Unit OpenFault) (result : Result Status Failed) → MakesFile s t name bytes made
     → KeepsFilesBut (Some name) s.files t.files → CountsWriting (Some name) s.writing_faults t.writing_faults result → (IsDone result → IsOk made) → IfOk result (λ e. (e ≡ status.Memory) ⊎ ((e ≡ status.WriteFault) ⊎ (e ≡ status.Done))) → WritesOnly s t name result
 writes_made {s = s} {t} name made result makes files writing done ends = record {
@@ -238,7 +238,7 @@ slots_from g k s t u name files first second = record {
   left = λ told j differs. second.left (told_before g k name files told) j (λ (e : name_in t j ≡ Some name). differs (rw (first j) at e)) ∙ (rw (first j) refl);
 }
 
--- and its name asked for
+-- the name of the output was asked for after that of the input
 pub asks_from : {a b c : ShelfState} {done : Type 0} {names : List (List ℕ)} (input : List ℕ) → Asks (input ∷ []) a b → AsksFor names b c done → AsksFor (input ∷ names) a c done
 asks_from {c = c} {names = names} input first second = record {
   count = suc second.count;

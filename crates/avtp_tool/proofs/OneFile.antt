@@ -1,4 +1,4 @@
--- A file that is read, and what it may come to.
+-- A file that is read, and its possible outcomes.
 use Rattle.std.proofs.Common.{◌≡◌, ℕ, List, take, Option, Some, None, refl, sym, subst, inl, inr}
 use Rattle.std.specs.Prelude.{◌⊎◌}
 use Rattle.pcap_frames.specs.Capture.{Record}
@@ -13,18 +13,18 @@ use Rattle.avtp_tool.specs.Outcome.{Only}
 use Rattle.avtp_tool.specs.Reading.{FileOutcome, file_status, file_yield, Report}
 use Rattle.avtp_tool.specs.Yield.{says, Yield}
 
--- where no fault of reading comes
+-- the outcome of a file if no fault of reading comes
 pub file_here : (report : Report) (limit : ℕ) (told : Option (List ℕ)) (fault : Type 0) → FileOutcome report limit told fault (file_status report limit told) (file_yield report limit told)
 file_here report limit None fault = (refl, refl)
 file_here report limit (Some bytes) fault = inl (record { how = end_of limit bytes; prefix = take limit bytes; ends = ends_here limit bytes fault; status = refl; given = refl })
 
--- it could not be opened
+-- the outcome of a file that could not be opened
 pub file_fault : (report : Report) (limit : ℕ) (told : Option (List ℕ)) (fault : Type 0) → fault ⊎ (told ≡ None) → FileOutcome report limit told fault status.ReadFault (says read_fault_line)
 file_fault report limit None fault cause = (refl, refl)
 file_fault report limit (Some bytes) fault (inl cause) = inr (cause, refl, refl)
 file_fault report limit (Some bytes) fault (inr none) = absurd cc
 
--- it was opened and read
+-- the outcome of a file that was opened and read
 pub file_read : (report : Report) (limit : ℕ) (bytes : List ℕ) (told : Option (List ℕ)) (fault other : Type 0) (how : End) (records : List Record) → (fault → other) → told ≡ Some bytes → EndsAfter limit bytes fault how records
     → (ended : Status) (yields : Yield) → Only (report.status records how) (report.yields records how) ended yields → FileOutcome report limit told other ended yields
 file_read report limit bytes told fault other how records weaker is after ended yields (same, all) =
@@ -37,7 +37,7 @@ file_read report limit bytes told fault other how records weaker is after ended 
       given = subst (λ (rs : List Record). yields ≡ report.yields rs how) (sym after.whole) all;
     }))
 
--- the same under a weaker cause
+-- each outcome is still possible if faults of reading have a weaker condition
 pub file_weaker : (report : Report) (limit : ℕ) (told : Option (List ℕ)) (fault other : Type 0) (ended : Status) (yields : Yield) → (fault → other) → FileOutcome report limit told fault ended yields → FileOutcome report limit told other ended yields
 file_weaker report limit None fault other ended yields weaker outcome = outcome
 file_weaker report limit (Some bytes) fault other ended yields weaker (inl read) =

@@ -40,7 +40,7 @@ sink_then {U = U} {h} {h'} {h''} {x} {result} first second = record {
   counted = subst (λ (n : ℕ). IsCounted {T = U} n h''.faults result) first.counted.ok second.counted;
 }
 
--- a failure is a failure whatever was to be answered
+-- a failure has the same effect on the sink, whatever the call returns at success
 pub sink_failed : {T U : Type 0} {h h' : SinkState} {e : Failed} {result : Result U Failed} → IsErr result → KeepsSink {T = T} h h' (Err e) → KeepsSink h h' result
 sink_failed {result = Ok x} err first = absurd cc
 sink_failed {result = Err e'} err first = record { grows = first.grows; counted = record { never_falls = first.counted.never_falls; ok = tt; failed = first.counted.failed } }
@@ -54,13 +54,13 @@ sink_printed prints = record { grows = prints.grows; counted = prints.counted }
 pub sink_part : {h h' : SinkState} {w w' : List ℕ} {result : Result Unit Failed} {text : List ℕ} → PrintsPart h h' w w' result text → KeepsSink h h' result
 sink_part prints = record { grows = prints.grows; counted = prints.counted }
 
--- an answer of another value
+-- success has the same effect on the sink, whatever value the call returns
 pub sink_ok : {T U : Type 0} {h h' : SinkState} {x : T} (y : U) → KeepsSink h h' (Ok x) → KeepsSink h h' (Ok y)
 sink_ok y first = record { grows = first.grows; counted = record { never_falls = first.counted.never_falls; ok = first.counted.ok; failed = tt } }
 
--- ---- what a run tells
+-- ---- what a run gives out
 
--- it was cut short before its first byte, or where memory was missing
+-- a run was cut short: it failed, or it ended with `Memory` or `WriteFault`
 abbrev pub IsCut : Result Status Failed → Type 0
 IsCut result = IfOk result (λ s. (s ≡ status.Memory) ⊎ (s ≡ status.WriteFault))
 
@@ -74,7 +74,8 @@ tells_cut {result = Ok s} ended yields outcome cut part = record {
 }
 tells_cut {result = Err e} ended yields outcome cut part = record { ended = ended; yields = yields; outcome = outcome; part = part; whole = tt }
 
--- Known bytes that grew by a line are all that the line yields, and any part of what is yielded is none of it or all.
+-- If known bytes grew by this line, all of `one` was given out; if they did not grow, a part of any yield was; and the whole of
+-- a yield is also a part of it.
 pub record Telling {Y : Type 0} (Whole Part : Y → Type 0) (before now : Option (List ℕ)) (line : List ℕ) (one : Y) : Type 0 where
   pub says : Appends before now line → Whole one
   pub none : (y : Y) → Keeps before now → Part y
@@ -86,7 +87,7 @@ text_telling before now line = record { says = λ grown. grown; none = prefix_no
 pub yield_telling : {handed : List Shown → Type 0} (before now : Option (List ℕ)) (line : List ℕ) → handed [] → Telling (Gives handed before now) (GivesPart handed before now) before now line (says line)
 yield_telling before now line none = record { says = λ grown. record { text = grown; items = none }; none = part_none none; part = part_whole }
 
--- the last line alone
+-- a run that only printed its last line
 pub tells_last : {Y : Type 0} {Outcome : Status → Y → Type 0} {Whole Part : Y → Type 0} {h h' : SinkState} {w w' : List ℕ} {result : Result Status Failed} {ended : Status} {line : List ℕ} {one : Y}
     → Telling Whole Part (written h.held w) (written h'.held w') line one → Outcome ended one → EndsWith ended h h' w w' result line → Tells Outcome Whole Part result
 tells_last {result = Ok s} {ended} {one = one} telling outcome last = record { ended = ended; yields = one; outcome = outcome; whole = λ memory write. (last.status, telling.says last.written); part = telling.part one (telling.says last.written) }
@@ -96,7 +97,7 @@ pub tells_line : {Outcome : Status → List ℕ → Type 0} {h h' : SinkState} {
     → Outcome ended line → EndsWith ended h h' w w' result line → TellsText Outcome (written h.held w) (written h'.held w') result
 tells_line {h = h} {h'} {w} {w'} {line = line} outcome last = tells_last (text_telling (written h.held w) (written h'.held w') line) outcome last
 
--- a text was printed, the items of it handed on, and a last line printed after it
+-- a text was printed, its items were given to devices, and a last line was printed
 pub tells_end : {Outcome : Status → Yield → Type 0} {handed : List Shown → Type 0} {before : Option (List ℕ)} {h h' : SinkState} {w w' : List ℕ} {result : Result Status Failed} {ended : Status} {line : List ℕ} (text : List ℕ) (items : List Shown)
     → Outcome ended (record { text = text ++ line; items = items }) → Appends before (written h.held w) text → handed items → EndsWith ended h h' w w' result line → TellsYield Outcome handed before (written h'.held w') result
 tells_end {handed = handed} {before} {h} {h'} {w} {w'} {result = Ok s} {ended} {line} text items outcome first hands last =
@@ -118,14 +119,14 @@ tells_end {handed = handed} {before} {h} {h'} {w} {w'} {result = Err e} {ended} 
       };
     }
 
--- what can be, under a weaker cause
+-- a run that gave out an outcome of `A` gave out one of `B`, if each outcome of `A` is one of `B`
 pub tells_weaker : {Y : Type 0} {A B : Status → Y → Type 0} {Whole Part : Y → Type 0} {result : Result Status Failed} → ((ended : Status) (yields : Y) → A ended yields → B ended yields) → Tells A Whole Part result → Tells B Whole Part result
 tells_weaker weaker t = record { ended = t.ended; yields = t.yields; outcome = weaker t.ended t.yields t.outcome; whole = t.whole; part = t.part }
 
 -- ---- a file that could not be opened
 
--- why a file of this name was not opened, but for want of memory: the count of reading faults rose, or the shelf tells that
--- it is missing
+-- why a file of this name was not opened, other than for want of memory: the count of reading faults rose, or the file is
+-- missing
 abbrev pub Unopened : ℕ → ℕ → Option Files → List ℕ → Type 0
 Unopened before after files name = Rose before after ⊎ IsMissing files name
 
@@ -160,7 +161,7 @@ tells_unopened {result = result} fault before after files name ended yields tell
 one_of : (name : List ℕ) → Contains (name ∷ []) name
 one_of name = (0, omega arith, refl)
 
--- it ended with a fault of reading, or not at all
+-- a run that ended with a fault of reading, or failed
 counts_fault : (result : Result Status Failed) (before after : ℕ) (files : Option Files) (name : List ℕ) → before ≤ after → Unopened before after files name → IfOk result (λ s. s ≡ status.ReadFault)
     → CountsReading (name ∷ []) files before after result
 counts_fault (Ok s) before after files name falls cause is = record {
@@ -173,7 +174,7 @@ counts_fault (Err e) before after files name falls cause is = record { never_fal
 pub ok_same : (x : Result Status Failed) (s r : Status) → x ≡ Ok s → x ≡ Ok r → s ≡ r
 ok_same x s r first second = cc
 
--- it was cut short
+-- a run that was cut short for want of memory
 pub counts_memory : {before after : ℕ} {names : List (List ℕ)} {files : Option Files} (result : Result Status Failed) → before ≤ after → result ≡ Ok status.Memory → CountsReading names files before after result
 counts_memory (Ok s) falls is = record {
   never_falls = falls;
@@ -194,7 +195,7 @@ counts_unopened {result = result} fault before after files name counts missing e
       | inr no_memory ↦ counts_fault result before after files name counts.never_falls (cause_of fault before after files name no_memory counts missing) (ends.other no_memory).status
     ]
 
--- a fault of reading is told by its status, and by it alone
+-- the count of faults rose exactly if the status is a fault of reading
 abbrev pub TellsFault : Status → ℕ → ℕ → Type 0
 TellsFault ended before after = ((ended ≢ status.ReadFault) × (after ≡ before)) ⊎ ((ended ≡ status.ReadFault) × Rose before after)
 
@@ -205,7 +206,7 @@ counts_by ended (Ok s) falls told is = elim told [
   | inr fault ↦ record { never_falls = falls; fault = λ e. inl fault.1; quiet = λ other memory write. absurd (other (is ∙ fault.0)) }
 ]
 
--- the reading of a capture ended so, and the run with its status
+-- the reading of a capture ended in this way, and the run ended with the status of that
 ends_fault : (how : End) (before after : ℕ) → CountsFault None (Some how) before after → TellsFault (status_of how) before after
 ends_fault end.Whole before after counts = inl (λ e. cc, counts)
 ends_fault (end.Refused refusal) before after counts = inl (λ e. cc, counts)
@@ -230,7 +231,7 @@ unopened_other {result = result} fault other no_memory no_fault ends e =
       | inr opened ↦ ends_not other no_fault (ends.other opened) e
     ]
 
--- ---- runs in which not all was done
+-- ---- runs that did not do everything
 
 pub undone_by : (result : Result Status Failed) (ended : Status) → is_done ended ≡ false → IfOk result (λ s. s ≡ ended) → IsDone result → ⊥
 undone_by (Ok s) ended stops is done = let t : true ≡ false = sym done ∙ (ap is_done is ∙ stops) in cc
@@ -253,7 +254,7 @@ unopened_own {result = result} fault ends =
       | inr opened ↦ own_as result status.ReadFault refl (ends.other opened).status
     ]
 
--- ---- failures, whatever was to be answered
+-- ---- failures, whatever the calls return at success
 
 pub tells_err : {Y : Type 0} {Outcome : Status → Y → Type 0} {Whole Part : Y → Type 0} {result : Result Status Failed} {e : Failed} → IsErr result → Tells Outcome Whole Part (Err e) → Tells Outcome Whole Part result
 tells_err {result = Ok s} err tells = absurd cc

@@ -130,7 +130,7 @@ has_run words {request} {handed} {still} {failed} {shelf} {shelf'} {out} {mid} {
       not_words = λ is. runs.no_words (ended_as status.Words (λ e. cc) finishes is);
     }
 
--- no memory was found for the text, so nothing was done
+-- no memory was found for the buffer of the text, so nothing was done
 pub no_memory : (words : List (List ℕ)) (request : Request) (handed : List Shown → Type 0) (still : Type 0) (failed : Bool) (shelf : ShelfState) (out : SinkState) → IsCommandLine words request → handed [] → still
     → HasRun request handed still failed shelf shelf out out status.Memory
 no_memory words request handed still failed shelf out line nothing kept = record {
@@ -170,7 +170,7 @@ no_memory words request handed still failed shelf out line nothing kept = record
   not_words = λ is. cc;
 }
 
--- words that are no command line were told, and the text was written
+-- the offence of the words was printed, and the text was written
 pub refuses_words : {position : ℕ} {still : Type 0} {out mid out' : SinkState} {w w1 w2 : List ℕ} {r : Result Status Failed} {ended : Status}
     → w ≡ [] → still → EndsWith status.Words out mid w w1 r (words_line position) → Finishes mid out' w1 w2 r ended → RefusesWords position still out out' ended
 refuses_words {position} {still} {out} {mid} {out'} {w} {w1} {w2} {r} {ended} none kept ends finishes =
@@ -190,7 +190,7 @@ refuses_words {position} {still} {out} {mid} {out'} {w} {w1} {w2} {r} {ended} no
       not_write = λ write. finishes.quiet write ∙ (subst (λ (q : Result Status Failed). IsCounted out.faults mid.faults q) (finishes.whole write).0 ends.sink.counted).ok;
     }
 
--- no memory was found to tell them
+-- no memory was found to print the offence
 pub tells_nothing : (position : ℕ) (still : Type 0) (out : SinkState) → still → RefusesWords position still out out status.Memory
 tells_nothing position still out kept = record {
   whole = λ memory write. absurd (memory refl);

@@ -1,4 +1,4 @@
--- What comes of one batch more: its frames, or the line that says why it is skipped.
+-- What one more batch adds: its frames, or the line that says why it is skipped.
 use Rattle.std.proofs.Common.{◌≡◌, ℕ, suc, ◌+◌, List, [], ◌∷◌, ◌++◌, length, Option, Some, None, refl, sym, ap, ◌∙◌, arith, append_assoc, append-nil, length-append}
 use Rattle.std.specs.Prelude.{flat_map, map}
 use Rattle.std.proofs.lemmas.Grind.{flat_map-append}
@@ -19,7 +19,7 @@ use Rattle.avtp_words.specs.Grammar.{Turning}
 use Rattle.avtp_tool.specs.Gateway.{Skipped, format_of, given_next, skipped_at, skipped_line, skips_after, skips_in}
 use Rattle.avtp_tool.specs.state.Turning.{given_over, records_for}
 
--- ---- lists to which each item adds at the end
+-- ---- lists to which each batch adds at the end
 
 grows : {A B : Type 0} (f : List A → List B) (step : List A → A → List B) → ((xs : List A) (x : A) → f (xs ++ x ∷ []) ≡ f xs ++ step xs x) → (xs ys : List A) → (rest : List B) × (f (xs ++ ys) ≡ f xs ++ rest)
 grows f step one xs [] = ([], ap f (append-nil xs) ∙ sym (append-nil (f xs)))
@@ -65,7 +65,7 @@ skips_shaped to shape given (b ∷ batches) batch =
     ap (λ (l : List Skipped). here ++ l) (skips_shaped to shape next batches batch)
     ∙ sym (append_assoc here (skips_after to (Some shape) next batches) (skipped_at batch.frame (skip_by to shape (given_by to shape next batches) batch)))
 
--- the line of a batch more, if it is skipped
+-- the lines of skipped batches, with that of one more batch if it is skipped
 pub skips_more : (to : To) (shape : Option Shape) (batches : List Presented) (batch : Presented)
     → skips_after to shape nothing_given (batches ++ batch ∷ []) ≡ skips_after to shape nothing_given batches ++ skipped_at batch.frame (skip_of to shape (given_over to shape batches) batch)
 skips_more to None batches batch = skips_shapeless to nothing_given batches batch
@@ -80,7 +80,7 @@ lines_more asked shape batches batch =
 
 -- ---- some of all batches
 
--- their lines are the first of all lines
+-- the lines of the first batches are the first lines of all
 pub lines_first : (asked : Turning) (shape : Option Shape) (batches all : List Presented) → IsPrefix batches all
     → (rest : List ℕ) × (flat_map skipped_line (skips_in asked shape all) ≡ flat_map skipped_line (skips_in asked shape batches) ++ rest)
 lines_first asked shape batches all first =
@@ -88,7 +88,7 @@ lines_first asked shape batches all first =
     (λ (bs : List Presented) (b : Presented). flat_map skipped_line (skipped_at b.frame (skip_of (format_of asked.to) shape (given_over (format_of asked.to) shape bs) b)))
     (lines_more asked shape) batches all first
 
--- their records are the first of all records
+-- the records of the first batches are the first records of all
 pub records_first : (to : To) (shape : Option Shape) (id : ℕ) (batches all : List Presented) → IsPrefix batches all → (rest : List Record) × (records_for to shape id all ≡ records_for to shape id batches ++ rest)
 records_first to shape id batches all first =
     grows_first (records_for to shape id) (λ (bs : List Presented) (b : Presented). map record_of (frames_for to shape id (given_over to shape bs) b)) (records_more to shape id) batches all first
@@ -99,7 +99,7 @@ count_shapeless : (to : To) (given : Given) (batches : List Presented) → lengt
 count_shapeless to given [] = refl
 count_shapeless to given (b ∷ batches) = ap suc (count_shapeless to given batches)
 
--- a batch is given out or skipped
+-- one batch is either given out or skipped
 count_one : (frame : ℕ) (skip : Option Skip) (given taken : Given) → taken.batches ≡ given.batches + 1 → length (skipped_at frame skip) + (unless skip taken given).batches ≡ given.batches + 1
 count_one frame None given taken one = omega arith
 count_one frame (Some why) given taken one = omega arith
@@ -113,7 +113,7 @@ count_shaped to shape given (b ∷ batches) =
     let rest : List Skipped = skips_after to (Some shape) next batches in
     omega (arith, count_shaped to shape next batches, count_one b.frame skip given (given_with to shape given b) refl, length-append here rest)
 
--- each batch is given out or skipped
+-- each of these batches is either given out or skipped
 pub batches_count : (asked : Turning) (shape : Option Shape) (batches : List Presented) → length (skips_in asked shape batches) + (given_over (format_of asked.to) shape batches).batches ≡ length batches
 batches_count asked None batches = omega (arith, count_shapeless (format_of asked.to) nothing_given batches)
 batches_count asked (Some shape) batches = omega (arith, count_shaped (format_of asked.to) shape nothing_given batches)

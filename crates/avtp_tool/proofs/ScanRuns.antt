@@ -63,7 +63,7 @@ module _ {s t : ShelfState} {h h' : SinkState} {l l' : List ℕ} {result : Resul
     sink = ends.sink;
   }
 
--- a record cannot be turned
+-- the run of a capture with a record that cannot be converted
 pub faulty_runs : {s t : ShelfState} {h h' : SinkState} {l l' : List ℕ} {result : Result Status Failed} (asked : Turning) (why : ScanFault) (frame : ℕ) → ScansFile asked s t (Ok (scanned.Faulty why frame))
     → EndsWith status.TalkInput h h' l l' result (fault_line (record { frame = frame; fault = why })) → Runs (gateway asked) HandsNothing false s t h h' l l' result
 faulty_runs {s} {t} {result = result} asked why frame scan ends =
@@ -83,7 +83,7 @@ stops_end (end.Refused refusal) other = refl
 stops_end end.ReadFault other = refl
 stops_end end.Limit other = refl
 
--- the scan was cut short
+-- the run of a capture whose scan was cut short
 pub cut_runs : {s t : ShelfState} {h h' : SinkState} {l l' : List ℕ} {result : Result Status Failed} (asked : Turning) (how : End) → ScansFile asked s t (Ok (scanned.Cut how))
     → EndsWith (status_of how) h h' l l' result (side_line asked.listener.limit how) → Runs (gateway asked) HandsNothing false s t h h' l l' result
 cut_runs {s} {t} {result = result} asked how scan ends =
@@ -139,7 +139,7 @@ unscanned_runs {s} {t} {result = result} asked why scan ends =
 
 -- ---- OUT was made
 
--- for the files and the counts before the scan, and the shape that it found
+-- an outcome over the files and counts after the scan is one over those before it
 outcome_since : (asked : Turning) (all : Files) (shape : Option Shape) (bytes : List ℕ) (a b : Type 0) (ended : Status) (text : List ℕ) (made : Option (List ℕ)) → (a → b) → all asked.input ≡ Some bytes
     → CanTurn asked bytes → shape ≡ shape_asked asked (records_of asked bytes) → TurnedOutcome asked shape bytes a ended text made
     → GatewayOutcome asked all b (asked.input ∷ asked.output ∷ asked.input ∷ []) ended text made

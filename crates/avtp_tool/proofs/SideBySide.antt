@@ -79,7 +79,7 @@ lines_next list n d is =
 
 -- ---- a pair that gave a difference
 
--- what is known is the same
+-- what is known of a pair is unchanged
 pub known_same : (old new : PairState) (records others : List Record) → KeepsPair old new → known_by new records others ≡ known_by old records others
 known_same old new records others keeps = rw (keeps.closed_a, keeps.closed_b, keeps.plan_a, keeps.plan_b) refl
 
@@ -119,7 +119,7 @@ that_fault (end.Refused r) is = absurd cc
 that_fault end.ReadFault is = refl
 that_fault end.Limit is = absurd cc
 
--- ---- where each side is
+-- ---- the state of each side
 
 pub side_begun : (side : Side) (listener : ListenState) → IsFresh side listener → IsSideAt side listener
 side_begun side listener fresh = record {
@@ -128,7 +128,7 @@ side_begun side listener fresh = record {
   no_fault = λ fault. absurd (let e : None ≡ Some end.ReadFault = sym fresh.unended ∙ fault in cc);
 }
 
--- a side whose listener only gave out
+-- a listener that only gave out items leaves its side as it was
 pub side_still : (side : Side) (old new : ListenState) → new.counts.frames ≡ old.counts.frames → is_closed new ≡ is_closed old → IsSideAt side old → IsSideAt side new
 side_still side old new frames closed at = record {
   going = λ unended. let g = at.going unended in (g.0, omega (arith, g.1, frames));
@@ -148,7 +148,7 @@ amid_two s c live begun = record {
   plan_b = refl;
 }
 
--- differences were given
+-- differences were printed between two steps
 pub amid_printed : {s t : ShelfState} {first : Comparing} {a b : Side} {old new : PairState} → KeepsPair old new → IsAmidTwo s t first (record { a = a; b = b; pair = old }) → IsAmidTwo s t first (record { a = a; b = b; pair = new })
 amid_printed {a = a} {b} {old} {new} keeps amid = record {
   reads = amid.reads;
@@ -222,7 +222,7 @@ stepped which {s} {t} {side} {side'} {pair} {pair'} (step.Ended how) at unended 
 stepped which step.Fault at unended fault memory to = absurd (fault refl)
 stepped which step.NoMemory at unended fault memory to = absurd (memory refl)
 
--- A was read on
+-- capture A was read on
 pub amid_a : {s t u : ShelfState} {first : Comparing} {a a' b : Side} {pair pair' : PairState} (to : Step) → IsAmidTwo s t first (record { a = a; b = b; pair = pair }) → a.end ≡ None → to ≢ step.Fault → to ≢ step.NoMemory
     → StepsTo A t u a a' pair pair' to → IsAmidTwo s u first (record { a = a'; b = b; pair = pair' })
 amid_a {t = t} {u} {a = a} {a'} {b} {pair} {pair'} to amid unended fault memory steps =
@@ -238,7 +238,7 @@ amid_a {t = t} {u} {a = a} {a'} {b} {pair} {pair'} to amid unended fault memory 
       plan_b = on.plan_b ∙ amid.plan_b;
     }
 
--- B was
+-- capture B was read on
 pub amid_b : {s t u : ShelfState} {first : Comparing} {a b b' : Side} {pair pair' : PairState} (to : Step) → IsAmidTwo s t first (record { a = a; b = b; pair = pair }) → b.end ≡ None → to ≢ step.Fault → to ≢ step.NoMemory
     → StepsTo B t u b b' pair pair' to → IsAmidTwo s u first (record { a = a; b = b'; pair = pair' })
 amid_b {t = t} {u} {a = a} {b} {b'} {pair} {pair'} to amid unended fault memory steps =
@@ -261,13 +261,13 @@ open_by side listener at unended = by side.end refl where
   by None is = refl
   by (Some how) is = absurd (let t : false ≡ true = sym unended ∙ at.closed ∙ ap is_some is in cc)
 
--- and one that is closed has
+-- a side whose listener is closed has ended
 pub ended_by : (side : Side) (listener : ListenState) → IsSideAt side listener → is_closed listener ≡ true → IsSome side.end
 ended_by side listener at closed = sym at.closed ∙ closed
 
 -- ---- what was compared
 
--- what is read of a side is the same while the other is read on
+-- what is left to read of a side is unchanged while the other side is read
 side_kept : (limit : ℕ) (bytes : List ℕ) (s t : ShelfState) (source : Sourcing) (e : Option End) (records : List Record) → remains_of t source ≡ remains_of s source → SideRead limit bytes s source e records → SideRead limit bytes t source e records
 side_kept limit bytes s t source None records same given = subst (λ (r : Option (List ℕ)). HasGiven limit bytes r source records) (sym same) given
 side_kept limit bytes s t source (Some how) records same given = given
@@ -326,7 +326,7 @@ side_on which s t side side' pair pair' step.NoMemory limit bytes mine theirs gi
 never : {P : Type 0} (b : Bool) → b ≡ false → b ≡ true → P
 never b off on = let t : false ≡ true = sym off ∙ on in absurd cc
 
--- A was read on
+-- what is told of both captures after A was read on
 pub told_a : {s t : ShelfState} {a a' b : Side} {pair pair' : PairState} {asked : Agreeing} {x y : List ℕ} {before mid now : Option (List ℕ)} (to : Step) → a.end ≡ None → is_closed pair.a ≡ false → slot_of b.source ≢ slot_of a.source → EndsAreClosed pair
     → to ≢ step.Fault → to ≢ step.NoMemory → StepsTo A s t a a' pair pair' to → ReadsSlot s t (slot_of a.source) (slot_of a'.source) → Keeps mid now
     → IsComparedTo asked x y s (record { a = a; b = b; pair = pair }) before mid → IsComparedTo asked x y t (record { a = a'; b = b; pair = pair' }) before now
@@ -350,7 +350,7 @@ told_a {s} {t} {a} {a'} {b} {pair} {pair'} {asked} {x} {y} {before} {mid} {now} 
       printed = subst (λ (l : List Difference). Appends before now (difference_lines l)) (sym stays) (Appends-kept before mid now _ was.printed kept);
     }
 
--- B was
+-- what is told of both captures after B was read on
 pub told_b : {s t : ShelfState} {a b b' : Side} {pair pair' : PairState} {asked : Agreeing} {x y : List ℕ} {before mid now : Option (List ℕ)} (to : Step) → b.end ≡ None → is_closed pair.b ≡ false → slot_of a.source ≢ slot_of b.source → EndsAreClosed pair
     → to ≢ step.Fault → to ≢ step.NoMemory → StepsTo B s t b b' pair pair' to → ReadsSlot s t (slot_of b.source) (slot_of b'.source) → Keeps mid now
     → IsComparedTo asked x y s (record { a = a; b = b; pair = pair }) before mid → IsComparedTo asked x y t (record { a = a; b = b'; pair = pair' }) before now
@@ -405,7 +405,7 @@ first_of_all s c asked x y records others n given less at_a at_b plans ends read
     let same : take given (differences (known_by c.pair records others)) ≡ take given (differences (merged_in asked x y)) = sym stays ∙ ap (λ (l : List Sided). take given (differences l)) merged in
     take_less (differences (known_by c.pair records others)) (differences (merged_in asked x y)) n given less same
 
--- and a prefix of their text was printed
+-- a prefix of the text of all differences was printed
 pub prefix_of_all : (list : List Difference) (n : ℕ) (before now : Option (List ℕ)) → Appends before now (difference_lines (take n list)) → AppendsPrefix before now (difference_lines list)
 prefix_of_all list n before now appends = record {
   prefix = difference_lines (take n list);
@@ -433,7 +433,7 @@ told_begun asked x y s c before begun given_a given_b = record {
   printed = Appends-nil before;
 }
 
--- the differences that are known were printed
+-- the known differences were printed
 pub told_printed : {s : ShelfState} {a b : Side} {pair pair' : PairState} {h h' : SinkState} {w w' : List ℕ} {ok : Unit} {asked : Agreeing} {x y : List ℕ} {before : Option (List ℕ)} → PrintsDifferences pair pair' h h' w w' (Ok ok)
     → IsComparedTo asked x y s (record { a = a; b = b; pair = pair }) before (written h.held w) → IsAllTo asked x y s (record { a = a; b = b; pair = pair' }) before (written h'.held w')
 told_printed {pair = pair} {pair'} {h' = h'} {w' = w'} {before = before} prints was =
@@ -454,7 +454,7 @@ told_printed {pair = pair} {pair'} {h' = h'} {w' = w'} {before = before} prints 
       all = whole;
     }
 
--- the sink failed while they were printed
+-- the sink failed while the known differences were printed
 pub told_failed : {s : ShelfState} {a b : Side} {pair pair' : PairState} {h h' : SinkState} {w w' : List ℕ} {e : Failed} {asked : Agreeing} {x y : List ℕ} {before : Option (List ℕ)} → PrintsDifferences pair pair' h h' w w' (Err e)
     → IsSideAt a pair'.a → IsSideAt b pair'.b → HavePlan (plan_of asked.listener) pair'
     → IsComparedTo asked x y s (record { a = a; b = b; pair = pair }) before (written h.held w) → AppendsPrefix before (written h'.held w') (difference_lines (differences (merged_in asked x y)))
@@ -477,7 +477,7 @@ told_part {s} {c} {asked} {x} {y} {before} {now} at_a at_b plans ends was =
 pub part_kept : {before mid now : Option (List ℕ)} {text : List ℕ} → AppendsPrefix before mid text → Keeps mid now → AppendsPrefix before now text
 part_kept {before} {mid} {now} {text} p keeps = record { prefix = p.prefix; rest = p.rest; split = p.split; appends = Appends-kept before mid now p.prefix p.appends keeps }
 
--- both readings have ended
+-- both readings have ended, and all was compared
 pub told_ended : {s : ShelfState} {c : Comparing} {asked : Agreeing} {x y : List ℕ} {before now : Option (List ℕ)} {result : Compared} → IsSideAt c.a c.pair.a → IsSideAt c.b c.pair.b → HavePlan (plan_of asked.listener) c.pair
     → IsAllTo asked x y s c before now → (e : EndsCompared c result) → HasCompared asked x y e.a e.b e.counts before now
 told_ended {s} {c} {asked} {x} {y} {before} {now} at_a at_b plans told e =
@@ -508,7 +508,7 @@ told_cut_a {s} {t} {a} {b} a' {pair} {asked} {x} {y} {before} {mid} {now} {fault
     in_a after.prefix (ends_weaker limit (Some x) _ fault end.ReadFault after.prefix cause after.ends)
     (Appends-kept before mid now _ (subst (λ (l : List Difference). Appends before mid (difference_lines l)) (told.all ∙ ap differences here) to.printed) kept)
 
--- or in B
+-- a fault of reading came in B, which was wanted
 pub told_cut_b : {s t : ShelfState} {a b : Side} (b' : Side) {pair : PairState} {asked : Agreeing} {x y : List ℕ} {before mid now : Option (List ℕ)} {fault : Type 0} → IsSideAt a pair.a → HavePlan (plan_of asked.listener) pair → EndsAreClosed pair
     → wanted_by pair ≡ Some B → is_closed pair.b ≡ false → b.end ≡ None → GivesNext s t b.source b'.source (Some end.ReadFault) → (Rose s.reading_faults t.reading_faults → fault) → Keeps mid now
     → IsAllTo asked x y s (record { a = a; b = b; pair = pair }) before mid → IsCutIn asked x y fault before now
@@ -578,7 +578,7 @@ module _ {s t : ShelfState} {first c : Comparing} (amid : IsAmidTwo s t first c)
       let same = r.1 in
       subst (λ (a : Side). IsAmidTwo s u first (record { a = a; b = c'.b; pair = c'.pair })) (sym same) (amid_b to amid (open_by c.b c.pair.b amid.b listens) fault memory reads.steps)
 
-  -- and less is left to read
+  -- after a step less is left to read
   pub less_on : {u : ShelfState} {c' : Comparing} {h h' : SinkState} {w w' : List ℕ} (which : Which) (to : Step) → is_closed (listener_of which c.pair) ≡ false → to ≢ step.Fault → to ≢ step.NoMemory → ReadsOn which t u c c' h h' w w' (Ok to) → left_of c'.a + left_of c'.b < left_of c.a + left_of c.b
   less_on {u} {c'} A to listens fault memory on =
       let r = on.in_a refl in
@@ -595,7 +595,7 @@ module _ {s t : ShelfState} {first c : Comparing} (amid : IsAmidTwo s t first c)
       let other = ap left_of same in
       omega (arith, less, other)
 
-  -- what was compared is still what it was
+  -- what is compared after a step that had no fault
   pub told_on : {u : ShelfState} {c' : Comparing} {h h' : SinkState} {w w' : List ℕ} {asked : Agreeing} {x y : List ℕ} {before : Option (List ℕ)} (which : Which) (to : Step) → is_closed (listener_of which c.pair) ≡ false → EndsAreClosed c.pair → to ≢ step.Fault → to ≢ step.NoMemory → ReadsOn which t u c c' h h' w w' (Ok to)
       → IsComparedTo asked x y t c before (written h.held w) → IsComparedTo asked x y u c' before (written h'.held w')
   told_on {u} {c'} {h} {h'} {w} {w'} {asked} {x} {y} {before} A to listens ends fault memory on was =
@@ -615,7 +615,7 @@ module _ {s t : ShelfState} {first c : Comparing} (amid : IsAmidTwo s t first c)
       subst (λ (a : Side). IsComparedTo asked x y u (record { a = a; b = c'.b; pair = c'.pair }) before (written h'.held w')) (sym same)
       (told_b to unended listens (slots_apart_a amid) ends fault memory reads.steps on.reads reads.kept was)
 
-  -- the reading came to an end of its own: a fault, or a record for which there was no memory
+  -- after reading on in one capture, both files are still open
   pub reads_on : (u : ShelfState) (c' : Comparing) (which : Which) (next : Option End) → ReadsSlot t u (slot_of (side_of which c).source) (slot_of (side_of which c').source) → side_of (other_of which) c' ≡ side_of (other_of which) c → IsReadOn s u first c'
   reads_on u c' A next reads same = record {
     reads = two_on_a amid.reads amid.slot_a reads;
@@ -702,7 +702,7 @@ pub kept_on : {t u : ShelfState} {c c' : Comparing} {h h' : SinkState} {w w' : L
 kept_on A on = let r = on.in_a refl in (r.0.kept, r.0.sink)
 kept_on B on = let r = on.in_b refl in (r.0.kept, r.0.sink)
 
--- what a step needs
+-- the listener of a side has taken few enough records for another step
 pub few_on : {s t : ShelfState} {first c : Comparing} (which : Which) → IsAmidTwo s t first c → is_closed (listener_of which c.pair) ≡ false → (listener_of which c.pair).counts.frames < 2 ^ 61
 few_on {c = c} A amid listens = let going = amid.a.going (open_by c.a c.pair.a amid.a listens) in omega (arith, going.1)
 few_on {c = c} B amid listens = let going = amid.b.going (open_by c.b c.pair.b amid.b listens) in omega (arith, going.1)

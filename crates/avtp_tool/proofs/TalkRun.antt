@@ -39,13 +39,13 @@ use Rattle.avtp_tool.proofs.Yields.{part_text}
 use Rattle.avtp_tool.proofs.Outcomes.{counts_unopened, tells_unopened, tells_weaker, text_telling, unopened_other, unopened_undone}
 use Rattle.avtp_tool.proofs.Talked.{read_counted, talks_unopened, tells_caused, tells_since}
 
--- ---- the names to which it came
+-- ---- the names that were asked for
 
--- which names were asked for, by the status
+-- which names a run asked for, given its status
 abbrev pub CameAs : Talking → Result Status Failed → ShelfState → ShelfState → Type 0
 CameAs asked result a b = IfOk result (λ s. s ≢ status.Memory → s ≢ status.WriteFault → Asks (talk_came asked s) a b)
 
--- what `talk` makes, by what a shelf tells of its input and by its status
+-- what `talk` makes, given what a shelf tells of its input and the run's status
 made_by : (P : Option (List ℕ) → Type 0) (plan : TalkPlan) (told : Option (List ℕ)) (ended : Status) → (told ≡ None → ended ≢ status.Done) → (ended ≢ status.Done → P None)
     → ((bytes : List ℕ) → told ≡ Some bytes → ended ≡ status.Done → P (Some (capture plan bytes))) → P (talk_made plan told ended)
 made_by P plan None ended never none some = none (never refl)
@@ -60,7 +60,7 @@ made_by P plan (Some bytes) status.Limit never none some = none (λ e. cc)
 made_by P plan (Some bytes) status.DeviceFault never none some = none (λ e. cc)
 made_by P plan (Some bytes) status.TalkInput never none some = none (λ e. cc)
 
--- a missing input is never done
+-- a run with a missing input does not end with `Done`
 missing_undone : (plan : TalkPlan) (told : Option (List ℕ)) (fault : Type 0) (ended : Status) (text : List ℕ) → TalkOutcome plan told fault ended text → told ≡ None → ended ≢ status.Done
 missing_undone plan None fault ended text o is e = let t : status.ReadFault ≡ status.Done = sym o.0 ∙ e in cc
 missing_undone plan (Some bytes) fault ended text o is e = absurd cc
@@ -157,7 +157,7 @@ quiet_by : (halt : Stop) (result : Result Status Failed) (before after : ℕ) �
 quiet_by halt (Ok s) before after counts quiet = λ fault memory write. still_by halt before after counts (quiet fault memory write)
 quiet_by halt (Err e) before after counts quiet = tt
 
--- what was read of the input, where the files are told
+-- what was read of the input, if the shelf tells its files
 abbrev pub IsInput : Option Files → List ℕ → Contents → Type 0
 IsInput files name contents = (all : Files) → files ≡ Some all → (bytes : List ℕ) × (all name ≡ Some bytes) × IsContents most_input bytes contents.stop contents.bytes.items
 

@@ -1,4 +1,4 @@
--- What was talked of an input.
+-- What `talk` makes of an input.
 use Rattle.std.proofs.Common.{◌≡◌, ℕ, ◌≤◌, ◌<◌, List, length, Option, Some, None, Result, Ok, Err, inl, inr, refl, sym, subst, ◌∙◌}
 use Rattle.std.specs.Prelude.{◌⊎◌, ◌≢◌, IfOk}
 use Rattle.avtp_base.specs.declared.failed.Failed.{Failed}
@@ -93,12 +93,12 @@ refused_undone result why ends =
 pub tells_unwritten : {Outcome : Status → List ℕ → Type 0} {before now : Option (List ℕ)} {result : Result Status Failed} (files : Option Files) → TellsText Outcome before now result → TellsText (OutcomeWith Outcome files files) before now result
 tells_unwritten files tells = tells_weaker (λ ended text o. (o, λ other. KeepsFiles-refl files)) tells
 
--- all was done
+-- the whole capture was written
 pub tells_made : {Outcome : Status → List ℕ → Type 0} {before now : Option (List ℕ)} {result : Result Status Failed} (files files' : Option Files) → ((ended : Status) (text : List ℕ) → Outcome ended text → ended ≡ status.Done) → TellsText Outcome before now result
     → TellsText (OutcomeWith Outcome files files') before now result
 tells_made files files' done tells = tells_weaker (λ ended text o. (o, λ other. absurd (other (done ended text o)))) tells
 
--- files stood so before
+-- the files were unchanged before
 pub tells_since : {Outcome : Status → List ℕ → Type 0} {before now : Option (List ℕ)} {result : Result Status Failed} (a b c : Option Files) → KeepsFiles a b → TellsText (OutcomeWith Outcome b c) before now result → TellsText (OutcomeWith Outcome a c) before now result
 tells_since a b c keeps tells = tells_weaker (λ ended text o. (o.0, λ other. KeepsFiles-trans a b c keeps (o.1 other))) tells
 
@@ -116,7 +116,7 @@ talked_weaker plan bytes a b status.WriteFault text weaker o = absurd o
 talked_weaker plan bytes a b status.Memory text weaker o = absurd o
 talked_weaker plan bytes a b status.DeviceFault text weaker o = absurd o
 
--- for another cause of a fault of reading
+-- each outcome is still possible if faults of reading have a weaker condition
 pub tells_caused : {before now : Option (List ℕ)} {result : Result Status Failed} (f g : Option Files) (plan : TalkPlan) (bytes : List ℕ) (a b : Type 0) → (a → b) → TellsText (OutcomeWith (TalkedOutcome plan bytes a) f g) before now result → TellsText (OutcomeWith (TalkedOutcome plan bytes b) f g) before now result
 tells_caused f g plan bytes a b weaker tells = tells_weaker (λ ended text o. (talked_weaker plan bytes a b ended text weaker o.0, o.1)) tells
 
@@ -124,18 +124,18 @@ tells_caused f g plan bytes a b weaker tells = tells_weaker (λ ended text o. (t
 pub whole_is : (limit : ℕ) (bytes : List ℕ) (halt : Stop) (prefix slice : List ℕ) → halt ≡ stop.End → slice ≡ prefix → IsContents limit bytes halt prefix → slice ≡ bytes
 whole_is limit bytes halt prefix slice is same has = same ∙ sym (subst (λ (h : Stop). IsContents limit bytes h prefix) is has).0
 
--- so what is told of it is told of all its bytes
+-- an outcome for what was read of a whole input is an outcome for all its bytes
 pub tells_read : {before now : Option (List ℕ)} {result : Result Status Failed} {prefix : List ℕ} (f g : Option Files) (plan : TalkPlan) (bytes input : List ℕ) (halt : Stop)
     → halt ≡ stop.End → input ≡ prefix → IsContents most_input bytes halt prefix → TellsText (OutcomeWith (TalkedOutcome plan input ⊥) f g) before now result → TellsText (OutcomeWith (TalkedOutcome plan bytes (halt ≡ stop.Fault)) f g) before now result
 tells_read {before} {now} {result} {prefix} f g plan bytes input halt is same has tells =
     subst (λ (b : List ℕ). TellsText (OutcomeWith (TalkedOutcome plan b (halt ≡ stop.Fault)) f g) before now result) (whole_is most_input bytes halt prefix input is same has)
     (tells_caused f g plan input ⊥ (halt ≡ stop.Fault) (λ none. absurd none) tells)
 
--- it is longer than may be read
+-- the input is longer than the limit
 pub too_long : (limit : ℕ) (bytes : List ℕ) (halt : Stop) (prefix : List ℕ) → halt ≡ stop.Limit → IsContents limit bytes halt prefix → limit < length bytes
 too_long limit bytes halt prefix is has = (subst (λ (h : Stop). IsContents limit bytes h prefix) is has).0
 
--- ---- how a run over it ends
+-- ---- how a run over an input that was read ends
 
 -- a run does not end with a status that no outcome has
 talked_never : {before now : Option (List ℕ)} (plan : TalkPlan) (bytes : List ℕ) (cause : Type 0) (result : Result Status Failed) (other : Status) → other ≢ status.Memory → other ≢ status.WriteFault

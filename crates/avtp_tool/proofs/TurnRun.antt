@@ -47,7 +47,7 @@ use Rattle.avtp_tool.proofs.PutBatches.{batches_count, packets_count}
 
 -- ---- files
 
--- a file was put, and all others are as they were
+-- a file was put, and all others are unchanged
 puts_but : (f g : Option Files) (name bytes : List ℕ) → PutsFile f g name bytes → KeepsFilesBut (Some name) f g
 puts_but None None name bytes put = tt
 puts_but None (Some g) name bytes put = absurd put
@@ -79,7 +79,7 @@ missing_put (Some f) (Some g) name bytes other differs put missing = sym (put.1 
 
 -- ---- texts
 
--- a text was printed, and a last line after it
+-- a text was printed, and then a last line
 text_end : {Outcome : Status → List ℕ → Type 0} {before : Option (List ℕ)} {h h' : SinkState} {w w' : List ℕ} {result : Result Status Failed} {ended : Status} {line : List ℕ} (text : List ℕ)
     → Outcome ended (text ++ line) → Appends before (written h.held w) text → EndsWith ended h h' w w' result line → TellsText Outcome before (written h'.held w') result
 text_end {before = before} {h} {h'} {w} {w'} {result = Ok s} {ended} {line} text outcome first last =
@@ -96,14 +96,14 @@ of_gateway skipped (end.Refused refusal) = refl
 of_gateway skipped end.ReadFault = refl
 of_gateway skipped end.Limit = refl
 
--- it is none of a run that was cut short
+-- the status of a conversion is none of those of a run that was cut short
 turned_own : (skipped : ℕ) (how : End) → (turned_status skipped how ≢ status.Memory) × (turned_status skipped how ≢ status.WriteFault)
 turned_own skipped end.Whole = elim (skipped == 0) as (λ b. ((if b then status.Done else status.Findings) ≢ status.Memory) × ((if b then status.Done else status.Findings) ≢ status.WriteFault)) [ true ↦ (λ e. cc, λ e. cc) | false ↦ (λ e. cc, λ e. cc) ]
 turned_own skipped (end.Refused refusal) = (λ e. cc, λ e. cc)
 turned_own skipped end.ReadFault = (λ e. cc, λ e. cc)
 turned_own skipped end.Limit = (λ e. cc, λ e. cc)
 
--- a fault of reading is told by the status, and by it alone
+-- the status is a fault of reading exactly if the reading ended with one
 turned_fault : (skipped : ℕ) (how : End) → (turned_status skipped how ≡ status.ReadFault → how ≡ end.ReadFault) × (how ≡ end.ReadFault → turned_status skipped how ≡ status.ReadFault)
 turned_fault skipped end.Whole = (elim (skipped == 0) as (λ b. (if b then status.Done else status.Findings) ≡ status.ReadFault → end.Whole ≡ end.ReadFault) [ true ↦ λ e. cc | false ↦ λ e. cc ], λ e. cc)
 turned_fault skipped (end.Refused refusal) = (λ e. cc, λ e. cc)
@@ -112,7 +112,7 @@ turned_fault skipped end.Limit = (λ e. cc, λ e. cc)
 
 -- ---- outcomes
 
--- what is made of the whole capture
+-- what is presented of the whole capture
 abbrev pub all_batches : Turning → List ℕ → List Presented
 all_batches asked bytes = batches_by asked (records_in (take asked.listener.limit bytes)) end.Whole
 
@@ -189,7 +189,7 @@ turns_unmade {s} {t} {out} {waits} asked shape why begins = record {
   unmade_never open_fault.Missing d = d.1 refl
   unmade_never open_fault.Failed d = d.1 refl
 
--- ---- how the output was ended
+-- ---- how the output is ended
 
 -- the file was closed
 pub record IsClosed (u v : ShelfState) (o : Output) : Type 0 where
@@ -330,9 +330,9 @@ module _ (limit : ℕ) (u v : ShelfState) (o' : Output) (out mid out' : SinkStat
   ends_sink (Ok turn.Unwritten) result sink ab = sink_is result status.WriteFault ab.ended ab.nothing.sink sink
   ends_sink (Err e) result sink ab = sink_fails result ab.ended ab.nothing.sink sink
 
--- ---- what was told and made
+-- ---- what was given out and made
 
--- the last line, by the numbers of what was put
+-- the last line, by the numbers of batches that were put
 line_is : (asked : Turning) (shape : Option Shape) (batches : List Presented) (presented : ℕ) (o : Output) (how : End) → presented ≡ length batches → o.gateway.given.packets ≡ length (turned_frames asked shape batches)
     → presented - o.gateway.given.batches ≡ length (skips_in asked shape batches) → ended_line asked.listener.limit presented o.gateway how ≡ turned_last asked shape batches how
 line_is asked shape batches presented o end.Whole all packets skipped = rw (packets, skipped, all) refl
@@ -354,14 +354,14 @@ cut_err (Err e) err = tt
 
 module _ (s t u v : ShelfState) (o' : Output) (out mid out' : SinkState) (waits waits1 waits' : List ℕ) (asked : Turning) (shape : Option Shape) (bytes : List ℕ) (whole : end_of asked.listener.limit bytes ≡ end.Whole)
     (rose : Rose t.reading_faults u.reading_faults → Rose s.reading_faults v.reading_faults) where
-  -- the records of the first batches make a prefix of the capture
+  -- the records of the first batches are a prefix of the capture
   first_part : {r : Result Unit Failed} → IsCutShort asked shape bytes s.files u o' (written out.held waits) (written mid.held waits1) → ClosesCapture u v o'.writer r → MakesPrefix s.files v.files asked.output (turned_capture asked shape (all_batches asked bytes))
   first_part short closes =
       let records : List Record = map record_of (turned_frames asked shape (all_batches asked bytes)) in
       let rest = capture_first records short.holds.count in
       inr (prefix_further rest.0 rest.1 (closes.prefix s.files asked.output (take short.holds.count records) short.holds.holds))
 
-  -- it was cut short, and nothing was printed at the end
+  -- a conversion was cut short, and nothing was printed at its end
   cut_made : {r : Result Unit Failed} (result : Result Status Failed) → IsCut result → IsCutShort asked shape bytes s.files u o' (written out.held waits) (written mid.held waits1) → ClosesCapture u v o'.writer r → out' ≡ mid → waits' ≡ waits1
       → Produces (TurnedOutcome asked shape bytes (Rose s.reading_faults v.reading_faults)) (Some asked.output) (written out.held waits) (written out'.held waits') s.files v.files result
   cut_made result cut short closes same still =
@@ -415,7 +415,7 @@ pub ends_unfinished : {before after : ShelfState} (o : Output) (out : SinkState)
 ends_unfinished {before} {after} o out waits limit so how presented e is fin =
     subst (λ (x : Turned). EndsOutput limit (Ok x) before after o out out waits waits (Ok status.WriteFault)) (sym is) (unfinished e fin refl (record { sink = refl; text = refl }))
 
--- nothing was put into a gateway that begins
+-- a new gateway was given no batch
 pub put_none : {to : To} {g : Gating} (asked : Turning) (shape : Option Shape) → to ≡ format_of asked.to → g ≡ record { to = to; shape = shape; id = asked.id; given = nothing_given; frames = [] } → HasPut (format_of asked.to) shape asked.id [] g
 put_none asked None is begun = record { to_is = cc; shape_is = cc; id_is = cc; given = cc }
 put_none asked (Some shape) is begun = record { to_is = cc; shape_is = cc; id_is = cc; given = cc }
@@ -425,7 +425,7 @@ puts_again f None name bytes put = tt
 puts_again None (Some g) name bytes put = absurd put
 puts_again (Some f) (Some g) name bytes put = (put.0, λ other differs. refl)
 
--- what is held since the first files is held since these
+-- a capture that a writer holds, over whatever files, is held over the shelf's present files
 holds_again : (files : Option Files) (s : ShelfState) (w : _) (name : List ℕ) (records : List Record) → HoldsCapture files s w name records → HoldsCapture s.files s w name records
 holds_again files s w name records h = record {
   held = h.held;

@@ -1,4 +1,4 @@
--- A capture that is opened, turned and closed.
+-- A capture that is opened, converted and closed.
 use Rattle.std.proofs.Common.{◌≡◌, ℕ, ◌≤◌, List, [], ◌∷◌, ◌++◌, length, take, Option, Some, None, Result, Ok, Err, false, true, inl, inr, refl, sym, ap, subst, ◌∙◌, arith}
 use Rattle.std.specs.Prelude.{◌⊎◌, ◌≢◌, IsErrOf, IsSome, OnErr, OnOk, option_and_then, option_map}
 use Rattle.std.proofs.lemmas.Bool.Decides.{eqb_tells}
@@ -59,7 +59,7 @@ module _ (asked : Turning) (shape : Option Shape) (files : Option Files) (s t : 
     holds = record { count = cut.holds.count; holds = holds_beside files s t o.writer asked.output (capture_bytes (take cut.holds.count _)) cut.holds.holds keeps slot };
   }
 
-  -- how far the capture was turned is the same, whatever caused its end
+  -- how far the capture was converted is unchanged, under a weaker condition for a fault of reading
   turned_still : (before now : Option (List ℕ)) (bytes : List ℕ) (cause cause' : Type 0) (result : Result Turned Failed) → (cause → cause') → TurnsTo asked shape bytes cause files s o before now result → TurnsTo asked shape bytes cause' files t o before now result
   turned_still before now bytes cause cause' (Ok (turned.Ended how presented)) make heard = record {
     prefix = heard.prefix;
@@ -73,12 +73,12 @@ module _ (asked : Turning) (shape : Option Shape) (files : Option Files) (s t : 
 
 -- ---- a capture that could not be opened again
 
--- nothing is presented of no records
+-- a capture without records has no batches
 none_presented : (asked : Turning) → batches_by asked (records_in []) end.ReadFault ≡ []
 none_presented asked = ap (λ (rs : List Record). presented_of (due_of (plan_of asked.listener) rs)) (short_records [] (omega arith)) ∙ ap presented_of (due_none (plan_of asked.listener))
 
 module _ (asked : Turning) (shape : Option Shape) (files : Option Files) (s : ShelfState) (o : Output) (before : Option (List ℕ)) (bytes : List ℕ) (cause : Type 0) (fresh : IsFreshOutput asked shape files s o) where
-  -- nothing was put
+  -- no batch was put
   none_turned : (batches : List Presented) → batches ≡ [] → HasTurned asked shape batches files s o before before
   none_turned batches none = subst (λ (l : List Presented). HasTurned asked shape l files s o before before) (sym none) (record {
     put = fresh.none;
@@ -96,7 +96,7 @@ module _ (asked : Turning) (shape : Option Shape) (files : Option Files) (s : Sh
     counted = sym (ap (λ (l : List Presented). length l) (none_presented asked));
   }
 
--- why it was not
+-- a file whose bytes the shelf tells is not missing
 missing_not : (files : Option Files) (all : Files) (name bytes : List ℕ) → files ≡ Some all → all name ≡ Some bytes → IsMissing files name → ⊥
 missing_not None all name bytes told has missing = missing
 missing_not (Some f) all name bytes told has missing = (let same : f ≡ all = cc in let none : all name ≡ None = ap (λ (g : Files). g name) (sym same) ∙ missing in let t : None ≡ Some bytes = sym none ∙ has in cc)

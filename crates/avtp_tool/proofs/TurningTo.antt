@@ -1,4 +1,4 @@
--- What was put of a capture that is heard.
+-- The batches of a capture that is heard, as they are put.
 use Rattle.std.proofs.Common.{◌≡◌, ℕ, zero, suc, List, [], ◌∷◌, ◌++◌, length, take, Option, Some, None, Result, Ok, Err, refl, sym, ap, subst, ◌∙◌, arith, append-nil}
 use Rattle.std.specs.Prelude.{◌≢◌, flat_map, IsSome}
 use Rattle.std.proofs.lemmas.List.{take_all}
@@ -57,7 +57,7 @@ use Rattle.avtp_tool.proofs.PutBatches.{lines_first, lines_more, records_first}
 
 -- ---- batches that were put
 
--- Since the shelf was s and the output `old`, these batches were put, and a text was printed in that.
+-- Since the shelf was s and the output `old`, these batches were put, and the lines of those that are skipped were printed.
 pub record PutsAll (s t : ShelfState) (old new : Output) (batches : List Presented) (before now : Option (List ℕ)) : Type 0 where
   pub put : (to : To) (shape : Option Shape) (id : ℕ) → HasPut to shape id [] old.gateway → HasPut to shape id batches new.gateway
   pub holds : (to : To) (shape : Option Shape) (id : ℕ) (files : Option Files) (name : List ℕ) → HasPut to shape id [] old.gateway → HoldsCapture files s old.writer name [] → HoldsCapture files t new.writer name (records_for to shape id batches)
@@ -82,7 +82,7 @@ puts_none s o before = record {
   lines = λ asked shape none. Appends-nil before;
 }
 
--- another file was read, or text that waited was written out
+-- another file was read, or the text that waits was written
 puts_still : {s t u : ShelfState} {old new : Output} {batches : List Presented} {before mid now : Option (List ℕ)} → KeepsFiles t.files u.files → u.slots new.writer.slot ≡ t.slots new.writer.slot → Keeps mid now
     → PutsAll s t old new batches before mid → PutsAll s u old new batches before now
 puts_still {s} {t} {u} {old} {new} {batches} {before} {mid} {now} files slot kept puts = record {
@@ -96,7 +96,7 @@ skip_is g to shape id batches batch put =
     ap (λ (x : To). skip_of x g.shape g.given batch) put.to_is ∙ (ap (λ (x : Option Shape). skip_of to x g.given batch) put.shape_is ∙ ap (λ (x : Given). skip_of to shape x batch) put.given)
 
 module _ {s t u : ShelfState} {old mid new : Output} {batches : List Presented} {batch : Presented} {before : Option (List ℕ)} {out out' : SinkState} {waits waits' : List ℕ} where
-  -- the lines of one batch more
+  -- the lines with that of one more batch
   lines_one : (so : Put) → PutsAll s t old mid batches before (written out.held waits) → PutsBatch batch t u mid new out out' waits waits' (Ok so) → (asked : Turning) (shape : Option Shape) → HasPut (format_of asked.to) shape asked.id [] old.gateway
       → Appends before (written out'.held waits') (flat_map skipped_line (skips_in asked shape (batches ++ batch ∷ [])))
   lines_one so puts one asked shape none =
@@ -114,7 +114,7 @@ module _ {s t u : ShelfState} {old mid new : Output} {batches : List Presented} 
 
 -- ---- between two items
 
--- What is in this state was heard and put, and these items are still to be put.
+-- Since the shelf was s, items were heard and their batches put, and the items `more` were heard and are still to be put.
 pub record IsPutSoFar (s t : ShelfState) (first source : Sourcing) (fresh listener : ListenState) (stage : Stage) (old new : Output) (out out' : SinkState) (waits waits' : List ℕ) (more : List Shown) : Type 0 where
   pub plan : listener.plan ≡ fresh.plan
   pub slot : new.writer.slot ≡ old.writer.slot
@@ -136,7 +136,7 @@ so_far_none s source listener stage o out waits live made is = record {
 }
 
 module _ {s t : ShelfState} {first source : Sourcing} {fresh listener : ListenState} {stage : Stage} {old new : Output} {out mid : SinkState} {waits waits' : List ℕ} where
-  -- text that waited was written out
+  -- the text that waits was written
   pub so_far_flushed : {out' : SinkState} {waits'' : List ℕ} {more : List Shown} {x : Unit} → WritesWaiting mid out' waits' waits'' (Ok x)
       → IsPutSoFar s t first source fresh listener stage old new out mid waits waits' more → IsPutSoFar s t first source fresh listener stage old new out out' waits waits'' more
   so_far_flushed flushed so_far = record {
@@ -211,23 +211,23 @@ names_apart {asked} to_turn same =
     let e : Some asked.input ≡ Some asked.output = sym to_turn.named ∙ same ∙ to_turn.fresh.named in
     to_turn.fresh.apart cc
 
--- the first of a list's first items
+-- the first n of a longer list's first items
 first_taken : (n : ℕ) (xs ys : List Record) → (m : ℕ) × (take m (xs ++ ys) ≡ take n xs)
 first_taken zero xs ys = (0, refl)
 first_taken (suc n) [] ys = (0, refl)
 first_taken (suc n) (x ∷ xs) ys = let on = first_taken n xs ys in (suc on.0, ap (λ (l : List Record). x ∷ l) on.1)
 
--- a file that holds the first of these records holds the first of more
+-- a file that holds the first of these records holds the first of a longer list
 first_further : {files : Option Files} {s : ShelfState} {w : Writing} {name : List ℕ} (records rest all : List Record) → all ≡ records ++ rest → HoldsFirst files s w name records → HoldsFirst files s w name all
 first_further {files} {s} {w} {name} records rest all is holds =
     let some = first_taken holds.count records rest in
     record { count = some.0; holds = subst (HoldsCapture files s w name) (sym (ap (take some.0) is ∙ some.1)) holds.holds }
 
--- all of the records
+-- a file that holds all of the records holds the first of them
 first_whole : (files : Option Files) (s : ShelfState) (w : Writing) (name : List ℕ) (records : List Record) → HoldsCapture files s w name records → HoldsFirst files s w name records
 first_whole files s w name records holds = record { count = length records; holds = subst (HoldsCapture files s w name) (sym (take_all (length records) records (omega arith))) holds }
 
--- some of all batches were put, or a part of the last
+-- only some of the batches were put, or a part of the last
 cut_by : {before now : Option (List ℕ)} {s : ShelfState} {o : Output} {files : Option Files} (asked : Turning) (shape : Option Shape) (bytes : List ℕ) (batches : List Presented) → IsPrefix batches (batches_by asked (records_in (take asked.listener.limit bytes)) end.Whole)
     → AppendsPrefix before now (flat_map skipped_line (skips_in asked shape batches)) → HoldsFirst files s o.writer asked.output (records_for (format_of asked.to) shape asked.id batches) → IsCutShort asked shape bytes files s o before now
 cut_by {before} {now} asked shape bytes batches first lines holds =
@@ -240,7 +240,7 @@ cut_by {before} {now} asked shape bytes batches first lines holds =
     }
 
 module _ {s t : ShelfState} {first source : Sourcing} {fresh listener : ListenState} {stage : Stage} {old new : Output} {out mid : SinkState} {waits waits' : List ℕ} where
-  -- what was shown so far
+  -- the items that were shown so far are the first of all
   all_within : {more : List Shown} (asked : Turning) (shape : Option Shape) (bytes : List ℕ) (files : Option Files) → is_closed listener ≡ closed_at stage → IsToTurn asked shape bytes files s first fresh old
       → (so_far : IsPutSoFar s t first source fresh listener stage old new out mid waits waits' more) → IsPrefix (so_far.batches ++ presented_of more) (batches_by asked (records_in (take asked.listener.limit bytes)) end.Whole)
   all_within {more} asked shape bytes files closed to_turn so_far =
@@ -249,7 +249,7 @@ module _ {s t : ShelfState} {first source : Sourcing} {fresh listener : ListenSt
       subst (λ (l : List Presented). IsPrefix l (batches_by asked (records_in (take asked.listener.limit bytes)) end.Whole)) (presented-append told.0 more ∙ ap (λ (l : List Presented). l ++ presented_of more) (sym told.1))
       (batches_within (plan_of asked.listener) stage asked.listener.limit bytes (Rose s.reading_faults t.reading_faults) _ source listener (told.0 ++ more) (so_far.plan ∙ to_turn.plan) closed shown)
 
-  -- no more is put
+  -- a conversion was cut short before the next item
   cut_still : {now : Option (List ℕ)} (asked : Turning) (shape : Option Shape) (bytes : List ℕ) (files : Option Files) → is_closed listener ≡ closed_at stage → IsToTurn asked shape bytes files s first fresh old → Keeps (written mid.held waits') now
       → IsPutSoFar s t first source fresh listener stage old new out mid waits waits' [] → IsCutShort asked shape bytes files t new (written out.held waits) now
   cut_still {now} asked shape bytes files closed to_turn kept so_far =
@@ -259,7 +259,7 @@ module _ {s t : ShelfState} {first source : Sourcing} {fresh listener : ListenSt
       cut_by asked shape bytes so_far.batches all (prefix_whole (written out.held waits) now text (Appends-kept (written out.held waits) (written mid.held waits') now text (so_far.puts.lines asked shape none) kept))
       (first_whole files t new.writer asked.output (records_for (format_of asked.to) shape asked.id so_far.batches) (so_far.puts.holds (format_of asked.to) shape asked.id files asked.output none to_turn.fresh.holds))
 
-  -- nor is the next batch put whole
+  -- a conversion was cut short within the next batch
   module _ {u : ShelfState} {later : Output} {out' : SinkState} {waits'' : List ℕ} {batch : Presented} where
     cut_lines : (result : Result Put Failed) → PutsBatch batch t u new later mid out' waits' waits'' result → (so_far : IsPutSoFar s t first source fresh listener stage old new out mid waits waits' (Present batch ∷ []))
         → (asked : Turning) (shape : Option Shape) → HasPut (format_of asked.to) shape asked.id [] old.gateway → AppendsPrefix (written out.held waits) (written out'.held waits'') (flat_map skipped_line (skips_in asked shape (so_far.batches ++ batch ∷ [])))
@@ -280,7 +280,7 @@ module _ {s t : ShelfState} {first source : Sourcing} {fresh listener : ListenSt
 
 -- ---- a capture that was heard to its end
 
--- a capture that is turned, by what was done to the shelf
+-- a conversion, by what was done to the shelf
 module _ {s t : ShelfState} {first source : Sourcing} {fresh : ListenState} {old new : Output} {out out' : SinkState} {waits waits' : List ℕ} {how : Option End} where
   turns_by : (result : Result Turned Failed) → ReadsAndWrites s t (slot_of first) (slot_of source) old.writer.slot how (wrote_all result) → new.writer.slot ≡ old.writer.slot
       → ((files : Option Files) (name : List ℕ) → HoldsCapture files s old.writer name [] → (more : List Record) × HoldsCapture files t new.writer name more)
@@ -306,14 +306,14 @@ module _ {s t : ShelfState} {first source : Sourcing} {fresh : ListenState} {old
   }
 
 module _ {s t : ShelfState} {first source : Sourcing} {fresh listener : ListenState} {stage : Stage} {old new : Output} {out mid : SinkState} {waits waits' : List ℕ} where
-  -- what the file holds
+  -- the file holds the first records of the capture
   some_held : {more : List Shown} → old.gateway.given ≡ nothing_given → IsPutSoFar s t first source fresh listener stage old new out mid waits waits' more
       → (files : Option Files) (name : List ℕ) → HoldsCapture files s old.writer name [] → (records : List Record) × HoldsCapture files t new.writer name records
   some_held none so_far files name held =
       let g : Gating = old.gateway in
       (records_for g.to g.shape g.id so_far.batches, so_far.puts.holds g.to g.shape g.id files name (put_none g none) held)
 
-  -- the text that waited could not be written out
+  -- the text that waits could not be written
   pub turns_unflushed : {out' : SinkState} {waits'' : List ℕ} (x e : Failed) → old.gateway.given ≡ nothing_given → is_closed listener ≡ closed_at stage → WritesWaiting mid out' waits' waits'' (Err x)
       → IsPutSoFar s t first source fresh listener stage old new out mid waits waits' [] → Turns s t first source fresh old new out out' waits waits'' (Err e)
   turns_unflushed x e none closed flushed so_far =
@@ -342,7 +342,7 @@ module _ {s t : ShelfState} {first source : Sourcing} {fresh listener : ListenSt
         turns_by (Ok turned.Unwritten) (beside_written so_far.beside so_far.slot one.writes) (one.writes.slot ∙ so_far.slot) (part_held none one so_far)
         (λ asked shape bytes files to_turn. cut_in_batch (Ok did.Unwritten) asked shape bytes files closed to_turn one so_far) (λ h over. absurd cc) (sink_ok turned.Unwritten (sink_then so_far.sink one.sink))
 
--- all that is presented was put
+-- all that is presented was put, up to the end of the reading
 whole_heard : {s t : ShelfState} {first source : Sourcing} {fresh listener : ListenState} {old new : Output} {out mid : SinkState} {waits waits' : List ℕ} (how : End) (asked : Turning) (shape : Option Shape) (bytes : List ℕ) (files : Option Files) → is_closed listener ≡ closed_at (Ended how) → IsToTurn asked shape bytes files s first fresh old
     → IsPutSoFar s t first source fresh listener (Ended how) old new out mid waits waits' []
     → HasHeard asked shape bytes (Rose s.reading_faults t.reading_faults) files t new how listener.counts.presented (written out.held waits) (written mid.held waits')
@@ -379,7 +379,7 @@ over_wrote (Showing how) listener = refl
 over_wrote (Ended how) listener = refl
 over_wrote NoMemory listener = refl
 
--- the hearing has ended
+-- the hearing has ended, and no item is left to put
 module _ {s t : ShelfState} {first source : Sourcing} {fresh listener : ListenState} {old new : Output} {out out' : SinkState} {waits waits' : List ℕ} where
   over_told : (stage : Stage) → IsSome (pull_at stage) → is_closed listener ≡ closed_at stage → IsPutSoFar s t first source fresh listener stage old new out out' waits waits' []
       → (asked : Turning) (shape : Option Shape) (bytes : List ℕ) (files : Option Files) → IsToTurn asked shape bytes files s first fresh old
@@ -395,18 +395,18 @@ module _ {s t : ShelfState} {first source : Sourcing} {fresh listener : ListenSt
       turns_by (Ok (turned_as (heard_at stage listener))) (subst (ReadsAndWrites s t (slot_of first) (slot_of source) old.writer.slot (read_end stage)) (sym (over_wrote stage listener)) so_far.beside) so_far.slot (some_held none so_far) (over_told stage over closed so_far)
       (λ h is. over_counted stage listener h s.reading_faults t.reading_faults so_far.beside.counted is) (sink_ok (turned_as (heard_at stage listener)) so_far.sink)
 
--- the file that is written is open
+-- the file that is written is still open
 pub still_made : {s t : ShelfState} {first source : Sourcing} {fresh listener : ListenState} {stage : Stage} {old new : Output} {out out' : SinkState} {waits waits' : List ℕ} {more : List Shown} → IsPutSoFar s t first source fresh listener stage old new out out' waits waits' more → IsMadeIn t.slots new.writer.slot
 still_made {t = t} so_far = subst (IsMadeIn t.slots) (sym so_far.slot) so_far.beside.made
 
--- ---- one item more
+-- ---- one more item
 
--- a batch whose packets were not all written was not put
+-- a batch was put if all its packets were written
 pub done_left : (so : Put) → so ≢ did.Unwritten → so ≡ did.Done
 done_left did.Done other = refl
 done_left did.Unwritten other = absurd (other refl)
 
--- an answer that ends the hearing has no item
+-- a receiver that has ended gives no item
 pub ended_pull : (answer : Pull) → ((x : Shown) → answer ≡ pull.Item x → ⊥) → (items_of answer ≡ []) × IsSome (ending_of answer)
 ended_pull (pull.Item x) other = absurd (other x refl)
 ended_pull pull.Done other = (refl, refl)

@@ -17,7 +17,7 @@ use Rattle.avtp_tool.specs.state.Comparing.{AreOpen, ClosesTwo, OpensSlots, Read
 pub two_begun : (s : ShelfState) (k j : ℕ) → AreOpen s k j → ReadsTwo s s k j
 two_begun s k j live = record { files = KeepsFiles-refl s.files; live = live; others = λ i p q. refl; reading = omega arith; writing = refl; asked = λ names was. was }
 
--- the first was read on
+-- the first file was read on
 pub two_on_a : {s t u : ShelfState} {k j n i : ℕ} → ReadsTwo s t k j → n ≡ k → ReadsSlot t u n i → ReadsTwo s u k j
 two_on_a {s} {t} {u} {k} {j} {n} {i} two same reads =
     let on = subst (λ (m : ℕ). ReadsSlot t u m i) same reads in
@@ -30,7 +30,7 @@ two_on_a {s} {t} {u} {k} {j} {n} {i} two same reads =
       asked = λ names was. on.asked names (two.asked names was);
     }
 
--- the second was
+-- the second file was read on
 pub two_on_b : {s t u : ShelfState} {k j n i : ℕ} → ReadsTwo s t k j → n ≡ j → ReadsSlot t u n i → ReadsTwo s u k j
 two_on_b {s} {t} {u} {k} {j} {n} {i} two same reads =
     let on = subst (λ (m : ℕ). ReadsSlot t u m i) same reads in
@@ -43,7 +43,7 @@ two_on_b {s} {t} {u} {k} {j} {n} {i} two same reads =
       asked = λ names was. on.asked names (two.asked names was);
     }
 
--- a slot that is live is none that was free
+-- a slot that is live was not free
 some_none : {A : Type 0} {P : Type 0} (o : Option A) → IsSome o → o ≡ None → P
 some_none None some none = absurd cc
 some_none (Some x) some none = absurd cc
@@ -96,7 +96,7 @@ module _ {s t u v : ShelfState} {a b : List ℕ} {k j : ℕ} (opens : OpensSlots
     asked = λ earlier was. closes.asked (earlier ++ a ∷ b ∷ []) (reads.asked (earlier ++ a ∷ b ∷ []) (opens.asked earlier was));
   }
 
--- the first was opened and closed, and between that the second could not be opened
+-- the first file was opened and closed, and in between the second could not be opened
 pub second_refused : {s t u v : ShelfState} {a b : List ℕ} {k : ℕ} → OpensSlot s t a k → OnlyReads t u (b ∷ []) → ClosesSlot u v k → OnlyReads s v (a ∷ b ∷ [])
 second_refused {s} {t} {u} {v} {a} {b} {k} opens only closes = record {
   files = KeepsFiles-trans s.files u.files v.files (KeepsFiles-trans s.files t.files u.files opens.files only.files) closes.files;
@@ -114,13 +114,13 @@ shown_before None None keeps some = some
 shown_before None (Some new) keeps some = absurd keeps
 shown_before (Some old) o' keeps some = refl
 
--- and a file that is missing was missing
+-- a file that is missing now was missing before
 pub missing_before : (o o' : Option Files) (name : List ℕ) → KeepsFiles o o' → IsMissing o' name → IsMissing o name
 missing_before o None name keeps missing = absurd missing
 missing_before None (Some new) name keeps missing = absurd keeps
 missing_before (Some old) (Some new) name keeps missing = sym (keeps name) ∙ missing
 
--- the files that are still shown are the same
+-- the files that are still shown are unchanged
 pub shown_still : (o o' : Option Files) (files : Files) → o ≡ Some files → KeepsFiles o o' → IsSome o' → (other : Files) × (o' ≡ Some other) × ((name : List ℕ) → other name ≡ files name)
 shown_still o None files told keeps some = absurd cc
 shown_still None (Some new) files told keeps some = absurd keeps
@@ -130,7 +130,7 @@ shown_still (Some old) (Some new) files told keeps some = (new, refl, λ name. k
 
 -- ---- why a file was not opened
 
--- the count of reading faults was the same before, and after
+-- why a file was not opened, with calls before and after that count no fault of reading
 pub refused_around : {name : List ℕ} {fault : OpenFault} (s t u v : ShelfState) → KeepsFiles s.files t.files → t.reading_faults ≡ s.reading_faults → v.reading_faults ≡ u.reading_faults
     → (IsErrOf {T = Sourcing} (Err fault) open_fault.Missing → IsMissing t.files name) → IsOpenCounted {T = Sourcing} t.reading_faults u.reading_faults (Err fault) → Refuses s v name fault
 refused_around {name} {fault} s t u v keeps first last missing counted = record {
@@ -151,6 +151,6 @@ refused_memory s v same = record {
   counted = record { never_falls = omega (arith, same); ok = tt; missing = λ is. absurd cc; memory = λ is. same; failed = λ is. absurd cc };
 }
 
--- what is left to read of a file is the same while another is opened
+-- what is left to read of a file is unchanged while another is opened
 pub given_kept : {limit : ℕ} {bytes : List ℕ} {source : Sourcing} {records : List Record} (s t : ShelfState) → t.slots (slot_of source) ≡ s.slots (slot_of source) → HasGivenOf limit bytes s source records → HasGivenOf limit bytes t source records
 given_kept {limit} {bytes} {source} {records} s t same given = subst (λ (o : Option Open). HasGiven limit bytes (option_and_then (λ (f : Open). f.left) o) source records) (sym same) given

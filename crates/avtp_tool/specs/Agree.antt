@@ -46,7 +46,7 @@ difference_lines list = flat_map difference_line list
 abbrev pub counts_line : PairCounts → List ℕ
 counts_line counts = end_agree_line counts.matched counts.only_a counts.only_b counts.differ
 
--- the line of a capture that was not read to its end
+-- the line that says why a capture was not read to its end, or nothing if it was
 abbrev pub side_line : ℕ → End → List ℕ
 side_line limit end.Whole = []
 side_line limit (end.Refused refusal) = capture_refused_line refusal
@@ -59,7 +59,8 @@ abbrev pub last_lines : ℕ → PairCounts → End → End → List ℕ
 last_lines limit counts end.Whole end.Whole = counts_line counts
 last_lines limit counts a b = side_line limit a ++ side_line limit b
 
--- The status, given the number of differences and how the readings ended: that of the first of the last lines.
+-- The status, given the number of differences and how the readings ended: whether there are differences if both captures were
+-- read to their ends, otherwise the status of A's reading or, if A was read to its end, of B's.
 abbrev pub agree_status : ℕ → End → End → Status
 agree_status found end.Whole end.Whole = if found == 0 then status.Done else status.Findings
 agree_status found end.Whole b = status_of b
@@ -71,7 +72,7 @@ agree_status found a b = status_of a
 abbrev pub presented_in : Agreeing → List ℕ → List Presented
 presented_in asked bytes = presented_of (shown_of (plan_of asked.listener) (records_in (take asked.listener.limit bytes)))
 
--- what is presented of two captures, in one list
+-- what is presented of two captures, merged into one list
 abbrev pub merged_in : Agreeing → List ℕ → List ℕ → List Sided
 merged_in asked x y = merged (presented_in asked x) (presented_in asked y)
 
@@ -93,20 +94,21 @@ abbrev pub due_in : Agreeing → List ℕ → List Presented
 due_in asked prefix = presented_of (due_of (plan_of asked.listener) (records_in prefix))
 
 -- the text of `agree` if a fault of reading comes after these bytes of A: the differences in what is known by then, given all
--- that is presented of B
+-- that is presented of B, and the line of the fault
 abbrev pub text_without_a : Agreeing → List ℕ → List ℕ → List ℕ
 text_without_a asked prefix y = difference_lines (differences (known false true (merged (due_in asked prefix) (presented_in asked y)))) ++ read_fault_line
 
--- the same if it comes after these bytes of B, given all that is presented of A
+-- the text of `agree` if a fault of reading comes after these bytes of B: the differences in what is known by then, given all
+-- that is presented of A, and the line of the fault
 abbrev pub text_without_b : Agreeing → List ℕ → List ℕ → List ℕ
 text_without_b asked x prefix = difference_lines (differences (known true false (merged (presented_in asked x) (due_in asked prefix)))) ++ read_fault_line
 
--- a file was asked for and not opened: it is missing, or a fault of reading came
+-- a file was not opened: it is missing, or a fault of reading came
 abbrev pub IsUnopened : Files → Type 0 → List ℕ → Type 0
 IsUnopened files fault name = (files name ≡ None) ⊎ fault
 
--- Over the files that a shelf tells, `agree` can reach these names, end with this status and print this. `fault` is what a fault
--- of reading needs.
+-- What a run of `agree` over these files can come to: the names that it asks for, the status that it ends with, and the text
+-- that it prints. A fault of reading can come only if `fault` holds.
 pub data AgreeOutcome (asked : Agreeing) (files : Files) (fault : Type 0) (came : List (List ℕ)) (ended : Status) (text : List ℕ) : Type 0 where
   -- A was not opened.
   without_a : IsUnopened files fault asked.a → came ≡ asked.a ∷ [] → ended ≡ status.ReadFault → text ≡ read_fault_line → AgreeOutcome asked files fault came ended text
@@ -124,18 +126,18 @@ pub data AgreeOutcome (asked : Agreeing) (files : Files) (fault : Type 0) (came 
 
 -- ---- if no fault of reading comes
 
--- the names that are asked for, by what a shelf tells of A
+-- the names that `agree` asks for if no fault of reading comes, given the bytes of A or that A is missing
 abbrev pub agree_came : Agreeing → Option (List ℕ) → List (List ℕ)
 agree_came asked None = asked.a ∷ []
 agree_came asked (Some x) = asked.a ∷ asked.b ∷ []
 
--- the status of `agree` of two files, of which a shelf tells the bytes or that they are missing
+-- the status of `agree` if no fault of reading comes, given for A and for B its bytes or that it is missing
 abbrev pub agree_ended : Agreeing → Option (List ℕ) → Option (List ℕ) → Status
 agree_ended asked None told = status.ReadFault
 agree_ended asked (Some x) None = status.ReadFault
 agree_ended asked (Some x) (Some y) = compared_status asked x y
 
--- the whole text of `agree` of two files
+-- the whole text of `agree` if no fault of reading comes, given for A and for B its bytes or that it is missing
 abbrev pub agree_report : Agreeing → Option (List ℕ) → Option (List ℕ) → List ℕ
 agree_report asked None told = read_fault_line
 agree_report asked (Some x) None = read_fault_line

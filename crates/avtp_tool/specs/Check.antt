@@ -45,13 +45,13 @@ seen_of stream packet = record {
   stamp_wrong = stamp_is_off packet;
 }
 
--- A packet is noted if its stream id is valid. A packet of another format is skipped.
+-- what `check` makes of a packet: it is noted if its stream id is valid, and passed over if its format is not read
 abbrev pub checked_stream : Option PacketStream → AnyPacket → Checked
 checked_stream None packet = Passed
 checked_stream (Some stream) packet =
     if stream.sv then Marked (seen_of stream packet) else Unmarked stream.id (has_reserved packet)
 
--- what `check` makes of a packet of AVTP, which begins at this offset of its frame
+-- what `check` makes of an AVTP packet that begins at this offset of its frame
 unfoldable pub checked_packet : ℕ → List ℕ → Checked
 checked_packet start pdu =
     malformed_or (option_map (inside start) (packet_refusal pdu)) (checked_stream (stream_of (packet_of pdu)) (packet_of pdu))
@@ -66,7 +66,7 @@ checked_record bytes = malformed_or (frame_refusal bytes) (checked_frame (frame_
 
 -- ---- a record after others
 
--- what a record adds to the packets that are noted
+-- what a record adds to the packets that are noted: its packet, or nothing
 abbrev pub noted : Checked → List Seen
 noted (Marked seen) = seen ∷ []
 noted checked = []
@@ -75,18 +75,18 @@ noted checked = []
 abbrev pub notes_of : List Record → List Seen
 notes_of records = flat_map (λ r. noted (checked_record r.bytes)) records
 
--- what `check` finds in a packet without a valid stream id
+-- what `check` finds in a packet whose stream id is not valid: only whether a reserved bit is set
 abbrev pub unmarked_findings : Bool → Findings
 unmarked_findings reserved = record { reserved = reserved; step = None; hold = None; stamp = false; untracked = false }
 
--- a line for each finding in a record of this number, after these notes
+-- a line for each finding in a record with this number, given the packets that were noted before it
 abbrev pub found_lines : ℕ → List Seen → Checked → List (List ℕ)
 found_lines number notes Passed = []
 found_lines number notes (Malformed refusal) = malformed_line number refusal ∷ []
 found_lines number notes (Unmarked id reserved) = map (packet_line number id) (finding_texts (unmarked_findings reserved))
 found_lines number notes (Marked seen) = map (packet_line number seen.id) (finding_texts (findings notes seen))
 
--- a line for each finding in a record that comes after these, whose number is the next
+-- a line for each finding in the next record after these
 abbrev pub check_lines : List Record → Record → List (List ℕ)
 check_lines earlier r = found_lines (length earlier + 1) (notes_of earlier) (checked_record r.bytes)
 
@@ -96,7 +96,7 @@ check_lines earlier r = found_lines (length earlier + 1) (notes_of earlier) (che
 abbrev pub joined_lines : List (List ℕ) → List ℕ
 joined_lines lines = flat_map (λ line. line) lines
 
--- the last line, by how many records were read, streams are tracked and findings were made
+-- the last line: the counts if the capture was read to its end, otherwise why it was not
 abbrev pub total_line : ℕ → ℕ → ℕ → ℕ → End → List ℕ
 total_line limit frames streams found end.Whole = end_check_line frames streams found
 total_line limit frames streams found (end.Refused refusal) = capture_refused_line refusal
@@ -110,7 +110,7 @@ check_text limit name records how =
     (capture_line name ++ joined_lines (of_each check_lines records))
     ++ total_line limit (length records) (length (tracked (notes_of records))) (length (of_each check_lines records)) how
 
--- The status of a capture: one that was read to its end has findings or none; any other ends as its reading did.
+-- The status of a capture: whether it has findings if it was read to its end, otherwise the status of how its reading ended.
 abbrev pub check_status : ℕ → End → Status
 check_status found end.Whole = if found == 0 then status.Done else status.Findings
 check_status found how = status_of how

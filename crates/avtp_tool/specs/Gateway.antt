@@ -31,14 +31,14 @@ use Rattle.avtp_tool.specs.Agree.{IsUnopened, side_line}
 use Rattle.avtp_tool.specs.Listen.{plan_of, shown_by}
 use Rattle.avtp_tool.specs.Status.{status_of}
 
--- the format that the words ask for
+-- the format that the words ask for, in the gateway's own type
 abbrev pub format_of : GatewayFormat → To
 format_of words.Am824 = to.Am824
 format_of words.Aaf = to.Aaf
 
 -- ---- names and lines
 
--- the name of what keeps a stream from being turned
+-- the name of what keeps a stream from being converted
 abbrev pub fault_name : ScanFault → List ℕ
 fault_name fault.Kind = codes "kind"
 fault_name fault.Format = codes "format"
@@ -46,7 +46,7 @@ fault_name fault.Rate = codes "rate"
 fault_name fault.Channels = codes "channels"
 fault_name fault.Label = codes "label"
 
--- the line of a record that cannot be turned
+-- the line of a record that cannot be converted
 abbrev pub fault_line : FaultAt → List ℕ
 fault_line at = gateway_input_line (fault_name at.fault) at.frame
 
@@ -67,29 +67,29 @@ skipped_line s = skip_line s.frame (skip_name s.why)
 
 -- ---- batches that are skipped
 
--- a batch of this frame that is skipped for this reason, if there is one
+-- the batch of this frame, if there is a reason to skip it
 abbrev pub skipped_at : ℕ → Option Skip → List Skipped
 skipped_at frame None = []
 skipped_at frame (Some why) = record { frame = frame; why = why } ∷ []
 
--- what was given out after a batch, which changes nothing if it is skipped
+-- what was given out once this batch is taken, too; a batch that is skipped changes nothing
 abbrev pub given_next : To → Option Shape → Given → Presented → Given
 given_next to None given batch = given
 given_next to (Some shape) given batch = unless (skip_by to shape given batch) (given_with to shape given batch) given
 
--- the batches that are skipped, in order, given what was given out before them
+-- the batches of a list that are skipped, in order, given what was given out before them
 abbrev pub skips_after : To → Option Shape → Given → List Presented → List Skipped
 skips_after to shape given [] = []
 skips_after to shape given (batch ∷ batches) =
     skipped_at batch.frame (skip_of to shape given batch) ++ skips_after to shape (given_next to shape given batch) batches
 
--- ---- a capture that is turned
+-- ---- a capture that is converted
 
--- the records of IN that are read
+-- the records of IN that are read within the limit
 abbrev pub records_of : Turning → List ℕ → List Record
 records_of asked bytes = records_in (take asked.listener.limit bytes)
 
--- the first record that cannot be turned, if there is one
+-- the first of these records that cannot be converted, if there is one
 abbrev pub fault_in : Turning → List Record → Option FaultAt
 fault_in asked records = first_fault (format_of asked.to) asked.listener.stream records
 
@@ -101,15 +101,15 @@ shape_asked asked records = shape_in asked.listener.stream records
 abbrev pub batches_by : Turning → List Record → End → List Presented
 batches_by asked records how = presented_of (shown_by (plan_of asked.listener) records how)
 
--- the frames of the packets that carry batches of a stream of this shape
+-- the frames of the packets that carry these batches, for a stream of this shape
 abbrev pub turned_frames : Turning → Option Shape → List Presented → List SentFrame
 turned_frames asked shape batches = gateway_frames (format_of asked.to) shape asked.id batches
 
--- the batches that are skipped
+-- the batches of this list that are skipped
 abbrev pub skips_in : Turning → Option Shape → List Presented → List Skipped
 skips_in asked shape batches = skips_after (format_of asked.to) shape nothing_given batches
 
--- the capture that is made: a record of each frame
+-- the capture that is made: a record for each frame
 abbrev pub turned_capture : Turning → Option Shape → List Presented → List ℕ
 turned_capture asked shape batches = capture_of (turned_frames asked shape batches)
 
@@ -124,14 +124,14 @@ turned_last asked shape batches how = side_line asked.listener.limit how
 abbrev pub turned_text : Turning → Option Shape → List Presented → End → List ℕ
 turned_text asked shape batches how = flat_map skipped_line (skips_in asked shape batches) ++ turned_last asked shape batches how
 
--- the status, by the number of batches that are skipped and by how the reading ended
+-- the status: whether batches were skipped if the capture was read to its end, otherwise the status of how its reading ended
 abbrev pub turned_status : ℕ → End → Status
 turned_status skipped end.Whole = if skipped == 0 then status.Done else status.Findings
 turned_status skipped how = status_of how
 
 -- ---- the outcomes of a run
 
--- The capture was scanned to its end, and each record can be turned.
+-- The capture was scanned to its end, and each of its records can be converted.
 pub record CanTurn (asked : Turning) (bytes : List ℕ) : Type 0 where
   pub whole : end_of asked.listener.limit bytes ≡ end.Whole
   pub none : fault_in asked (records_of asked bytes) ≡ None
@@ -147,16 +147,16 @@ pub record HearsInput (asked : Turning) (files : Files) (fault : Type 0) (shape 
   pub shape_is : shape ≡ shape_asked asked (records_of asked bytes)
   pub presented : batches ≡ batches_by asked (records_in prefix) how
 
--- Over the files that a shelf tells, `gateway` can reach these names, end with this status, print this and make this. `fault` is
--- what a fault of reading needs.
+-- What a run of `gateway` over these files can come to: the names that it asks for, the status that it ends with, the text that
+-- it prints, and the capture that it makes. A fault of reading can come only if `fault` holds.
 pub data GatewayOutcome (asked : Turning) (files : Files) (fault : Type 0) (came : List (List ℕ)) (ended : Status) (text : List ℕ) (made : Option (List ℕ)) : Type 0 where
   -- IN was not opened.
   unopened : IsUnopened files fault asked.input → came ≡ asked.input ∷ [] → ended ≡ status.ReadFault → text ≡ read_fault_line → made ≡ None
       → GatewayOutcome asked files fault came ended text made
-  -- A record of IN cannot be turned.
+  -- A record of IN cannot be converted.
   faulty : (bytes : List ℕ) (at : FaultAt) → files asked.input ≡ Some bytes → fault_in asked (records_of asked bytes) ≡ Some at
       → came ≡ asked.input ∷ [] → ended ≡ status.TalkInput → text ≡ fault_line at → made ≡ None → GatewayOutcome asked files fault came ended text made
-  -- The scan ended before the end of IN, and each record before that place can be turned.
+  -- The scan ended before the end of IN, and each record up to there can be converted.
   cut : (bytes prefix : List ℕ) (how : End) → files asked.input ≡ Some bytes → EndsAt asked.listener.limit (Some bytes) fault how prefix → how ≢ end.Whole
       → fault_in asked (records_in prefix) ≡ None → came ≡ asked.input ∷ [] → ended ≡ status_of how → text ≡ side_line asked.listener.limit how → made ≡ None
       → GatewayOutcome asked files fault came ended text made
@@ -177,45 +177,46 @@ pub record KeepsInput (asked : Turning) (files : Files) (fault : Type 0) (ended 
 
 -- ---- if no fault of reading comes
 
--- the names that are asked for, by the scan's fault and how it ended
+-- the names that `gateway` asks for, given the first record that cannot be converted, if any, and how the scan ended
 abbrev pub came_by : Turning → Option FaultAt → End → List (List ℕ)
 came_by asked (Some at) how = asked.input ∷ []
 came_by asked None end.Whole = asked.input ∷ asked.output ∷ asked.input ∷ []
 came_by asked None how = asked.input ∷ []
 
--- the status of `gateway` of a capture, by these records of it, the scan's fault in them and how it ended
+-- the status of `gateway`, given the records of IN, the first that cannot be converted, if any, and how the scan ended
 abbrev pub ended_by : Turning → List Record → Option FaultAt → End → Status
 ended_by asked records (Some at) how = status.TalkInput
 ended_by asked records None how = turned_status (length (skips_in asked (shape_asked asked records) (batches_by asked records how))) how
 
--- its text
+-- the text of `gateway`, given the records of IN, the first that cannot be converted, if any, and how the scan ended
 abbrev pub text_by : Turning → List Record → Option FaultAt → End → List ℕ
 text_by asked records (Some at) how = fault_line at
 text_by asked records None end.Whole = turned_text asked (shape_asked asked records) (batches_by asked records end.Whole) end.Whole
 text_by asked records None how = side_line asked.listener.limit how
 
--- the capture that it makes, if it makes one
+-- the capture that `gateway` makes, if it makes one, given the records of IN, the first that cannot be converted, if any, and
+-- how the scan ended
 abbrev pub made_by : Turning → List Record → Option FaultAt → End → Option (List ℕ)
 made_by asked records (Some at) how = None
 made_by asked records None end.Whole = Some (turned_capture asked (shape_asked asked records) (batches_by asked records end.Whole))
 made_by asked records None how = None
 
--- the names that `gateway` asks for, by what a shelf tells of IN
+-- the names that `gateway` asks for if no fault of reading comes, given the bytes of IN or that IN is missing
 abbrev pub gateway_came : Turning → Option (List ℕ) → List (List ℕ)
 gateway_came asked None = asked.input ∷ []
 gateway_came asked (Some bytes) = came_by asked (fault_in asked (records_of asked bytes)) (end_of asked.listener.limit bytes)
 
--- its status
+-- the status of `gateway` if no fault of reading comes, given the bytes of IN or that IN is missing
 abbrev pub gateway_ended : Turning → Option (List ℕ) → Status
 gateway_ended asked None = status.ReadFault
 gateway_ended asked (Some bytes) = ended_by asked (records_of asked bytes) (fault_in asked (records_of asked bytes)) (end_of asked.listener.limit bytes)
 
--- its text
+-- the whole text of `gateway` if no fault of reading comes, given the bytes of IN or that IN is missing
 abbrev pub gateway_report : Turning → Option (List ℕ) → List ℕ
 gateway_report asked None = read_fault_line
 gateway_report asked (Some bytes) = text_by asked (records_of asked bytes) (fault_in asked (records_of asked bytes)) (end_of asked.listener.limit bytes)
 
--- the capture that it makes
+-- the capture that `gateway` makes if no fault of reading comes, given the bytes of IN or that IN is missing
 abbrev pub gateway_made : Turning → Option (List ℕ) → Option (List ℕ)
 gateway_made asked None = None
 gateway_made asked (Some bytes) = made_by asked (records_of asked bytes) (fault_in asked (records_of asked bytes)) (end_of asked.listener.limit bytes)

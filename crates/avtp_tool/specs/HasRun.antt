@@ -1,4 +1,4 @@
--- What the command promises: a record for words that are a command line, and one for words that are not.
+-- What the command promises: one record for words that are a command line, and one for words that are not.
 use Rattle.std.specs.Prelude.{◌≡◌, ◌≢◌, ◌≤◌, ◌⊎◌, ◌++◌, ◌∷◌, ℕ, ℤ, List, length, take, Option, Some, None, IsSome, Bool, true, false}
 use mathlib.Core.List.{IsPrefix}
 use Rattle.avtp_base.specs.Faults.{IsQuiet, Rose}
@@ -22,13 +22,13 @@ use Rattle.avtp_tool.specs.Outcome.{AsksFor, IsOneMissing}
 use Rattle.avtp_tool.specs.Run.{came_for, is_listening, is_through, made_for, names_of, Outcome, status_for, yield_for}
 use Rattle.avtp_tool.specs.Yield.{Yield}
 
--- ---- what is printed and handed on
+-- ---- what is printed and given to devices
 
 -- no fault of reading came
 abbrev pub ReadsAll : ShelfState → ShelfState → Type 0
 ReadsAll shelf shelf' = IsQuiet shelf.reading_faults shelf'.reading_faults
 
--- A capture of this name, which `listen` reads whole, after others that were read without a fault or a refusal, has what a
+-- `listen` reads a capture of this name, after others that were read without a fault or a refusal, and the capture has what a
 -- listener hears of a talker that keeps the rules, whatever was lost, repeated or reordered.
 pub record HearsFile (request : Request) (files : Files) (asked : Listening) (name bytes : List ℕ) (shift : ℤ) (p : PacketJournal) : Type 0 where
   pub listens : request ≡ listen asked
@@ -40,8 +40,8 @@ pub record HearsFile (request : Request) (files : Files) (asked : Listening) (na
   pub fits : length bytes ≤ asked.listener.limit
   pub hears : HearsTalker shift p (plan_of asked.listener) (records_in bytes)
 
--- Two captures that `agree` compares, each up to its end, a refused field or the limit, have what a listener hears of one talker
--- that keeps the rules, whatever each lost, repeated or reordered.
+-- `agree` compares two captures, each up to its end, a refused field or the limit, and both have what a listener hears of one
+-- talker that keeps the rules, whatever each lost, repeated or reordered.
 pub record ComparesTalker (request : Request) (files : Files) (asked : Agreeing) (x y : List ℕ) (shift : ℤ) (p : PacketJournal) : Type 0 where
   pub compares : request ≡ agree asked
   pub told_a : files asked.a ≡ Some x
@@ -49,7 +49,7 @@ pub record ComparesTalker (request : Request) (files : Files) (asked : Agreeing)
   pub hears_a : HearsTalker shift p (plan_of asked.listener) (records_in (take asked.listener.limit x))
   pub hears_b : HearsTalker shift p (plan_of asked.listener) (records_in (take asked.listener.limit y))
 
--- What was printed, given to devices, asked for and made over these files.
+-- What a run of the request over these files printed, gave to devices, asked for and made.
 pub record Reports (request : Request) (files : Files) (failed : Bool) (handed : List Shown → Type 0) (shelf shelf' : ShelfState)
     (out out' : SinkState) (ended : Status) : Type 0 where
   -- the names of the files that the run reached, the status of reading them, and what this yields
@@ -63,8 +63,8 @@ pub record Reports (request : Request) (files : Files) (failed : Bool) (handed :
   -- the devices, the shelf was asked only for these names, and the output has what the run makes.
   pub whole : ended ≢ status.Memory → ended ≢ status.WriteFault →
       (ended ≡ reached) × Appends out.held out'.held yields.text × handed yields.items × Asks came shelf shelf' × MakesOutput (output_of request) made shelf.files shelf'.files
-  -- In any case a prefix of the text was written, a prefix of the items was given to the devices, and the output is unchanged or has
-  -- a prefix of what the run makes.
+  -- In any case a prefix of the text was written, a prefix of the items was given to the devices, and the output is unchanged
+  -- or has a prefix of what the run makes.
   pub written : AppendsPrefix out.held out'.held yields.text
   pub items : List Shown
   pub first : IsPrefix items yields.items
@@ -73,7 +73,7 @@ pub record Reports (request : Request) (files : Files) (failed : Bool) (handed :
   -- If no fault of reading came, this is the whole report on these files.
   pub complete : ReadsAll shelf shelf' →
       (came ≡ came_for request files) × (reached ≡ status_for request files failed) × (yields ≡ yield_for request files failed) × (made ≡ made_for request files)
-  -- What `listen` yields of a talker that keeps the rules, of each file with a journal of its own.
+  -- What `listen` yields of a capture of a talker that keeps the rules. Each file may have a journal of its own.
   pub headline : ReadsAll shelf shelf' → (asked : Listening) (name bytes : List ℕ) (shift : ℤ) (p : PacketJournal) →
       HearsFile request files asked name bytes shift p → HasHeadline asked name shift p bytes yields
   -- What `agree` prints of two captures of a talker that keeps the rules.
@@ -85,12 +85,15 @@ pub record Reports (request : Request) (files : Files) (failed : Bool) (handed :
 
 -- ---- why a run ended with a fault
 
--- A run ends with a device's fault exactly if the command is `listen`, all else was done, and a device failed in it.
+-- A run ends with a device's fault only if the command is `listen` and a device failed. A run of `listen` in which a device
+-- failed does not end with `Done`.
 pub record TellsFailed (request : Request) (failed : Bool) (ended : Status) : Type 0 where
   pub fault : ended ≡ status.DeviceFault → (is_listening request ≡ true) × (failed ≡ true)
   pub quiet : is_listening request ≡ true → ended ≡ status.Done → failed ≡ false
 
--- A fault of reading or writing is the outside's: it is counted there, or the file is missing.
+-- A run ends with a fault of reading only if the shelf counted one or a file is missing, and with a fault of writing only if
+-- the sink or the shelf counted one. The counts of writing faults rise only then; that of reading faults may also rise if
+-- memory ran out or a write failed.
 pub record HasCauses (request : Request) (shelf shelf' : ShelfState) (out out' : SinkState) (ended : Status) : Type 0 where
   pub read : ended ≡ status.ReadFault → Rose shelf.reading_faults shelf'.reading_faults ⊎ IsOneMissing (files_of request) shelf.files
   pub not_read : ended ≢ status.ReadFault → ended ≢ status.WriteFault → ended ≢ status.Memory → shelf'.reading_faults ≡ shelf.reading_faults
@@ -102,19 +105,19 @@ pub record HasCauses (request : Request) (shelf shelf' : ShelfState) (out out' :
 
 -- ---- the command
 
--- What a run did that the words ask for. `handed items` says that the devices got exactly these items, `still` that they are
+-- What a run of the request did. `handed items` says that the devices got exactly these items, `still` that the devices are
 -- unchanged, and `failed` whether a device failed.
 pub record HasRun (request : Request) (handed : List Shown → Type 0) (still : Type 0) (failed : Bool) (shelf shelf' : ShelfState)
     (out out' : SinkState) (ended : Status) : Type 0 where
-  -- what is printed and given to devices, if the shelf tells its files
+  -- what is printed and given to devices, if the shelf tells its files before and after the run
   pub reports : (files : Files) → shelf.files ≡ Some files → IsSome shelf'.files → Reports request files failed handed shelf shelf' out out' ended
-  -- what the sink held stays
+  -- the sink keeps what it held
   pub grows : Grows out.held out'.held
   -- all files but the output are unchanged
   pub files : KeepsFilesBut (output_of request) shelf.files shelf'.files
   -- each file that was opened is closed
   pub slots : KeepsSlotsFor (output_of request) shelf'.files shelf.slots shelf'.slots
-  -- the names of the words are asked for, in their order, all of them if all was done, and no other
+  -- the names of the words were asked for, in their order, and no other; if everything was done, all of them
   pub names : AsksFor (names_of request) shelf shelf' (is_through ended ≡ true)
   pub devices : TellsFailed request failed ended
   -- only `listen` touches the devices

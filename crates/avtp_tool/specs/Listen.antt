@@ -33,7 +33,7 @@ shown_by plan records (end.Refused refusal) = shown_of plan records
 shown_by plan records end.ReadFault = due_of plan records
 shown_by plan records end.Limit = due_of plan records
 
--- the last line, by the numbers of what was read and shown
+-- the last line: the counts if the capture was read to its end, otherwise why it was not
 abbrev pub last_line : ℕ → Counts → End → List ℕ
 last_line limit counts end.Whole = end_listen_line counts
 last_line limit counts (end.Refused refusal) = capture_refused_line refusal
@@ -44,8 +44,8 @@ last_line limit counts end.Limit = limit_line limit
 abbrev pub shown_text : List ℕ → List Shown → List ℕ
 shown_text name shown = capture_line name ++ list_lines shown
 
--- What a capture with this name yields that was opened and whose reading ends in this way after these records: its name, the
--- lines of each item that is shown, the items for the devices, and the last line.
+-- What an open capture with this name yields if its reading ends in this way after these records: its name, the lines of each
+-- item that is shown, the items for the devices, and the last line.
 abbrev pub heard_yield : Listening → List ℕ → List Record → End → Yield
 heard_yield asked name records how = record {
   text = shown_text name (shown_by (plan_of asked.listener) records how)
@@ -67,7 +67,7 @@ listen_status asked files names = in_order_status (one_status (listen_plan asked
 
 -- ---- a talker that keeps the rules
 
--- the last line of a capture that was read to its end
+-- the last line of a capture that was read to its end or to a refused field
 abbrev pub end_line : Counts → Option Refusal → List ℕ
 end_line counts None = end_listen_line counts
 end_line counts (Some refusal) = capture_refused_line refusal
@@ -80,7 +80,7 @@ pub record YieldsHeadline (asked : Listening) (name : List ℕ) (shift : ℤ) (p
   pub printed : yields.text ≡ shown_text name shown ++ end_line (counts_of (plan_of asked.listener) (records_in bytes) shown) (refusal_in bytes)
   pub handed : yields.items ≡ shown
 
--- A part of what a run yields is what this capture yields, which keeps the headline.
+-- One part of what a run yields is what a capture of a talker that keeps the rules yields.
 pub record HasHeadline (asked : Listening) (name : List ℕ) (shift : ℤ) (p : PacketJournal) (bytes : List ℕ) (yields : Yield) : Type 0 where
   pub before : Yield
   pub here : Yield

@@ -7,13 +7,13 @@ use Rattle.avtp_tool.specs.declared.status.Status.TheVariants as status
 
 -- ---- what a run left
 
--- the command did everything that it does, whether it found something or not
+-- the command did all that it does, and ends with `Done` or `Findings`
 abbrev pub is_done : Status → Bool
 is_done status.Done = true
 is_done status.Findings = true
 is_done ended = false
 
--- exactly one outcome
+-- the outcome with this status and this yield, and no other
 abbrev pub Only : {Y : Type 0} → Status → Y → Status → Y → Type 0
 Only ended yields e y = (e ≡ ended) × (y ≡ yields)
 

@@ -13,13 +13,13 @@ use Rattle.avtp_tool.specs.Outcome.{is_done}
 
 -- ---- one file
 
--- What a command makes of a file that it has read: a status, and what it yields, by the records before the place where the
--- reading ended, and how it ended.
+-- What a command makes of a file: the status that it ends with and what it yields, each given the records before the place
+-- where the reading ended, and how it ended.
 pub record Report : Type 0 where
   pub status : List Record → End → Status
   pub yields : List Record → End → Yield
 
--- A file of these bytes was opened, and at most `limit` of them were read.
+-- A possible outcome of a file of these bytes that was opened, and of which at most `limit` bytes are read.
 pub record ReadOutcome (report : Report) (limit : ℕ) (bytes : List ℕ) (fault : Type 0) (ended : Status) (yields : Yield) : Type 0 where
   pub how : End
   pub prefix : List ℕ
@@ -27,31 +27,31 @@ pub record ReadOutcome (report : Report) (limit : ℕ) (bytes : List ℕ) (fault
   pub status : ended ≡ report.status (records_in prefix) how
   pub given : yields ≡ report.yields (records_in prefix) how
 
--- A file, of which a shelf tells its bytes or that it is missing, can end with this status and yield this. A file that is
--- missing or could not be opened only gives a fault of reading; other faults of reading need the cause `fault`.
+-- The possible outcomes of a file, given its bytes or that it is missing: the status that it ends with, and what it yields. A
+-- missing file ends with a fault of reading. Any other fault of reading can come only if `fault` holds.
 abbrev pub FileOutcome : Report → ℕ → Option (List ℕ) → Type 0 → Status → Yield → Type 0
 FileOutcome report limit None fault ended yields = (ended ≡ status.ReadFault) × (yields ≡ says read_fault_line)
 FileOutcome report limit (Some bytes) fault ended yields =
     ReadOutcome report limit bytes fault ended yields ⊎ (fault × (ended ≡ status.ReadFault) × (yields ≡ says read_fault_line))
 
--- the status with which a file ends, given its bytes or that it is missing, if no fault of reading comes
+-- a file's status if reading it has no fault, given its bytes or that it is missing
 abbrev pub file_status : Report → ℕ → Option (List ℕ) → Status
 file_status report limit None = status.ReadFault
 file_status report limit (Some bytes) = report.status (records_in (take limit bytes)) (end_of limit bytes)
 
--- what a file yields, given its bytes or that it is missing, if no fault of reading comes
+-- what a file yields if reading it has no fault, given its bytes or that it is missing
 abbrev pub file_yield : Report → ℕ → Option (List ℕ) → Yield
 file_yield report limit None = says read_fault_line
 file_yield report limit (Some bytes) = report.yields (records_in (take limit bytes)) (end_of limit bytes)
 
 -- ---- files in order
 
--- the status of a run, by how its first file ended, which is done, and by the status of the rest
+-- the status of a run whose first file is done: that of the other files, or that of the first file if theirs is `Done`
 abbrev pub joined : Status → Status → Status
 joined first status.Done = first
 joined first rest = rest
 
--- Files are read in order, each to its end, up to the first that ends otherwise and ends the run. `One` says which statuses a
+-- Files are read in order. The first one that does not end with `Done` or `Findings` ends the run. `One` says which statuses a
 -- file with a name can end with and what it can yield. `read` are the files that the run reached.
 unfoldable pub InOrder : (List ℕ → Status → Yield → Type 0) → List (List ℕ) → List (List ℕ) → Status → Yield → Type 0
 InOrder One [] read ended yields = (read ≡ []) × (ended ≡ status.Done) × (yields ≡ says [])
@@ -61,7 +61,7 @@ InOrder One (name ∷ names) read ended yields =
     × (is_done first ≡ true) × One name first here × InOrder One names others rest more
     × (read ≡ name ∷ others) × (ended ≡ joined first rest) × (yields ≡ with_more here more))
 
--- the files that a run reaches, given the status of each: those up to the first that is not done
+-- the files that a run reaches, given the status of each: those up to the first that does not end with `Done` or `Findings`
 unfoldable pub in_order_read : (List ℕ → Status) → List (List ℕ) → List (List ℕ)
 in_order_read one [] = []
 in_order_read one (name ∷ names) = name ∷ (if is_done (one name) then in_order_read one names else [])
@@ -84,11 +84,12 @@ pub record ReadPlan : Type 0 where
   pub limit : ℕ
   pub report : List ℕ → Report
 
--- the possible outcomes of the file with this name, with its bytes as a shelf tells them
+-- the possible outcomes of the file with this name, given the files of a shelf
 abbrev pub one_outcome : ReadPlan → Files → Type 0 → List ℕ → Status → Yield → Type 0
 one_outcome plan files fault name ended yields = FileOutcome (plan.report name) plan.limit (files name) fault ended yields
 
--- a command with this plan can reach these files, end with this status and yield this
+-- the possible outcomes of a command with this plan: the files that it reaches, the status that it ends with, and what it
+-- yields
 abbrev pub PlanOutcome : ReadPlan → Files → Type 0 → List (List ℕ) → Status → Yield → Type 0
 PlanOutcome plan files fault read ended yields = InOrder (one_outcome plan files fault) plan.names read ended yields
 

@@ -12,7 +12,7 @@ abbrev pub refused_or : Option Refusal → List ℕ → List ℕ
 refused_or (Some refusal) content = refused_content refusal
 refused_or None content = content
 
--- a refusal in a frame's payload as one in the frame, in which the payload begins at this offset
+-- a refusal in a frame's payload as one in the frame: the payload begins at this offset of the frame
 abbrev pub inside : ℕ → Refusal → Refusal
 inside start refusal = record refusal { at = refusal.at + start }
 
@@ -24,7 +24,7 @@ fields_content (OfH264 v) = h264_content v
 fields_content (OfCrf v) = crf_content v
 fields_content (OfOther subtype) = other_content subtype
 
--- what `show` says of a packet of AVTP, which begins at this offset of its frame
+-- what `show` says of an AVTP packet that begins at this offset of its frame
 unfoldable pub packet_content : ℕ → List ℕ → List ℕ
 packet_content start pdu = refused_or (option_map (inside start) (packet_refusal pdu)) (fields_content (packet_of pdu))
 

@@ -20,17 +20,20 @@ use Rattle.avtp_tool.specs.Yield.{says, with_more, Yield}
 abbrev pub talk_came : Talking → Status → List (List ℕ)
 talk_came asked ended = asked.input ∷ (if is_done ended then asked.output ∷ [] else [])
 
--- the status of a run of `listen` that would have ended with this one: if it was done and a device failed, it says that
+-- the status of a run of `listen`, given whether a device failed and the status of reading the files: a failed device counts
+-- only after `Done`
 abbrev pub device_status : Bool → Status → Status
 device_status true status.Done = status.DeviceFault
 device_status failed ended = ended
 
--- the last line of a run of `listen` if it was done and a device failed, otherwise nothing
+-- the last line of a run of `listen`, given whether a device failed and the status of reading the files: nothing unless that is
+-- `Done`
 abbrev pub device_notice : Bool → Status → List ℕ
 device_notice true status.Done = device_fault_line
 device_notice failed ended = []
 
--- the possible outcomes of a run of `listen` over these files: those of reading them, followed by what a failed device adds
+-- the possible outcomes of a run of `listen` over these files: those of reading them, and the line and status of a failed
+-- device
 pub record ListenOutcome (asked : Listening) (files : Files) (fault : Type 0) (failed : Bool) (came : List (List ℕ)) (ended : Status) (yields : Yield) : Type 0 where
   pub heard : Status
   pub given : Yield
@@ -38,8 +41,9 @@ pub record ListenOutcome (asked : Listening) (files : Files) (fault : Type 0) (f
   pub status : ended ≡ device_status failed heard
   pub notice : yields ≡ with_more given (says (device_notice failed heard))
 
--- Over the files that a shelf tells, a run of the request can reach these names, end with this status, yield this and make this.
--- `fault` is what a fault of reading needs, and `failed` says whether a device failed.
+-- What a run of the request over these files can come to: the names that it reaches, the status that it ends with, what it
+-- yields, and the capture that it makes. A fault of reading can come only if `fault` holds, and `failed` says whether a device
+-- failed.
 abbrev pub Outcome : Request → Files → Type 0 → Bool → List (List ℕ) → Status → Yield → Option (List ℕ) → Type 0
 Outcome (show limit file) files fault failed came ended yields made = PlanOutcome (show_plan limit file) files fault came ended yields × (made ≡ None)
 Outcome (check limit names) files fault failed came ended yields made = PlanOutcome (check_plan limit names) files fault came ended yields × (made ≡ None)
@@ -102,12 +106,12 @@ again_of request = []
 abbrev pub names_of : Request → List (List ℕ)
 names_of request = files_of request ++ (option_to_list (output_of request) ++ again_of request)
 
--- the request is one of `listen`, which is the only command that gives items to devices
+-- the request is `listen`, the only command that gives items to devices
 abbrev pub is_listening : Request → Bool
 is_listening (listen asked) = true
 is_listening request = false
 
--- the command did everything that it does, though a device may have failed
+-- the command did all that it does, though a device may have failed
 abbrev pub is_through : Status → Bool
 is_through status.DeviceFault = true
 is_through ended = is_done ended

@@ -11,11 +11,11 @@ use Rattle.avtp_tool.specs.Record.{record_content}
 use Rattle.avtp_tool.specs.Status.{status_of}
 use Rattle.avtp_tool.specs.Yield.{says}
 
--- the line of a record, which has the next number
+-- the line of the next record after these
 abbrev pub show_line : List Record → Record → List ℕ
 show_line earlier r = frame_line (length earlier + 1) r.arrival (record_content r.bytes)
 
--- the last line of `show`, after `frames` records
+-- the last line of `show`: the number of records if the capture was read to its end, otherwise why it was not
 abbrev pub end_line : ℕ → ℕ → End → List ℕ
 end_line limit frames end.Whole = end_frames_line frames
 end_line limit frames (end.Refused refusal) = capture_refused_line refusal

@@ -17,13 +17,13 @@ use Rattle.avtp_text.specs.Talk.{talk_input_line, talk_line}
 use Rattle.avtp_tool.specs.declared.status.Status.{Status}
 use Rattle.avtp_tool.specs.declared.status.Status.TheVariants as status
 
--- the kind that the words ask for, as a talker has it
+-- the kind that the words ask for, in the talker's own type
 abbrev pub talk_kind : Kind → TalkKind
 talk_kind (words.Aaf format sparse) = Aaf format sparse
 talk_kind words.Am824 = Am824
 talk_kind (words.H264 last_stamp) = H264 last_stamp
 
--- the media clock that the words ask for, as a talker has it
+-- the media clock that the words ask for, in the talker's own type
 abbrev pub talk_clock : Crf → CrfPlan
 talk_clock crf = record { id = crf.id; rate = crf.rate; pull = crf.pull; interval = crf.interval; points = crf.points }
 
@@ -42,12 +42,12 @@ talk_plan asked = record {
   crf = option_map talk_clock asked.crf;
 }
 
--- how many packets were sent of the stream, and of its media clock
+-- the line with the numbers of packets of the stream and of its media clock
 abbrev pub sent_line : TalkPlan → List ℕ → List ℕ
 sent_line plan input = talk_line (length (stream_frames plan input)) (length (clock_frames plan input))
 
--- `talk` of an input of these bytes can end with this status and print this text. A longer input is rejected, and a fault of
--- reading can end it, whatever the bytes are.
+-- The possible outcomes of `talk` for an input of these bytes: the status that it ends with, and the text that it prints. A
+-- fault of reading can come only if `fault` holds.
 abbrev pub TalkedOutcome : TalkPlan → List ℕ → Type 0 → Status → List ℕ → Type 0
 TalkedOutcome plan bytes fault status.Done text = (length bytes ≤ most_input) × (fault_of plan bytes ≡ None) × (text ≡ sent_line plan bytes)
 TalkedOutcome plan bytes fault status.TalkInput text =
@@ -56,37 +56,37 @@ TalkedOutcome plan bytes fault status.Limit text = (most_input < length bytes) �
 TalkedOutcome plan bytes fault status.ReadFault text = fault × (text ≡ read_fault_line)
 TalkedOutcome plan bytes fault ended text = ⊥
 
--- `talk` of an input, of which a shelf tells its bytes or that it is missing, can end with this status and print this
--- text. A missing one gives a fault of reading.
+-- The possible outcomes of `talk`, given the bytes of its input or that it is missing. A missing input gives a fault of
+-- reading.
 abbrev pub TalkOutcome : TalkPlan → Option (List ℕ) → Type 0 → Status → List ℕ → Type 0
 TalkOutcome plan None fault ended text = (ended ≡ status.ReadFault) × (text ≡ read_fault_line)
 TalkOutcome plan (Some bytes) fault ended text = TalkedOutcome plan bytes fault ended text
 
 -- ---- if no fault of reading comes
 
--- the status of `talk` of an input within its limit, by the input's fault
+-- the status of `talk` for an input within the limit, given the input's fault, if any
 abbrev pub status_by : Option TalkFault → Status
 status_by None = status.Done
 status_by (Some why) = status.TalkInput
 
--- the line of `talk` of an input within its limit, by the input's fault
+-- the line of `talk` for an input within the limit, given the input's fault, if any
 abbrev pub line_by : Option TalkFault → TalkPlan → List ℕ → List ℕ
 line_by None plan bytes = sent_line plan bytes
 line_by (Some why) plan bytes = talk_input_line why
 
--- the status of `talk` of an input, given its bytes or that it is missing, if no fault of reading comes
+-- the status of `talk` if no fault of reading comes, given the bytes of its input or that it is missing
 abbrev pub talk_status : TalkPlan → Option (List ℕ) → Status
 talk_status plan None = status.ReadFault
 talk_status plan (Some bytes) = if nat_le (length bytes) most_input then status_by (fault_of plan bytes) else status.Limit
 
--- the whole text of `talk` of an input, given its bytes or that it is missing, if no fault of reading comes
+-- the whole text of `talk` if no fault of reading comes, given the bytes of its input or that it is missing
 abbrev pub talk_report : TalkPlan → Option (List ℕ) → List ℕ
 talk_report plan None = read_fault_line
 talk_report plan (Some bytes) = if nat_le (length bytes) most_input then line_by (fault_of plan bytes) plan bytes else limit_line most_input
 
 -- ---- what it makes
 
--- the capture that a run of `talk` with this status makes, by its input
+-- the capture that a run of `talk` with this status makes, given its input
 abbrev pub talk_made : TalkPlan → Option (List ℕ) → Status → Option (List ℕ)
 talk_made plan (Some bytes) status.Done = Some (capture plan bytes)
 talk_made plan told ended = None

@@ -20,8 +20,9 @@ use capture_io::End;
 use listener_pair::{Difference, PairCounts, Way};
 use std::alloc::Global;
 
-/// Prints where two captures present different samples of a stream, and how many packets are in both or in one alone. Each
-/// capture is read only as far as the comparison needs it. All memory but that of samples is allocated before the first line.
+/// Prints where two captures present different samples of a stream, and how many packets are presented of both or of only one.
+/// Each capture is read only as far as the comparison needs it. All memory but that of samples is allocated before the first
+/// line.
 pub fn agree<F: Shelf, S: Sink>(
     alloc: Global,
     asked: &Agree<'_>,
@@ -89,7 +90,7 @@ fn print_end<S: Sink>(
     Ok(status_of(counts.differ, a, b))
 }
 
-/// Prints the counts if both captures were read to their ends; otherwise why one was not, or both.
+/// Prints the counts if both captures were read to their ends, otherwise a line for each that was not.
 fn print_last<S: Sink>(
     text: &mut Text,
     out: &mut S,
@@ -107,7 +108,7 @@ fn print_last<S: Sink>(
     }
 }
 
-/// Prints why two captures were not read to their ends, of each that was not.
+/// Prints for each of two captures why it was not read to its end, if it was not.
 fn print_sides<S: Sink>(
     text: &mut Text,
     out: &mut S,
@@ -121,7 +122,7 @@ fn print_sides<S: Sink>(
     print_side(text, out, limit, b)
 }
 
-/// Prints how many packets are in both captures, in one alone, and in both but different.
+/// Prints how many packets both listeners present, how many only one of them presents, and how many differ.
 fn print_counts<S: Sink>(text: &mut Text, out: &mut S, counts: &PairCounts) -> Result<(), Failed>
     ensures { Prints (S.state out.old) (S.state out.new) text.old text.new result (counts_line counts.now) }
 {

@@ -10,7 +10,7 @@ use avtp_files::{Shelf, Sink};
 use avtp_text::Text;
 use capture_io::{End, Source};
 
-/// Reads on to the next record. If it does not lie whole in what was read, the text that waits is written first: whoever
+/// Reads on to the next record. If the record is not yet in what was read, the text that waits is written first, so whoever
 /// watches a capture grow sees each line as soon as its packet has come.
 #[inline(always)]
 pub fn next_record<F: Shelf, S: Sink>(

@@ -29,7 +29,7 @@ pub struct Total {
     pub end: End,
 }
 
-/// Prints a capture's name, the findings in it, and its numbers. Reads at most `limit` bytes of it. All memory is allocated
+/// Prints a capture's name, the findings in it, and its counts. Reads at most `limit` bytes of it. All memory is allocated
 /// before the first line, so nothing is printed if memory runs out.
 pub fn check<F: Shelf, S: Sink>(
     alloc: Global,
@@ -89,8 +89,8 @@ fn check_records<F: Shelf, S: Sink>(
     }
 }
 
-/// Notes the packet of a record, and prints a line for each finding in it, all of them or none if the sink fails. Returns how
-/// many there are.
+/// Notes the packet of a record, and prints a line for each finding in it, or no line if the sink fails. Returns how many
+/// findings there are.
 fn print_checked<S: Sink>(
     tracker: &mut Tracker,
     text: &mut Text,
@@ -116,7 +116,7 @@ fn print_checked<S: Sink>(
     }
 }
 
-/// What is found in a packet whose stream id is not valid.
+/// The findings in a packet whose stream id is not valid: only whether a reserved bit is set.
 fn of_unmarked(reserved: bool) -> Findings
     ensures { result ≡ unmarked_findings reserved }
 {
@@ -129,7 +129,7 @@ fn of_unmarked(reserved: bool) -> Findings
     }
 }
 
-/// Prints a line for each finding in a packet. Returns how many there are.
+/// Prints a line for each finding in a packet. Returns how many findings there are.
 fn print_findings<S: Sink>(
     text: &mut Text,
     out: &mut S,
@@ -146,7 +146,7 @@ fn print_findings<S: Sink>(
     Ok(count)
 }
 
-/// Prints a capture's numbers, or why it was not read to its end.
+/// Prints the counts of a capture, or why it was not read to its end.
 fn print_total<S: Sink>(
     text: &mut Text,
     out: &mut S,
@@ -164,7 +164,7 @@ fn print_total<S: Sink>(
     Ok(status_of(total))
 }
 
-/// The status of a run that ends with a capture with these numbers.
+/// The status of a run that ends with a capture with these counts.
 fn status_of(total: Total) -> Status
     ensures { result ≡ check_status total.findings total.end }
 {

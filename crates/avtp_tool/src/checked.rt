@@ -13,21 +13,21 @@ use avtp_packet::{Packet, read_packet, reserved, stamp_is_wrong, stream_of};
 use pcap_frames::{FrameView, read_frame};
 use sequence_track::{Findings, Seen};
 
-/// A record, by itself.
+/// What `check` makes of one record.
 #[derive(Clone, Copy, Debug)]
 pub enum Checked {
-    /// No packet of a format that is checked.
+    /// A frame of another EtherType, or a packet of a format that is not read.
     Passed,
     /// A frame or a packet that is refused, with the offset in the frame.
     Malformed(Refusal),
     /// A packet whose stream id is not valid.
     Unmarked {
-        /// The stream id that it has nevertheless.
+        /// The packet's stream id, though it is not valid.
         id: u64,
         /// A reserved bit is set.
         reserved: bool,
     },
-    /// A packet of a stream.
+    /// A packet with a valid stream id.
     Marked(Seen),
 }
 

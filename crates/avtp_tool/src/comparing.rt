@@ -1,4 +1,4 @@
-//! Two captures that are read side by side, each as far as the comparison of what they present needs it.
+//! Two captures that are read side by side, each only as far as the comparison needs it.
 
 ghost use Rattle.std.specs.Prelude.{◌≡◌, ◌≤◌, ◌<◌, ◌^◌, Some, IsSome};
 ghost use Rattle.capture_io.specs.Source.{held_in, slot_of};
@@ -29,7 +29,7 @@ pub enum Compared {
     NoMemory,
 }
 
-/// What came of reading on in one of two captures.
+/// The result of reading on in one of two captures.
 #[derive(Clone, Copy, Debug, PartialEq, Eq)]
 pub enum Step {
     /// A record was taken.
@@ -58,8 +58,8 @@ pub struct Comparing {
 }
 
 impl Comparing {
-    /// Opens two captures, A before B, of each of which at most `limit` bytes may be read. If one cannot be opened or memory
-    /// runs out, none is open.
+    /// Opens two captures, A before B. At most `limit` bytes of each may be read. If one cannot be opened or memory runs out,
+    /// none is open.
     pub fn open<F: Shelf>(
         alloc: Global,
         limit: u64,
@@ -108,7 +108,7 @@ impl Comparing {
         a.source.close(shelf);
     }
 
-    /// Prints each difference as soon as it is known, as far as both captures can be read.
+    /// Compares both captures as far as they can be read, and prints each difference once it is known.
     pub fn compare<F: Shelf, S: Sink>(
         &mut self,
         alloc: Global,
@@ -133,7 +133,7 @@ impl Comparing {
         }
     }
 
-    /// Reads on in the capture that is wanted.
+    /// Reads on in the capture that the pair needs next.
     fn read_on<F: Shelf, S: Sink>(
         &mut self,
         alloc: Global,
@@ -184,7 +184,7 @@ fn print_differences<S: Sink>(
     Ok(())
 }
 
-/// Reads the next record of the capture that is wanted, or its end, and gives it to the pair.
+/// Reads the next record of the capture `which`, or its end, and gives it to the pair.
 fn read_side<F: Shelf, S: Sink>(
     alloc: Global,
     which: Which,

@@ -31,8 +31,7 @@ pub enum Reading<'a> {
     Listen(&'a Listen<'a>),
 }
 
-/// Reads the files in order, each to its end, and does with each what is asked for. The first file that cannot be read to its
-/// end ends the run.
+/// Reads the files in order, and does with each what is asked for. The first file that cannot be read to its end ends the run.
 pub fn read_files<T: Threads + Sync, F: Shelf + Send, S: Sink + Send, G: Gate, D: Devices + Send>(
     rt: &T,
     alloc: Global,
@@ -59,7 +58,7 @@ pub fn read_files<T: Threads + Sync, F: Shelf + Send, S: Sink + Send, G: Gate, D
     Ok(ended)
 }
 
-/// Listens to the files in order. If all was done and a device failed, prints that at the end.
+/// Listens to the files in order. If everything was done and a device failed, prints that at the end.
 pub fn hear_files<T: Threads + Sync, F: Shelf + Send, S: Sink + Send, G: Gate, D: Devices + Send>(
     rt: &T,
     alloc: Global,

@@ -1,4 +1,4 @@
-//! The command `gateway`: a stream of a capture in the other audio format.
+//! The command `gateway`: converts a stream of a capture to the other audio format.
 
 ghost use Rattle.std.specs.Prelude.{◌≡◌, ◌≤◌, ◌-◌, ◌^◌, [], IfSome, false};
 ghost use Rattle.avtp_files.specs.ShelfCalls.{IsMadeIn};
@@ -41,8 +41,9 @@ pub fn format(asked: GatewayFormat) -> To
     }
 }
 
-/// Turns a stream of a capture into the other format, and prints which batches are skipped and how many packets were made. The
-/// capture is read twice: first it is scanned, and a record that cannot be turned ends the run before anything is made.
+/// Converts a stream of a capture to the other format, and prints which batches are skipped and how many packets were made. The
+/// capture is read twice: the first reading only scans it, and a record that cannot be converted ends the run before anything
+/// is made.
 pub fn gateway<F: Shelf, S: Sink>(
     alloc: Global,
     asked: &Gateway<'_>,
@@ -61,8 +62,8 @@ pub fn gateway<F: Shelf, S: Sink>(
     }
 }
 
-/// Makes the capture of what is presented of a capture that was scanned. All memory but that of samples is allocated before
-/// the file is made.
+/// Makes the capture that is written, after the one that is read was scanned. All memory but that of samples is allocated
+/// before the file is made.
 fn turn<F: Shelf, S: Sink>(
     alloc: Global,
     asked: &Gateway<'_>,
@@ -95,7 +96,7 @@ fn turn<F: Shelf, S: Sink>(
     end_output(output, listener.limit, turned, shelf, text, out)
 }
 
-/// Opens a capture again, and puts what is presented of it into the one that is made.
+/// Opens the capture that was scanned again, and converts what is presented of it.
 fn turn_input<F: Shelf, S: Sink>(
     alloc: Global,
     asked: &Gateway<'_>,
@@ -129,7 +130,7 @@ fn turn_input<F: Shelf, S: Sink>(
     turned
 }
 
-/// How far a capture was turned that could not be opened again.
+/// How far a capture was converted that could not be opened again.
 fn unread(fault: OpenFault) -> Turned
     ensures { result ≡ unread_as fault }
 {
@@ -142,7 +143,8 @@ fn unread(fault: OpenFault) -> Turned
     }
 }
 
-/// Finishes the capture that is made, and prints the last line; or closes it as it is if it could not be made to its end.
+/// Finishes the capture that is made, and prints the last line; or only closes the file if the capture could not be made to its
+/// end.
 fn end_output<F: Shelf, S: Sink>(
     output: Output,
     limit: u64,
@@ -194,7 +196,7 @@ fn print_ended<S: Sink>(
     Ok(status_after(skipped, end))
 }
 
-/// The status of a run that turned a capture whose reading ended in this way, and skipped so many batches.
+/// The status of a run that read a capture until its reading ended in this way, and skipped this many batches.
 fn status_after(skipped: u64, end: End) -> Status
     ensures { result ≡ turned_status skipped end }
 {
@@ -204,7 +206,7 @@ fn status_after(skipped: u64, end: End) -> Status
     }
 }
 
-/// The name of what keeps a stream from being turned.
+/// The name of what keeps a stream from being converted.
 fn fault_name(fault: ScanFault) -> &'static str
     ensures { result.now ≡ fault_name_of fault }
 {
@@ -217,7 +219,7 @@ fn fault_name(fault: ScanFault) -> &'static str
     }
 }
 
-/// Prints which record keeps a stream from being turned, and why.
+/// Prints which record keeps a stream from being converted, and why.
 fn print_fault<S: Sink>(
     text: &mut Text,
     out: &mut S,

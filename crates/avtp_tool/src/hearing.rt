@@ -27,13 +27,13 @@ pub enum Stage {
 /// How far a capture was heard.
 #[derive(Clone, Copy, Debug, PartialEq, Eq)]
 pub enum Heard {
-    /// As far as it could be read; with how that ended, and its counts.
+    /// As far as it could be read; with how the reading ended, and the counts.
     Ended { end: End, counts: Counts },
     /// Up to a record for which there was no memory.
     NoMemory,
 }
 
-/// The answer of a receiver whose capture's reading ended in this way, once everything was shown of it.
+/// What a receiver returns once everything was shown of a capture whose reading ended in this way.
 fn pull_of(end: End) -> Pull
     ensures { result ≡ pull_with end }
 {
@@ -45,7 +45,7 @@ fn pull_of(end: End) -> Pull
     }
 }
 
-/// Closes the listener if everything is shown of a capture whose reading ended in this way, and not only what was due.
+/// Closes the listener if everything is shown of a capture whose reading ended in this way.
 fn close_at(listener: &mut RecordListener, end: End)
     requires { (is_closed listener.old ≡ false) × IsIdle listener.old }
     ensures { ClosesAt end listener.old listener.new }
@@ -56,7 +56,7 @@ fn close_at(listener: &mut RecordListener, end: End)
     }
 }
 
-/// A capture that is read, the listener that is given its records, and how far both came.
+/// A capture that is read, the listener that gets its records, and the stage of hearing.
 #[derive(Drop)]
 pub struct Hearing {
     pub source: Source,
@@ -90,7 +90,7 @@ impl Hearing {
         }
     }
 
-    /// Whether the next item may have to be waited for: the next record must first be read.
+    /// Whether the next item may have to wait until the next record is read.
     pub fn may_wait(&self) -> bool {
         match self.stage {
             Stage::Reading => self.source.must_read(),
@@ -98,7 +98,7 @@ impl Hearing {
         }
     }
 
-    /// Reads the next record and gives it to the listener, or ends the reading. Nothing may be due of the records before.
+    /// Reads the next record and gives it to the listener, or ends the reading. No item may be due of the records before.
     fn read_record<F: Shelf>(&mut self, shelf: &mut F) -> Result<(), NoMemory>
         requires reading { IsAtReading (F.state shelf.old).slots self.old.source self.old.stage }
         requires idle { IsIdle self.old.listener }
@@ -124,7 +124,7 @@ impl Hearing {
         Ok(())
     }
 
-    /// How far the capture was heard, once that has ended.
+    /// How far the capture was heard, once the hearing has ended.
     pub fn heard(&self) -> Heard
         ensures { result ≡ heard_at self.now.stage self.now.listener }
     {

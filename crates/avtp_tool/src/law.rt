@@ -5,8 +5,8 @@ ghost use Rattle.capture_io.specs.Ends.{end_of};
 ghost use Rattle.capture_io.specs.Formats.{AreBytes, as_classic, is_pcapng, records_in};
 ghost use Rattle.avtp_tool.specs.Reading.{file_status, file_yield, Report};
 
-/// `show`, `check` and `listen` treat a pcapng capture like the classic capture of its records, in little-endian nanoseconds,
-/// except that the reading ends by its own first refusal and by the limit on its own bytes.
+/// `show`, `check` and `listen` treat a pcapng capture like a classic capture of the same records, little-endian and in
+/// nanoseconds. Only the end of the reading is the pcapng capture's own: its first refused field, or the limit on its bytes.
 pub fn pcapng_reports()
     ensures { (report : Report) (limit : ℕ) (bytes : List ℕ) → AreBytes (take limit bytes) → is_pcapng (take limit bytes) ≡ true →
         (file_status report limit (Some bytes) ≡ report.status (records_in (as_classic (take limit bytes))) (end_of limit bytes))

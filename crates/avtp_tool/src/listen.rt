@@ -48,9 +48,9 @@ pub fn plan(asked: &ListenerOptions) -> ListenPlan
     }
 }
 
-/// Prints which packets of the stream in a capture are presented, at which instants, and why the others are not, each as soon
-/// as it is due. One thread reads and judges; another writes, and gives each item to the devices after its text. Memory is
-/// allocated for each packet, so if memory runs out, what was due before is printed.
+/// Prints which packets of the stream in a capture are presented, at which instants, and why the others are not, each once it
+/// is due. One thread reads and judges; another writes, and gives each item to the devices after its text. Memory is allocated
+/// for each packet, so if memory runs out, what was due before is printed.
 pub fn listen<T: Threads + Sync, F: Shelf + Send, S: Sink + Send, G: Gate, D: Devices + Send>(
     rt: &T,
     alloc: Global,
@@ -127,7 +127,7 @@ fn hear_records<T: Threads + Sync, F: Shelf + Send, S: Sink + Send, G: Gate, D: 
     Ok(hearing.heard())
 }
 
-/// Prints a capture's name, so that it is seen before the first packet is.
+/// Prints a capture's name, so that it can be read before the first packet comes.
 fn print_name<S: Sink>(text: &mut Text, out: &mut S, file: &str) -> Result<(), Failed>
     ensures { PrintsPart (S.state out.old) (S.state out.new) text.old text.new result (capture_line file.now) }
 {
@@ -160,7 +160,7 @@ fn hear_items<T: Threads + Sync, F: Shelf + Send, S: Sink + Send, G: Gate, D: De
     hear_through(rt, pipe, &mut receiver, &mut presenter, gate)
 }
 
-/// Lets one side receive and the other present until everything is done.
+/// Runs the thread that receives and the one that presents until everything is done.
 fn hear_through<T: Threads + Sync, F: Shelf + Send, S: Sink + Send, G: Gate, D: Devices + Send>(
     rt: &T,
     pipe: &mut Pipe,
@@ -179,7 +179,7 @@ fn hear_through<T: Threads + Sync, F: Shelf + Send, S: Sink + Send, G: Gate, D: 
     present_all(rt, pipe, receiver, presenter, gate)
 }
 
-/// Prints a capture's numbers, or why it was not read to its end.
+/// Prints the counts of a capture, or why it was not read to its end.
 fn print_last<S: Sink>(
     text: &mut Text,
     out: &mut S,

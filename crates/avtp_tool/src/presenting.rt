@@ -11,8 +11,8 @@ use device_rack::Devices;
 use presenter_ring::Presenter;
 use sample_schedule::Shown;
 
-/// The text of what is shown, the sink that it goes to, and the rack that gets each item after its text. Once the sink has
-/// failed, later items are neither written nor given to the rack, so no text ever comes after a gap.
+/// The text of what is shown, the sink that it goes to, and the devices that get each item after its text. Once the sink has
+/// failed, later items are neither written nor given to the devices, so no text ever comes after a gap.
 #[derive(Drop)]
 pub struct Presenting<'a, S: Sink + Send, D: Devices + Send> {
     pub text: &'a mut Text,

@@ -12,7 +12,7 @@ use avtp_packet::{Packet, read_packet};
 use avtp_text::Text;
 use pcap_frames::{FrameView, RecordView, read_frame};
 
-/// Prints what a record holds, under its number in the capture, from 1.
+/// Prints what a record holds, with the record's number in the capture, from 1.
 #[tactic(auto, unfolding(crate::specs::Record::record_content, crate::specs::Record::frame_content))]
 pub fn print_record<S: Sink>(
     text: &mut Text,
@@ -56,7 +56,7 @@ fn print_packet<S: Sink>(
     }
 }
 
-/// The refusal of a frame's packet, with its offset in the frame.
+/// A refusal in a frame's payload, with its offset counted from the start of the frame.
 pub fn in_frame(frame: &FrameView<'_>, refusal: Refusal) -> Refusal
     requires { refusal.at + frame.now.start < 2 ^ 64 }
     ensures { result ≡ inside frame.now.start refusal }

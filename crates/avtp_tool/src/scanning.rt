@@ -1,4 +1,4 @@
-//! A capture that is scanned for what cannot be turned into the other format.
+//! A capture that is scanned for records that cannot be converted to the other format.
 
 ghost use Rattle.std.specs.Prelude.{◌≡◌, ◌≤◌, ◌^◌};
 ghost use Rattle.avtp_words.specs.Grammar.{turning_of};
@@ -16,15 +16,15 @@ use std::alloc::Global;
 /// What a scan found in a capture.
 #[derive(Clone, Copy, Debug, PartialEq, Eq)]
 pub enum Scanned {
-    /// It was read to its end, and each record can be turned; with the shape of the stream, if it has packets of samples.
+    /// It was read to its end, and each record can be converted; with the shape of the stream, if it has packets of samples.
     Clean(Option<Shape>),
-    /// The record with this number, from 1, cannot be turned.
+    /// The record with this number, from 1, cannot be converted.
     Faulty { fault: ScanFault, frame: u64 },
-    /// The reading ended in this way before the capture's end, and each record before can be turned.
+    /// The reading ended in this way before the capture's end, and each record up to there can be converted.
     Cut(End),
 }
 
-/// Scans the capture that is to be turned, up to the first record that cannot be.
+/// Scans the capture that is to be converted, up to the first record that cannot be converted.
 pub fn scan<F: Shelf>(
     alloc: Global,
     asked: &Gateway<'_>,
@@ -58,7 +58,7 @@ fn scan_records<F: Shelf>(to: To, stream: u64, source: &mut Source, shelf: &mut 
     }
 }
 
-/// What a scan found whose reading ended in this way, if no record has a fault. The shape is that of the stream.
+/// What a scan found if the reading ended in this way and no record has a fault. The shape is that of the stream.
 fn scanned_by(end: End, shape: Option<Shape>) -> Scanned
     ensures { result ≡ scanned_as end shape }
 {

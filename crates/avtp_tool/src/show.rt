@@ -25,7 +25,7 @@ pub struct Printed {
     pub end: End,
 }
 
-/// Prints a line for each record of a capture, and a line for its end. Reads at most `limit` bytes of it. All memory is
+/// Prints a line for each record of a capture, and a last line. Reads at most `limit` bytes of the capture. All memory is
 /// allocated before the first line, so nothing is printed if memory runs out.
 pub fn show<F: Shelf, S: Sink>(
     alloc: Global,
@@ -70,7 +70,7 @@ fn print_records<F: Shelf, S: Sink>(
     }
 }
 
-/// Prints how the reading of a capture ended.
+/// Prints the number of a capture's records, or why it was not read to its end.
 fn print_end<S: Sink>(
     text: &mut Text,
     out: &mut S,

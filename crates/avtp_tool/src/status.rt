@@ -5,12 +5,12 @@ ghost use Rattle.avtp_tool.specs.Status.{code_of, status_of};
 
 use capture_io::End;
 
-/// How a run ended. The command ends with its code.
+/// How a run ended. The exit status of the command is the code of this.
 #[derive(Clone, Copy, Debug, PartialEq, Eq)]
 pub enum Status {
     /// Everything that was asked for was done.
     Done,
-    /// `check` found something, which the text says.
+    /// `check` found something, captures that `agree` compares differ, or `gateway` skipped a packet. The text says what.
     Findings,
     /// The words are not a command line.
     Words,

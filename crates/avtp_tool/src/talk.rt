@@ -51,7 +51,7 @@ impl Spelled for NextFrame<'_, '_> {
     }
 }
 
-/// What the packets are made of.
+/// The kind of the stream.
 fn kind(asked: Kind) -> TalkKind
     ensures { result ≡ talk_kind asked }
 {
@@ -76,7 +76,7 @@ fn clock(asked: Option<Crf>) -> Option<CrfPlan>
     })
 }
 
-/// What is sent.
+/// The stream that is sent, and how.
 fn plan(asked: &Talk<'_>) -> TalkPlan
     ensures { result ≡ talk_plan (talking_of asked.now) }
 {
@@ -94,7 +94,7 @@ fn plan(asked: &Talk<'_>) -> TalkPlan
     }
 }
 
-/// Reads an input whole, makes the capture of it, and prints how many packets it has; or why it made none.
+/// Reads an input whole, makes a capture of it, and prints how many packets the capture has; or prints why none was made.
 pub fn talk<F: Shelf, S: Sink>(
     alloc: Global,
     asked: &Talk<'_>,
@@ -119,7 +119,7 @@ pub fn talk<F: Shelf, S: Sink>(
     }
 }
 
-/// Makes the capture of an input's contents, if it was read whole.
+/// Makes the capture of an input, if the input was read whole.
 fn talk_contents<F: Shelf, S: Sink>(
     alloc: Global,
     plan: TalkPlan,
@@ -143,7 +143,7 @@ fn talk_contents<F: Shelf, S: Sink>(
     }
 }
 
-/// Makes the capture of all frames of a talker, and prints how many packets they are.
+/// Makes the capture of all frames of a talker, and prints how many packets it has.
 fn send<F: Shelf, S: Sink>(
     alloc: Global,
     talker: &mut Talker<'_>,

@@ -1,4 +1,4 @@
-//! A capture that is turned: what is presented of it is written as packets of the other format.
+//! A capture that is converted: what is presented of it is written as packets of the other format.
 
 ghost use Rattle.std.specs.Prelude.{◌≡◌, ◌≤◌, ◌<◌, ◌^◌, length};
 ghost use Rattle.avtp_files.specs.ShelfCalls.{IsMadeIn};
@@ -22,10 +22,10 @@ use presenter_ring::Pull;
 use sample_schedule::{Batch, Shown};
 use talker::Turn;
 
-/// How far a capture was turned.
+/// How far a capture was converted.
 #[derive(Clone, Copy, Debug, PartialEq, Eq)]
 pub enum Turned {
-    /// As far as it could be read; with how that ended, and how many batches were presented.
+    /// As far as it could be read; with how the reading ended, and how many batches were presented.
     Ended { end: End, presented: u64 },
     /// Up to a record for which there was no memory.
     NoMemory,
@@ -33,7 +33,7 @@ pub enum Turned {
     Unwritten,
 }
 
-/// What came of a batch.
+/// What was done with a batch.
 #[derive(Clone, Copy, Debug, PartialEq, Eq)]
 pub enum Put {
     /// Its packets were written, or it was skipped.
@@ -151,7 +151,7 @@ fn write_ahead<S: Sink>(hearing: &Hearing, text: &mut Text, out: &mut S) -> Resu
     }
 }
 
-/// Puts each batch that is presented of a capture into the one that is made, as far as the first can be read.
+/// Converts each batch that is presented of a capture, as far as the capture can be read, and writes its packets.
 pub fn turn_records<F: Shelf, S: Sink>(
     hearing: &mut Hearing,
     output: &mut Output,
@@ -180,7 +180,7 @@ pub fn turn_records<F: Shelf, S: Sink>(
     }
 }
 
-/// How far a capture was turned that was heard so far.
+/// How far a capture was converted, by how far it was heard.
 fn turned_by(heard: Heard) -> Turned
     ensures { result ≡ turned_as heard }
 {

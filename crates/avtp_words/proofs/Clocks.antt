@@ -8,7 +8,7 @@ use Rattle.avtp_words.specs.Options.{Setting}
 use Rattle.avtp_words.specs.state.Reading.{ClockIsWithin}
 use Rattle.avtp_words.proofs.CommandLines.{same_id_given_if, same_number, within}
 
--- ---- words ask for one clock
+-- ---- words ask for only one clock
 
 same_crf : (gs : List Setting) (rate : ℕ) (a b : Crf) → SaysCrf gs rate a → SaysCrf gs rate b → a ≡ b
 same_crf gs rate a b p q = same ids

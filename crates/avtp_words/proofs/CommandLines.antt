@@ -1,4 +1,4 @@
--- Command lines of every command, and where words stop being one.
+-- Command lines of every command, and the first word that breaks them.
 use Rattle.std.proofs.Common.{◌≡◌, ℕ, suc, ◌+◌, ◌-◌, ◌<◌, ◌≤◌, ◌^◌, inl, inr, true, false, List, [], ◌∷◌, ◌++◌, flat_map, length, take, drop, Option, Some, None, slice_get, IsSomeAnd, IfSome, MatchOption, option_to_list, get_or, ◌==◌, if◌then◌else◌, arith, sym, subst, ap, ◌∙◌, refl, append_assoc, length-append, All, string_bytes, String, ℤ}
 use Rattle.std.specs.Str.{bytes_eq}
 use Rattle.std.specs.declared.alloc.Global.{Global}
@@ -88,7 +88,7 @@ first_operand : (operands : List Operand) (ns : List (List ℕ)) → AreOperands
 first_operand operands [] are = tt
 first_operand operands (n ∷ ns) are = λ dash. name-dash n (All-head IsName n ns (names operands (n ∷ ns) are)) dash
 
--- where options stop being options, the rest of a command line stops being one
+-- the first word that cannot follow the options before it is also the first wrong word of the rest of a command line
 pub stops_of_options : (rows : List Row) (operands : List Operand) (words : List (List ℕ)) (place : ℕ) → StopsOptions rows words place → StopsAt (IsRest rows operands) words place
 stops_of_options rows operands words place s = record {
   before = s.before;
@@ -135,7 +135,7 @@ first_of_all : (before rest : List (List ℕ)) (P : List ℕ → Type 0) → IfS
 first_of_all [] rest P has = tt
 first_of_all (x ∷ before) rest P has = has
 
--- where the words after the options stop being the operands
+-- the first word that is not an operand at its place is also the first wrong word of the rest of a command line
 pub stops_of_operands : (rows : List Row) (operands : List Operand) (words : List (List ℕ)) (place wrong : ℕ) → EndsOptions rows words place → StopsAt (AreOperands operands) (drop place words) wrong → StopsAt (IsRest rows operands) words (place + wrong)
 stops_of_operands rows operands words place wrong e s = record {
   before = flat_map words_of o.settings ++ s.before;
@@ -178,11 +178,11 @@ rest_to rows operands words place e are = record {
 abbrev pub options_to : (rows : List Row) (operands : List Operand) (words : List (List ℕ)) (place : ℕ) → IsRestTo rows operands words place → AreOptionsTo rows words place
 options_to rows operands words place r = record { settings = r.rest.settings; rest = r.rest.names; split = r.rest.spelled; here = r.here; options = r.rest.options }
 
--- the words from a place on, as a slice has them
+-- the words from a place on, taken as a slice
 pub words_after : (words : List (String Global)) (place : ℕ) → texts (take (length words - place) (drop place words)) ≡ drop place (texts words)
 words_after words place = ap texts (take_all (length words - place) (drop place words) (omega (arith, length-drop place words))) ∙ sym (drop-map {X = String Global} {Y = List ℕ} string_bytes place words)
 
--- they are among the words
+-- the operands' place is at most the number of words
 pub rest_within : (rows : List Row) (operands : List Operand) (words : List (String Global)) (place : ℕ) → IsRestTo rows operands (texts words) place → place ≤ length words
 rest_within rows operands words place r = omega (arith, r.here, ap length r.rest.spelled, length-append (flat_map words_of r.rest.settings) r.rest.names, length-map {A = String Global} {B = List ℕ} words string_bytes)
 
@@ -228,7 +228,7 @@ within option default n gs has least most given = go (value_in option.name gs) g
   go None given = let is : n ≡ default = subst (λ d. IsSomeAnd d (λ default. n ≡ default)) has given in (omega arith, omega arith)
   go (Some word) given = (given.least, given.most)
 
--- options give one number
+-- options give only one number
 pub same_number : (option : NumberOption) (m n : ℕ) (gs : List Setting) → option.high < 2 ^ 64 → IsGiven option gs m → IsGiven option gs n → m ≡ n
 same_number option m n gs small p q = go (value_in option.name gs) p q where
   fixed : (default : Option ℕ) → IsSomeAnd default (λ default. m ≡ default) → IsSomeAnd default (λ default. n ≡ default) → m ≡ n
@@ -247,7 +247,7 @@ same_number_if option a b gs small p q = go (value_in option.name gs) p q where
       let same : m ≡ n = decimal_injective m n (omega (arith, first.most, small)) (omega (arith, second.most, small)) (sym first.spelled ∙ second.spelled) in
       p ∙ ap Some same ∙ sym q
 
--- a word is one id
+-- a word spells at most one stream id
 pub same_id : (word : List ℕ) (a b : ℕ) → IsId word a → IsId word b → a ≡ b
 same_id word a b p q =
     let both = sym p.digits ∙ q.digits in
@@ -283,7 +283,7 @@ fourth_is Int24 = refl
 fourth_is Int32 = refl
 fourth_is Float32 = refl
 
--- a word is one format
+-- a word names at most one format
 same_format : (a b : AafFormat) → format_name a ≡ format_name b → a ≡ b
 same_format a b e = sym (fourth_is a) ∙ ap (λ (name : List ℕ). by_fourth (get_or name 3 0)) e ∙ fourth_is b
 

@@ -38,7 +38,7 @@ use Rattle.avtp_words.proofs.Numbers.{spells_one}
 use Rattle.avtp_words.proofs.Operands.{names}
 use Rattle.avtp_words.proofs.Steps.{words_before, after_first}
 
--- ---- What begins with the word of a command is a line exactly where the rest is one of its form.
+-- ---- Words that begin with a command's name are a line exactly if the rest fits the command's form.
 
 of_rest : (form : Form) (words : List (List ℕ)) (r : IsRest form.rows form.operands words) → IsOf form (form.command ∷ words) r.settings r.names
 of_rest form words r = record { spelled = ap (λ ws. form.command ∷ ws) r.spelled; options = r.options; operands = r.named }
@@ -69,7 +69,7 @@ offence_after form words position known b = of_a_word (b.place + 1) (omega (arit
   go [] never = λ line. never (rest_of_line form s.before known line)
   go (word ∷ rest) never = λ c. never (record { more = c.more; whole = rest_of_line form ((s.before ++ word ∷ []) ++ c.more) known c.whole })
 
--- a line tells what its command asks for
+-- a command line fits the form of its command
 abbrev line_of : (words : List (List ℕ)) (request : Request) → IsCommandLine words request → IsLine words
 line_of words (show limit file) s = record { form = show_form; known = refl; settings = s.settings; names = file ∷ []; line = s.line }
 line_of words (check limit files) s = record { form = check_form; known = refl; settings = s.settings; names = files; line = s.line }
@@ -81,7 +81,7 @@ line_of words (talk asked) (s, rules) = record { form = talk_form; known = refl;
 
 -- ---- no command
 
--- no command is first
+-- no word is there, or the first one is no command's name
 abbrev pub IsNoCommand : List (List ℕ) → Type 0
 IsNoCommand words = IfSome (slice_get words 0) (λ word. form_named word ≡ None)
 
@@ -109,7 +109,7 @@ offence_of_command words other = of_a_word 0 refl (record {
 pub words_are : (words rest : List (String Global)) (command : String Global) (name : List ℕ) → words ≡ command ∷ rest → string_bytes command ≡ name → texts words ≡ name ∷ texts rest
 words_are words rest command name e same = ap texts e ∙ ap (λ (first : List ℕ). first ∷ texts rest) same
 
--- a word that is no command's has no form
+-- a word that is no command's name has no form
 no_form : (word : List ℕ) → (word ≡ codes "show" → ⊥) → (word ≡ codes "check" → ⊥) → (word ≡ codes "listen" → ⊥) → (word ≡ codes "talk" → ⊥) → (word ≡ codes "soak" → ⊥) → (word ≡ codes "agree" → ⊥) → (word ≡ codes "gateway" → ⊥) → form_named word ≡ None
 no_form word not_show not_check not_listen not_talk not_soak not_agree not_gateway = elim (cases_Bool (bytes_eq (codes "show") word)) [
   | inl same ↦ absurd (not_show (sym (same-true (codes "show") word same)))
@@ -264,7 +264,7 @@ listen_id words place word r here none =
     let id = t.line.operands.0 in
     none id.0 (subst (λ w. IsId w id.0) same id.1)
 
--- the line with the operands that are there
+-- the words are a line with the operands that are there
 listen_line : (words : List (List ℕ)) (place : ℕ) (settings : List Setting) (t : IdAndNames words place settings) (id : List ℕ) (files : List (List ℕ)) → slice_get words place ≡ Some id → drop (place + 1) words ≡ files → IsOf listen_form (codes "listen" ∷ words) settings (id ∷ files)
 listen_line words place settings t id files at_id at_files =
     let ids : t.id ≡ id = (let e = sym t.at_id ∙ at_id in cc) in
@@ -358,7 +358,7 @@ two_names words place r = go r.rest.names r.rest.spelled r.rest.named (first_ope
   }
   go (first ∷ second ∷ more ∷ ns) spelled named at_first at_second = absurd named.1.1
 
--- the line with the operands that are there
+-- the words are a line with the operands that are there
 line_at : (words : List (List ℕ)) (place : ℕ) (settings : List Setting) (t : TwoNames words place settings) (first second : List ℕ) → slice_get words place ≡ Some first → slice_get words (place + 1) ≡ Some second → IsOf talk_form (codes "talk" ∷ words) settings (first ∷ second ∷ [])
 line_at words place settings t first second at_first at_second =
     let firsts : t.first ≡ first = (let e = sym t.at_first ∙ at_first in cc) in
@@ -574,14 +574,14 @@ one_command words r s p q =
     let m = line_of words s q in
     same_command l.form m.form words l.settings m.settings l.names m.names l.line m.line
 
--- the word of each command has two first letters of its own
+-- the first two letters of a command's name, which differ from those of each other command
 abbrev mark : List ℕ → ℕ
 mark word = get_or word 0 0 * 256 + get_or word 1 0
 
 one_mark : (words : List (List ℕ)) (r s : Request) (p : IsCommandLine words r) (q : IsCommandLine words s) → mark (line_of words r p).form.command ≡ mark (line_of words s q).form.command
 one_mark words r s p q = ap mark (one_command words r s p q)
 
--- The words fit a form, and no line of its command asks for anything.
+-- Words that fit a form, but are not a command line, have their offence at the command.
 offence_of_form : (form : Form) (words : List (List ℕ)) (settings : List Setting) (names : List (List ℕ)) → form_named form.command ≡ Some form → IsOf form words settings names
     → ((request : Request) (p : IsCommandLine words request) → mark (line_of words request p).form.command ≡ mark form.command → ⊥) → IsOffence words 1
 offence_of_form form words settings names known line none = of_a_rule refl (record { form = form; known = known; settings = settings; names = names; line = line })
@@ -602,7 +602,7 @@ aaf_h264 e = let first = ap (λ (word : List ℕ). get_or word 0 0) e in absurd 
 am824_h264 : codes "h264" ≡ codes "am824" → ⊥
 am824_h264 e = let first = ap (λ (word : List ℕ). get_or word 0 0) e in absurd (omega (arith, first))
 
--- words tell one kind
+-- words ask for only one kind of stream
 same_kind : (words : List (List ℕ)) (gs : List Setting) (a b : Kind) → SaysKind words gs a → SaysKind words gs b → a ≡ b
 same_kind words gs (Aaf format sparse) (Aaf other another) p q =
     let formats : format ≡ other = same_format_given (codes "--format") Int16 format other gs p.format_given q.format_given in
@@ -617,7 +617,7 @@ same_kind words gs Am824 (H264 last_stamp) p q = absurd (am824_h264 (let both : 
 same_kind words gs (H264 last_stamp) Am824 p q = absurd (am824_h264 (let both : Some (codes "h264") ≡ Some (codes "am824") = sym p.kind ∙ q in cc))
 same_kind words gs (H264 last_stamp) (H264 other) p q = ap H264 (same_flag last_stamp other (Contains words (codes "--last-stamp")) p.last_stamp_given q.last_stamp_given)
 
--- words of `talk` say one thing
+-- words of `talk` ask for only one thing
 same_talk : (words : List (List ℕ)) (a b : Talking) → SaysTalk words a → SaysTalk words b → a ≡ b
 same_talk words a b p q = same inputs outputs
     kinds
@@ -665,7 +665,7 @@ offence_of_rule words asked says breaks = offence_of_form talk_form words says.s
 
 -- ---- each line asks for one thing, and words have one offence
 
--- words ask for one listener
+-- words ask for only one listener
 same_listener : (settings : List Setting) (id : List ℕ) (a b : ListenerOptions) → SaysListener settings id a → SaysListener settings id b → a ≡ b
 same_listener settings id a b p q = same
     (same_id id a.stream b.stream p.stream q.stream)
@@ -679,7 +679,7 @@ same_listener settings id a b p q = same
       same : a.stream ≡ b.stream → a.limit ≡ b.limit → a.buffer ≡ b.buffer → a.room ≡ b.room → a.look ≡ b.look → a.lead ≡ b.lead → a.clock ≡ b.clock → a.shift ≡ b.shift → a ≡ b
       same streams limits buffers rooms looks leads clocks shifts = rw (streams, limits, buffers, rooms, looks, leads, clocks, shifts) refl
 
--- words of `listen` ask for one thing
+-- words of `listen` ask for only one thing
 same_listen : (words : List (List ℕ)) (a b : Listening) → SaysListen words a → SaysListen words b → a ≡ b
 same_listen words a b p q = same
     (same_listener q.settings q.id a.listener b.listener (subst (λ word. SaysListener q.settings word a.listener) ids (subst (λ gs. SaysListener gs p.id a.listener) both.0 p.listener)) q.listener)
@@ -711,7 +711,7 @@ offence_of_names words asked says breaks = offence_of_form listen_form words say
   none (agree other) p same = absurd (omega (arith, same))
   none (gateway other) (s, rules) same = absurd (omega (arith, same))
 
--- words of `agree` ask for one thing
+-- words of `agree` ask for only one thing
 same_agree : (words : List (List ℕ)) (a b : Agreeing) → SaysAgree words a → SaysAgree words b → a ≡ b
 same_agree words a b p q = same
     (same_listener q.settings q.id a.listener b.listener (subst (λ word. SaysListener q.settings word a.listener) ids (subst (λ gs. SaysListener gs p.id a.listener) both.0 p.listener)) q.listener)
@@ -731,14 +731,14 @@ same_agree words a b p q = same
       same : a.listener ≡ b.listener → a.a ≡ b.a → a.b ≡ b.b → a ≡ b
       same listeners firsts seconds = rw (listeners, firsts, seconds) refl
 
--- a word is one format
+-- a word names at most one format of `gateway`
 same_gateway_format : (a b : GatewayFormat) → gateway_format_name a ≡ gateway_format_name b → a ≡ b
 same_gateway_format format.Am824 format.Am824 e = refl
 same_gateway_format format.Am824 format.Aaf e = absurd (aaf_am824 e)
 same_gateway_format format.Aaf format.Am824 e = absurd (aaf_am824 (sym e))
 same_gateway_format format.Aaf format.Aaf e = refl
 
--- words of `gateway` ask for one thing
+-- words of `gateway` ask for only one thing
 same_gateway : (words : List (List ℕ)) (a b : Turning) → SaysGateway words a → SaysGateway words b → a ≡ b
 same_gateway words a b p q = same listeners
     (same_gateway_format a.to b.to (let both : Some (gateway_format_name a.to) ≡ Some (gateway_format_name b.to) = sym p.to_given ∙ ap (value_in (codes "--to")) both.0 ∙ q.to_given in cc))
@@ -763,7 +763,7 @@ same_gateway words a b p q = same listeners
       same : a.listener ≡ b.listener → a.to ≡ b.to → a.id ≡ b.id → a.input ≡ b.input → a.output ≡ b.output → a ≡ b
       same listeners formats ids inputs outputs = rw (listeners, formats, ids, inputs, outputs) refl
 
--- words that fit the form of `gateway`, and no line of it
+-- words that fit the form of `gateway` but are not a command line have their offence at the command
 offence_of_gateway : (words : List (List ℕ)) (settings : List Setting) (names : List (List ℕ)) → IsOf gateway_form words settings names → ((other : Turning) → SaysGateway words other → KeepsOutput other → ⊥) → IsOffence words 1
 offence_of_gateway words settings names line breaks = offence_of_form gateway_form words settings names refl line none where
   none : (request : Request) (p : IsCommandLine words request) → mark (line_of words request p).form.command ≡ mark (codes "gateway") → ⊥
@@ -799,7 +799,7 @@ gateway_id words asked says = go (value_in (codes "--id") says.settings) says.id
   go None given = subst (λ (n : ℕ). n < 2 ^ 64) (sym given) says.listener.stream.fits
   go (Some word) given = given.fits
 
--- words ask for one thing
+-- words ask for only one thing
 pub same_request : (words : List (List ℕ)) (r s : Request) → IsCommandLine words r → IsCommandLine words s → r ≡ s
 same_request words (show limit file) (show other name) p q =
     let both = same_line show_form words p.settings q.settings (file ∷ []) (name ∷ []) p.line q.line in
@@ -861,7 +861,7 @@ same_request words (talk asked) (listen other) p q = absurd (omega (arith, one_m
 same_request words (talk asked) (talk other) (p, rules) (q, others) = ap talk (same_talk words asked other p q)
 same_request words (listen asked) (listen other) (p, rules) (q, others) = ap listen (same_listen words asked other p q)
 
--- where words stop being a line they are none
+-- words with a first wrong word are not a line
 stopped : (words : List (List ℕ)) (place : ℕ) → StopsAt IsLine words place → IsLine words → ⊥
 stopped words place o line = go o.rest o.split o.stops where
   go : (rest : List (List ℕ)) → words ≡ o.before ++ rest → Stops IsLine o.before rest → ⊥
@@ -893,7 +893,7 @@ past before (first ∷ rest) (word ∷ m) more stops split begins =
     let same : first ≡ word = cc in
     absurd (stops (record { more = m ++ begins.more; whole = subst (λ w. IsLine ((before ++ w ∷ []) ++ (m ++ begins.more))) (sym same) (subst IsLine (append_assoc before (word ∷ m) begins.more ∙ sym (append_assoc before (word ∷ []) (m ++ begins.more))) begins.whole) }))
 
--- words stop being a line at one place
+-- words have at most one first wrong word
 same_stop : (words : List (List ℕ)) (p q : ℕ) → StopsAt IsLine words p → StopsAt IsLine words q → p ≡ q
 same_stop words p q o r =
     elim (one_begins o.before r.before o.rest r.rest (sym o.split ∙ r.split)) [
@@ -905,14 +905,14 @@ same_stop words p q o r =
           omega (arith, o.here, r.here, ap length whole, length-append r.before m, ap length none))
     ]
 
--- words have one offence
+-- words have at most one offence
 pub same_offence : (words : List (List ℕ)) (p q : ℕ) → IsOffence words p → IsOffence words q → p ≡ q
 same_offence words p q (of_a_word place here stops) (of_a_word other there others) = omega (arith, here, there, same_stop words place other stops others)
 same_offence words p q (of_a_word place here stops) (of_a_rule there fits none) = absurd (stopped words place stops fits)
 same_offence words p q (of_a_rule here fits none) (of_a_word place there stops) = absurd (stopped words place stops fits)
 same_offence words p q (of_a_rule here fits none) (of_a_rule there others nothing) = here ∙ sym there
 
--- what is read of the words is all that they ask for
+-- the command that is read from the words is the only one that they ask for
 pub answered_only : (words : List (List ℕ)) (result : Result Command Offence) → IfOk result (λ command. IsCommandLine words (request_of command)) → IfErr result (λ offence. IsOffence words offence.position)
     → (request : Request) → IsCommandLine words request → IsOkAnd result (λ command. request_of command ≡ request)
 answered_only words (Ok command) ok err request line = same_request words (request_of command) request ok line

@@ -18,19 +18,19 @@ use Rattle.avtp_words.proofs.Numbers.{one_dash}
 use Rattle.avtp_words.proofs.Operands.{names}
 use Rattle.avtp_words.proofs.Settings.{name-dash, same-true, setting-value, taken}
 
--- ---- an option's name stands at one place
+-- ---- an option's name is at one place
 
 contains_at : (ws : List (List ℕ)) (k : ℕ) (word : List ℕ) → slice_get ws k ≡ Some word → Contains ws word
 contains_at ws k word e = (k, slice_get_within ws k word e, get_or_from_slice_get ws k word word e)
 
--- options and names that differ from a name do not have it
+-- a name that no option and no operand has is not among the words
 not_there : (rows : List Row) (gs : List Setting) (ns : List (List ℕ)) (name : List ℕ) → are_sound rows ≡ true → All (IsSetting rows) gs → All (λ s. s.name ≢ name) gs → All IsName ns → begins_with_dashes name ≡ true → Contains (flat_map words_of gs ++ ns) name → ⊥
 not_there rows gs ns name sound each apart named dashes within = elim (Contains-append_cases (flat_map words_of gs) ns name within) [
   | inl option ↦ taken rows gs name sound each apart dashes option
   | inr operand ↦ name-dash name (All-contains IsName ns name named operand) (one_dash name dashes)
 ]
 
--- the later of two options with names of their own
+-- if all options have different names, so have those after the first
 later_once : (g : Setting) (gs : List Setting) → AllPairs (λ s t. s.name ≢ t.name) (g ∷ gs) → AllPairs (λ s t. s.name ≢ t.name) gs
 later_once g gs once i j d below inside = once (suc i) (suc j) d (omega arith) (omega arith)
 
@@ -62,7 +62,7 @@ one_place rows (g ∷ gs) ns name p q sound each once named dashes first second 
       go (suc p) zero first second later = let is : g.name ≡ name = cc in absurd (past g.value p refl is first)
       go (suc p) (suc q) first second later = ap suc (both g.value p q refl first second later)
 
--- ---- words ask for one file
+-- ---- words ask for only one file
 
 no_dashes : false ≡ true → ⊥
 no_dashes e = absurd cc
@@ -109,7 +109,7 @@ same_raw words gs ns (Some a) (Some b) line p q = same (same_named words gs ns (
   same : a.file ≡ b.file → a.silence ≡ b.silence → Some a ≡ Some b
   same files silences = rw (files, silences) refl
 
--- ---- a file's name is read
+-- ---- the name of a file is read
 
 abbrev is_named : List ℕ → String Global → Bool
 is_named name word = bytes_eq (string_bytes word) name
@@ -125,7 +125,7 @@ none_from (w ∷ ws) name i e = elim (cases_Bool (bytes_eq (string_bytes w) name
 pub not_named : (words : List (String Global)) (name : List ℕ) → position (is_named name) words ≡ None → value_after name (texts words) ≡ None
 not_named words name e = none_from words name 0 (sym (position_from-zero (is_named name) words) ∙ e)
 
--- The first word that is this one is at this place, and what is read after it is the next one.
+-- The first word with this name is at this place, and the word after it is what is read.
 record FirstNamed (words : List (List ℕ)) (name : List ℕ) (i place : ℕ) : Type 0 where
   far : ℕ
   here : place ≡ i + far
@@ -149,7 +149,7 @@ first_from (w ∷ ws) name i place e = elim (cases_Bool (bytes_eq (string_bytes 
   })
 ]
 
--- this is the first word with the name
+-- this place has the first word with the name
 pub named_at : (words : List (String Global)) (name : List ℕ) (place : ℕ) → position (is_named name) words ≡ Some place → (slice_get (texts words) place ≡ Some name) × (value_after name (texts words) ≡ slice_get (texts words) (place + 1))
 named_at words name place e =
     let f = first_from words name 0 place (sym (position_from-zero (is_named name) words) ∙ e) in (

@@ -24,7 +24,7 @@ spelled_read {E} bytes (Ok n) h begins =
     sym (decimal-digits_value own bytes read.0.0 begins.some begins.zero read.0.2) ∙ ap decimal (sym read.1)
 spelled_read bytes (Err e) h begins = tt
 
--- what is read of a word that begins as a number is the number that it spells
+-- what is read from a word that begins as a number is the number that it spells
 pub spelled : {E : Type 0} (bytes : List ℕ) (r : Result ℕ E) (o : Option ℕ) → ParsesUnsigned 64 10 bytes r → o ≡ result_ok r → BeginsAsNumber bytes → IfSome o (λ n. bytes ≡ decimal n)
 spelled bytes r o h e begins = rw e (spelled_read bytes r h begins)
 
@@ -75,7 +75,7 @@ no_dashes [] (negsuc n) small e both = absurd cc
 no_dashes (first ∷ []) (negsuc n) small e both = absurd cc
 no_dashes (first ∷ second ∷ more) (negsuc n) small e both = no_dash (second ∷ more) (suc n) (omega (arith, small)) (ap (drop 1) e) (second_dash first second more both)
 
--- digits that are no number above 0 are no number below 0 either
+-- if digits spell no number above 0, they spell none below 0 after a `-`
 pub below_none : (digits : List ℕ) → ((n : ℕ) → 0 < n → n < 2 ^ 63 → digits ≢ decimal n) → (z : ℤ) → unsigned_abs z < 2 ^ 63 → (45 ∷ digits) ≢ signed_decimal z
 below_none digits none (pos n) small e = no_dash (45 ∷ digits) n (omega (arith, small)) e refl
 below_none digits none (negsuc n) small e = none (suc n) (omega arith) small (ap (drop 1) e)
@@ -93,7 +93,7 @@ mag_below (negsuc n) small = omega (arith, small)
 pub same_spelled : (word : List ℕ) (y z : ℤ) → unsigned_abs y < 2 ^ 63 → unsigned_abs z < 2 ^ 63 → word ≡ signed_decimal y → word ≡ signed_decimal z → y ≡ z
 same_spelled word y z small smaller p q = signed_decimal_injective y z (mag_below y small) (mag_below z smaller) (sym p ∙ q)
 
--- a word that spells a number is one in range exactly if that number is
+-- a word that spells a number is a number in range exactly if the number is in range
 pub signed_is : (most : ℕ) (y : ℤ) (word : List ℕ) → unsigned_abs y < 2 ^ 63 → most < 2 ^ 63 → word ≡ signed_decimal y → IsTrue (nat_le (unsigned_abs y) most) ↔ ((z : ℤ) × IsSigned most word z)
 signed_is most y word small fits spelled = (
   (λ t. (y, record { size = leb-true (unsigned_abs y) most t; spelled = spelled })),
@@ -114,12 +114,12 @@ pub fits_after : (o : Option ℤ) (default : ℤ) → mag default < 2 ^ 63 → I
 fits_after None default is small = fits_mag default is
 fits_after (Some z) default is small = fits z small
 
--- the number that a word spells is the one that is read of it
+-- the number that a word spells is the one that is read from it
 pub signed_read_of : (word : List ℕ) (o : Option ℤ) (default : ℤ) → IfSome o (λ z. word ≡ signed_decimal z) → IfSome o (λ z. unsigned_abs z < 2 ^ 63) → IfNone o ((z : ℤ) → unsigned_abs z < 2 ^ 63 → word ≢ signed_decimal z) → IsReadSigned default (Some word) (unwrap_or o default)
 signed_read_of word (Some y) default spells small none = record { absent = tt; read = λ z below e. same_spelled word y z small below spells e }
 signed_read_of word None default spells small none = record { absent = tt; read = λ z below e. absurd (none z below e) }
 
--- a fact about any answer holds if there is no answer
+-- a fact that holds anyway holds if there is no answer
 pub where_none : {X : Type 0} {P : Type 0} (answer : Option X) → P → IfNone answer P
 where_none None holds = holds
 where_none (Some x) holds = tt
@@ -128,7 +128,7 @@ where_none (Some x) holds = tt
 pub spells_one : (word : List ℕ) (m n : ℕ) → m < 2 ^ 64 → n < 2 ^ 64 → word ≡ decimal n → word ≡ decimal m → m ≡ n
 spells_one word m n small smaller e f = decimal_injective m n small smaller (sym f ∙ e)
 
--- a word that spells a number is a number in range exactly if that number is
+-- a word that spells a number is a number in range exactly if the number is in range
 pub is_number-then : (low high n : ℕ) (word : List ℕ) (least : low ≤ n) (spells : word ≡ decimal n) → n < 2 ^ 64 → high < 2 ^ 64 → IsTrue (nat_le n high) ↔ ((m : ℕ) × IsNumber low high word m)
 is_number-then low high n word least spells small fits = (
   (λ t. (n, record { least = least; most = leb-true n high t; spelled = spells })),
@@ -143,7 +143,7 @@ is_number-else low high n word below spells small fits = (
       let same : m ≡ n = decimal_injective m n (omega (arith, is.most)) small (sym is.spelled ∙ spells) in absurd (omega (arith, is.least)),
 )
 
--- the number that a word spells is the one that is read of it
+-- the number that a word spells is the one that is read from it
 pub number_is : (word : List ℕ) (o : Option ℕ) (default n : ℕ) → unwrap_or o default < 2 ^ 64 → IfSome o (λ n. word ≡ decimal n) → IfNone o ((n : ℕ) → n < 2 ^ 64 → word ≢ decimal n) → n < 2 ^ 64 → word ≡ decimal n → unwrap_or o default ≡ n
 number_is word (Some m) default n fits spells none small e = decimal_injective m n fits small (sym spells ∙ e)
 number_is word None default n fits spells none small e = absurd (none n small e)
@@ -163,7 +163,7 @@ signed_read word default n (Err e) small large reads = (default, omega (arith, s
   none None read = tt
   none (Some word) read = λ k below e. absurd (let same : n ≡ k = read k (omega (arith, below)) e in large (omega (arith, same, below)))
 
--- the number that a word spells, if there is a word, is the one that is read of it
+-- the number that a word spells, if there is a word, is the one that is read from it
 pub read_if : {E : Type 0} (word : List ℕ) (n : ℕ) (r : Result ℕ E) (given : Option ℕ) → n < 2 ^ 64 → word ≡ decimal n → OkIff r (n < 2 ^ 32) n → given ≡ result_ok r → IsReadIf (2 ^ 32) (Some word) given
 read_if {E = E} word n r given small spells tried is = record { absent = tt; read = λ k below e. is ∙ go r tried k below (decimal_injective k n (omega (arith, below)) small (sym e ∙ spells)) } where
   go : (r : Result ℕ E) → OkIff r (n < 2 ^ 32) n → (k : ℕ) → k < 2 ^ 32 → k ≡ n → result_ok r ≡ Some k

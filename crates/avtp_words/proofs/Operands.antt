@@ -1,4 +1,4 @@
--- Operands, and where words stop being them.
+-- Operands, and the first word that is none.
 use Rattle.std.proofs.Common.{◌≡◌, ℕ, ◌+◌, ◌/◌, ◌%◌, ◌==◌, Bool, true, false, if◌then◌else◌, List, [], ◌∷◌, ◌++◌, take, drop, get_or, length, Option, Some, None, IfSome, IfNone, Result, Ok, Err, arith, sym, subst, ap, ◌∙◌, refl, codes, All, String, decimal}
 use Rattle.std.specs.Int.{w64, to_be_bytes}
 use Rattle.std.proofs.lemmas.List.Elements.{All-nil, All-cons, All-head, All-append, All-contains, Contains-append_left, Contains-append_right}

@@ -21,7 +21,7 @@ use Rattle.avtp_words.specs.Options.{Row, row_named, Setting, words_of, IsValue,
 use Rattle.avtp_words.specs.Grammar.{Stops}
 use Rattle.avtp_words.proofs.Settings.{same-true, same-false, found-sound, setting-dashes, apart, push, next, fresh, taken}
 
--- the word after others
+-- the word after the first words of a list
 pub at : (before rest : List (List ℕ)) (word : List ℕ) → slice_get (before ++ rest) (length before) ≡ Some word → (more : List (List ℕ)) × (rest ≡ word ∷ more)
 at [] [] word e = absurd (cc)
 at [] (r ∷ rest) word e = (rest, cc)
@@ -31,7 +31,7 @@ pub following : (before : List (List ℕ)) (word : List ℕ) (more : List (List 
 following [] word more = refl
 following (x ∷ before) word more = following before word more
 
--- a row of the table that its name finds
+-- the row that a name finds in the table, as the code finds it
 pub found : (rows : List OptionRow) (name : List ℕ) → row_named (rows_of rows) name ≡ option_map row_of (find (λ row. bytes_eq row.name.now name) rows)
 found [] name = refl
 found (r ∷ rows) name = elim (cases_Bool (bytes_eq r.name.now name)) [ inl here ↦ rw here refl | inr other ↦ rw other (found rows name) ]
@@ -103,7 +103,7 @@ follows rows gs word after options dash t =
       left = n.left;
     }
 
--- a word that begins as an option, but is not one that can follow, is not accepted there
+-- a word that begins as an option is not accepted if no option of this name can follow
 pub stops_here : (rows : List Row) (words : List (List ℕ)) (place : ℕ) (o : AreOptionsTo rows words place) (word : List ℕ) → slice_get words place ≡ Some word → BeginsWithDash word → ((s : Setting) → IsSetting rows s → All (λ t. t.name ≢ s.name) o.settings → word ≡ s.name → ⊥) → StopsOptions rows words place
 stops_here rows words place o word e dash none =
     let h = here rows words place o word e in
@@ -117,7 +117,7 @@ stops_here rows words place o word e dash none =
           none f.setting f.is f.new f.name;
     }
 
--- what such an option takes
+-- a value that an option of this sort takes, or none if it takes none
 sample : (takes : Takes) → is_sound takes ≡ true → (value : Option (List ℕ)) × IsTaken takes value
 unfolding decode_pairs
 sample (Number low high) sound = (Some (decimal low), (low, record { least = omega arith; most = leb-true low high (and_parts _ _ sound).0; spelled = refl }))
@@ -141,7 +141,7 @@ is_setting rows name value row dash e is =
 words-push : (gs : List Setting) (s : Setting) → flat_map words_of (gs ++ s ∷ []) ≡ flat_map words_of gs ++ words_of s
 words-push gs s = flat_map-append words_of gs (s ∷ []) ∙ ap (λ ws. flat_map words_of gs ++ ws) (append-nil (words_of s))
 
--- the value that the row of an option takes is one that its own row takes
+-- an option's value is one that the row with the option's name takes
 value_of : (rows : List Row) (name : List ℕ) (row : Row) (s : Setting) → row_named rows name ≡ Some row → name ≡ s.name → IsSetting rows s → IsTaken row.takes s.value
 value_of rows name row s e same is =
     let found : row_named rows s.name ≡ Some row = ap (row_named rows) (sym same) ∙ e in

@@ -8,11 +8,11 @@ use Rattle.avtp_words.specs.Limits.{NumberOption, SignedOption}
 use Rattle.avtp_words.specs.Word.{IsId}
 use Rattle.avtp_words.specs.Options.{Setting, value_in, format_name}
 
--- the number that an option gives, within its range, or else its default, which it has
+-- the number, within its range, that an option gives, or its default if it is not given; the option must have a default
 abbrev pub IsGiven : NumberOption → List Setting → ℕ → Type 0
 IsGiven option settings n = MatchOption (value_in option.name settings) (IsSomeAnd option.default (λ default. n ≡ default)) (λ word. IsNumber option.low option.high word n)
 
--- the number that an option gives, within its range, or else its default, which may be none
+-- the number, within its range, that an option gives, or its default if it is not given, which may be none
 abbrev pub IsGivenIf : NumberOption → List Setting → Option ℕ → Type 0
 IsGivenIf option settings given = MatchOption (value_in option.name settings) (given ≡ option.default) (λ word. (n : ℕ) × (given ≡ Some n) × IsNumber option.low option.high word n)
 
@@ -20,11 +20,11 @@ IsGivenIf option settings given = MatchOption (value_in option.name settings) (g
 abbrev pub IsGivenId : List ℕ → ℕ → List Setting → ℕ → Type 0
 IsGivenId name default settings id = MatchOption (value_in name settings) (id ≡ default) (λ word. IsId word id)
 
--- the stream id that the option of this name gives, or else none
+-- the stream id that the option of this name gives, or none
 abbrev pub IsGivenIdIf : List ℕ → List Setting → Option ℕ → Type 0
 IsGivenIdIf name settings given = MatchOption (value_in name settings) (given ≡ None) (λ word. (id : ℕ) × (given ≡ Some id) × IsId word id)
 
--- the number, which may be negative, that an option gives, within its range, or else its default
+-- the number, within its range and possibly negative, that an option gives, or its default if it is not given
 abbrev pub IsGivenSigned : SignedOption → List Setting → ℤ → Type 0
 IsGivenSigned option settings z = MatchOption (value_in option.name settings) (z ≡ option.default) (λ word. IsSigned option.most word z)
 

@@ -34,7 +34,7 @@ use Rattle.avtp_words.specs.Options.{Row, Setting, words_of, AreSettings, gatewa
 
 -- ---- what a command line asks for, without its names' location in memory
 
--- a file that is written: its name, and the position of the name among the words, from 0
+-- a file that is written: its name, and the position of the name among the words of the command line, from 0
 pub record NamedFile : Type 0 where
   pub name : List ℕ
   pub place : ℕ
@@ -74,8 +74,8 @@ pub record Agreeing : Type 0 where
   pub a : List ℕ
   pub b : List ℕ
 
--- what `gateway` is asked for: the stream and the listener to it, the format and the stream id of the capture that is written,
--- and the captures that are read and written
+-- what `gateway` is asked for: the stream and the listener to it, the format and the stream id in the capture that is written,
+-- and the names of the captures that are read and written
 pub record Turning : Type 0 where
   pub listener : ListenerOptions
   pub to : GatewayFormat
@@ -190,7 +190,7 @@ check_form = record {
   operands = operand.Names ∷ [];
 }
 
--- the options that make a listener, whichever command it serves
+-- the options that make a listener, for each command that listens
 abbrev pub listener_rows : List Row
 listener_rows =
     number limits.limit ∷
@@ -292,7 +292,7 @@ pub record IsCheck (words : List (List ℕ)) (limit : ℕ) (files : List (List �
   pub line : IsOf check_form words settings files
   pub limit_given : IsGiven limits.limit settings limit
 
--- The option with this name gives this file, whose place is that of its name among the words: right after the option.
+-- The option with this name gives this file. The file's place is that of its name among the words: right after the option.
 pub record NamesFile (words : List (List ℕ)) (settings : List Setting) (option : List ℕ) (file : NamedFile) : Type 0 where
   pub value : value_in option settings ≡ Some file.name
   pub before : ℕ
@@ -305,7 +305,7 @@ abbrev pub IsGivenFile : List (List ℕ) → List Setting → List ℕ → Optio
 IsGivenFile words settings option None = value_in option settings ≡ None
 IsGivenFile words settings option (Some file) = NamesFile words settings option file
 
--- Words ask for raw audio in this file, with this silence.
+-- Words ask for raw audio in this file, with silence of this sort.
 pub record SaysRaw (words : List (List ℕ)) (settings : List Setting) (raw : NamedRaw) : Type 0 where
   pub file : NamesFile words settings (codes "--raw") raw.file
   pub silence : IsGivenSilence settings raw.silence
@@ -350,8 +350,8 @@ pub record SaysAgree (words : List (List ℕ)) (asked : Agreeing) : Type 0 where
   pub line : IsOf agree_form words settings (id ∷ asked.a ∷ asked.b ∷ [])
   pub listener : SaysListener settings id asked.listener
 
--- What `gateway` is asked for, each word by itself. A rule over several words is among these facts: `--to` is given. The stream
--- keeps its id if no other is given.
+-- What `gateway` is asked for, each word by itself, and one rule over several words: `--to` must be given. The stream keeps its
+-- id if `--id` is not given.
 pub record SaysGateway (words : List (List ℕ)) (asked : Turning) : Type 0 where
   pub settings : List Setting
   pub id : List ℕ
@@ -360,13 +360,13 @@ pub record SaysGateway (words : List (List ℕ)) (asked : Turning) : Type 0 wher
   pub to_given : value_in (codes "--to") settings ≡ Some (gateway_format_name asked.to)
   pub id_given : IsGivenId (codes "--id") asked.listener.stream settings asked.id
 
--- An AAF stream: of this format of samples, and sparse or not.
+-- The words ask for an AAF stream of this sample format, sparse or not.
 pub record SaysAaf (words : List (List ℕ)) (settings : List Setting) (format : AafFormat) (sparse : Bool) : Type 0 where
   pub kind : IfSome (value_in (codes "--kind") settings) (λ word. word ≡ codes "aaf")
   pub format_given : IsGivenFormat (codes "--format") Int16 settings format
   pub sparse_given : IsTrue sparse ↔ Contains words (codes "--sparse")
 
--- An H.264 stream: its NAL units stamped in each packet, or in their last fragment alone.
+-- The words ask for an H.264 stream: each packet of a NAL unit has a timestamp, or only the unit's last fragment has one.
 pub record SaysVideo (words : List (List ℕ)) (settings : List Setting) (last_stamp : Bool) : Type 0 where
   pub kind : value_in (codes "--kind") settings ≡ Some (codes "h264")
   pub last_stamp_given : IsTrue last_stamp ↔ Contains words (codes "--last-stamp")
@@ -413,15 +413,15 @@ pub record FitsSamples (format : AafFormat) (asked : Talking) : Type 0 where
   pub rate : (code : ℕ) × (rate_of code ≡ Some asked.rate)
   pub size : asked.count * frame_size asked.channels format ≤ limits.samples
 
--- An AM824 stream has a sample rate of IEC 61883-6. A packet has at least an eighth of its SYT interval, which stamps a block
--- in every 8 packets. A block has at most 256 quadlets, and the blocks of a packet fit into it.
+-- An AM824 stream has a sample rate of IEC 61883-6. A packet has at least an eighth of its SYT interval, so each 8 packets have
+-- a stamped block. A block has at most 256 quadlets, and the blocks of a packet fit into it.
 pub record FitsBlocks (asked : Talking) : Type 0 where
   pub rate : (fdf : ℕ) × (rate_of_fdf fdf ≡ Some asked.rate) × IsSomeAnd (syt_interval fdf) (λ interval. interval ≤ 8 * asked.count)
   pub quadlets : asked.channels ≤ limits.quadlets
   pub size : asked.count * block_size asked.channels ≤ limits.blocks
 
--- what is asked of `talk` fits its kind: the format has the rate, and a packet fits an Ethernet frame; H.264 has at most 240
--- access units a second
+-- what `talk` is asked for fits the kind of its stream: the format has the rate, and a packet fits an Ethernet frame; H.264 has
+-- at most 240 access units a second
 abbrev pub FitsKind : Kind → Talking → Type 0
 FitsKind (Aaf format sparse) asked = FitsSamples format asked
 FitsKind Am824 asked = FitsBlocks asked
@@ -432,14 +432,14 @@ FitsKind (H264 last_stamp) asked = asked.rate ≤ limits.access_units
 abbrev pub spacing_of : Crf → ℕ → ℕ
 spacing_of crf rate = crf.interval * rate * pull_down crf.pull / (crf.rate * pull_up crf.pull)
 
--- A run of `packets` packets has as many sample frames as 8 clock packets, or a multiple of that. Without restarts there is no
--- condition.
+-- The sample frames from one restart to the next, `packets` times `count`, are those of a multiple of 8 whole clock packets.
+-- Without restarts there is no condition.
 abbrev pub HasWholeRuns : Crf → ℕ → ℕ → Option ℕ → Type 0
 HasWholeRuns crf rate count None = ⊤
 HasWholeRuns crf rate count (Some packets) = packets * count % (8 * spacing_of crf rate * crf.points) ≡ 0
 
--- A clock fits a stream of `rate` sample frames a second, with `count` in a packet, and possibly with restarts: its timestamps
--- are at whole sample frames, and its runs are whole.
+-- A clock fits a stream of `rate` sample frames a second, with `count` in a packet: its timestamps are at whole sample frames,
+-- and between two restarts there is a multiple of 8 whole clock packets.
 pub record FitsStream (crf : Crf) (rate count : ℕ) (restart : Option ℕ) : Type 0 where
   pub whole : crf.interval * rate * pull_down crf.pull % (crf.rate * pull_up crf.pull) ≡ 0
   pub runs : HasWholeRuns crf rate count restart
@@ -482,7 +482,7 @@ of_restart = codes "--jump" ∷ []
 abbrev pub of_clock : List (List ℕ)
 of_clock = codes "--crf-interval" ∷ codes "--crf-points" ∷ codes "--crf-rate" ∷ codes "--crf-pull" ∷ []
 
--- Each option of `talk` among the words is one that the kind has, and comes with the option that it needs.
+-- Each option of `talk` among the words is one that the kind has, and the option that it needs, if any, is given, too.
 pub record FitsOptions (kind : Kind) (words : List (List ℕ)) : Type 0 where
   pub kind_has : Lacks words (lacking kind)
   pub restart : Need words (codes "--restart") of_restart
@@ -500,15 +500,15 @@ pub record KeepsRules (words : List (List ℕ)) (asked : Talking) : Type 0 where
 abbrev pub of_raw : List (List ℕ)
 of_raw = codes "--silence" ∷ []
 
--- The rules over several words after `listen`: `--silence` needs raw audio, and each file that is written has a
--- different name from each that is read, and from the other.
+-- The rules over several words after `listen`: `--silence` needs `--raw`, and each file that is written has a different name
+-- from each file that is read, and from the other one that is written.
 pub record KeepsNames (words : List (List ℕ)) (asked : Listening) : Type 0 where
   pub silence : Need words (codes "--raw") of_raw
   pub new_raw : IfSome asked.raw (λ raw. Contains asked.files raw.file.name → ⊥)
   pub new_annexb : IfSome asked.annexb (λ file. Contains asked.files file.name → ⊥)
   pub apart : IfSome asked.raw (λ raw. IfSome asked.annexb (λ file. raw.file.name ≢ file.name))
 
--- The other rule over several words after `gateway`: the file written differs from the one read.
+-- A rule over several words after `gateway`: the file written differs from the one read.
 pub record KeepsOutput (asked : Turning) : Type 0 where
   pub apart : asked.input ≢ asked.output
 
@@ -532,7 +532,7 @@ pub record IsLine (words : List (List ℕ)) : Type 0 where
   pub names : List (List ℕ)
   pub line : IsOf form words settings names
 
--- the words begin a line of L: followed by some words they are one
+-- the words begin a line of L: with some more words they are one
 pub record Begins (L : List (List ℕ) → Type 0) (words : List (List ℕ)) : Type 0 where
   pub more : List (List ℕ)
   pub whole : L (words ++ more)
@@ -542,8 +542,8 @@ abbrev pub Stops : (List (List ℕ) → Type 0) → List (List ℕ) → List (Li
 Stops L before [] = L before → ⊥
 Stops L before (next ∷ _) = Begins L (before ++ next ∷ []) → ⊥
 
--- The first `place` words begin a line of L, but together with the next one they begin none; or they are all words, and not a
--- line.
+-- The first `place` words begin a line of L, and with the next word they begin none; or there is no next word, and they are no
+-- line themselves.
 pub record StopsAt (L : List (List ℕ) → Type 0) (words : List (List ℕ)) (place : ℕ) : Type 0 where
   pub before : List (List ℕ)
   pub rest : List (List ℕ)

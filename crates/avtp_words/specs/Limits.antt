@@ -38,7 +38,7 @@ signed option = record { name = option.name; takes = Signed option.most }
 abbrev pub limit : NumberOption
 limit = option (codes "--limit") 1 (2 ^ 40) (Some (2 ^ 40))
 
--- listen, agree and gateway: the most packets that wait
+-- listen, agree and gateway: the most packets that wait for their presentation time
 abbrev pub buffer : NumberOption
 buffer = option (codes "--buffer") 1 65536 (Some 4096)
 
@@ -88,7 +88,7 @@ count = option (codes "--count") 1 1476 (Some 6)
 abbrev pub start : NumberOption
 start = option (codes "--start") 0 (4 * 10 ^ 18) (Some (10 ^ 9))
 
--- talk: the packets after which the media clock restarts
+-- talk: the number of packets from one media clock restart to the next
 abbrev pub restart : NumberOption
 restart = option (codes "--restart") 8 (10 ^ 9) None
 
@@ -116,7 +116,7 @@ crf_pull = option (codes "--crf-pull") 0 5 (Some 0)
 abbrev pub packets : ℕ
 packets = 1000000
 
--- talk: the default of the stream id
+-- talk: the default stream id
 abbrev pub talk_id : ℕ
 talk_id = 0x0200000000010001
 

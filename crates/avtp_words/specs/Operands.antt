@@ -13,7 +13,7 @@ IsOperand Name word = IsName word
 IsOperand Names word = IsName word
 IsOperand Packets word = (n : ℕ) × IsNumber 0 limits.packets word n
 
--- Each word is the operand of its place, and no word is missing or left over. `Names` takes all remaining words, at least one.
+-- Each word is valid at its place, and no word is missing or left over. `Names` takes all remaining words, at least one.
 abbrev pub AreOperands : List Operand → List (List ℕ) → Type 0
 AreOperands [] [] = ⊤
 AreOperands [] (word ∷ words) = ⊥

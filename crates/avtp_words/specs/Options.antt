@@ -1,4 +1,4 @@
--- The options of a command: those that it knows, those that were given, and when the two agree.
+-- The options of a command: those that it knows, and those that are given.
 use Rattle.std.specs.Prelude.{◌≡◌, ◌≢◌, ℕ, ℤ, List, ◌∷◌, Bool, true, false, IsTrue, Option, Some, None, option_to_list, option_and_then, IsSomeAnd, All, AllPairs, codes, ◌⊎◌}
 use Rattle.std.specs.List.{find}
 use Rattle.std.specs.Str.{bytes_eq}
@@ -20,23 +20,23 @@ pub record Row : Type 0 where
 abbrev pub row_named : List Row → List ℕ → Option Row
 row_named rows name = find (λ row. bytes_eq row.name name) rows
 
--- an option as it is given: its name, and its value if it has one
+-- an option that is given: its name, and its value if it has one
 pub record Setting : Type 0 where
   pub name : List ℕ
   pub value : Option (List ℕ)
 
--- the words of an option as it is given
+-- the words of an option that is given
 abbrev pub words_of : Setting → List (List ℕ)
 words_of s = s.name ∷ option_to_list s.value
 
--- the word of a format
+-- the word that names a sample format
 abbrev pub format_name : AafFormat → List ℕ
 format_name Int16 = codes "int16"
 format_name Int24 = codes "int24"
 format_name Int32 = codes "int32"
 format_name Float32 = codes "float32"
 
--- the word of a format that `gateway` writes
+-- the word that names a format that `gateway` writes
 abbrev pub gateway_format_name : GatewayFormat → List ℕ
 gateway_format_name Am824 = codes "am824"
 gateway_format_name Aaf = codes "aaf"
@@ -75,7 +75,7 @@ pub record IsSetting (rows : List Row) (s : Setting) : Type 0 where
   pub dash : BeginsWithDash s.name
   pub value : IsSomeAnd (row_named rows s.name) (λ row. IsTaken row.takes s.value)
 
--- options in any order, each at most once
+-- options in any order, each of the table with a value that it takes, and at most once
 pub record AreSettings (rows : List Row) (settings : List Setting) : Type 0 where
   pub each : All (IsSetting rows) settings
   pub once : AllPairs (λ s t. s.name ≢ t.name) settings

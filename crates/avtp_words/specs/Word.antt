@@ -1,4 +1,4 @@
--- Words: each is seen as the list of its bytes.
+-- Words, each as the list of its bytes.
 use Rattle.std.specs.Prelude.{◌≡◌, ◌≢◌, ℕ, ◌<◌, ◌^◌, List, [], ◌∷◌, Ok, map, string_bytes, String}
 use Rattle.std.specs.Int.{w64, to_be_bytes}
 use Rattle.std.specs.declared.alloc.Global.{Global}
@@ -18,7 +18,7 @@ abbrev pub IsName : List ℕ → Type 0
 IsName [] = ⊥
 IsName (first ∷ _) = first ≢ 45
 
--- the word is a stream id: sixteen hexadecimal digits of either case, the highest first
+-- the word is a stream id: sixteen hexadecimal digits, in lower or upper case, the highest first
 pub record IsId (word : List ℕ) (id : ℕ) : Type 0 where
   pub fits : id < 2 ^ 64
   pub digits : decode_sized word 8 ≡ Ok (to_be_bytes w64 id)

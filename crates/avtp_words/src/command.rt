@@ -1,4 +1,4 @@
-//! The commands, and the grammar that words are read by.
+//! The commands, and how words are read as one.
 
 ghost use Rattle.std.specs.Prelude.{◌≡◌, ℕ, ◌+◌, ◌-◌, ◌^◌, ◌<◌, ◌∷◌, codes, IfOk, IfErr, IsOkAnd, IsErrAnd};
 ghost use Rattle.avtp_words.specs.Grammar.{Request, request_of, IsCommandLine, IsOffence};
@@ -13,7 +13,7 @@ use crate::option::word_at;
 use crate::talk::{Talk, read_talk};
 use crate::value::number_after;
 
-/// A command, as the words ask for it.
+/// A command that the words ask for.
 #[derive(Clone, Copy, Debug, PartialEq, Eq)]
 pub enum Command<'a> {
     /// Print what each packet of the capture `file` holds, and read at most `limit` bytes of it.
@@ -65,7 +65,7 @@ pub fn parse(words: &[String]) -> Result<Command<'_>, Offence>
     // The words are a command line, and ask for that.
     ensures found { IfOk result (λ command. IsCommandLine (texts words.now) (request_of command)) }
 
-    // Each command line is read as the command that it asks for, and so asks for only one.
+    // Each command line is read as the command that it asks for, so it asks for only one.
     ensures only { (request : Request) → IsCommandLine (texts words.now) request →
         IsOkAnd result (λ command. request_of command ≡ request) }
 

@@ -13,8 +13,8 @@ use crate::limits::{
 use crate::value::{byte_after, id_if, short_number_after, small_number_after};
 use clock_track::{pull_down, pull_up};
 
-/// A media clock that is sent with a stream (IEEE 1722-2016, 10). Its timestamps are at whole sample frames of the stream, and
-/// if the stream restarts, each run of it is a multiple of 8 whole packets of the clock.
+/// A media clock that is sent with a stream (IEEE 1722-2016, 10). Its timestamps are at whole sample frames of the stream. If
+/// the stream restarts, there is a multiple of 8 whole clock packets between two restarts.
 #[derive(Clone, Copy, Debug, PartialEq, Eq)]
 pub struct Crf {
     /// The stream ID of the clock.
@@ -25,7 +25,7 @@ pub struct Crf {
     pub pull: u8,
     /// The events of the clock from one timestamp to the next, 1 to 65,535.
     pub interval: u16,
-    /// The timestamps of a packet, 1 to 180.
+    /// The number of timestamps in a packet, 1 to 180.
     pub points: u8,
 }
 
@@ -85,7 +85,7 @@ impl Crf {
         u64::from(self.interval) * u64::from(rate) * pull_down(self.pull)
     }
 
-    /// Whether each run is a multiple of 8 whole packets of the clock.
+    /// Whether the sample frames between two restarts, if there are any, are those of a multiple of 8 whole clock packets.
     fn has_whole_runs(self, spacing: u64, rate: u32, count: u32, restart: Option<u32>) -> bool
         requires spacing { spacing ≡ spacing_of self rate }
         requires some { 1 ≤ spacing }

@@ -11,7 +11,7 @@ use crate::option::{lacks_word, place_of, word_after, word_at};
 /// A file that is written.
 #[derive(Clone, Copy, Debug, PartialEq, Eq)]
 pub struct DeviceFile<'a> {
-    /// Its name.
+    /// The file's name.
     pub name: &'a str,
     /// The position of the name among the words of the command line, from 0.
     pub place: usize,
@@ -31,11 +31,11 @@ pub enum Silence {
 pub struct RawFile<'a> {
     /// The file.
     pub file: DeviceFile<'a>,
-    /// What silence is made of, which is written for missing packets.
+    /// What is written as silence for missing packets.
     pub silence: Silence,
 }
 
-/// The file that the option with this name gives, if it is given. Its place counts the command, too.
+/// The file that the option with this name gives, if it is given. Its place counts the command as word 0.
 pub fn file_after<'a>(options: &'a [String], name: &str) -> Option<DeviceFile<'a>>
     ensures { IsReadFile name.now (texts options.now) (option_map named_file result) }
 {

@@ -1,4 +1,4 @@
-//! The command `gateway`: which stream of a capture to turn into the other format.
+//! The command `gateway`: which stream of a capture to convert to the other format.
 
 ghost use Rattle.std.specs.Prelude.{◌≡◌, ◌∷◌, codes, IfOk, IfErr, IfSome, IfNone, Some, take};
 ghost use Rattle.avtp_words.specs.Grammar.{IsCommandLine, IsOffence, SaysGateway, gateway_form, request_of, turning_of};
@@ -22,7 +22,7 @@ pub enum GatewayFormat {
     Aaf,
 }
 
-/// Which stream of a capture to turn into which format, and by which listener it is presented.
+/// Which stream of a capture to convert to which format, and by which listener it is presented.
 #[derive(Clone, Copy, Debug, PartialEq, Eq)]
 pub struct Gateway<'a> {
     /// The stream, and the listener to it.
@@ -55,8 +55,8 @@ pub fn read_gateway(words: &[String]) -> Result<Command<'_>, Offence>
     }
 }
 
-/// What the words after `gateway` ask for, each by itself. The first operand is at this place, and the options before it give
-/// this format.
+/// What the words after `gateway` ask for, each by itself. The first operand is at `place`, and the options before it give the
+/// format `to`.
 fn read_words(words: &[String], place: usize, to: GatewayFormat) -> Gateway<'_>
     requires rest { IsRestTo gateway_form.rows gateway_form.operands (texts words.now) place }
     requires to { value_after (codes "--to") (texts (take place words.now)) ≡ Some (gateway_format_name to) }

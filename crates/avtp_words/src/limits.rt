@@ -3,7 +3,7 @@
 use crate::option::{OptionRow, Takes};
 use aaf_format::AafFormat;
 
-/// The most bytes that are read of a capture if no `--limit` is given, and the highest limit: 1 TiB.
+/// The greatest value of `--limit`, the most bytes that are read of a capture, and its default: 1 TiB.
 pub const MAX_LIMIT: u64 = 1 << 40;
 
 pub const SHOW_OPTIONS: [OptionRow; 1] = [LIMIT];
@@ -72,7 +72,7 @@ pub const BUFFER: OptionRow = OptionRow {
 
 pub const BUFFER_DEFAULT: u32 = 4_096;
 
-/// How many bytes they may hold: at most 1 GiB, by default 64 MiB.
+/// How many bytes the packets that wait may hold: at most 1 GiB, by default 64 MiB.
 pub const ROOM: OptionRow = OptionRow {
     name: "--room",
     takes: Takes::Number {
@@ -121,7 +121,7 @@ pub const RAW: OptionRow = OptionRow {
     takes: Takes::Name,
 };
 
-/// What silence in it is made of, by default bytes of 0.
+/// What silence in the raw audio is made of, by default bytes of 0.
 pub const SILENCE: OptionRow = OptionRow {
     name: "--silence",
     takes: Takes::Silence,
@@ -196,7 +196,7 @@ pub const H264_LACKS: [OptionRow; 11] = [
     CRF_PULL,
 ];
 
-/// The options that need `--restart`, and those that need `--crf`.
+/// The options that need `--restart`. Those that need `--crf` are the next ones.
 pub const RESTART_OPTIONS: [OptionRow; 1] = [JUMP];
 
 pub const CLOCK_OPTIONS: [OptionRow; 4] = [CRF_INTERVAL, CRF_POINTS, CRF_RATE, CRF_PULL];

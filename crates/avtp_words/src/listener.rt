@@ -1,4 +1,4 @@
-//! A listener, as the words of any command that listens ask for it.
+//! A listener, by the options of any command that listens.
 
 ghost use Rattle.std.specs.Prelude.{◌≡◌};
 ghost use Rattle.avtp_words.specs.state.Reading.{IsReadListener};
@@ -19,7 +19,7 @@ pub struct ListenerOptions {
     pub limit: u64,
     /// The most packets that wait for their presentation time, 1 to 65,536.
     pub buffer: u32,
-    /// The most bytes in them, 1 to 1,073,741,824.
+    /// The most bytes in the packets that wait, 1 to 1,073,741,824.
     pub room: u32,
     /// How many later items are read before an item is judged, 0 to 64.
     pub look: u32,
@@ -32,7 +32,7 @@ pub struct ListenerOptions {
     pub shift: i64,
 }
 
-/// A listener to this stream, by the options of its command.
+/// The listener to this stream that the options of a command ask for.
 pub fn listener_after(options: &[String], stream: u64) -> ListenerOptions
     ensures stream { result.stream ≡ stream }
     ensures read { IsReadListener (texts options.now) result }

@@ -28,8 +28,8 @@ pub fn is_number(word: &str, low: u64, high: u64) -> bool
     }
 }
 
-/// The number that a word spells as for [`number_of`], or with one `-` before a number that is not 0. `None` if the word is not
-/// a number from -(2^63 - 1) to 2^63 - 1.
+/// The number that a word spells in decimal digits without a leading zero, with a `-` before them if it is below 0. `None` if
+/// the word is not a number from -(2^63 - 1) to 2^63 - 1.
 pub fn signed_number_of(word: &str) -> Option<i64>
     ensures spelled { IfSome result (λ z. word.now ≡ signed_decimal z) }
     ensures size { IfSome result (λ z. unsigned_abs z < 2 ^ 63) }
@@ -67,7 +67,7 @@ fn negative_of(digits: &str) -> Option<i64>
     }
 }
 
-/// What follows a first `-`.
+/// The rest of a word after a first `-`.
 fn after_minus(word: &str) -> Option<&str>
     ensures { MatchOption result ((rest : List ℕ) → word.now ≢ 45 ∷ rest) (λ rest. word.now ≡ 45 ∷ rest.now) }
 {

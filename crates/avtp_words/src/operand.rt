@@ -58,7 +58,7 @@ pub struct StreamAndTwo<'a> {
     pub second: &'a str,
 }
 
-/// What the operands of such a command name.
+/// The stream and the captures that the operands of a command name.
 pub fn stream_and_two(operands: &[String]) -> StreamAndTwo<'_>
     requires { AreOperands stream_operands (texts operands.now) }
     ensures { NameStreamAndTwo (texts operands.now) result.stream result.first.now result.second.now }
@@ -76,7 +76,7 @@ pub fn stream_and_two(operands: &[String]) -> StreamAndTwo<'_>
     }
 }
 
-/// The stream id that a word spells, in sixteen hexadecimal digits of either case.
+/// The stream id that a word spells in sixteen hexadecimal digits, in lower or upper case.
 pub fn id_of(word: &str) -> Option<u64>
     ensures spelled { IfSome result (λ id. IsId word.now id) }
     ensures none { IfNone result ((id : ℕ) → IsId word.now id → ⊥) }
@@ -145,7 +145,7 @@ fn first_wrong(operands: &[Operand], words: &[String]) -> Option<usize>
     }
 }
 
-/// The place, from 0, of the first operand among the words after a command. The position of an offence counts the command, too.
+/// The place, from 0, of the first operand among the words after a command. The position of an offence counts the command as 1.
 pub fn operands_at(
     rows: &[OptionRow],
     operands: &[Operand],

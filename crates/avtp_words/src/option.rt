@@ -129,14 +129,14 @@ fn has_one(words: &[String], options: &[OptionRow]) -> bool
     options.iter().any(|option| contains(words, option.name))
 }
 
-/// Whether the words have the option that these options need, if they have one of these.
+/// Whether the words have the option `needed`, if they have one of `options`.
 pub fn have_needed(words: &[String], needed: &str, options: &[OptionRow]) -> bool
     ensures { IsTrue result ↔ Need (texts words.now) needed.now (names_of options.now) }
 {
     contains(words, needed) || lacks(words, options)
 }
 
-/// How many words at a place are the value of an option: 0 if it takes no value, else 1. `None` if the word there is not a
+/// How many words at a place are the value of an option: 0 if it takes no value, otherwise 1. `None` if the word there is not a
 /// value of the option.
 fn value_len(words: &[String], place: usize, takes: Takes) -> Option<usize>
     ensures some { IfSome result (IsTakenAt takes (texts words.now) place) }
@@ -151,7 +151,8 @@ fn value_len(words: &[String], place: usize, takes: Takes) -> Option<usize>
     }
 }
 
-/// How many of the words after a command are its options. Names follow them.
+/// How many of the words after a command are its options, which come first, or the place of the first word that is not
+/// accepted.
 pub fn options_len(rows: &[OptionRow], words: &[String]) -> Result<usize, usize>
     requires { IsTrue (are_sound (rows_of rows.now)) }
     ensures ok { IfOk result (EndsOptions (rows_of rows.now) (texts words.now)) }

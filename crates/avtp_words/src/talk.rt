@@ -27,7 +27,7 @@ use crate::value::{
 use aaf_format::{AafFormat, rate_of, width_of};
 use iec61883_format::{rate_of_fdf, syt_interval};
 
-/// What a stream is made of.
+/// The kind of a stream.
 #[derive(Clone, Copy, Debug, PartialEq, Eq)]
 pub enum Kind {
     /// PCM in the AVTP audio format (IEEE 1722-2016, 7). The format is that of the samples in the input and in the
@@ -35,8 +35,8 @@ pub enum Kind {
     Aaf { format: AafFormat, sparse: bool },
     /// AM824 (IEC 61883-6): the input is quadlets as they are sent.
     Am824,
-    /// H.264 (IEEE 1722-2016, 8; RFC 6184): the input is a byte stream of NAL units. Each is stamped in each of its packets,
-    /// or in its last fragment alone.
+    /// H.264 (IEEE 1722-2016, 8; RFC 6184): the input is a byte stream of NAL units. Each packet of a unit has a timestamp, or
+    /// only its last fragment has one.
     H264 { last_stamp: bool },
 }
 
@@ -47,7 +47,7 @@ pub struct Talk<'a> {
     pub kind: Kind,
     /// The sample rate in Hz, one of those of the kind; for H.264 the access units in a second, 1 to 240.
     pub rate: u32,
-    /// The channels of each sample frame, 1 to 1023, for AM824 at most 256. H.264 uses neither this nor the count.
+    /// The channels of each sample frame, 1 to 1023, for AM824 at most 256. H.264 uses neither the channels nor the count.
     pub channels: u16,
     /// The sample frames of a packet, or its data blocks for AM824. At least 1, with at most 1,476 bytes together; for
     /// AM824 at least an eighth of SYT_INTERVAL, with at most 1,468 bytes.
@@ -133,7 +133,7 @@ fn read_options<'a>(options: &[String], kind: Kind, input: &'a str, output: &'a 
     }
 }
 
-/// The kind of the stream, with `--sparse` for AAF and `--last-stamp` for H.264.
+/// The kind of the stream. The word `--sparse` counts for AAF, and `--last-stamp` for H.264.
 fn kind_after(options: &[String], sparse: bool, last_stamp: bool) -> Kind
     ensures { IsReadKind (texts options.now) sparse last_stamp result }
 {
@@ -244,8 +244,8 @@ fn has_rate(codes: &[u8], rate: u32) -> bool
 /// The codes FDF that name a sample rate (IEC 61883-6).
 const FDF_CODES: [u8; 7] = [0, 1, 2, 3, 4, 5, 6];
 
-/// Whether IEC 61883-6 has a sample rate, and a packet of `count` data blocks has at least an eighth of its SYT_INTERVAL, which
-/// stamps a block in every eight packets.
+/// Whether IEC 61883-6 has a sample rate, and a packet of `count` data blocks has at least an eighth of its SYT_INTERVAL, so
+/// each eight packets have a stamped block.
 fn suits_blocks(rate: u32, count: u32) -> bool
     ensures { IsTrue result ↔ ((fdf : ℕ) × (rate_of_fdf_code fdf ≡ Some rate) × IsSomeAnd (interval_of_code fdf) (λ interval. interval ≤ 8 * count)) }
 {

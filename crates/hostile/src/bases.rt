@@ -1,4 +1,4 @@
-//! What captures are drawn from: streams of conforming talkers, and the vectors.
+//! What damaged captures are made from: streams of conforming talkers, and the vectors.
 
 use crate::commands::talked;
 use crate::draws::Draws;
@@ -32,7 +32,7 @@ pub struct Bases {
 }
 
 impl Bases {
-    /// Has each talker talk.
+    /// Makes the stream of each talker.
     pub fn new<T: Threads + Sync>(rt: &T, alloc: Global) -> Result<Self, NoMemory> {
         let input = input(alloc)?;
         let labelled = labelled(alloc, &input)?;
@@ -81,7 +81,7 @@ fn input(alloc: Global) -> Result<Vec<u8>, NoMemory> {
     Ok(bytes)
 }
 
-/// The same bytes as AM824: each quadlet has the label of linear audio.
+/// The input as AM824: each quadlet has the label of linear audio.
 fn labelled(alloc: Global, input: &[u8]) -> Result<Vec<u8>, NoMemory> {
     let mut bytes = Vec::new(alloc);
     for (place, byte) in input.iter().enumerate() {
@@ -90,7 +90,7 @@ fn labelled(alloc: Global, input: &[u8]) -> Result<Vec<u8>, NoMemory> {
     Ok(bytes)
 }
 
-/// Records of the vectors' packets, each in a frame as the first one has it.
+/// Records of the vectors' packets, each in a frame like that of the first vector.
 fn vectors(alloc: Global) -> Result<Vec<Record>, NoMemory> {
     let first = vector(alloc, 1)?;
     let mut records = records_of(alloc, &first, MOST)?;

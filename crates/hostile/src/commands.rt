@@ -15,7 +15,7 @@ const IN: &str = "in";
 /// The name of the file that `talk` makes.
 const OUT: &str = "out";
 
-/// What a run gave.
+/// The result of a run.
 #[derive(PartialEq, Eq, Drop)]
 struct Report {
     /// The command, what it printed, the size of the file that it made, if any, and the status.
@@ -26,7 +26,7 @@ struct Report {
 /// What is wrong with a command over a file.
 #[derive(Clone, Copy, Debug)]
 pub enum Wrong {
-    /// Its text does not follow the grammar, or does not fit its status.
+    /// The command's text does not follow the grammar, or does not fit its status.
     Text,
     /// A second run over the same files gives something else.
     SecondRun,

@@ -5,7 +5,8 @@ use crate::records::{LONGEST, Record, spelled};
 use avtp_base::NoMemory;
 use std::alloc::Global;
 
-/// Times from one half circle of a timestamp to others, in nanoseconds, and more than a capture may have.
+/// Large distances in time, in nanoseconds: multiples of half the range of an AVTP timestamp, up to more than a capture can
+/// have.
 const TURNS: [u64; 6] = [0, 1 << 31, 1 << 32, 3 << 31, 1 << 62, 1 << 63];
 
 /// Short times: between packets, and the max transit time.
@@ -52,7 +53,7 @@ fn lengthen(draws: &mut Draws, bytes: &mut Vec<u8>, size: usize) -> Result<(), N
     Ok(())
 }
 
-/// A time that is one of these amounts before or after another one.
+/// A time that is one of the amounts in `by` before or after another one.
 fn moved(draws: &mut Draws, time: u64, by: &[u64]) -> u64 {
     let by = draws.pick(by);
     if draws.one_in(2) {
@@ -85,7 +86,7 @@ fn damage_field(draws: &mut Draws, record: &mut Record) {
     }
 }
 
-/// Cuts a frame, or makes it longer, seldom as long as it may be, or longer.
+/// Cuts a frame, or makes it longer: seldom so that it is about as long as a capture allows.
 fn damage_size(draws: &mut Draws, frame: &mut Vec<u8>) -> Result<(), NoMemory> {
     let size = draws.below(frame.len());
     let more = draws.below(40);
@@ -99,7 +100,7 @@ fn damage_size(draws: &mut Draws, frame: &mut Vec<u8>) -> Result<(), NoMemory> {
     }
 }
 
-/// Damages one record, or the order of all.
+/// Damages one record, or the order of all records.
 fn damage_records(
     alloc: Global,
     draws: &mut Draws,

@@ -7,7 +7,7 @@ use avtp_header::{ETHERTYPE, StreamHeader, subtype};
 use pcap_frames::{FrameView, Order, Style, Tag, Unit, write_frame, write_header, write_record};
 use std::alloc::Global;
 
-/// The id of the first stream. Those of the others follow it.
+/// The id of the first stream. The ids of the others follow it.
 pub const STREAM: u64 = 0x0200_0000_0001_0000;
 
 const STYLE: Style = Style {

@@ -1,4 +1,4 @@
-//! A listener alone.
+//! Measures a listener alone.
 
 ghost use Rattle.std.specs.Prelude.{◌≡◌, ◌+◌, ◌≤◌, ◌^◌, false, length, OnOk};
 ghost use Rattle.pcap_frames.specs.Reading.{taken};

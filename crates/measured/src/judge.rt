@@ -1,4 +1,4 @@
-//! A judge alone.
+//! Measures a judge alone.
 
 ghost use Rattle.std.specs.Prelude.{◌≡◌, ◌+◌, ◌≤◌, ◌<◌, ◌^◌, All, false, length};
 ghost use Rattle.sample_schedule.specs.Judge.{IsIdle, Keeps, taken};

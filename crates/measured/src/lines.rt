@@ -1,4 +1,4 @@
-//! The lines of a media clock.
+//! Measures how fast lines of a media clock are found.
 
 ghost use Rattle.std.specs.Prelude.{◌+◌, ◌^◌, ◌≤◌};
 
@@ -8,10 +8,10 @@ use std::alloc::Global;
 /// The time between two timestamps of the clock, in nanoseconds.
 const PERIOD: u64 = 2_000_000;
 
-/// The bytes of the most timestamps that a packet has.
+/// The most bytes of timestamps in a packet.
 const MOST: usize = 65_528;
 
-/// The packets that a clock keeps.
+/// The number of packets that a clock keeps.
 const WINDOW: u32 = 64;
 
 /// Looks up the lines of `count` samples near the newest timestamps of a clock whose window is full of packets of 1 to
@@ -36,7 +36,7 @@ pub fn lines(alloc: Global, timestamps: u32, count: u32) -> Option<u64>
     Some(found)
 }
 
-/// A number of timestamps, after others before them.
+/// The bytes of `count` timestamps of a clock, which come after `before` others.
 fn timestamps_of(alloc: Global, before: u32, count: u32) -> Option<Vec<u8>>
     requires most { before + count ≤ 2 ^ 31 }
 {

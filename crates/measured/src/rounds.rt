@@ -1,4 +1,4 @@
-//! Items through a ring.
+//! Measures items that go through a ring.
 
 ghost use Rattle.std.specs.Prelude.{◌≡◌, ◌+◌, ◌≤◌, ◌^◌, None};
 ghost use Rattle.presenter_ring.specs.Pipes.{ended_with, given_to};
@@ -42,7 +42,7 @@ impl Receiver for Flags {
     }
 }
 
-/// Counts the items that it gets.
+/// Counts the items that it is given.
 #[derive(Drop)]
 struct Counted {
     items: u64,
@@ -77,7 +77,7 @@ pub fn rounds<T: Threads + Sync>(rt: &T, alloc: Global, capacity: u32, count: u3
     Some(counted.items)
 }
 
-/// Goes on until a round has nothing more to do.
+/// Runs rounds until one has nothing more to do.
 fn drain<T: Threads + Sync, R: Receiver, P: Presenter>(
     rt: &T,
     pipe: &mut Pipe,

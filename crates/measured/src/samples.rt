@@ -1,4 +1,4 @@
-//! The text of samples alone.
+//! Measures the printing of samples alone.
 
 ghost use Rattle.std.specs.Prelude.{◌≡◌, ◌+◌, ◌≤◌, ◌<◌, ◌^◌, All, OnSome, false, length};
 ghost use Rattle.sample_schedule.specs.Judge.{IsIdle, Keeps, taken};
@@ -15,7 +15,7 @@ use std::alloc::Global;
 use std::collections::VecDeque;
 use std::time::{Clock, Instant};
 
-/// A sink that takes all and keeps nothing, and counts the bytes.
+/// A sink that accepts everything and keeps nothing, and counts the bytes.
 #[derive(Drop)]
 struct Counter {
     bytes: u64,
@@ -32,7 +32,7 @@ impl Sink for Counter {
     }
 }
 
-/// Prints batches of six samples of four bytes each, several times. They are made before the clock starts. Returns the
+/// Prints batches of six samples of four bytes each, several times. The batches are made before the clock starts. Returns the
 /// number of bytes of text.
 pub fn samples<C: Clock>(clock: &C, alloc: Global, count: u32, times: u32) -> Option<Timed> {
     let batches = batches(alloc, count)?;

@@ -14,9 +14,9 @@ pub enum Order {
     Rising,
     Falling,
     Random,
-    /// The earliest one, the latest one, the second, the last but one, and so on.
+    /// The earliest instant, the latest, the second, the last but one, and so on.
     Middle,
-    /// All have one instant.
+    /// All packets have one instant.
     Equal,
 }
 
@@ -26,7 +26,7 @@ pub struct Stream {
     pub order: Order,
     /// How many packets wait for their instants at once, 1 to 65,536.
     pub waiting: u32,
-    /// Each sixteenth packet is preceded by one of the clock.
+    /// Whether a packet of the clock comes before each sixteenth packet.
     pub clock: bool,
 }
 
@@ -68,7 +68,7 @@ impl Stream {
         1_000_000_000 + n * self.step()
     }
 
-    /// As many packets as wait at once have their instants while the next ones come.
+    /// The instant of packet n. The packets of each group of `waiting` packets are due while those of the next group come.
     fn instant(&self, n: u32) -> u64
         requires some { 1 ≤ self.now.waiting }
         requires most { self.now.waiting ≤ 65536 }
@@ -140,7 +140,7 @@ impl Stream {
         Ok(())
     }
 
-    /// This many packets, and those of the clock.
+    /// The entries of this many packets, and of the clock's packets.
     pub fn entries(&self, alloc: Global, count: u32) -> Result<Vec<Entry>, NoMemory>
         requires some { 1 ≤ self.now.waiting }
         requires most { self.now.waiting ≤ 65536 }

@@ -1,11 +1,11 @@
--- How many packets are lost, when one more has come.
+-- How many packets are lost after one more packet.
 use Rattle.std.proofs.Common.{◌≡◌, ◌≢◌, ℕ, zero, suc, ◌+◌, ◌-◌, ◌<◌, ◌≤◌, max, nat_lt, Bool, true, false, inl, inr, if◌then◌else◌, List, [], ◌∷◌, refl, sym, ap, ◌∙◌, arith, lt-ltb, le-ltb, eq-eqb}
 use Rattle.std.proofs.lemmas.Bool.{both_ways, cases_eq, cases_lt, cases_Bool}
 use Rattle.stream_report.specs.declared.sequence.Place.TheVariants.{Late, Early, Repeat}
 use Rattle.stream_report.specs.Sequence.{greatest, has_come, missing_among, lost, lost_with, place_of}
 use Rattle.stream_report.proofs.Numbers.{first-least, none-above, come-same, come-other}
 
--- a number counts where it has not come
+-- 1 if a number has not come, otherwise 0
 one : Bool → ℕ
 one come = if come then 0 else 1
 
@@ -94,7 +94,7 @@ among-gap first later number (suc gap) lt =
     end : (m n gap : ℕ) (now : Bool) → m ≡ n + gap → now ≡ false → m + (if now then 0 else 1) ≡ n + suc gap
     end m n gap now e f = rw (f, e) (omega arith)
 
--- a number up to the greatest moves it not
+-- a number that is at most the greatest does not change it
 stays : (n g : ℕ) → n ≤ g → max n g ≡ g
 stays n g le = omega arith
 

@@ -1,4 +1,4 @@
--- What is counted of a stream when one more packet has come.
+-- The counts of a stream after one more packet.
 use Rattle.std.proofs.Common.{◌≡◌, ℕ, zero, suc, ◌+◌, ◌-◌, ◌^◌, ◌<◌, ◌≤◌, max, min, nat_lt, Bool, true, false, inl, inr, if◌then◌else◌, List, [], ◌∷◌, length, refl, sym, ap, ◌∙◌, arith, lt-ltb, le-ltb}
 use Rattle.std.proofs.lemmas.Bool.{cases_lt, cases_Bool}
 use Rattle.stream_report.specs.declared.order.Order.{Order}
@@ -39,7 +39,7 @@ late-le first (number ∷ later) = more (late first later) (length later) (nat_l
     more a l false true le = omega (arith, le)
     more a l false false le = omega (arith, le)
 
--- ---- what a place says
+-- ---- what the place of a packet says
 
 -- a packet that is not ahead of all others, and whether its number has come
 pub record Behind (first : ℕ) (later : List ℕ) (number : ℕ) (come : Bool) : Type 0 where
@@ -70,7 +70,7 @@ missing-read first later number missing e = same (e ∙ ap (λ (b : Bool). if b 
         missing-of Early = 0
         missing-of Repeat = 0
 
--- whether the number has come, by a place behind
+-- whether the number of a packet at this place, which is not ahead, has come before
 abbrev pub come-in : Place → Bool
 come-in (Ahead missing) = false
 come-in Late = false
@@ -121,7 +121,7 @@ counts-ahead old new first later number missing counts ahead is passed window fe
     lost-now : {l g a b m d n : ℕ} → l ≤ g → g < 2 ^ 64 → l ≡ a + d → n ≡ min (b + m) (2 ^ 64 - 1) → b ≡ a → m ≡ d → n ≡ l
     lost-now le small e f h i = omega (arith, le, small, e, f, h, i)
 
--- a packet that comes late, or once more
+-- a packet that comes late, or again
 pub counts-behind : (old new : Order) (first : ℕ) (later : List ℕ) (number : ℕ) (come : Bool) → CountsOf old first later → Behind first later number come
     → new.lost.count ≡ lost first (number ∷ later) → new.most_lost ≡ old.most_lost
     → new.repeated.count ≡ old.repeated.count + (if come then 1 else 0) → new.late.count ≡ old.late.count + (if come then 0 else 1)

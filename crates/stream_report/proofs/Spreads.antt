@@ -18,7 +18,7 @@ use Rattle.stream_report.proofs.Counting.{Crossing, below-length, below-no, belo
 
 -- ---- the counts of the buckets
 
--- one more at a place counts in each sum that reaches past it
+-- one more value in a bucket counts in each sum that includes the bucket
 sum-past : (xs : List ℕ) (k y p : ℕ) → k < length xs → k < p → sum (take p (set xs k y)) + get_or xs k 0 ≡ sum (take p xs) + y
 sum-past xs k y p inside before =
     ap (λ (l : List ℕ). sum l + get_or xs k 0) (take-set-lt p xs k y before)
@@ -127,7 +127,7 @@ rank-within n h some le = within (mul-le-mul_left n le)
         part : (x : ℕ) → x ≤ 100 * n → max 1 (x / 100 + min 1 (x % 100)) ≤ n
         part x most = omega (arith, most, some)
 
--- all values are less than where the last bucket ends
+-- all values are below the end of the last bucket
 pub all-below : (spread : Spread) (values : List ℤ) → TellsOf spread values → spread.greatest ≤ℤ pos (2 ^ 63 - 1) → number_below (edge 7424) values ≡ length values
 all-below spread values tells most = omega (arith, all-up values, below-up (greatest_of values) (edge 7424) values under, below-length (edge 7424) values)
   where

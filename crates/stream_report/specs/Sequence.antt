@@ -40,46 +40,46 @@ missing_among first later (suc count) = missing_among first later count + (if ha
 abbrev pub lost : ℕ → List ℕ → ℕ
 lost first later = missing_among first later (greatest first later - first)
 
--- the number of lost packets after a packet at this place: it rises by what the packet skips, and falls by one if the packet is
--- late
+-- the number of lost packets after a packet at this place: it rises by as many packets as are skipped, and falls by one if the
+-- packet is late
 abbrev pub lost_with : ℕ → Place → ℕ
 lost_with before (Ahead missing) = before + missing
 lost_with before Late = before - 1
 lost_with before Early = before
 lost_with before Repeat = before
 
--- how many packets came whose number had come before
+-- how many packets have a number that had come before
 abbrev pub repeats : ℕ → List ℕ → ℕ
 repeats first [] = 0
 repeats first (number ∷ later) = repeats first later + (if has_come first later number then 1 else 0)
 
--- how many packets came for the first time, and not ahead of all that had come
+-- how many packets are neither ahead of all that had come before nor have a number that had come before
 abbrev pub late : ℕ → List ℕ → ℕ
 late first [] = 0
 late first (number ∷ later) = late first later + (if nat_lt (greatest first later) number then 0 else if has_come first later number then 0 else 1)
 
--- the most numbers in a row that a packet passed over when it came
+-- the greatest number of packets that one packet skipped when it came
 abbrev pub most_passed : ℕ → List ℕ → ℕ
 most_passed first [] = 0
 most_passed first (number ∷ later) = max (most_passed first later) (number - greatest first later - 1)
 
--- a number whose place its sequence number shows: at most 192 after the greatest, or one of the 64 up to it
+-- a number that its sequence number determines: at most 192 after the greatest, or one of the 64 up to the greatest
 pub record Follows (first : ℕ) (later : List ℕ) (number : ℕ) : Type 0 where
   pub most : number ≤ greatest first later + 192
   pub least : greatest first later < number + 64
 
--- a number that is ahead of all others, by at most 256
+-- a number that is ahead of all others, and at most 256 after the greatest
 pub record Passes (first : ℕ) (later : List ℕ) (number : ℕ) : Type 0 where
   pub ahead : greatest first later < number
   pub most : number ≤ greatest first later + 256
 
--- a number this far before the greatest, and one of the 64 up to it
+-- a number this far before the greatest, and one of the 64 up to the greatest
 pub record Returns (first : ℕ) (later : List ℕ) (number behind : ℕ) : Type 0 where
   pub place : number + behind ≡ greatest first later
   pub near : behind < 64
 
--- A window describes a stream's packets: its newest number is the greatest modulo 256; it knows which of the 64 numbers up to
--- that have come, and how far before it the first one is.
+-- A window describes a stream's packets: it has the greatest number modulo 256, knows which of the 64 numbers up to the
+-- greatest have come, and how far the first number is before the greatest, at most 64.
 pub record StandsFor (window : Window) (first : ℕ) (later : List ℕ) : Type 0 where
   pub newest : window.newest ≡ greatest first later % 256
   pub came : (number behind : ℕ) → Returns first later number behind → (bit_at window.came behind == 1) ≡ has_come first later number
@@ -90,7 +90,8 @@ pub record Few (first : ℕ) (later : List ℕ) : Type 0 where
   pub numbers : greatest first later < 2 ^ 64
   pub packets : length later < 2 ^ 64
 
--- What is counted of a stream's packets: how many are lost, were repeated and came late, and the most that were passed over at once.
+-- The counts of a stream's packets are right: how many are lost, how many were repeated, how many came late, and the most that
+-- one packet skipped.
 pub record CountsOf (order : Order) (first : ℕ) (later : List ℕ) : Type 0 where
   pub window : StandsFor order.window first later
   pub lost : order.lost.count ≡ lost first later

@@ -1,5 +1,5 @@
--- How values spread: the nearest-rank percentile of values that were noted, and the buckets in which a spread counts them. The values
--- are given as a list, in any order.
+-- How values spread: their nearest-rank percentiles, and the buckets in which a spread counts them. The values are a list, in
+-- any order.
 use Rattle.std.specs.Prelude.{◌≡◌, ℕ, ◌+◌, ◌-◌, ◌*◌, ◌/◌, ◌^◌, ◌<◌, ◌≤◌, max, nat_lt, if◌then◌else◌, List, [], ◌∷◌, length, sum, take, ℤ, pos, negsuc, neg_ℤ, ◌-ℤ◌, ◌≤ℤ◌, int_lt, int_le, unsigned_abs}
 use Rattle.std.specs.Int.{div_ceil, int_max, int_min}
 use Rattle.stream_report.specs.declared.spread.Spread.{Spread}
@@ -14,17 +14,17 @@ abbrev pub number_up_to : ℤ → List ℤ → ℕ
 number_up_to limit [] = 0
 number_up_to limit (value ∷ values) = number_up_to limit values + (if int_le value limit then 1 else 0)
 
--- the rank of a percentile of so many values: the number of values that are to be at most it, and at least 1
+-- the rank of a percentile of `count` values: how many of them must be at most the percentile, and at least 1
 abbrev pub rank : ℕ → ℕ → ℕ
 rank count hundredths = max 1 (div_ceil (count * hundredths) 100)
 
--- The nearest-rank percentile: the value at this rank in order of size. Fewer values than its rank are less than it, and its rank or more
--- are at most it.
+-- The nearest-rank percentile: the value at this rank in order of size. Fewer values than the rank are less than the
+-- percentile, and at least as many values as the rank are at most the percentile.
 pub record NearestRank (values : List ℤ) (hundredths : ℕ) (value : ℤ) : Type 0 where
   pub less : number_below value values < rank (length values) hundredths
   pub enough : rank (length values) hundredths ≤ number_up_to value values
 
--- A percentile that is told is the exact one, rounded up by at most a 64th of its magnitude.
+-- A percentile that is given is the exact one, rounded up by at most a 64th of its magnitude.
 pub record RoundedUp (values : List ℤ) (hundredths : ℕ) (told : ℤ) : Type 0 where
   pub exact : ℤ
   pub percentile : NearestRank values hundredths exact
@@ -35,31 +35,31 @@ pub record RoundedUp (values : List ℤ) (hundredths : ℕ) (told : ℤ) : Type 
 abbrev pub side : ℕ
 side = 3712
 
--- The least magnitude of a bucket. The magnitudes below 128 have a bucket each; the 64 buckets from any higher power of two up to the next
--- are equally wide.
+-- The least magnitude of a bucket. The magnitudes below 128 have a bucket each. From any higher power of two to the next, there
+-- are 64 buckets of equal width.
 unfoldable pub first_in : ℕ → ℕ
 first_in bucket = (bucket - 64 * (bucket / 64 - 1)) * 2 ^ (bucket / 64 - 1)
 
--- the least value of the bucket at a place: first come those of negative values, from the lowest on
+-- the least value of the bucket at a place: first come the buckets of negative values, from the lowest on
 unfoldable pub edge : ℕ → ℤ
 edge place = if nat_lt place side then neg_ℤ (pos (first_in (side - place))) else pos (first_in (place - side))
 
--- the most values of which a spread tells the percentiles
+-- the greatest number of values for which a spread gives percentiles
 abbrev pub most_values : ℕ
 most_values = 2 ^ 32 - 1
 
--- the least of the values; of none the greatest number of 64 bits
+-- the least of the values, or the greatest number of 64 bits if there are none
 abbrev pub least_of : List ℤ → ℤ
 least_of [] = pos (2 ^ 63 - 1)
 least_of (value ∷ values) = int_min (least_of values) value
 
--- the greatest of the values; of none the least number of 64 bits
+-- the greatest of the values, or the least number of 64 bits if there are none
 abbrev pub greatest_of : List ℤ → ℤ
 greatest_of [] = negsuc (2 ^ 63 - 1)
 greatest_of (value ∷ values) = int_max (greatest_of values) value
 
--- A spread tells of values: how many they are, the least and the greatest of them, and in the buckets up to any edge as many as are less
--- than that edge.
+-- A spread describes these values: it has their number, the least and the greatest, and for each edge, the buckets below it
+-- hold as many values as are less than it.
 pub record TellsOf (spread : Spread) (values : List ℤ) : Type 0 where
   pub count : spread.count ≡ length values
   pub few : length values ≤ most_values

@@ -20,7 +20,7 @@ pub enum Format {
         depth: u8,
         sparse: bool,
     },
-    /// AM824 blocks of IEC 61883-6 and the quadlets of each. A packet without data has no rate.
+    /// AM824 data blocks of IEC 61883-6, with the number of quadlets in each. A packet without data has no rate.
     Iec {
         rate: Option<u32>,
         quadlets: u16,
@@ -28,7 +28,7 @@ pub enum Format {
     /// H.264.
     H264,
     /// A media clock: the type of its events, its base frequency, the code of its factor, the events between two timestamps,
-    /// and the timestamps of a packet.
+    /// and the number of timestamps in a packet.
     Crf {
         kind: u8,
         base: u32,
@@ -41,7 +41,7 @@ pub enum Format {
 }
 
 impl Format {
-    /// The nominal rate of its events. `None` if it tells none.
+    /// The nominal rate of the stream's events. `None` if the format does not give it.
     pub fn rate(&self) -> Option<Rate> {
         match *self {
             Format::Aaf { rate, .. } | Format::Iec { rate, .. } => rate.map(Rate::of),
@@ -54,9 +54,9 @@ impl Format {
 /// The labels of a packet's AM824 quadlets.
 #[derive(Clone, Copy)]
 pub struct Labels {
-    /// Those other than 0x40.
+    /// The number of labels other than 0x40.
     pub other: u32,
-    /// The number of those that IEC 61883-6 reserves, and the first of them.
+    /// The number of labels that IEC 61883-6 reserves, and the first of these.
     pub reserved: u32,
     pub first_reserved: u8,
 }
@@ -72,15 +72,15 @@ pub struct Facts {
     pub tu: bool,
     /// A reserved bit is set.
     pub reserved: bool,
-    /// It has a timestamp that it should not have, or lacks one that it should have.
+    /// The packet has a timestamp that it should not have, or lacks one that it should have.
     pub stamp_wrong: bool,
     pub format: Format,
-    /// The number of its sample frames, data blocks, or events of a media clock; 0 for H.264.
+    /// The number of the packet's sample frames, data blocks, or events of a media clock; 0 for H.264.
     pub count: u32,
-    /// The event that its timestamp belongs to, counted from its first.
+    /// The event that the timestamp belongs to, counted from the packet's first event.
     pub anchor: u32,
     pub stamp: Option<Stamp>,
-    /// The block count, modulo 256, of its first data block.
+    /// The block count, modulo 256, of the packet's first data block.
     pub dbc: Option<u8>,
     pub labels: Labels,
 }
@@ -91,7 +91,7 @@ const NO_LABELS: Labels = Labels {
     first_reserved: 0,
 };
 
-/// The facts that the common header tells.
+/// The facts that are in the common header.
 fn header_facts(header: &StreamHeader, format: Format) -> Facts {
     Facts {
         key: StreamKey {

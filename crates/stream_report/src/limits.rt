@@ -1,6 +1,6 @@
 //! The limits from which a verdict is given.
 
-/// A reading of the timestamps explains a stream if at most this part of the timestamps does not fit it.
+/// A reading of the timestamps explains a stream if at most one in this many timestamps does not fit it.
 pub const FEW: u64 = 100;
 
 /// Presentation times further than a quarter of a second after their arrivals mean that the clocks differ. The longest max
@@ -10,7 +10,7 @@ pub const MOST_LEAD: i64 = 250_000_000;
 /// By how much TAI, the time of gPTP, is ahead of UTC since 2017: 37 s.
 pub const TAI_AHEAD: i64 = 37_000_000_000;
 
-/// If a lead is this close after 37 s, in either direction, the clocks differ by 37 s: what remains is a transit time.
+/// If a lead exceeds 37 s, or -37 s, by at most this much, the clocks differ by 37 s: the rest is a transit time.
 pub const MOST_TRANSIT: i64 = 250_000_000;
 
 /// The max transit times of the classes A and B: 2 ms and 50 ms (IEEE 1722-2016, table 4).
@@ -25,12 +25,12 @@ pub const LEAST_DRIFT: u64 = 10_000;
 /// A drift is reported only if a capture lasts at least half a second: in less time jitter looks the same.
 pub const LEAST_DRIFT_TIME: u64 = 500_000_000;
 
-/// A drift is reported only if it adds up, over the capture, to at least this part of the range of the leads; otherwise it is
+/// A drift is reported only if it adds up, over the capture, to at least a quarter of the range of the leads; otherwise it is
 /// jitter.
 pub const DRIFT_PART: u64 = 4;
 
 /// An arrival is uneven if it is off its packet's time by more than half of that time and by more than 50 microseconds. Capture
-/// timestamps that no hardware makes are themselves off by up to that.
+/// timestamps that are not made by hardware are themselves off by up to 50 microseconds.
 pub const LEAST_UNEVEN: u64 = 50_000;
 
 /// If more than one arrival in this many is uneven, that is jitter.

@@ -1,4 +1,4 @@
-//! How many packets of a stream are lost, came more than once, and came after later ones.
+//! How many packets of a stream are lost, how many came more than once, and how many came after later ones.
 
 ghost use Rattle.std.specs.Prelude.{◌≡◌, ◌%◌, ◌≤◌, ℕ, List, [], ◌∷◌};
 ghost use Rattle.stream_report.specs.Sequence.{CountsOf, Few, Follows, Passes, StandsFor, place_of};
@@ -7,13 +7,13 @@ ghost use Rattle.stream_report.specs.state.Orders.{Passed};
 use crate::sequence::{Place, Window};
 use crate::tally::{At, Tally};
 
-/// What is counted of a stream by its sequence numbers.
+/// The counts of a stream by its sequence numbers.
 #[derive(Clone, Copy)]
 pub struct Order {
     /// Packets that are missing, and the most of them in a row.
     pub lost: Tally,
     pub most_lost: u64,
-    /// Packets that came before.
+    /// Packets whose number had come before.
     pub repeated: Tally,
     /// Packets that came after later ones.
     pub late: Tally,
@@ -21,7 +21,7 @@ pub struct Order {
 }
 
 impl Order {
-    /// The first packet has this number.
+    /// The counts of a stream whose first packet has this sequence number.
     pub fn first(seq: u8) -> Self
         ensures counts { (first : ℕ) → first % 256 ≡ seq → CountsOf result first [] }
     {
@@ -34,7 +34,7 @@ impl Order {
         }
     }
 
-    /// Counts the next packet, and answers its place.
+    /// Counts the next packet, and returns its place.
     pub fn note(&mut self, seq: u8, at: At) -> Place
         ensures counts { (first : ℕ) → (later : List ℕ) → (number : ℕ) → CountsOf self.old first later → Follows first later number → number % 256 ≡ seq
             → Few first (number ∷ later) → CountsOf self.new first (number ∷ later) }
@@ -61,7 +61,7 @@ impl Order {
         place
     }
 
-    /// Counts the next packet as one that is ahead, by at most 256, and answers how many are missing before it.
+    /// Counts the next packet as one that is ahead, by at most 256, and returns how many are missing before it.
     pub fn resume(&mut self, seq: u8, at: At) -> u64
         ensures counts { (first : ℕ) → (later : List ℕ) → (number : ℕ) → CountsOf self.old first later → Passes first later number → number % 256 ≡ seq
             → Few first (number ∷ later) → CountsOf self.new first (number ∷ later) }
@@ -71,7 +71,7 @@ impl Order {
         missing
     }
 
-    /// Counts a packet that is ahead, with so many missing before it.
+    /// Counts a packet that is ahead, with `missing` packets missing before it.
     fn pass(&mut self, seq: u8, missing: u64, at: At)
         ensures stands { (first : ℕ) → (later : List ℕ) → (number : ℕ) → StandsFor self.old.window first later → Passes first later number → number % 256 ≡ seq
             → StandsFor self.new.window first (number ∷ later) }

@@ -3,8 +3,8 @@
 use crate::rate::Beat;
 use crate::tally::At;
 
-/// A timestamp may be off by this part of its packet's time, and by this part of the time since the one before, because a
-/// talker rounds and its media clock is not exactly at its nominal speed.
+/// A timestamp may be off by one part in this many of its packet's time, and by one part in `PART_OF_ADVANCE` of the time since
+/// the timestamp before, because a talker rounds and its media clock is not exactly at its nominal speed.
 const PART_OF_PACKET: u64 = 8;
 
 const PART_OF_ADVANCE: u64 = 1024;
@@ -23,7 +23,7 @@ pub enum Stamp {
 }
 
 impl Stamp {
-    /// How far it is from another timestamp, modulo 2^32 or 2^64.
+    /// How long this timestamp is after another one, modulo 2^32 or 2^64; negative if it is before.
     fn since(self, other: Stamp) -> i64 {
         match (self, other) {
             (Stamp::Short(now), Stamp::Short(then)) => {
@@ -42,7 +42,7 @@ impl Stamp {
         }
     }
 
-    /// A difference of two leads: of the values that it may have, the nearest to 0.
+    /// The difference of two leads, which for AVTP is known modulo 2^32, as the number nearest to 0.
     pub fn wrapped(self, difference: i64) -> i64 {
         match self {
             Stamp::Short(_) => {
@@ -53,7 +53,7 @@ impl Stamp {
         }
     }
 
-    /// How long after an arrival it is, modulo 2^32 or 2^64.
+    /// How long this timestamp is after an arrival, modulo 2^32 or 2^64.
     pub fn lead(self, arrival: i64) -> i64 {
         let arrival = arrival.cast_unsigned();
         match self {
@@ -71,11 +71,11 @@ impl Stamp {
 pub struct Stamped {
     pub at: At,
     pub stamp: Stamp,
-    /// The number of its first event in the stream, without the events of missing packets.
+    /// The number of the packet's first event in the stream, without the events of missing packets.
     pub first: u64,
     /// The event that the timestamp belongs to by the standard, counted from the packet's first.
     pub anchor: u32,
-    /// The number of its events.
+    /// The number of the packet's events.
     pub count: u32,
 }
 
@@ -83,7 +83,7 @@ pub struct Stamped {
 #[derive(Clone, Copy)]
 pub struct Miss {
     pub at: At,
-    /// By how many nanoseconds it should have advanced, and by how many it did.
+    /// By how many nanoseconds the timestamp should have advanced, and by how many it did.
     pub wanted: u64,
     pub found: i64,
 }
@@ -127,10 +127,10 @@ pub struct Pace {
     pub by_anchor: Misses,
     /// The misses if each timestamp belongs to the packet's first event, as some talkers stamp.
     pub by_first: Misses,
-    /// Like `by_anchor` and `by_first`, with swapped bytes, of the timestamps that miss as they stand.
+    /// Like `by_anchor` and `by_first`, but with the bytes swapped. Only timestamps that miss unswapped are compared.
     pub swapped_by_anchor: Misses,
     pub swapped_by_first: Misses,
-    /// The time that passed over the timestamps that advanced as they should: by the nominal rate, and by the timestamps.
+    /// The time over which timestamps advanced as they should: by the nominal rate, and by the timestamps.
     pub nominal: u64,
     pub told: u64,
 }
@@ -142,7 +142,7 @@ pub enum Advance {
     Begun,
     /// It advanced as it should.
     Even,
-    /// It did not.
+    /// It did not advance as it should.
     Missed,
 }
 
@@ -163,12 +163,12 @@ impl Pace {
         self.last = None;
     }
 
-    /// The misses of the better reading of the timestamps, unchanged.
+    /// The misses of the reading that has fewer, with the bytes of each timestamp unchanged.
     pub fn misses(&self) -> &Misses {
         better(&self.by_anchor, &self.by_first)
     }
 
-    /// The misses of the better reading if the bytes of each timestamp are swapped.
+    /// The misses of the reading that has fewer, with the bytes of each timestamp swapped.
     pub fn swapped_misses(&self) -> &Misses {
         better(&self.swapped_by_anchor, &self.swapped_by_first)
     }
@@ -254,7 +254,7 @@ impl Pace {
         Advance::Missed
     }
 
-    /// Notes a timestamp of a stream without a rate: it may stay, or advance by a limited amount.
+    /// Notes a timestamp of a stream without a rate: it may be equal to the one before, or advance by a limited amount.
     fn note_unpaced(&mut self, last: &Stamped, stamped: &Stamped, is_first: bool) -> Advance {
         let plain = stamped.stamp.since(last.stamp);
         if is_advance(plain) {
@@ -290,7 +290,7 @@ fn better<'a>(one: &'a Misses, other: &'a Misses) -> &'a Misses {
 }
 
 impl Misses {
-    /// Whether a timestamp advanced as it should; if not, it is noted.
+    /// Whether a timestamp advanced as it should; if not, the miss is noted.
     fn compare(&mut self, at: At, wanted: u64, found: i64, slack: u64, is_first: bool) -> bool {
         let slack = slack.saturating_add(wanted / PART_OF_ADVANCE);
         let wanted_signed = i64::try_from(wanted).unwrap_or(i64::MAX);

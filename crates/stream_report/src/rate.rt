@@ -49,7 +49,7 @@ impl Rate {
     }
 }
 
-/// A rate, and the time of as many events as a packet mostly has: it is not divided anew for each packet.
+/// A rate, and the time of as many events as most packets have, so that this is not computed anew for each packet.
 #[derive(Clone, Copy)]
 pub struct Beat {
     pub rate: Rate,
@@ -58,7 +58,7 @@ pub struct Beat {
 }
 
 impl Beat {
-    /// The beat of packets that mostly have so many events.
+    /// The beat of packets most of which have this many events.
     pub fn new(rate: Rate, events: u32) -> Beat {
         let events = u64::from(events);
         Beat {
@@ -68,7 +68,7 @@ impl Beat {
         }
     }
 
-    /// The duration of a number of events in nanoseconds, as the rate has it.
+    /// The duration of a number of events in nanoseconds, by the rate.
     pub fn time_of(self, events: u64) -> u64 {
         if events == self.events {
             self.time

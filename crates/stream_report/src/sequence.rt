@@ -5,8 +5,8 @@ ghost use Rattle.std.specs.Int.{bit_at};
 ghost use Rattle.stream_report.specs.Sequence.{Follows, Passes, Returns, StandsFor, ahead_of, greatest, lost, lost_with, place_of};
 ghost use Rattle.stream_report.specs.state.Bits.{Moves, Marks};
 
-/// A sequence number that is at most this far ahead of the newest is a later packet's; one that is further ahead is an earlier
-/// one's.
+/// A sequence number that is at most this far ahead of the newest belongs to a later packet; one that is further ahead belongs
+/// to an earlier packet.
 const FARTHEST: u8 = 192;
 
 /// The number of packets, up to and including the newest, of which the window knows whether they have come.
@@ -18,7 +18,7 @@ pub struct Window {
     newest: u8,
     /// Bit `i` is set if the number `i` before the newest has come.
     came: u64,
-    /// How far before the newest number the first one is, at most 64.
+    /// How far the number of the first packet is before the newest, at most 64.
     begin: u64,
 }
 
@@ -82,7 +82,7 @@ impl Window {
         self.came.checked_shr(u32::from(behind)).unwrap_or(1) % 2 == 1
     }
 
-    /// How far ahead of the newest the number is, from 1 to 256.
+    /// How far the number is ahead of the newest, from 1 to 256.
     pub fn ahead(&self, seq: u8) -> u64
         ensures { result ≡ ahead_of self.now.newest seq }
     {
@@ -110,20 +110,20 @@ impl Window {
 }
 
 /// A law: if each packet is counted by its place as it comes, the count is always the number of lost packets. Packets that came
-/// late or twice are not in it.
+/// late or twice do not count as lost.
 pub fn places_tell_what_is_lost()
     ensures { (first : ℕ) → (later : List ℕ) → (number : ℕ)
         → lost first (number ∷ later) ≡ lost_with (lost first later) (place_of first later number) }
 {}
 
-/// The bits of what has come, after a packet this far ahead of the newest.
+/// The bits of the numbers that have come, after a packet this far ahead of the newest.
 fn moved(came: u64, ahead: u64) -> u64
     ensures { 1 ≤ ahead → Moves came ahead result }
 {
     if ahead < KNOWN { came << ahead | 1 } else { 1 }
 }
 
-/// The bits of what has come, after the packet with the number this far before the newest.
+/// The bits of the numbers that have come, after the packet with the number this far before the newest.
 fn marked(came: u64, behind: u8) -> u64
     ensures { behind < 64 → Marks came behind result }
 {

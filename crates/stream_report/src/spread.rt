@@ -57,8 +57,8 @@ fn place_of(value: i64) -> usize
     }
 }
 
-/// Widens counts, the first of which is that of the bucket at `first`, until they reach a place. Returns the place of the first
-/// one then.
+/// Adds counts of 0 before or after these counts, which begin with the bucket at `first`, until they reach the bucket at
+/// `place`. Returns the place of the first count.
 fn widen(counts: &mut Vec<u32>, first: usize, place: usize) -> Result<usize, NoMemory>
     requires { place < 2 * side }
     ensures { IfOk result (Widens first counts.old.items place counts.new.items) }
@@ -89,7 +89,7 @@ fn put_before(counts: &mut Vec<u32>, more: usize) -> Result<(), NoMemory>
     Ok(())
 }
 
-/// Counts one more at a place.
+/// Counts one more value in the bucket at a place.
 fn count_at(counts: &mut Vec<u32>, place: usize)
     ensures { counts.new.items ≡ set counts.old.items place (min (get_or counts.old.items place 0 + 1) (2 ^ 32 - 1)) }
 {
@@ -110,7 +110,7 @@ fn last_at(place: usize) -> i64
     }
 }
 
-/// The rank of a percentile of so many values.
+/// The rank of a percentile of `count` values.
 fn rank_of(count: u64, hundredths: u64) -> u128
     ensures { result ≡ rank count hundredths }
 {
@@ -133,7 +133,8 @@ impl Spread {
         }
     }
 
-    /// Notes one more value. Of up to 4,294,967,295 values percentiles are told. After `NoMemory` the spread must not be used.
+    /// Notes one more value. A spread gives percentiles of at most 4,294,967,295 values. After `NoMemory` the spread must not
+    /// be used.
     pub fn note(&mut self, value: i64) -> Result<(), NoMemory>
         ensures { OnOk result ((values : List ℤ) → TellsOf self.old values → length values < most_values → TellsOf self.new (value ∷ values)) }
     {

@@ -73,23 +73,23 @@ pub struct Stream {
     pub format: Format,
     /// The number of events of the first packet that has any.
     pub count: u32,
-    /// The time of that packet by the nominal rate, in nanoseconds; 0 if it is not known.
+    /// How long the first packet that has events takes at the nominal rate, in nanoseconds; 0 if this is not known.
     pub packet_time: u64,
-    /// The number of its packets that are not refused.
+    /// The number of packets that are not refused.
     pub packets: u64,
-    /// When the first and the last of these arrived.
+    /// When the first and the last packet that is not refused arrived.
     pub first_arrival: i64,
     pub last_arrival: i64,
     /// The time from each packet to the next in the capture, in nanoseconds.
     pub distances: Spread,
     /// Timestamp minus arrival, in nanoseconds: for a media clock exactly; otherwise modulo 2^32, from -2^31 on.
     pub leads: Spread,
-    /// The leads below 0.
+    /// Packets whose lead is below 0.
     pub late: Tally,
     pub pace: Pace,
     pub trend: Trend,
-    /// The number of packets directly after another whose arrival was compared with that one's time, and the number of uneven
-    /// ones.
+    /// The number of packets whose arrival was compared with the time of the packet directly before, and the number of uneven
+    /// arrivals.
     pub compared: u64,
     pub uneven: Tally,
     pub restarts: Tally,
@@ -111,12 +111,12 @@ pub struct Stream {
     pub formats: Tally,
     /// `None` if no pictures are wanted.
     pub trace: Option<Trace>,
-    /// None before a packet tells its rate.
+    /// `None` until a packet gives its rate.
     beat: Option<Beat>,
-    /// None before its first packet that is not refused.
+    /// `None` until the first packet that is not refused.
     order: Option<Order>,
     last: Option<Last>,
-    /// The events of the packets that came in order, before the newest.
+    /// The number of events in the packets that came in order before the newest.
     events: u64,
     last_lead: Option<i64>,
 }
@@ -230,7 +230,7 @@ impl Stream {
         trace.note(came.since, column)
     }
 
-    /// Counts its arrival. Returns how long after the packet before it came.
+    /// Counts the arrival of a packet. Returns how long after the packet before it came, if there is one.
     fn note_arrival(&mut self, arrival: i64) -> Result<Option<i64>, NoMemory> {
         let before = self.last_arrival;
         self.last_arrival = arrival;
@@ -320,7 +320,7 @@ impl Stream {
         self.counted().late
     }
 
-    /// Counts a packet by its sequence number, and answers how it follows those before.
+    /// Counts a packet by its sequence number, and returns how it follows those before.
     fn note_order(&mut self, at: At, seq: u8, distance: Option<i64>) -> Step {
         let pause = self.packet_time.saturating_mul(LONG_PAUSE);
         let paused = pause > 0 && distance.unwrap_or(0).unsigned_abs() >= pause;
@@ -338,7 +338,7 @@ impl Stream {
         }
     }
 
-    /// Counts what a packet shows together with the one before it in the stream.
+    /// Counts what a packet and the one before it in the stream show together.
     fn note_next(&mut self, came: &Came, facts: &Facts, step: Step, distance: Option<i64>) {
         let last = self.last;
         let restarted = self.note_restart(came.at, facts, step.missing());
@@ -398,7 +398,7 @@ impl Stream {
         false
     }
 
-    /// Counts an arrival that is off the time of the packet before.
+    /// Counts an arrival that is off the time of the packet before it.
     fn note_evenness(&mut self, at: At, last: Option<Last>, distance: Option<i64>) {
         let (Some(beat), Some(last), Some(distance)) = (self.beat, last, distance) else {
             return;

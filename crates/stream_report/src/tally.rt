@@ -1,4 +1,4 @@
-//! The number of times that something was seen, and the first frame of them.
+//! The number of times that something was seen, and the frame in which it was first seen.
 
 ghost use Rattle.std.specs.Prelude.{◌≡◌, ◌+◌, ◌-◌, ◌^◌, min};
 

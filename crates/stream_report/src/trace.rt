@@ -1,4 +1,4 @@
-//! The data of a stream's pictures: its leads and arrival distances over time, with fewer columns as they grow.
+//! The data of a stream's pictures: its leads and arrival distances over time, in columns that become wider as time goes on.
 
 use avtp_base::NoMemory;
 use std::alloc::Global;
@@ -28,7 +28,7 @@ impl Range {
         }
     }
 
-    /// The range of both.
+    /// The range of the values in both ranges.
     pub fn with(self, other: Range) -> Range {
         Range {
             least: self.least.min(other.least),
@@ -52,7 +52,7 @@ pub struct Column {
     pub slot: u64,
     pub lead: Option<Range>,
     pub distance: Option<Range>,
-    /// The packets that are missing before one of these.
+    /// The number of packets that are missing before packets of this stretch.
     pub lost: u64,
 }
 

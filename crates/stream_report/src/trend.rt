@@ -6,7 +6,7 @@ const UNIT: u32 = 20;
 /// If a lead moves further than this, some 18 minutes, that is no drift.
 const FARTHEST: i64 = 1 << 40;
 
-/// No more packets are summed up: times are less than 2^44 and leads at most 2^40, so no sum reaches 2^127.
+/// The most packets that are summed up: times are less than 2^44 and leads at most 2^40, so no sum reaches 2^127.
 const MOST: u64 = 1 << 32;
 
 /// Sums over packets of their time and lead, for the straight line through them (least squares). Steps of the timestamps, as at
@@ -39,8 +39,8 @@ impl Trend {
         products: 0,
     };
 
-    /// Notes a packet that came this many nanoseconds after the first, with a lead that is greater by this much than that of
-    /// the packet before.
+    /// Notes a packet that came this many nanoseconds after the first, and whose lead exceeds that of the packet before by
+    /// `change`.
     pub fn note(&mut self, since: u64, change: i64) {
         let lead = self.lead.saturating_add(change);
         if lead.unsigned_abs() > FARTHEST.unsigned_abs() || self.count >= MOST {
@@ -77,7 +77,7 @@ impl Trend {
         self.greatest.abs_diff(self.least)
     }
 
-    /// How long the packets took, in nanoseconds.
+    /// The time from the first packet to the last, in nanoseconds.
     pub fn time(&self) -> u64 {
         self.last_time
     }

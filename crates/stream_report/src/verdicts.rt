@@ -11,7 +11,7 @@ use avtp_base::NoMemory;
 use avtp_header::subtype;
 use std::alloc::Global;
 
-/// The class whose max transit time the leads of a stream keep.
+/// The stream class, by the leads: the first one whose max transit time the median lead does not exceed.
 #[derive(Clone, Copy, PartialEq, Eq)]
 pub enum Class {
     /// 2 ms.
@@ -20,11 +20,11 @@ pub enum Class {
     B,
     /// Longer.
     Longer,
-    /// Most presentation times are in the past or far away, so the lead is no transit time.
+    /// Most presentation times are before their arrivals or far after them, so the lead is no transit time.
     Unknown,
 }
 
-/// The class whose max transit time the median of the leads keeps. `None` if no packet has a timestamp.
+/// The class of a stream, by its leads. `None` if no packet has a timestamp.
 pub fn class_of(stream: &Stream) -> Option<Class> {
     let median = stream.leads.percentile(50)?;
     Some(match median {
@@ -129,13 +129,13 @@ fn is_transit(lead: i64, apart: i64, exact: bool) -> bool {
     rest >= 0 && rest <= MOST_TRANSIT
 }
 
-/// The nearest to 0 of the numbers that differ from this by a multiple of 2^32.
+/// The number nearest to 0 that differs from this one by a multiple of 2^32.
 fn near_zero(number: i64) -> i64 {
     let low = number.cast_unsigned() & 0xffff_ffff;
     i64::from(u32::try_from(low).unwrap_or(0).cast_signed())
 }
 
-/// More packets came after their presentation time than timestamps are off.
+/// More packets came after their presentation time than there are timestamps that do not advance as they should.
 fn late_verdict(stream: &Stream) -> Option<Verdict> {
     let explained = stream.pace.misses().count;
     if stream.key.subtype == subtype::CRF || stream.late.count <= explained {
@@ -223,7 +223,7 @@ fn labels_verdict(stream: &Stream) -> Option<Verdict> {
     (quadlets.count > 0).then_some(Verdict::Labels { quadlets, label })
 }
 
-/// Adds a verdict for whatever was counted that is wrong wherever it is.
+/// Adds a verdict for each count of something that is always wrong.
 fn add_counted(verdicts: &mut Vec<Verdict>, stream: &Stream) -> Result<(), NoMemory> {
     add_if_any(
         verdicts,

@@ -82,7 +82,7 @@ impl Device for Noting {
     }
 }
 
-/// A device in a rack. Its call with this number fails.
+/// A device in a rack. The call with the number `fails` fails.
 fn place_of(alloc: Global, notes: &Arc<Notes, Global>, fails: u64) -> Result<Place, NoMemory>
     ensures { IfOk result (λ place. place.live ≡ true) }
 {
@@ -96,7 +96,7 @@ fn place_of(alloc: Global, notes: &Arc<Notes, Global>, fails: u64) -> Result<Pla
     })
 }
 
-/// A rack of devices. Each fails at its call with its number in the list.
+/// A rack of devices. The list has, for each device, the number of the call that fails.
 pub fn rack_of(
     alloc: Global,
     fails: [u64; 3],

@@ -1,5 +1,5 @@
 //! Each call to the shelf or the sink fails in turn, whether a call moves one byte or many. The status names the fault, and the
-//! text is what was certain before it.
+//! text is what was certain before the fault.
 
 use crate::recipe::file_of;
 use crate::transcript::{status_of, words_of};
@@ -16,7 +16,7 @@ const READS: [usize; 2] = [1, 65_536];
 
 const WRITES: [usize; 2] = [7, 65_536];
 
-/// A command that reads one or two captures of as many bytes: what it prints before it reads, what it prints once it has all
+/// A command that reads one or two captures of equal size: what it prints before it reads, what it prints once it has all
 /// bytes, what it prints at the end, and its status then.
 #[derive(Clone, Copy)]
 struct Case {
@@ -108,8 +108,8 @@ const HEARD_NG: Case = Case {
     ..HEARD
 };
 
-/// Two packets in each of two captures. The first is due once the second comes, and what differs in it is certain once the first
-/// capture has ended.
+/// Two packets in each of two captures. The first packet is due once the second comes, and its differences are certain once the
+/// first capture has ended.
 const AGREED: Case = Case {
     line: "agree --buffer 8 --room 192 0200000000010001 c.pcap d.pcap",
     capture: "\
@@ -192,7 +192,7 @@ impl Case {
         Ok((self.status, self.whole(alloc)?))
     }
 
-    /// The whole text.
+    /// The text of a run without a fault.
     fn whole(&self, alloc: Global) -> Result<String, NoMemory> {
         Ok(format!(in alloc; "{}{}{}", self.before, self.certain, self.end)?)
     }

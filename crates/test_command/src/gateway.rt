@@ -243,7 +243,7 @@ gateway input: {fault}
     Ok(())
 }
 
-/// Packets that the scan passes over, and one after each that is turned.
+/// Packets that the scan ignores, and after each a packet that is converted.
 const PASSED: &str = "\
 am824 | V1/58 1=01 | V1/58 16=03 19=18
 am824 | V1/58 11=02 | V1/58 16=03 19=18
@@ -325,7 +325,7 @@ fn a_second_turned_there_and_back_is_the_same_bytes(rt: HostRuntime) -> Result<(
 
 const TURN: &str = "gateway --to am824 0200000000010001 a.pcap c.pcap";
 
-/// What comes of a capture of 106 bytes if this call of the shelf fails and each call moves at most `most` bytes: the status,
+/// The outcome for a capture of 106 bytes if this call of the shelf fails and each call moves at most `most` bytes: the status,
 /// and the size of the capture that is made. The calls open the input, read it and find its end; make the capture; open and
 /// read the input again; and write the capture's 122 bytes, or only its header after a failed read.
 fn made(call: usize, most: usize) -> (Status, Option<usize>) {

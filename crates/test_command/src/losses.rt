@@ -8,10 +8,10 @@ use std::alloc::Global;
 use std::thread::Threads;
 use vectors_avtp::Draws;
 
-/// A row has the options of `talk`, over 9,600 bytes of input; the options of `listen`; how many items it looks ahead; the records
-/// that come, in their order; and the end of the text, or the fewest packets that are presented. `mixed` are the records of
-/// `MIXED`. `7/5/3` loses each seventh record, and of the others each fifth comes twice and each third overtakes the one before.
-/// `drawn:9` draws what becomes of each record, from the seed 9.
+/// A row has the options of `talk`, over 9,600 bytes of input; the options of `listen`; the number of items that it looks
+/// ahead; the records that come, in their order; and the end of the text, or the least number of packets that are presented.
+/// `mixed` are the records of `MIXED`. `7/5/3` loses each seventh record; of the others, each fifth comes twice and each third
+/// overtakes the one before. `drawn:9` draws what happens to each record, from the seed 9.
 ///
 /// AAF restarts after each 12 packets, so 12 to 15 come after a restart and before the next stamp. Its rows lose nothing, some
 /// packets, or stamps; repeat each packet; and let packets overtake a stamp or a restart.
@@ -93,7 +93,7 @@ fn drawn_places(alloc: Global, seed: usize, records: usize) -> Result<Vec<usize>
     Ok(places)
 }
 
-/// What becomes of a record.
+/// What happens to a record.
 #[derive(Clone, Copy)]
 struct Fate {
     lost: bool,
@@ -137,8 +137,8 @@ fn as_sent(alloc: Global, line: &str, places: &[usize]) -> Result<Option<String>
     Ok(None)
 }
 
-/// Whether each sample that is presented of these records is one of the complete capture's, at the same instant and in the same
-/// order.
+/// Whether each sample that is presented of these records is one that is presented of the complete capture, at the same instant
+/// and in the same order.
 fn is_among(alloc: Global, whole: &str, text: &str, places: &[usize]) -> Result<bool, NoMemory> {
     let mut sent = whole.lines();
     for line in text.lines() {

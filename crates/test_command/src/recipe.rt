@@ -1,12 +1,12 @@
-//! The files of a transcript, each written as steps that one after the other add bytes or change them:
+//! The files of a transcript, each written as steps, which add bytes or change them one after another:
 //!
 //! - `V1` adds a published vector and `V1/58` its bytes from 58 on, `x0a0b` these bytes, `xff*9` nine such bytes, `zeros:9` nine
-//!   zero bytes, `noise:9` nine bytes of samples of which no two packets have the same;
+//!   zero bytes, `noise:9` nine bytes of samples that differ from packet to packet;
 //! - `..24` keeps the first 24 bytes;
 //! - `75=50ff` puts bytes at an offset, `ts:9` an AVTP timestamp into a packet, `point:9` a CRF timestamp;
 //! - `record:9` puts a packet into a frame and this into a record with that arrival, `capture:9` into a capture of it alone.
 //!
-//! A step that is none of these does nothing, so that what is stated of the file fails.
+//! A step that is none of these does nothing, so the test that states the file's bytes fails.
 
 use avtp_base::NoMemory;
 use std::alloc::Global;
@@ -74,7 +74,7 @@ const V1_HEADER: [u8; 24] = [
     0x4d, 0x3c, 0xb2, 0xa1, 2, 0, 4, 0, 0, 0, 0, 0, 0, 0, 0, 0, 0, 0, 4, 0, 1, 0, 0, 0,
 ];
 
-/// The addresses, the tag and the EtherType of its frame.
+/// The addresses, the tag and the EtherType of the first vector's frame.
 const V1_FRAME: [u8; 18] = [
     0x91, 0xe0, 0xf0, 0x00, 0xfe, 0x00, 0x02, 0x00, 0x00, 0x00, 0x00, 0x01, 0x81, 0x00, 0x60, 0x02,
     0x22, 0xf0,

@@ -166,7 +166,7 @@ fn a_second_beside_a_clock_of_another_rate_is_heard_on_it(rt: HostRuntime) -> Re
     follow(&rt, rt.alloc(), OTHER_CLOCKS)
 }
 
-/// A sparse stream can be timed from its next stamped packet on. A stamp of 256 packets before does not count.
+/// A sparse stream can be timed only from its next stamped packet on. A stamp of 256 packets before does not count.
 const SPARSE: &str = "\
 < a.raw noise:384
 $ talk --sparse a.raw c.pcap
@@ -245,7 +245,7 @@ const RATES: [&str; 10] = [
     "8000", "16000", "24000", "32000", "44100", "48000", "88200", "96000", "176400", "192000",
 ];
 
-/// Formats, and their depth and the bytes of six stereo sample frames.
+/// The sample formats, and what `show` prints of six stereo sample frames of each: the depth, the count and the bytes.
 const FORMATS: [(&str, &str); 4] = [
     ("int16", "depth 16 count 6 bytes 24"),
     ("int24", "depth 24 count 6 bytes 36"),

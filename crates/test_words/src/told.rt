@@ -1,4 +1,4 @@
-//! A command as a line of text.
+//! A command as one line of text.
 
 use avtp_words::{
     Agree, Command, Crf, Gateway, GatewayFormat, Listen, ListenerOptions, Offence, Silence, Talk,
@@ -104,7 +104,7 @@ fn add_agree(text: &mut String, asked: &Agree<'_>) -> Result<(), AllocError> {
     add_name(text, asked.b)
 }
 
-/// The format and the stream ID of what is written come after the listener to what is read.
+/// The format and the stream ID of the capture that is written follow the options of the listener.
 fn add_gateway(text: &mut String, asked: &Gateway<'_>) -> Result<(), AllocError> {
     let to = match asked.to {
         GatewayFormat::Am824 => "am824",

@@ -10,7 +10,7 @@ use Rattle.avtp_text.specs.Show.{aaf_content}
 unfoldable pub aaf_start : Aaf → List ℕ
 aaf_start v = codes "aaf " ++ (codes "id " ++ id_text v.header.stream_id ++ codes " seq " ++ decimal v.header.seq ++ codes " ts " ++ decimal v.header.timestamp)
 
--- what it shows after the timestamp
+-- what a line shows of a packet after the timestamp
 abbrev pub end_of : Aaf → AafEnd
 end_of v = record {
   tv = v.header.tv;

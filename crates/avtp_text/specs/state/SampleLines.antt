@@ -10,7 +10,7 @@ use Rattle.avtp_text.specs.SampleLines.{SamplePacket}
 abbrev pub seen_as : ℕ → ℕ → ℕ → SamplePacket
 seen_as frame seq size = record { frame = frame; seq = seq; size = size }
 
--- the packet of a batch in a frame
+-- the packet of a batch, whose samples have this many bytes
 abbrev pub packet_of : Presented → ℕ → SamplePacket
 packet_of batch size = seen_as batch.frame batch.seq size
 
@@ -66,7 +66,7 @@ pub record StartsAt (instant start : ℤ) : Type 0 where
   pub small : low < 100000000
   pub at : instant ≡ pos (high * 100000000 + low)
 
--- the line of this sample differs from a kept one only in its gaps
+-- the line of this sample differs from a kept one only in the instant's last eight digits, the sample's number and its bytes
 pub record Fits (from : ℤ) (numbers : Numbers) (instant : ℤ) (j low : ℕ) : Type 0 where
   pub small : low < 100000000
   pub at : instant ≡ from +ℤ pos low

@@ -15,16 +15,17 @@ use Rattle.avtp_tool.specs.Listen.{plan_of}
 use Rattle.avtp_tool.specs.Yield.{Yield}
 use Rattle.avtp_tool.specs.state.Outcome.{KeepsSink}
 
--- what words ask of `agree` is within its bounds
+-- what the words ask of `agree` is within its bounds
 pub record IsAgreeing (asked : Agreeing) : Type 0 where
   pub limit : asked.listener.limit ≤ 2 ^ 40
   pub plan : IsPlan (schedule_plan (plan_of asked.listener))
 
--- what `agree` can reach, end with and yield over the files that a shelf tells
+-- what a run of `agree` over these files can come to: the names that it asks for, its status, and what it yields
 abbrev pub AgreeYields : Agreeing → Files → Type 0 → List (List ℕ) → Status → Yield → Type 0
 AgreeYields asked files fault came ended yields = AgreeOutcome asked files fault came ended yields.text × (yields.items ≡ [])
 
--- The last lines of a run were printed, and it ends with this status; or the sink failed, and a prefix of them was printed.
+-- The last lines of a run were printed, and the run ends with this status; or the sink failed, and a prefix of the lines was
+-- printed.
 pub record EndsWithLines (ended : Status) (out out' : SinkState) (waits waits' : List ℕ) (result : Result Status Failed) (lines : List ℕ) : Type 0 where
   pub status : IfOk result (λ s. s ≡ ended)
   pub written : MatchResult result (λ _. Appends (written out.held waits) (written out'.held waits') lines) (λ _. AppendsPrefix (written out.held waits) (written out'.held waits') lines)

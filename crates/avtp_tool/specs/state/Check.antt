@@ -22,7 +22,7 @@ use Rattle.avtp_tool.specs.Check.{noted, notes_of, found_lines, check_lines, joi
 
 -- ---- what is done
 
--- The lines of the findings in a record were printed and counted, and they are few; or none of them if the sink failed.
+-- The lines of the findings in a record were printed and counted, at most five; or none was printed, because the sink failed.
 pub record PrintsFound (out out' : SinkState) (waits waits' : List ℕ) (result : Result ℕ Failed) (lines : List (List ℕ)) : Type 0 where
   pub written : MatchResult result (λ _. Appends (written out.held waits) (written out'.held waits') (joined_lines lines)) (λ _. Keeps (written out.held waits) (written out'.held waits'))
   pub counted : IfOk result (λ n. n ≡ length lines)

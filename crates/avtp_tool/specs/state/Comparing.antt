@@ -57,7 +57,7 @@ pub record ReadsTwo (before after : ShelfState) (k j : ℕ) : Type 0 where
   pub writing : after.writing_faults ≡ before.writing_faults
   pub asked : AsksNothing before after
 
--- Two files of these names were opened in two slots that were free. All else is unchanged.
+-- Two files of these names were opened, in two slots that had been free. All else is unchanged.
 pub record OpensSlots (before after : ShelfState) (a b : List ℕ) (k j : ℕ) : Type 0 where
   pub free_a : before.slots k ≡ None
   pub free_b : before.slots j ≡ None
@@ -68,7 +68,7 @@ pub record OpensSlots (before after : ShelfState) (a b : List ℕ) (k j : ℕ) :
   pub writing : after.writing_faults ≡ before.writing_faults
   pub asked : Asks (a ∷ b ∷ []) before after
 
--- Both were closed. All else is unchanged.
+-- The files in two slots were closed. All else is unchanged.
 pub record ClosesTwo (before after : ShelfState) (k j : ℕ) : Type 0 where
   pub ended_a : after.slots k ≡ None
   pub ended_b : after.slots j ≡ None
@@ -88,13 +88,13 @@ pub record IsFresh (side : Side) (listener : ListenState) : Type 0 where
   pub none : listener.counts.frames ≡ 0
   pub listens : is_closed listener ≡ false
 
--- nothing was read of two captures yet
+-- nothing was read of either capture yet
 pub record IsBegun (c : Comparing) : Type 0 where
   pub a : IsFresh c.a c.pair.a
   pub b : IsFresh c.b c.pair.b
   pub stands : StandsFor [] [] 0 c.pair
 
--- the bytes of both captures, of which nothing was given yet
+-- both captures have these bytes, and none of their records was given yet
 pub record AreTold (limit : ℕ) (files : Files) (a b : List ℕ) (shelf : ShelfState) (c : Comparing) : Type 0 where
   pub bytes_a : List ℕ
   pub bytes_b : List ℕ
@@ -123,15 +123,14 @@ pub record OpensTwo (before after : ShelfState) (limit : ℕ) (plan : ListenPlan
 
 -- ---- differences
 
--- The differences that are known were printed, after those that were given before: all of them; or the first n, if the sink failed at
--- the next.
+-- By now all known differences are printed; or the sink failed at one of them, and only those before it are printed.
 abbrev pub PrintedAll : List Record → List Record → PairState → List Difference → Option (List ℕ) → Result Unit Failed → Option (List ℕ) → Type 0
 PrintedAll records others pair all base (Ok x) now =
     (given : ℕ) × (take given all ≡ all) × StandsFor records others given pair × Appends base now (difference_lines all)
 PrintedAll records others pair all base (Err e) now =
     (n : ℕ) × StandsFor records others (n + 1) pair × Appends base now (difference_lines (take n all))
 
--- The differences that are known were printed.
+-- The known differences that had not been printed were printed, or some of them if the sink failed.
 pub record PrintsDifferences (pair pair' : PairState) (out out' : SinkState) (waits waits' : List ℕ) (result : Result Unit Failed) : Type 0 where
   pub printed : (records others : List Record) (given : ℕ) (base : Option (List ℕ)) → StandsFor records others given pair
       → Appends base (written out.held waits) (difference_lines (take given (differences (known_by pair records others))))
@@ -148,7 +147,7 @@ abbrev pub is_fault : End → Bool
 is_fault end.ReadFault = true
 is_fault how = false
 
--- a pair was given these records of the side that is named, and those of the other
+-- a pair was given these records of the side `which`, and those of the other side
 abbrev pub StandsOn : Which → List Record → List Record → ℕ → PairState → Type 0
 StandsOn A mine theirs given pair = StandsFor mine theirs given pair
 StandsOn B mine theirs given pair = StandsFor theirs mine given pair
@@ -158,18 +157,18 @@ pub record Takes (which : Which) (r : Record) (old new : PairState) : Type 0 whe
   pub stands : (mine theirs : List Record) (given : ℕ) → StandsOn which mine theirs given old → StandsOn which (mine ++ r ∷ []) theirs given new
   pub changes : Changes which 1 false old new
 
--- No record follows of a side.
+-- No more records of a side follow.
 pub record Shuts (which : Which) (old new : PairState) : Type 0 where
   pub stands : (mine theirs : List Record) (given : ℕ) → StandsOn which mine theirs given old → StandsOn which mine theirs given new
   pub changes : Changes which 0 true old new
 
--- The record that is held was taken, or there was no memory for it.
+-- The record that is held was taken, or there was no memory for it, and nothing changed.
 abbrev pub TakesHeld : Which → Option Record → PairState → PairState → Step → Type 0
 TakesHeld which held old new step.Took = (r : Record) × (held ≡ Some r) × Takes which r old new
 TakesHeld which held old new step.NoMemory = new ≡ old
 TakesHeld which held old new other = ⊥
 
--- One of the captures was read on.
+-- One of the captures was read on: its next record was given to the pair, or its reading ended.
 abbrev pub StepsTo : Which → ShelfState → ShelfState → Side → Side → PairState → PairState → Step → Type 0
 StepsTo which shelf shelf' side side' pair pair' step.Took =
     (side'.end ≡ None) × GivesNext shelf shelf' side.source side'.source None × TakesHeld which (held_in side'.source) pair pair' step.Took
@@ -180,14 +179,14 @@ StepsTo which shelf shelf' side side' pair pair' step.Fault =
 StepsTo which shelf shelf' side side' pair pair' step.NoMemory =
     (side'.end ≡ None) × GivesNext shelf shelf' side.source side'.source None × (pair' ≡ pair)
 
--- One of the captures was read on, after the text that waited was written; or the sink failed in that, and nothing was read.
+-- One of the captures was read on, after the text that waits was written; or writing failed, and nothing was read.
 pub record ReadsSide (which : Which) (shelf shelf' : ShelfState) (side side' : Side) (pair pair' : PairState) (out out' : SinkState) (waits waits' : List ℕ) (result : Result Step Failed) : Type 0 where
   pub steps : IfOk result (StepsTo which shelf shelf' side side' pair pair')
   pub cut : OnErr result ((shelf' ≡ shelf) × (slot_of side'.source ≡ slot_of side.source))
   pub kept : Keeps (written out.held waits) (written out'.held waits')
   pub sink : KeepsSink out out' result
 
--- The capture that is named was read on, and the other is as it was.
+-- The capture `which` was read on, and the other is unchanged.
 pub record ReadsOn (which : Which) (shelf shelf' : ShelfState) (c c' : Comparing) (out out' : SinkState) (waits waits' : List ℕ) (result : Result Step Failed) : Type 0 where
   pub in_a : which ≡ A → ReadsSide A shelf shelf' c.a c'.a c.pair c'.pair out out' waits waits' result × (c'.b ≡ c.b)
   pub in_b : which ≡ B → ReadsSide B shelf shelf' c.b c'.b c.pair c'.pair out out' waits waits' result × (c'.a ≡ c.a)
@@ -200,7 +199,7 @@ pub record IsSideAt (side : Side) (listener : ListenState) : Type 0 where
   pub closed : is_closed listener ≡ is_some side.end
   pub no_fault : side.end ≢ Some end.ReadFault
 
--- how much is still to be read of a capture: it falls with each record, and at its end
+-- how much is still to be read of a capture, which falls with each record and at the capture's end
 abbrev pub left_by : Side → Option End → ℕ
 left_by side None = to_do side.source + 1
 left_by side (Some how) = 0
@@ -219,7 +218,7 @@ pub record IsAmidTwo (shelf shelf' : ShelfState) (old new : Comparing) : Type 0 
   pub plan_a : new.pair.a.plan ≡ old.pair.a.plan
   pub plan_b : new.pair.b.plan ≡ old.pair.b.plan
 
--- These records were given of a capture whose reading goes on or has ended so.
+-- These records were given of a capture whose reading goes on or has ended in this way.
 abbrev pub SideRead : ℕ → List ℕ → ShelfState → Sourcing → Option End → List Record → Type 0
 SideRead limit bytes shelf source None records = HasGivenOf limit bytes shelf source records
 SideRead limit bytes shelf source (Some how) records = (how ≡ end_of limit bytes) × (records ≡ records_in (take limit bytes))
@@ -255,15 +254,15 @@ ComparesTo asked x y fault before now (Ok compared.Fault) = IsCutIn asked x y fa
 ComparesTo asked x y fault before now (Ok compared.NoMemory) = AppendsPrefix before now (difference_lines (differences (merged_in asked x y)))
 ComparesTo asked x y fault before now (Err e) = AppendsPrefix before now (difference_lines (differences (merged_in asked x y)))
 
--- The count of reading faults rose if a fault ended the comparison, and is otherwise unchanged; a comparison to both ends had no
--- fault.
+-- The count of reading faults rose if a fault ended the comparison, and is otherwise unchanged. A comparison that came to both
+-- ends had no fault.
 abbrev pub CountsCompared : Result Compared Failed → ℕ → ℕ → Type 0
 CountsCompared (Ok (compared.Ended a b counts)) before after = (a ≢ end.ReadFault) × (b ≢ end.ReadFault) × (after ≡ before)
 CountsCompared (Ok compared.Fault) before after = Rose before after
 CountsCompared (Ok compared.NoMemory) before after = after ≡ before
 CountsCompared (Err e) before after = after ≡ before
 
--- both readings have ended, and this is said of them
+-- both readings have ended, and this is how far the captures were compared
 pub record EndsCompared (c : Comparing) (result : Compared) : Type 0 where
   pub a : End
   pub b : End

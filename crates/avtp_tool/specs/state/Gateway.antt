@@ -35,7 +35,7 @@ use Rattle.avtp_tool.specs.state.Made.{CountsWriting, Produces}
 use Rattle.avtp_tool.specs.state.Outcome.{CountsReading, EndsWith, KeepsSink}
 use Rattle.avtp_tool.specs.state.Turning.{IsFreshOutput, TurnsTo, WritesOutput, ended_turn}
 
--- what words ask of `gateway` is within its bounds
+-- what the words ask of `gateway` is within its bounds
 pub record IsTurning (asked : Turning) : Type 0 where
   pub limit : asked.listener.limit ≤ 2 ^ 40
   pub plan : IsPlan (schedule_plan (plan_of asked.listener))
@@ -43,7 +43,7 @@ pub record IsTurning (asked : Turning) : Type 0 where
 
 -- ---- the second reading
 
--- The capture to turn was opened again, turned as far as it could be read and written, and closed; or it was not opened.
+-- The capture to convert was opened again, converted as far as it could be read and written, and closed; or it was not opened.
 pub record TurnsInput (asked : Turning) (before after : ShelfState) (listener : ListenState) (old new : Output) (out out' : SinkState) (waits waits' : List ℕ) (result : Result Turned Failed) : Type 0 where
   pub told : (shape : Option Shape) (bytes : List ℕ) (files : Option Files) (all : Files) → before.files ≡ Some all → all asked.input ≡ Some bytes → IsSome after.files → IsFreshOutput asked shape files before old
       → StandsFor [] 0 listener → is_closed listener ≡ false → listener.plan ≡ plan_of asked.listener → end_of asked.listener.limit bytes ≡ end.Whole
@@ -56,14 +56,14 @@ pub record TurnsInput (asked : Turning) (before after : ShelfState) (listener : 
   pub asks : Asks (asked.input ∷ []) before after
   pub sink : KeepsSink out out' result
 
--- how far a capture was turned that could not be opened: nothing was presented of it
+-- how far a capture was converted that could not be opened: nothing was presented of it
 abbrev pub unread_as : OpenFault → Turned
 unread_as open_fault.Memory = turned.NoMemory
 unread_as fault = turned.Ended end.ReadFault 0
 
 -- ---- the end
 
--- the last line of a capture whose reading ended in this way, of which so many batches were presented
+-- the last line, if the reading ended in this way and this many batches were presented
 abbrev pub ended_line : ℕ → ℕ → Gating → End → List ℕ
 ended_line limit presented g end.Whole = gateway_line presented g.given.packets (presented - g.given.batches)
 ended_line limit presented g how = side_line limit how
@@ -79,13 +79,13 @@ pub data FinishesOutput (limit : ℕ) (how : End) (presented : ℕ) (before afte
       → FinishesOutput limit how presented before after o out out' waits waits' result
   unfinished : (e : Failed) → FinishesCapture before after o.writer (Err e) → result ≡ Ok status.WriteFault → PrintsNothing out out' waits waits' → FinishesOutput limit how presented before after o out out' waits waits' result
 
--- The capture that is made was given up as it is, and the run ends so without a line.
+-- The capture that is made was closed as it is, and the run ends in this way without a line.
 pub record AbandonsOutput (so : Result Status Failed → Type 0) (before after : ShelfState) (o : Output) (out out' : SinkState) (waits waits' : List ℕ) (result : Result Status Failed) : Type 0 where
   pub closes : ClosesCapture before after o.writer (Ok tt)
   pub ended : so result
   pub nothing : PrintsNothing out out' waits waits'
 
--- how the capture that is made is ended, by how far the other one was turned
+-- how the capture that is made is ended, by how far the other one was converted
 abbrev pub EndsOutput : ℕ → Result Turned Failed → ShelfState → ShelfState → Output → SinkState → SinkState → List ℕ → List ℕ → Result Status Failed → Type 0
 EndsOutput limit (Ok (turned.Ended how presented)) before after o out out' waits waits' result = FinishesOutput limit how presented before after o out out' waits waits' result
 EndsOutput limit (Ok turned.NoMemory) before after o out out' waits waits' result = AbandonsOutput (λ r. r ≡ Ok status.Memory) before after o out out' waits waits' result
@@ -94,7 +94,7 @@ EndsOutput limit (Err e) before after o out out' waits waits' result = AbandonsO
 
 -- ---- a capture that was scanned
 
--- What a run can come to over an input of these bytes that was scanned, and whose stream has this shape.
+-- A possible outcome of a run over an input of these bytes that was scanned, and whose stream has this shape.
 pub record TurnedOutcome (asked : Turning) (shape : Option Shape) (bytes : List ℕ) (fault : Type 0) (ended : Status) (text : List ℕ) (made : Option (List ℕ)) : Type 0 where
   pub how : End
   pub prefix : List ℕ
@@ -103,7 +103,7 @@ pub record TurnedOutcome (asked : Turning) (shape : Option Shape) (bytes : List 
   pub printed : text ≡ turned_text asked shape (batches_by asked (records_in prefix) how) how
   pub written : made ≡ Some (turned_capture asked shape (batches_by asked (records_in prefix) how))
 
--- The status of a run of `gateway` that found no record that cannot be turned.
+-- A status with which a run of `gateway` can end after its scan found no record that cannot be converted.
 abbrev pub is_of_gateway : Status → Bool
 is_of_gateway status.Words = false
 is_of_gateway status.DeviceFault = false

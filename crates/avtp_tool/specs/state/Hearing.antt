@@ -23,7 +23,7 @@ use Rattle.avtp_tool.specs.state.Reading.{ReadsCapture}
 
 -- ---- stages
 
--- everything is shown of a capture whose reading ends in this way, and not only what was due: it was not cut short
+-- everything is shown of a capture whose reading ends in this way; otherwise only what was due is shown
 abbrev pub is_all : End → Bool
 is_all end.Whole = true
 is_all (end.Refused refusal) = true
@@ -43,31 +43,31 @@ read_end (Showing how) = Some how
 read_end (Ended how) = Some how
 read_end NoMemory = None
 
--- the answer of a receiver whose capture's reading ended in this way, once everything was shown of it
+-- what a receiver returns once everything was shown of a capture whose reading ended in this way
 abbrev pub pull_with : End → Pull
 pull_with end.Whole = pull.Done
 pull_with (end.Refused refusal) = pull.Refused refusal
 pull_with end.ReadFault = pull.ReadFault
 pull_with end.Limit = pull.Limit
 
--- the answer with which the hearing ended, if it ended
+-- what the hearing returned at its end, if it has ended
 abbrev pub pull_at : Stage → Option Pull
 pull_at Reading = None
 pull_at (Showing how) = None
 pull_at (Ended how) = Some (pull_with how)
 pull_at NoMemory = Some pull.Memory
 
--- the answer with which a receiver ended, if it ended: a receiver whose file is not open counts as ended by a fault of reading
+-- what a receiver returned at its end, if it has ended: a receiver whose file is not open counts as ended by a fault of reading
 abbrev pub ended_at : Option Open → Stage → Option Pull
 ended_at None stage = Some pull.ReadFault
 ended_at (Some file) stage = pull_at stage
 
--- how far the capture was heard, once that has ended
+-- how far the capture was heard, once the hearing has ended
 abbrev pub heard_at : Stage → ListenState → Heard
 heard_at (Ended how) listener = heard.Ended how listener.counts
 heard_at stage listener = heard.NoMemory
 
--- the reading of the file has ended, although records should still be read
+-- the reading of the file has ended, although the stage is that of reading
 abbrev pub has_stopped : Stage → Sourcing → Bool
 has_stopped Reading source = is_some source.ended
 has_stopped stage source = false
@@ -80,7 +80,7 @@ IsGoing slots source stage = IsSome (slots (slot_of source)) × (pull_at stage �
 abbrev pub IsAtReading : Slots → Sourcing → Stage → Type 0
 IsAtReading slots source stage = IsSome (slots (slot_of source)) × (stage ≡ Reading)
 
--- The listener was closed if everything is shown of a capture whose reading ended in this way, and not only what was due.
+-- The listener was closed exactly if everything is shown of a capture whose reading ended in this way.
 pub record ClosesAt (how : End) (old new : ListenState) : Type 0 where
   pub stands : (records : List Record) (given : ℕ) → StandsFor records given old → StandsFor records given new
   pub plan : new.plan ≡ old.plan
@@ -89,7 +89,7 @@ pub record ClosesAt (how : End) (old new : ListenState) : Type 0 where
 
 -- ---- how much is left
 
--- how much is still to be read: it falls with each record
+-- how much is still to be read, which falls with each record
 abbrev pub reads_left : Stage → Sourcing → ℕ
 reads_left Reading source = to_do source + 1
 reads_left stage source = 0
@@ -98,11 +98,11 @@ abbrev pub unread : Stage → Sourcing → ℕ
 unread Reading source = to_do source
 unread stage source = 0
 
--- the most items that can still be shown: one for each record that was taken or may still come, less those that were shown
+-- the most items that can still be shown: one for each record that was taken or may come, less those that were shown
 abbrev pub left_of : Stage → Sourcing → ListenState → ℕ
 left_of stage source listener = (listener.counts.frames + unread stage source) - (listener.counts.presented + listener.counts.flagged)
 
--- some records were given to the listener, and it has shown this many of the items that it shows of them
+-- some records were given to the listener, and it has shown this many of their items
 pub record WasGiven (listener : ListenState) : Type 0 where
   pub records : List Record
   pub given : ℕ
@@ -129,7 +129,8 @@ ReadTo (Showing how) limit bytes fault remains source records = EndsAfter limit 
 ReadTo (Ended how) limit bytes fault remains source records = EndsAfter limit bytes fault how records
 ReadTo NoMemory limit bytes fault remains source records = ⊤
 
--- Some records of a file of these bytes were read to this stage, and these items were shown of them: all, once that has ended.
+-- Some records of a file of these bytes were read to this stage, and these items of them were shown: all items, once the
+-- hearing has ended.
 pub record IsShown (stage : Stage) (limit : ℕ) (bytes : List ℕ) (fault : Type 0) (remains : Option (List ℕ)) (source : Sourcing) (listener : ListenState) (items : List Shown) : Type 0 where
   pub records : List Record
   pub first : IsPrefix records (records_in (take limit bytes))
@@ -154,7 +155,7 @@ pub record GoesOn (shelf shelf' : ShelfState) (old_source source : Sourcing) (ol
   pub live : IsSome (shelf'.slots (slot_of source))
   pub left : left_of stage source listener + length items ≤ left_of old_stage old_source old_listener
 
--- The hearing moved on to this answer: the next item, or the answer with which it ended.
+-- The hearing moved on and returned this: the next item, or how the hearing ended.
 pub record GivesPull (shelf shelf' : ShelfState) (old_source source : Sourcing) (old_listener listener : ListenState) (old_stage stage : Stage) (answer : Pull) : Type 0 where
   pub on : GoesOn shelf shelf' old_source source old_listener listener old_stage stage (items_of answer)
   pub ended : pull_at stage ≡ ending_of answer

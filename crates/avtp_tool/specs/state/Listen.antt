@@ -28,8 +28,8 @@ use Rattle.avtp_tool.specs.Listen.{plan_of, shown_by, shown_text, listen_report}
 
 -- ---- the records of a capture
 
--- The records of a file of these bytes, as far as it could be read, were heard, its reading ended in this way, and what is
--- shown of them then was printed, given to devices and counted.
+-- The records of a file of these bytes, as far as it could be read, were heard, and its reading ended in this way. What is
+-- shown of the records was printed, given to devices and counted.
 pub record HasHeard (asked : Listening) (handed : List Shown → Type 0) (name bytes : List ℕ) (fault : Type 0) (how : End) (counts : Counts) (before now : Option (List ℕ)) : Type 0 where
   pub records : List Record
   pub ends : EndsAfter asked.listener.limit bytes fault how records

@@ -24,8 +24,8 @@ pub record Makes (name bytes : List ℕ) (files files' : Option Files) (result :
   pub part : MakesPrefix files files' name bytes
   pub untouched : IfOk result (λ s. s ≢ status.Done → s ≢ status.WriteFault → s ≢ status.Memory → KeepsFiles files files')
 
--- The count of writing faults when a run ended in this way: it never falls, it rose if a file could not be written, and it is
--- otherwise unchanged, as it is if no file is written.
+-- The count of writing faults of a run: it never falls, rises if a file could not be written, and is otherwise unchanged. If no
+-- file is written, it is unchanged.
 pub record CountsWriting (name : Option (List ℕ)) (before after : ℕ) (result : Result Status Failed) : Type 0 where
   pub never_falls : before ≤ after
   pub failed : result ≡ Ok status.WriteFault → Rose before after
@@ -34,8 +34,8 @@ pub record CountsWriting (name : Option (List ℕ)) (before after : ℕ) (result
 
 -- ---- one file
 
--- A call made a file of these bytes, or returns why not. If it was not made, it is unchanged or has a prefix of them; the cause
--- is the count of writing faults, or memory. All else is unchanged, and no other name was asked for.
+-- A call made a file of these bytes, or returns why not. If the file was not made, it is unchanged or has a prefix of the
+-- bytes, and memory ran out or a writing fault was counted. All else is unchanged, and no other name was asked for.
 pub record MakesFile (shelf shelf' : ShelfState) (name bytes : List ℕ) (result : Result Unit OpenFault) : Type 0 where
   pub made : OnOk result (PutsFile shelf.files shelf'.files name bytes)
   pub part : OnErr result (MakesPrefix shelf.files shelf'.files name bytes)
@@ -64,7 +64,7 @@ unmade_as fault = status.WriteFault
 
 -- ---- a run that makes a file
 
--- A run told one of the possible outcomes, and its output is what this outcome makes.
+-- A run gave out the text of one of the possible outcomes, and its output is what this outcome makes.
 pub record Produces (Outcome : Status → List ℕ → Option (List ℕ) → Type 0) (name : Option (List ℕ)) (before now : Option (List ℕ)) (files files' : Option Files) (result : Result Status Failed) : Type 0 where
   pub made : Option (List ℕ)
   pub tells : TellsText (λ ended text. Outcome ended text made) before now result

@@ -21,8 +21,8 @@ abbrev pub IsDone : Result Status Failed → Type 0
 IsDone (Ok ended) = is_done ended ≡ true
 IsDone (Err e) = ⊥
 
--- A run gave out what one of the possible outcomes yields. If it ended with a status of its own, this is the outcome's, and all
--- of that was given; if memory ran out or a write failed, a part of it was.
+-- A run gave out what one of the possible outcomes yields. If memory ran out or a write failed, it gave out a part of that;
+-- otherwise all of it, and the run ended with the outcome's status.
 pub record Tells {Y : Type 0} (Outcome : Status → Y → Type 0) (Whole Part : Y → Type 0) (result : Result Status Failed) : Type 0 where
   pub ended : Status
   pub yields : Y
@@ -38,8 +38,8 @@ TellsText Outcome before now result = Tells Outcome (Appends before now) (Append
 abbrev pub TellsYield : (Status → Yield → Type 0) → (List Shown → Type 0) → Option (List ℕ) → Option (List ℕ) → Result Status Failed → Type 0
 TellsYield Outcome handed before now result = Tells Outcome (Gives handed before now) (GivesPart handed before now) result
 
--- A whole run gave out what an outcome yields, and the files belong to that outcome: if the run ended with a status of its own,
--- the shelf was asked for exactly these.
+-- A whole run gave out what one of the possible outcomes yields. If memory ran out or a write failed, it gave out a part of
+-- that; otherwise all of it, with the status of the outcome, and the shelf was asked for exactly the names of the outcome.
 pub record TellsRun (Outcome : List (List ℕ) → Status → Yield → Type 0) (handed : List Shown → Type 0) (shelf shelf' : ShelfState) (before now : Option (List ℕ)) (result : Result Status Failed) : Type 0 where
   pub came : List (List ℕ)
   pub ended : Status
@@ -48,13 +48,13 @@ pub record TellsRun (Outcome : List (List ℕ) → Status → Yield → Type 0) 
   pub whole : IfOk result (λ s. s ≢ status.Memory → s ≢ status.WriteFault → (s ≡ ended) × Gives handed before now yields × Asks came shelf shelf')
   pub part : GivesPart handed before now yields
 
--- What the sink held stays, and a failure is the sink's.
+-- The sink keeps what it held, and its count of faults rose exactly if the call failed.
 pub record KeepsSink {T : Type 0} (out out' : SinkState) (result : Result T Failed) : Type 0 where
   pub grows : Grows out.held out'.held
   pub counted : IsCounted out.faults out'.faults result
 
--- The text that waited was written, or a part of it if the sink failed: what was written so far and what waits are together
--- what they were.
+-- The text that waits was written, or a part of it if the sink failed: what was written so far, with what still waits, is
+-- unchanged.
 pub record WritesWaiting (out out' : SinkState) (waits waits' : List ℕ) (result : Result Unit Failed) : Type 0 where
   pub kept : Keeps (written out.held waits) (written out'.held waits')
   pub sink : KeepsSink out out' result
@@ -66,15 +66,15 @@ pub record EndsWith (ended : Status) (out out' : SinkState) (waits waits' : List
   pub written : MatchResult result (λ _. Appends (written out.held waits) (written out'.held waits') line) (λ _. Keeps (written out.held waits) (written out'.held waits'))
   pub sink : KeepsSink out out' result
 
--- A run ends because a file could not be opened: if memory ran out, with that status and without a line; otherwise with the
--- line that says so.
+-- A run ends because a file could not be opened. If memory ran out, the status says so, and nothing is printed; otherwise the
+-- line of a fault of reading is printed.
 pub record EndsUnopened (fault : OpenFault) (out out' : SinkState) (waits waits' : List ℕ) (result : Result Status Failed) : Type 0 where
   pub memory : fault ≡ open_fault.Memory → (result ≡ Ok status.Memory) × Keeps (written out.held waits) (written out'.held waits')
   pub other : fault ≢ open_fault.Memory → EndsWith status.ReadFault out out' waits waits' result read_fault_line
   pub sink : KeepsSink out out' result
 
--- The text that waited was written, and the run ends with this status: its own if the sink took everything, otherwise that of a
--- failed write. What the sink held stays, and it has all that was written, or a prefix of it.
+-- The text that waits was written, and the run ends with this status: its own if the sink took everything, otherwise that of a
+-- failed write. The sink keeps what it held, and got all of the text or a prefix of it.
 pub record Finishes (out out' : SinkState) (waits waits' : List ℕ) (ended : Result Status Failed) (result : Status) : Type 0 where
   pub whole : result ≢ status.WriteFault → (ended ≡ Ok result) × (waits' ≡ [])
   pub kept : Keeps (written out.held waits) (written out'.held waits')
@@ -83,8 +83,8 @@ pub record Finishes (out out' : SinkState) (waits waits' : List ℕ) (ended : Re
   pub fault : result ≡ status.WriteFault → IsErr ended ⊎ ((ended ≡ Ok status.WriteFault) ⊎ Rose out.faults out'.faults)
   pub quiet : result ≢ status.WriteFault → out'.faults ≡ out.faults
 
--- A run that reads some of these files ended in this way. It is a fault of reading only if the count of these rose or the shelf
--- tells that one of the files is missing; if it ended otherwise, and was not cut short, the count is unchanged.
+-- A run that reads some of these files ended in this way. It ends with a fault of reading only if a fault was counted or one of
+-- the files is missing. If it ends otherwise, and neither memory ran out nor a write failed, the count of faults is unchanged.
 pub record CountsReading (names : List (List ℕ)) (files : Option Files) (before after : ℕ) (result : Result Status Failed) : Type 0 where
   pub never_falls : before ≤ after
   pub fault : result ≡ Ok status.ReadFault → Rose before after ⊎ IsOneMissing names files

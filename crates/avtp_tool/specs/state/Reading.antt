@@ -24,7 +24,7 @@ use Rattle.avtp_tool.specs.Yield.{Yield}
 abbrev pub IsOpen : Slots → Sourcing → Type 0
 IsOpen slots source = (source.ended ≡ None) × IsSome (slots (slot_of source)) × (to_do source ≤ 2 ^ 41)
 
--- how the reading of the file ended, if everything was done with its records
+-- how the reading of the file ended, if all its records were reported
 abbrev pub ended_in : {T E : Type 0} → (T → End) → Result T E → Option End
 ended_in end (Ok x) = Some (end x)
 ended_in end (Err e) = None
@@ -35,16 +35,16 @@ pub record ReadsCapture (shelf shelf' : ShelfState) (k now : ℕ) (how : Option 
   pub reads : ReadsSlot shelf shelf' k now
   pub counted : CountsFault None how shelf.reading_faults shelf'.reading_faults
 
--- The next record was read, or the reading ended, after the text that waited was written; or the sink failed in that, and nothing
--- was read.
+-- The text that waits was written, and then the next record was read, or the reading ended; or writing failed, and nothing was
+-- read.
 pub record ReadsAhead (shelf shelf' : ShelfState) (old new : Sourcing) (out out' : SinkState) (waits waits' : List ℕ) (result : Result (Option End) Failed) : Type 0 where
   pub gives : IfOk result (λ how. GivesNext shelf shelf' old new how)
   pub cut : OnErr result ((shelf' ≡ shelf) × (slot_of new ≡ slot_of old))
   pub kept : Keeps (written out.held waits) (written out'.held waits')
   pub sink : KeepsSink out out' result
 
--- The records of the file were read, as far as could be, and reported. `Told` is the report: it relates how many bytes may be
--- read, the bytes of the file, what a fault of reading needs, the text that was known before and now, and the result.
+-- The records of the file were read, as far as possible, and reported. `Told` is the report: it relates the most bytes that are
+-- read, the bytes of the file, the condition for a fault of reading, the text that was known before and now, and the result.
 pub record ReadsRecords {T : Type 0} (Told : ℕ → List ℕ → Type 0 → Option (List ℕ) → Option (List ℕ) → Result T Failed → Type 0) (ending : T → End)
     (shelf shelf' : ShelfState) (old new : Sourcing) (out out' : SinkState) (waits waits' : List ℕ) (result : Result T Failed) : Type 0 where
   pub told : (limit : ℕ) (bytes : List ℕ) → HasGivenOf limit bytes shelf old [] → Told limit bytes (Rose shelf.reading_faults shelf'.reading_faults) (written out.held waits) (written out'.held waits') result
@@ -64,7 +64,8 @@ is_of_reading ended = true
 abbrev pub IsReadingStatus : Result Status Failed → Type 0
 IsReadingStatus result = IfOk result (λ s. is_of_reading s ≡ true)
 
--- The file with a name was read, up to `limit` bytes, and nothing else was done, except that items were given to devices.
+-- The file with this name was read, up to `limit` bytes, and its report was printed and given to devices. Nothing else was
+-- done.
 pub record DoesFile (report : Report) (handed : List Shown → Type 0) (limit : ℕ) (name : List ℕ) (shelf shelf' : ShelfState) (out out' : SinkState) (waits waits' : List ℕ) (result : Result Status Failed) : Type 0 where
   pub tells : (all : Files) → shelf.files ≡ Some all → TellsYield (FileOutcome report limit (all name) (Rose shelf.reading_faults shelf'.reading_faults)) handed (written out.held waits) (written out'.held waits') result
   pub keeps : OnlyReads shelf shelf' (name ∷ [])
@@ -72,8 +73,8 @@ pub record DoesFile (report : Report) (handed : List Shown → Type 0) (limit : 
   pub own : IsReadingStatus result
   pub sink : KeepsSink out out' result
 
--- A command read some of these files, in this order, as far as the run came, and nothing else was done, except that items were given
--- to devices. `Outcome` is what it can come to over the files that a shelf tells.
+-- A command read some of these files, in this order, and what it yields was printed and given to devices. Nothing else was
+-- done. `Outcome` gives the possible outcomes over the files that a shelf tells.
 pub record DoesReading (Outcome : Files → Type 0 → List (List ℕ) → Status → Yield → Type 0) (names : List (List ℕ)) (handed : List Shown → Type 0) (shelf shelf' : ShelfState) (out out' : SinkState) (waits waits' : List ℕ) (result : Result Status Failed) : Type 0 where
   pub tells : (all : Files) → shelf.files ≡ Some all → IsSome shelf'.files → TellsRun (Outcome all (Rose shelf.reading_faults shelf'.reading_faults)) handed shelf shelf' (written out.held waits) (written out'.held waits') result
   pub count : ℕ

@@ -23,7 +23,7 @@ use Rattle.avtp_tool.specs.state.Outcome.{CountsReading, KeepsSink, TellsRun}
 use Rattle.avtp_tool.specs.Talk.{talk_plan}
 use Rattle.avtp_tool.specs.Run.{Outcome, names_of, is_listening, is_through}
 
--- What a run told, gave to devices and made, over the files that a shelf told before and after.
+-- What a run printed, gave to devices and made, over the files that a shelf tells before and after.
 pub record TellsAll (request : Request) (all : Files) (fault : Type 0) (failed : Bool) (handed : List Shown → Type 0) (shelf shelf' : ShelfState) (before now : Option (List ℕ)) (result : Result Status Failed) : Type 0 where
   pub made : Option (List ℕ)
   pub tells : TellsRun (λ came ended yields. Outcome request all fault failed came ended yields made) handed shelf shelf' before now result
@@ -34,7 +34,8 @@ abbrev pub IsThrough : Result Status Failed → Type 0
 IsThrough (Ok ended) = is_through ended ≡ true
 IsThrough (Err e) = ⊥
 
--- A run ends with this status exactly because a device failed.
+-- A run ends with a device's fault only if the command is `listen` and a device failed. A run of `listen` in which a device
+-- failed does not end with `Done`.
 pub record TellsDevices (request : Request) (failed : Bool) (result : Result Status Failed) : Type 0 where
   pub fault : result ≡ Ok status.DeviceFault → (is_listening request ≡ true) × (failed ≡ true)
   pub quiet : is_listening request ≡ true → result ≡ Ok status.Done → failed ≡ false

@@ -1,5 +1,5 @@
--- Kept for proofs: what the code's own parts hold and do. No clause of a public call rests on it.
--- A capture that is scanned for what cannot be turned.
+-- Kept for proofs: what the code's own parts hold and do. No clause of a public call rests on it. A capture that is scanned for
+-- records that cannot be converted.
 use Rattle.std.specs.Prelude.{◌≡◌, ◌≢◌, ℕ, List, [], ◌∷◌, take, Option, Some, None, Result, Ok, Err, IfErr, IfOk, IfSome, IsErrOf}
 use Rattle.avtp_base.specs.declared.failed.OpenFault.{OpenFault}
 use Rattle.avtp_base.specs.declared.failed.OpenFault.TheVariants as open_fault
@@ -21,13 +21,13 @@ use Rattle.avtp_tool.specs.declared.scanning.Scanned.TheVariants as scanned
 use Rattle.avtp_tool.specs.Gateway.{format_of}
 use Rattle.avtp_tool.specs.state.Reading.{ReadsCapture}
 
--- how the reading of the file ended, if the scan came to its end
+-- how the reading of the file ended, if no record stopped the scan
 abbrev pub ended_scan : Scanned → Option End
 ended_scan (scanned.Clean shape) = Some end.Whole
 ended_scan (scanned.Faulty fault frame) = None
 ended_scan (scanned.Cut how) = Some how
 
--- what a scan found whose reading ended in this way, if no record of the stream with this shape has a fault
+-- what a scan found if the reading ended in this way and no record of the stream with this shape has a fault
 abbrev pub scanned_as : End → Option Shape → Scanned
 scanned_as end.Whole shape = scanned.Clean shape
 scanned_as how shape = scanned.Cut how
@@ -41,14 +41,14 @@ ScansTo to stream limit bytes fault (scanned.Faulty why frame) =
 ScansTo to stream limit bytes fault (scanned.Cut how) =
     (prefix : List ℕ) × EndsAt limit (Some bytes) fault how prefix × (first_fault to stream (records_in prefix) ≡ None)
 
--- The records of an open capture were scanned, as far as they can be read and turned.
+-- The records of an open capture were scanned, as far as they can be read and converted.
 pub record ScansRecords (to : To) (stream : ℕ) (shelf shelf' : ShelfState) (old new : Sourcing) (result : Scanned) : Type 0 where
   pub told : (limit : ℕ) (bytes : List ℕ) → HasGivenOf limit bytes shelf old [] → ScansTo to stream limit bytes (Rose shelf.reading_faults shelf'.reading_faults) result
   pub reads : ReadsCapture shelf shelf' (slot_of old) (slot_of new) (ended_scan result)
   pub cut : (how : End) → result ≡ scanned.Cut how → how ≢ end.Whole
   pub sound : (shape : Option Shape) → result ≡ scanned.Clean shape → IfSome shape IsShape
 
--- The capture to turn was opened, scanned and closed; or it was not opened.
+-- The capture to convert was opened, scanned and closed; or it was not opened.
 pub record ScansFile (asked : Turning) (shelf shelf' : ShelfState) (result : Result Scanned OpenFault) : Type 0 where
   pub told : IfOk result (λ found. (all : Files) → shelf.files ≡ Some all
       → (bytes : List ℕ) × (all asked.input ≡ Some bytes) × ScansTo (format_of asked.to) asked.listener.stream asked.listener.limit bytes (Rose shelf.reading_faults shelf'.reading_faults) found)

@@ -1,5 +1,5 @@
--- Kept for proofs: what the code's own parts hold and do. No clause of a public call rests on it.
--- A capture that is turned: what is presented of it is written as packets of the other format.
+-- Kept for proofs: what the code's own parts hold and do. No clause of a public call rests on it. A capture that is converted:
+-- what is presented of it is written as packets of the other format.
 use Rattle.std.specs.Prelude.{◌≡◌, ◌≢◌, ℕ, ◌+◌, ◌≤◌, List, [], ◌∷◌, ◌++◌, flat_map, length, map, slice_get, take, Option, Some, None, IfOk, IsSome, OnErr, OnOk, Result, Ok, Err, option_map, false}
 use Rattle.avtp_base.specs.declared.failed.Failed.{Failed}
 use Rattle.avtp_base.specs.Faults.{Rose}
@@ -55,7 +55,7 @@ pub record HasPut (to : To) (shape : Option Shape) (id : ℕ) (batches : List Pr
 abbrev pub records_for : To → Option Shape → ℕ → List Presented → List Record
 records_for to shape id batches = map record_of (gateway_frames to shape id batches)
 
--- The file that is written has and holds a capture of the first of these records, however many.
+-- The file that is written has a capture of the first of these records, however many.
 pub record HoldsFirst (files : Option Files) (shelf : ShelfState) (writer : Writing) (name : List ℕ) (records : List Record) : Type 0 where
   pub count : ℕ
   pub holds : HoldsCapture files shelf writer name (take count records)
@@ -74,11 +74,11 @@ wrote (Err e) = Ok tt
 
 -- A batch was put: its packets were written, or the line that says why it is skipped was printed.
 pub record PutsBatch (batch : Presented) (before after : ShelfState) (old new : Output) (out out' : SinkState) (waits waits' : List ℕ) (result : Result Put Failed) : Type 0 where
-  -- one batch more
+  -- the gateway was given this batch, too
   pub put : result ≡ Ok did.Done → (to : To) (shape : Option Shape) (id : ℕ) (batches : List Presented) → HasPut to shape id batches old.gateway → HasPut to shape id (batches ++ batch ∷ []) new.gateway
   pub frames : result ≡ Ok did.Done → (to : To) (shape : Option Shape) (id : ℕ) (batches : List Presented) (files : Option Files) (name : List ℕ) → HasPut to shape id batches old.gateway
       → HoldsCapture files before old.writer name (records_for to shape id batches) → HoldsCapture files after new.writer name (records_for to shape id (batches ++ batch ∷ []))
-  -- or a part of its packets
+  -- a part of the packets may have been written
   pub part : (to : To) (shape : Option Shape) (id : ℕ) (batches : List Presented) (files : Option Files) (name : List ℕ) → HasPut to shape id batches old.gateway
       → HoldsCapture files before old.writer name (records_for to shape id batches) → HoldsFirst files after new.writer name (records_for to shape id (batches ++ batch ∷ []))
   pub lines : IfOk result (λ so. Appends (written out.held waits) (written out'.held waits') (flat_map skipped_line (skipped_at batch.frame (skip_of old.gateway.to old.gateway.shape old.gateway.given batch))))
@@ -89,30 +89,31 @@ pub record PutsBatch (batch : Presented) (before after : ShelfState) (old new : 
 
 -- ---- a capture
 
--- how far a capture was turned that was heard so far
+-- how far a capture was converted, by how far it was heard
 abbrev pub turned_as : Heard → Turned
 turned_as (heard.Ended how counts) = turned.Ended how counts.presented
 turned_as heard.NoMemory = turned.NoMemory
 
--- how the reading of a capture ended, if it was turned up to there
+-- how the reading of a capture ended, if the capture was converted up to there
 abbrev pub ended_turn : Result Turned Failed → Option End
 ended_turn (Ok (turned.Ended how presented)) = Some how
 ended_turn (Ok other) = None
 ended_turn (Err e) = None
 
--- what was written of a capture, as the writer's calls have it
+-- whether the packets of a capture were written, as a result of the writer's calls
 abbrev pub wrote_all : Result Turned Failed → Result Unit Failed
 wrote_all (Ok turned.Unwritten) = Err (record {})
 wrote_all other = Ok tt
 
--- Nothing was put into the capture that is made, which had these files before it, of a stream of this shape. It has its own name.
+-- No batch was put yet into the capture that is made, which has a name of its own.
 pub record IsFreshOutput (asked : Asked) (shape : Option Shape) (files : Option Files) (shelf : ShelfState) (o : Output) : Type 0 where
   pub apart : asked.input ≢ asked.output
   pub named : name_in shelf.slots o.writer.slot ≡ Some asked.output
   pub none : HasPut (format_of asked.to) shape asked.id [] o.gateway
   pub holds : HoldsCapture files shelf o.writer asked.output []
 
--- Nor was anything heard of the capture that is read, which has these bytes and its own name.
+-- No batch was put yet into the capture that is made, and nothing was heard of the capture that is read, which has these bytes
+-- and a name of its own.
 pub record IsToTurn (asked : Asked) (shape : Option Shape) (bytes : List ℕ) (files : Option Files) (shelf : ShelfState) (source : Sourcing) (listener : ListenState) (o : Output) : Type 0 where
   pub fresh : IsFreshOutput asked shape files shelf o
   pub named : name_in shelf.slots (slot_of source) ≡ Some asked.input
@@ -121,21 +122,21 @@ pub record IsToTurn (asked : Asked) (shape : Option Shape) (bytes : List ℕ) (f
   pub going : is_closed listener ≡ false
   pub plan : listener.plan ≡ plan_of asked.listener
 
--- These batches were put: each was written, or its line printed.
+-- These batches were put: the packets of each were written, or the line of a skipped batch was printed.
 pub record HasTurned (asked : Asked) (shape : Option Shape) (batches : List Presented) (files : Option Files) (shelf : ShelfState) (o : Output) (before now : Option (List ℕ)) : Type 0 where
   pub put : HasPut (format_of asked.to) shape asked.id batches o.gateway
   pub lines : Appends before now (flat_map skipped_line (skips_in asked shape batches))
   pub holds : HoldsCapture files shelf o.writer asked.output (map record_of (turned_frames asked shape batches))
 
--- What is presented of a capture of these bytes was put, as far as it could be read.
+-- All batches that are presented of a capture of these bytes, as far as it could be read, were put.
 pub record HasHeard (asked : Asked) (shape : Option Shape) (bytes : List ℕ) (fault : Type 0) (files : Option Files) (shelf : ShelfState) (o : Output) (how : End) (presented : ℕ) (before now : Option (List ℕ)) : Type 0 where
   pub prefix : List ℕ
   pub ends : EndsAt asked.listener.limit (Some bytes) fault how prefix
   pub turned : HasTurned asked shape (batches_by asked (records_in prefix) how) files shelf o before now
   pub counted : presented ≡ length (batches_by asked (records_in prefix) how)
 
--- Of all batches of a capture of these bytes, some were put: the file holds the first of their records, and a prefix of the lines was
--- printed.
+-- Some of all batches of a capture of these bytes were put: the file holds the first of their records, and a prefix of their
+-- lines was printed.
 pub record IsCutShort (asked : Asked) (shape : Option Shape) (bytes : List ℕ) (files : Option Files) (shelf : ShelfState) (o : Output) (before now : Option (List ℕ)) : Type 0 where
   pub lines : AppendsPrefix before now (flat_map skipped_line (skips_in asked shape (batches_by asked (records_in (take asked.listener.limit bytes)) end.Whole)))
   pub holds : HoldsFirst files shelf o.writer asked.output (map record_of (turned_frames asked shape (batches_by asked (records_in (take asked.listener.limit bytes)) end.Whole)))
@@ -144,14 +145,14 @@ abbrev pub TurnsTo : Asked → Option Shape → List ℕ → Type 0 → Option F
 TurnsTo asked shape bytes fault files shelf o before now (Ok (turned.Ended how presented)) = HasHeard asked shape bytes fault files shelf o how presented before now
 TurnsTo asked shape bytes fault files shelf o before now other = IsCutShort asked shape bytes files shelf o before now
 
--- the file that is read is open, and the one that is written, each in its own slot
+-- the file that is read and the one that is written are open, each in its own slot
 pub record AreOpenIn (slots : Slots) (source : Sourcing) (o : Output) : Type 0 where
   pub apart : slot_of source ≢ o.writer.slot
   pub live : IsSome (slots (slot_of source))
   pub made : IsMadeIn slots o.writer.slot
 
--- A capture was written to a file through a writer, while another was read: what holds of the file, which had no record before,
--- and of the counts of faults.
+-- A capture was written to a file through a writer, while another was read: what the file has, which had no record before, and
+-- the counts of faults.
 pub record WritesOutput (before after : ShelfState) (old new : Output) (result : Result Turned Failed) : Type 0 where
   pub slot : new.writer.slot ≡ old.writer.slot
   pub made : IsMadeIn after.slots old.writer.slot
@@ -161,12 +162,13 @@ pub record WritesOutput (before after : ShelfState) (old new : Output) (result :
   pub falls : before.writing_faults ≤ after.writing_faults
   pub reading : before.reading_faults ≤ after.reading_faults
 
--- A capture was turned, as far as it could be read and written.
+-- A capture was converted, as far as it could be read and written.
 pub record Turns (before after : ShelfState) (source source' : Sourcing) (listener : ListenState) (old new : Output) (out out' : SinkState) (waits waits' : List ℕ) (result : Result Turned Failed) : Type 0 where
   pub told : (asked : Asked) (shape : Option Shape) (bytes : List ℕ) (files : Option Files) → IsToTurn asked shape bytes files before source listener old
       → TurnsTo asked shape bytes (Rose before.reading_faults after.reading_faults) files after new (written out.held waits) (written out'.held waits') result
   pub slot : slot_of source' ≡ slot_of source
-  -- each slot keeps its file, and what is left to read there, but in the slot that is read and in those of the file that is written
+  -- each slot keeps its file, and what is left to read there, except in the slot that is read and in those of the file that is
+  -- written
   pub same : (j : ℕ) → option_map file_of (after.slots j) ≡ option_map file_of (before.slots j)
   pub left : (j : ℕ) → j ≢ slot_of source → name_in before.slots j ≢ name_in before.slots old.writer.slot → left_in after.slots j ≡ left_in before.slots j
   pub writes : WritesOutput before after old new result

@@ -11,12 +11,12 @@ use Rattle.avtp_tool.specs.Yield.{Yield}
 abbrev pub HandsNothing : List Shown → Type 0
 HandsNothing items = items ≡ []
 
--- Known bytes grew by the text, and the devices got the items, as `handed` says.
+-- The known bytes grew by the text, and the devices got the items. `handed` says which items they got.
 pub record Gives (handed : List Shown → Type 0) (before now : Option (List ℕ)) (yields : Yield) : Type 0 where
   pub text : Appends before now yields.text
   pub items : handed yields.items
 
--- Known bytes grew by a prefix of the text, and the devices got a prefix of the items.
+-- The known bytes grew by a prefix of the text, and the devices got a prefix of the items.
 pub record GivesPart (handed : List Shown → Type 0) (before now : Option (List ℕ)) (yields : Yield) : Type 0 where
   pub text : AppendsPrefix before now yields.text
   pub front : List Shown

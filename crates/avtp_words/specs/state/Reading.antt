@@ -35,7 +35,7 @@ rows_of rows = map row_of rows
 abbrev pub names_of : List OptionRow → List (List ℕ)
 names_of rows = map (λ row. row.name.now) rows
 
--- some word is such a value, and each number has at most 64 bits
+-- some word is a value that the option takes, and the size of each value is below 2^64
 abbrev pub is_sound : Takes → Bool
 is_sound (Number low high) = nat_le low high && nat_lt high (2 ^ 64)
 is_sound (Signed most) = nat_lt most (2 ^ 63)
@@ -47,7 +47,7 @@ is_sound Silence = true
 is_sound OutFormat = true
 is_sound Nothing = true
 
--- the word begins with "--", as the name of each option does, and no value does
+-- the word begins with "--", as names of options do and their values do not
 abbrev pub begins_with_dashes : List ℕ → Bool
 begins_with_dashes [] = false
 begins_with_dashes (first ∷ []) = false
@@ -61,41 +61,41 @@ abbrev pub value_after : List ℕ → List (List ℕ) → Option (List ℕ)
 value_after name [] = None
 value_after name (word ∷ words) = if bytes_eq word name then slice_get words 0 else value_after name words
 
--- What is read of a word: the number that it spells, below the bound, or the default if there is no word.
+-- What is read from a word: the number that it spells, below the bound, or the default if there is no word.
 pub record IsRead (bound default : ℕ) (word : Option (List ℕ)) (n : ℕ) : Type 0 where
   pub absent : IfNone word (n ≡ default)
   pub read : IfSome word (λ word. (k : ℕ) → k < bound → word ≡ decimal k → n ≡ k)
 
--- What is read of a word: the number that it spells, below the bound, or none if there is no word.
+-- What is read from a word: the number that it spells, below the bound, or none if there is no word.
 pub record IsReadIf (bound : ℕ) (word : Option (List ℕ)) (given : Option ℕ) : Type 0 where
   pub absent : IfNone word (given ≡ None)
   pub read : IfSome word (λ word. (k : ℕ) → k < bound → word ≡ decimal k → given ≡ Some k)
 
--- What is read of a word: the stream id that it spells, or the default if there is no word.
+-- What is read from a word: the stream id that it spells, or the default if there is no word.
 pub record IsReadId (default : ℕ) (word : Option (List ℕ)) (n : ℕ) : Type 0 where
   pub absent : IfNone word (n ≡ default)
   pub read : IfSome word (λ word. (id : ℕ) → IsId word id → n ≡ id)
 
--- What is read of a word: the stream id that it spells, or none if there is no word.
+-- What is read from a word: the stream id that it spells, or none if there is no word.
 pub record IsReadIdIf (word : Option (List ℕ)) (given : Option ℕ) : Type 0 where
   pub absent : IfNone word (given ≡ None)
   pub read : IfSome word (λ word. (id : ℕ) → IsId word id → given ≡ Some id)
 
--- What is read of a word: the number that it spells, which may be negative, or the default if there is no word.
+-- What is read from a word: the number that it spells, which may be negative, or the default if there is no word.
 pub record IsReadSigned (default : ℤ) (word : Option (List ℕ)) (z : ℤ) : Type 0 where
   pub absent : IfNone word (z ≡ default)
   pub read : IfSome word (λ word. (k : ℤ) → unsigned_abs k < 2 ^ 63 → word ≡ signed_decimal k → z ≡ k)
 
--- What is read of a word: the format that it names, or the default if there is no word.
+-- What is read from a word: the format that it names, or the default if there is no word.
 pub record IsReadFormat (default : AafFormat) (word : Option (List ℕ)) (format : AafFormat) : Type 0 where
   pub absent : IfNone word (format ≡ default)
   pub read : IfSome word (λ word. (named : AafFormat) → word ≡ format_name named → format ≡ named)
 
--- the number that is read of an option with a default, in a list of options
+-- the number that is read from a list of options for an option with a default
 abbrev pub IsReadOf : ℕ → NumberOption → List (List ℕ) → ℕ → Type 0
 IsReadOf bound option options n = IsSomeAnd option.default (λ default. IsRead bound default (value_after option.name options) n)
 
--- What is read of the name of a file after the option with this name. The place of the name counts the command, too.
+-- The name of the file after the option with this name, and its position among all words, with the command as word 0.
 pub record ReadsFile (name : List ℕ) (options : List (List ℕ)) (file : NamedFile) : Type 0 where
   pub value : value_after name options ≡ Some file.name
   pub before : ℕ
@@ -107,12 +107,12 @@ abbrev pub IsReadFile : List ℕ → List (List ℕ) → Option NamedFile → Ty
 IsReadFile name options None = value_after name options ≡ None
 IsReadFile name options (Some file) = ReadsFile name options file
 
--- what is read of a word about silence
+-- what is read from a word about silence
 abbrev pub IsReadSilence : Option (List ℕ) → RawSilence → Type 0
 IsReadSilence word silence.Zero = IfSome word (λ word. word ≢ codes "am824")
 IsReadSilence word silence.Am824 = word ≡ Some (codes "am824")
 
--- what is read of a file of raw audio
+-- what is read from the options about a file of raw audio
 pub record ReadsRaw (options : List (List ℕ)) (raw : NamedRaw) : Type 0 where
   pub file : ReadsFile (codes "--raw") options raw.file
   pub silence : IsReadSilence (value_after (codes "--silence") options) raw.silence
@@ -121,7 +121,7 @@ abbrev pub IsReadRaw : List (List ℕ) → Option NamedRaw → Type 0
 IsReadRaw options None = value_after (codes "--raw") options ≡ None
 IsReadRaw options (Some raw) = ReadsRaw options raw
 
--- what is read of the options that make a listener
+-- what is read from the options that make a listener
 pub record IsReadListener (options : List (List ℕ)) (asked : ListenerOptions) : Type 0 where
   pub limit : IsReadOf (2 ^ 64) limits.limit options asked.limit
   pub buffer : IsReadOf (2 ^ 32) limits.buffer options asked.buffer
@@ -131,14 +131,14 @@ pub record IsReadListener (options : List (List ℕ)) (asked : ListenerOptions) 
   pub clock : IsReadIdIf (value_after (codes "--clock") options) asked.clock
   pub shift : IsReadSigned limits.crf_shift.default (value_after limits.crf_shift.name options) asked.shift
 
--- what is read of the options of `listen`
+-- what is read from the options of `listen`
 pub record AreHeard (options : List (List ℕ)) (asked : Listening) : Type 0 where
   pub listener : IsReadListener options asked.listener
   pub ring : IsReadOf (2 ^ 32) limits.ring options asked.ring
   pub raw : IsReadRaw options asked.raw
   pub annexb : IsReadFile (codes "--annexb") options asked.annexb
 
--- What is read of the kind of a stream. `tells` says whether the word `--sparse` or `--last-stamp` is among all words.
+-- The kind that is read is AAF. `tells` says whether the word `--sparse` is among all words.
 pub record IsReadAaf (options : List (List ℕ)) (tells : Bool) (format : AafFormat) (sparse : Bool) : Type 0 where
   pub no_blocks : IfSome (value_after (codes "--kind") options) (λ word. word ≢ codes "am824")
   pub no_video : IfSome (value_after (codes "--kind") options) (λ word. word ≢ codes "h264")
@@ -154,7 +154,7 @@ IsReadKind options tells_sparse tells_last (Aaf format sparse) = IsReadAaf optio
 IsReadKind options tells_sparse tells_last Am824 = value_after (codes "--kind") options ≡ Some (codes "am824")
 IsReadKind options tells_sparse tells_last (H264 last_stamp) = IsReadVideo options tells_last last_stamp
 
--- What is read of a media clock with a stream of this rate.
+-- What is read from the options about a media clock for a stream of this rate.
 pub record IsReadCrf (options : List (List ℕ)) (rate : ℕ) (crf : Crf) : Type 0 where
   pub id : IsReadIdIf (value_after (codes "--crf") options) (Some crf.id)
   pub base : IsReadOf (2 ^ 32) (with_default limits.crf_rate rate) options crf.rate
@@ -178,7 +178,7 @@ abbrev pub ClockIsWithin : Option Crf → ℕ → Type 0
 ClockIsWithin None rate = ⊤
 ClockIsWithin (Some crf) rate = IsWithin crf rate
 
--- what is read of the options of `talk` other than the kind
+-- what is read from the options of `talk` other than the kind
 pub record AreRead (options : List (List ℕ)) (asked : Talking) : Type 0 where
   pub rate : IsReadOf (2 ^ 32) (with_default limits.rate (default_rate asked.kind)) options asked.rate
   pub channels : IsReadOf (2 ^ 16) limits.channels options asked.channels
@@ -190,25 +190,25 @@ pub record AreRead (options : List (List ℕ)) (asked : Talking) : Type 0 where
   pub jump : IsReadOf (2 ^ 32) limits.jump options asked.jump
   pub crf : IsReadClock options asked.rate asked.crf
 
--- the words from a place on begin with a value that such an option takes, which is `len` words long
+-- the words from a place on begin with a value that the option takes; the value is `len` words long
 pub record IsTakenAt (takes : Takes) (words : List (List ℕ)) (place len : ℕ) : Type 0 where
   pub value : Option (List ℕ)
   pub taken : IsTaken takes value
   pub here : IfSome value (λ word. slice_get words place ≡ Some word)
   pub size : len ≡ length (option_to_list value)
 
--- the words from a place on do not begin with a value that such an option takes
+-- the words from a place on do not begin with a value that the option takes
 pub record LacksValue (takes : Takes) (words : List (List ℕ)) (place : ℕ) : Type 0 where
   pub wanted : stands_alone takes ≡ false
   pub none : IfSome (slice_get words place) (λ word. IsValue takes word → ⊥)
 
--- options alone
+-- the words are options and nothing else
 pub record AreOptions (rows : List Row) (words : List (List ℕ)) : Type 0 where
   pub settings : List Setting
   pub spelled : words ≡ flat_map words_of settings
   pub options : AreSettings rows settings
 
--- options, then any number of names
+-- the words are options, followed by any number of names
 pub record IsTail (rows : List Row) (words : List (List ℕ)) : Type 0 where
   pub settings : List Setting
   pub names : List (List ℕ)
@@ -216,7 +216,7 @@ pub record IsTail (rows : List Row) (words : List (List ℕ)) : Type 0 where
   pub options : AreSettings rows settings
   pub named : All IsName names
 
--- a command line without the command: options, then the operands
+-- the words after a command: options, then the operands
 pub record IsRest (rows : List Row) (operands : List Operand) (words : List (List ℕ)) : Type 0 where
   pub settings : List Setting
   pub names : List (List ℕ)
@@ -224,7 +224,7 @@ pub record IsRest (rows : List Row) (operands : List Operand) (words : List (Lis
   pub options : AreSettings rows settings
   pub named : AreOperands operands names
 
--- a command line without the command: options, then the operands, of which the first is at this place, from 0
+-- the words after a command: options, then the operands, of which the first is at this place, from 0
 pub record IsRestTo (rows : List Row) (operands : List Operand) (words : List (List ℕ)) (place : ℕ) : Type 0 where
   pub rest : IsRest rows operands words
   pub here : place ≡ length (flat_map words_of rest.settings)
@@ -242,7 +242,7 @@ pub record EndsOptions (rows : List Row) (words : List (List ℕ)) (place : ℕ)
   pub options : AreOptionsTo rows words place
   pub ends : IfSome (slice_get words place) (λ word. BeginsWithDash word → ⊥)
 
--- The words before the place begin options, and with the word there they begin no options and names at all.
+-- The words before the place begin options. Together with the word there they begin no options and names.
 pub record StopsOptions (rows : List Row) (words : List (List ℕ)) (place : ℕ) : Type 0 where
   pub before : List (List ℕ)
   pub rest : List (List ℕ)
@@ -251,7 +251,7 @@ pub record StopsOptions (rows : List Row) (words : List (List ℕ)) (place : ℕ
   pub begins : Begins (AreOptions rows) before
   pub stops : Stops (IsTail rows) before rest
 
--- the words after a command stop being such a line at a position, counted from 1 over all words
+-- from this position on, counted from 1 over all words, the words after a command are no line of L
 pub record StopsAfter (L : List (List ℕ) → Type 0) (words : List (List ℕ)) (position : ℕ) : Type 0 where
   pub place : ℕ
   pub here : position ≡ place + 2

@@ -3,7 +3,7 @@
 use Rattle.std.specs.Prelude.{◌≡◌, ◌≢◌, ℕ, ◌+◌, ◌<◌}
 use Rattle.std.specs.Int.{bit_at}
 
--- the newest number is now one this far ahead of the old one
+-- the newest number has moved ahead by this much
 pub record Moves (came ahead now : ℕ) : Type 0 where
   pub newest : bit_at now 0 ≡ 1
   pub between : (behind : ℕ) → 0 < behind → behind < ahead → behind < 64 → bit_at now behind ≡ 0

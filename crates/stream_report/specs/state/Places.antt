@@ -20,8 +20,8 @@ pub record Reaches (values : List ℤ) (rank place : ℕ) : Type 0 where
   pub before : number_below (edge place) values < rank
   pub reached : rank ≤ number_below (edge (place + 1)) values
 
--- Counts of buckets from the one at place `first` on became counts from the one at place `now` on, which reach a place. They count
--- as many values in the buckets up to any place as before.
+-- Counts that began with the bucket at `first` now begin with the bucket at `now`, and reach the bucket at `place`. Below any
+-- bucket they count as many values as before.
 pub record Widens (first : ℕ) (old : List ℕ) (place : ℕ) (new : List ℕ) (now : ℕ) : Type 0 where
   pub same : (to : ℕ) → sum (take (to - now) new) ≡ sum (take (to - first) old)
   pub from : now ≤ place
