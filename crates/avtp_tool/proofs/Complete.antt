@@ -1,31 +1,35 @@
 -- What a run comes to if no fault of reading comes.
-use Rattle.std.proofs.Common.{◌≡◌, ℕ, ℤ, ◌≤◌, ◌<◌, List, [], ◌∷◌, ◌++◌, length, take, Option, Some, None, Bool, true, false, if◌then◌else◌, inl, inr, refl, sym, ap, subst, ◌∙◌}
+use Rattle.std.proofs.Common.{◌≡◌, ℕ, ◌≤◌, ◌<◌, List, [], ◌∷◌, ◌++◌, length, take, Option, Some, None, Bool, true, false, if◌then◌else◌, inl, inr, refl, sym, ap, subst, ◌∙◌}
 use Rattle.std.proofs.lemmas.Bool.{cases_lt, le-leb, lt-leb}
-use Rattle.std.proofs.lemmas.List.{take_all}
-use Rattle.avtp_base.specs.declared.refusal.Refusal.{Refusal}
+use Rattle.std.specs.Prelude.{◌⊎◌}
+use mathlib.Core.List.{IsPrefix}
 use Rattle.avtp_base.specs.Files.{Files}
 use Rattle.pcap_frames.specs.Capture.{Record}
-use Rattle.capture_io.specs.Formats.{refusal_in, records_in}
+use Rattle.capture_io.specs.Formats.{records_in}
 use Rattle.packet_journal.specs.Packets.{PacketJournal}
-use Rattle.listener.specs.Heard.{counts_of, shown_of}
-use Rattle.listener.specs.Laws.{HearsTalker}
+use Rattle.listener.specs.declared.plan.ListenPlan.{ListenPlan}
+use Rattle.listener.specs.Headline.{KeepsHeadline}
+use Rattle.listener.specs.Heard.{due_of, shown_of}
+use Rattle.listener.proofs.Due.{due_first, due_stays}
 use Rattle.listener.proofs.TrueHeadline.{headline}
+use Rattle.listener_laws.proofs.Fronts.{longer_front, true_front}
 use Rattle.talk_plan.specs.declared.fault.TalkFault.{TalkFault}
 use Rattle.talk_plan.specs.declared.plan.TalkPlan.{TalkPlan}
 use Rattle.talker.specs.Faults.{fault_of}
 use Rattle.talk_plan.specs.Plan.{most_input}
 use Rattle.capture_io.specs.declared.end.End.{End}
-use Rattle.capture_io.specs.Ends.{at_end, end_of}
-use Rattle.capture_io.proofs.Ending.{at_end_is}
-use Rattle.avtp_text.specs.Notices.{limit_line}
+use Rattle.capture_io.specs.declared.end.End.{End}
+use Rattle.capture_io.specs.declared.end.End.TheVariants as end
+use Rattle.capture_io.specs.Ends.{end_of}
+use Rattle.avtp_text.specs.Notices.{limit_line, read_fault_line}
 use Rattle.avtp_words.specs.Grammar.{agree, gateway, Listening, Request, show, check, listen, talk, soak}
 use Rattle.avtp_tool.specs.declared.status.Status.{Status}
 use Rattle.avtp_tool.specs.declared.status.Status.TheVariants as status
 use Rattle.avtp_tool.specs.Check.{check_plan}
-use Rattle.avtp_tool.specs.Listen.{HasHeadline, end_line, heard_yield, listen_plan, listen_report, listen_status, plan_of, shown_text, YieldsHeadline}
+use Rattle.avtp_tool.specs.Listen.{HasHeadline, is_cut_short, listen_plan, listen_report, plan_of, shown_by, YieldsHeadline}
 use Rattle.avtp_tool.specs.Outcome.{is_done}
-use Rattle.avtp_tool.specs.Reading.{FileOutcome, file_status, file_yield, InOrder, in_order_read, in_order_status, in_order_yield, joined, one_outcome, one_status, one_yield, PlanOutcome, plan_read, plan_status, plan_yield, ReadPlan, Report}
-use Rattle.avtp_tool.specs.Run.{came_for, device_notice, device_status, made_for, Outcome, status_for, talk_came, yield_for}
+use Rattle.avtp_tool.specs.Reading.{FileOutcome, file_status, file_yield, InOrder, in_order_read, in_order_status, in_order_yield, joined, one_outcome, one_status, one_yield, PlanOutcome, plan_read, plan_status, plan_yield, ReadOutcome, ReadPlan, Report}
+use Rattle.avtp_tool.specs.Run.{came_for, device_notice, device_status, ListenOutcome, made_for, Outcome, status_for, talk_came, yield_for}
 use Rattle.avtp_tool.specs.Yield.{says, with_more, Yield}
 use Rattle.avtp_tool.proofs.Yields.{more_more, more_none}
 use Rattle.avtp_tool.specs.Show.{show_plan}
@@ -157,60 +161,91 @@ complete_of (gateway asked) files cause failed came ended yields made none o =
 
 -- ---- the headline
 
--- what files yield splits at a file before which all are read to their ends
-yield_split : (ends : List ℕ → Status) (yields : List ℕ → Yield) (earlier more : List (List ℕ)) → is_done (in_order_status ends earlier) ≡ true → in_order_yield ends yields (earlier ++ more) ≡ with_more (in_order_yield ends yields earlier) (in_order_yield ends yields more)
-unfolding in_order_status in_order_yield
-yield_split ends yields [] more done = refl
-yield_split ends yields (name ∷ earlier) more done =
-    elim (is_done (ends name)) as (λ b. is_done (ends name) ≡ b → is_done (if b then joined (ends name) (in_order_status ends earlier) else ends name) ≡ true
-    → with_more (yields name) (if b then in_order_yield ends yields (earlier ++ more) else says []) ≡ with_more (with_more (yields name) (if b then in_order_yield ends yields earlier else says [])) (in_order_yield ends yields more)) [
-      | true ↦ λ is all. ap (λ (y : Yield). with_more (yields name) y) (yield_split ends yields earlier more (rest_done (ends name) (in_order_status ends earlier) all)) ∙ sym (more_more (yields name) (in_order_yield ends yields earlier) (in_order_yield ends yields more))
-      | false ↦ λ is all. absurd (let t : true ≡ false = sym all ∙ is in cc)
-    ] refl done
+all_shown : (plan : ListenPlan) (records : List Record) (how : End) → is_cut_short how ≡ false → shown_by plan records how ≡ shown_of plan records
+all_shown plan records end.Whole all = refl
+all_shown plan records (end.Refused refusal) all = refl
+all_shown plan records end.ReadFault all = absurd cc
+all_shown plan records end.Limit all = absurd cc
 
-lines_at : (asked : Listening) (name : List ℕ) (records : List Record) (refused : Option Refusal)
-    → (heard_yield asked name records (at_end refused)).text ≡ shown_text name (shown_of (plan_of asked.listener) records) ++ end_line (counts_of (plan_of asked.listener) records (shown_of (plan_of asked.listener) records)) refused
-lines_at asked name records None = refl
-lines_at asked name records (Some refusal) = refl
+whole_first : (plan : ListenPlan) (first others : List Record) → IsPrefix (due_of plan first) (shown_of plan (first ++ others))
+whole_first plan first others = longer_front (due_of plan first) (due_of plan (first ++ others)) (shown_of plan (first ++ others)) (due_stays plan first others) (due_first plan (first ++ others))
 
-items_at : (asked : Listening) (name : List ℕ) (records : List Record) (refused : Option Refusal) → (heard_yield asked name records (at_end refused)).items ≡ shown_of (plan_of asked.listener) records
-items_at asked name records None = refl
-items_at asked name records (Some refusal) = refl
+-- what is shown, however the reading ended, begins with what is due of the first records
+first_shown : (plan : ListenPlan) (first others : List Record) (how : End) → IsPrefix (due_of plan first) (shown_by plan (first ++ others) how)
+first_shown plan first others end.Whole = whole_first plan first others
+first_shown plan first others (end.Refused refusal) = whole_first plan first others
+first_shown plan first others end.ReadFault = due_stays plan first others
+first_shown plan first others end.Limit = due_stays plan first others
 
--- what a file yields that is at most as long as the limit
-whole_file : (asked : Listening) (name bytes : List ℕ) → length bytes ≤ asked.listener.limit → file_yield (listen_report asked name) asked.listener.limit (Some bytes) ≡ heard_yield asked name (records_in bytes) (at_end (refusal_in bytes))
-whole_file asked name bytes fits =
-    ap (λ (prefix : List ℕ). heard_yield asked name (records_in prefix) (end_of asked.listener.limit bytes)) (take_all asked.listener.limit bytes fits)
-    ∙ ap (heard_yield asked name (records_in bytes)) (at_end_is asked.listener.limit bytes fits)
-
-yields_headline : (asked : Listening) (name : List ℕ) (shift : ℤ) (p : PacketJournal) (bytes : List ℕ) → length bytes ≤ asked.listener.limit → HearsTalker shift p (plan_of asked.listener) (records_in bytes) → YieldsHeadline asked name shift p bytes (file_yield (listen_report asked name) asked.listener.limit (Some bytes))
-yields_headline asked name shift p bytes fits hears = record {
-  shown = shown_of (plan_of asked.listener) (records_in bytes);
-  keeps = headline shift p (plan_of asked.listener) (records_in bytes) hears;
-  printed = ap (λ (y : Yield). y.text) (whole_file asked name bytes fits) ∙ lines_at asked name (records_in bytes) (refusal_in bytes);
-  handed = ap (λ (y : Yield). y.items) (whole_file asked name bytes fits) ∙ items_at asked name (records_in bytes) (refusal_in bytes);
-}
-
-rest_yield : (ends : List ℕ → Status) (yields : List ℕ → Yield) (name : List ℕ) (later : List (List ℕ)) → (rest : Yield) × (in_order_yield ends yields (name ∷ later) ≡ with_more (yields name) rest)
-unfolding in_order_yield
-rest_yield ends yields name later = (if is_done (ends name) then in_order_yield ends yields later else says [], refl)
-
-pub has_headline : (asked : Listening) (files : Files) (failed : Bool) (earlier later : List (List ℕ)) (name bytes : List ℕ) (shift : ℤ) (p : PacketJournal) → asked.files ≡ earlier ++ name ∷ later → listen_status asked files earlier ≡ status.Done
-    → files name ≡ Some bytes → length bytes ≤ asked.listener.limit → HearsTalker shift p (plan_of asked.listener) (records_in bytes) → HasHeadline asked name shift p bytes (yield_for (listen asked) files failed)
-has_headline asked files failed earlier later name bytes shift p split done told fits hears =
-    let ends = one_status (listen_plan asked) files in
-    let yields = one_yield (listen_plan asked) files in
-    let rest = rest_yield ends yields name later in
-    let notice : Yield = says (device_notice failed (plan_status (listen_plan asked) files)) in
-    let file : Yield = file_yield (listen_report asked name) asked.listener.limit (Some bytes) in
-    let here : yields name ≡ file = ap (file_yield (listen_report asked name) asked.listener.limit) told in
-    let before : Yield = in_order_yield ends yields earlier in
-    let all : plan_yield (listen_plan asked) files ≡ with_more before (with_more file rest.0) =
-    ap (in_order_yield ends yields) split ∙ yield_split ends yields earlier (name ∷ later) (ap is_done done) ∙ ap (λ (y : Yield). with_more before y) (rest.1 ∙ ap (λ (y : Yield). with_more y rest.0) here) in
+-- a capture that was opened
+opened : (asked : Listening) (name bytes : List ℕ) (fault : Type 0) (ended : Status) (yields : Yield) → ReadOutcome (listen_report asked name) asked.listener.limit bytes fault ended yields → YieldsHeadline asked name bytes fault yields
+opened asked name bytes fault ended yields outcome =
+    let plan : ListenPlan = plan_of asked.listener in
+    let records : List Record = records_in outcome.prefix in
+    let items : yields.items ≡ shown_by plan records outcome.how = ap (λ (y : Yield). y.items) outcome.given in
     record {
-      before = before;
-      here = file;
-      after = with_more rest.0 notice;
-      keeps = yields_headline asked name shift p bytes fits hears;
-      split = ap (λ (y : Yield). with_more y notice) all ∙ more_more before (with_more file rest.0) notice ∙ ap (λ (y : Yield). with_more before y) (more_more file rest.0 notice);
+      how = outcome.how;
+      read = outcome.prefix;
+      ends = outcome.ends;
+      same = outcome.given;
+      front = λ shift p first others split hears. (
+          subst (IsPrefix (due_of plan first)) (sym (items ∙ ap (λ (rs : List Record). shown_by plan rs outcome.how) split)) (first_shown plan first others outcome.how),
+          true_front shift p plan first others hears,
+      );
+      whole = λ shift p all hears. subst (KeepsHeadline shift p plan records) (sym (items ∙ all_shown plan records outcome.how all)) (headline shift p plan records hears);
+    }
+
+-- What files in order yield is what one of them yields, between what those before it and those after it yield.
+record IsAmong (one : List ℕ → Status → Yield → Type 0) (name : List ℕ) (yields : Yield) : Type 0 where
+  before : Yield
+  here : Yield
+  after : Yield
+  ended : Status
+  outcome : one name ended here
+  split : yields ≡ with_more before (with_more here after)
+
+among : (one : List ℕ → Status → Yield → Type 0) (names read earlier later : List (List ℕ)) (name : List ℕ) (ended : Status) (yields : Yield) → InOrder one names read ended yields → read ≡ earlier ++ name ∷ later → IsAmong one name yields
+unfolding InOrder
+among one [] read [] later name ended yields order came = let e : [] ≡ name ∷ later = sym order.0 ∙ came in absurd cc
+among one [] read (other ∷ earlier) later name ended yields order came = let e : [] ≡ other ∷ (earlier ++ name ∷ later) = sym order.0 ∙ came in absurd cc
+among one (n ∷ ns) read [] later name ended yields (inl (stops, is, outcome)) came =
+    let e : n ∷ [] ≡ name ∷ later = sym is ∙ came in
+    let same : n ≡ name = cc in
+    record { before = says []; here = yields; after = says []; ended = ended; outcome = subst (λ (it : List ℕ). one it ended yields) same outcome; split = sym (more_none yields) }
+among one (n ∷ ns) read (other ∷ []) later name ended yields (inl (stops, is, outcome)) came = let e : n ∷ [] ≡ other ∷ name ∷ later = sym is ∙ came in absurd cc
+among one (n ∷ ns) read (other ∷ another ∷ earlier) later name ended yields (inl (stops, is, outcome)) came = let e : n ∷ [] ≡ other ∷ another ∷ (earlier ++ name ∷ later) = sym is ∙ came in absurd cc
+among one (n ∷ ns) read [] later name ended yields (inr (others, first, rest, here, more, goes, outcome, order, is, joins, all)) came =
+    let e : n ∷ others ≡ name ∷ later = sym is ∙ came in
+    let same : n ≡ name = cc in
+    record { before = says []; here = here; after = more; ended = first; outcome = subst (λ (it : List ℕ). one it first here) same outcome; split = all }
+among one (n ∷ ns) read (other ∷ earlier) later name ended yields (inr (others, first, rest, here, more, goes, outcome, order, is, joins, all)) came =
+    let e : n ∷ others ≡ other ∷ (earlier ++ name ∷ later) = sym is ∙ came in
+    let same : others ≡ earlier ++ name ∷ later = cc in
+    let next = among one ns others earlier later name rest more order same in
+    record {
+      before = with_more here next.before;
+      here = next.here;
+      after = next.after;
+      ended = next.ended;
+      outcome = next.outcome;
+      split = all ∙ ap (λ (y : Yield). with_more here y) next.split ∙ sym (more_more here next.before (with_more next.here next.after));
+    }
+
+of_file : (asked : Listening) (name bytes : List ℕ) (told : Option (List ℕ)) (fault : Type 0) (ended : Status) (yields : Yield) → told ≡ Some bytes → FileOutcome (listen_report asked name) asked.listener.limit told fault ended yields
+    → (fault × (yields ≡ says read_fault_line)) ⊎ YieldsHeadline asked name bytes fault yields
+of_file asked name bytes None fault ended yields is outcome = absurd cc
+of_file asked name bytes (Some all) fault ended yields is (inl read) = let same : all ≡ bytes = cc in inr (subst (λ (b : List ℕ). YieldsHeadline asked name b fault yields) same (opened asked name all fault ended yields read))
+of_file asked name bytes (Some all) fault ended yields is (inr unopened) = inl (unopened.0, unopened.2)
+
+pub has_headline : (asked : Listening) (files : Files) (fault : Type 0) (failed : Bool) (earlier later came : List (List ℕ)) (name bytes : List ℕ) (ended : Status) (yields : Yield) → ListenOutcome asked files fault failed came ended yields
+    → came ≡ earlier ++ name ∷ later → files name ≡ Some bytes → HasHeadline asked name bytes fault yields
+has_headline asked files fault failed earlier later came name bytes ended yields outcome reached told =
+    let notice : Yield = says (device_notice failed outcome.heard) in
+    let this = among (one_outcome (listen_plan asked) files fault) asked.files came earlier later name outcome.heard outcome.given outcome.reads reached in
+    record {
+      before = this.before;
+      here = this.here;
+      after = with_more this.after notice;
+      split = outcome.notice ∙ ap (λ (y : Yield). with_more y notice) this.split ∙ more_more this.before (with_more this.here this.after) notice ∙ ap (λ (y : Yield). with_more this.before y) (more_more this.here this.after notice);
+      keeps = of_file asked name bytes (files name) fault this.ended this.here told this.outcome;
     }

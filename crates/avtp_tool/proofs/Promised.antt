@@ -1,5 +1,5 @@
 -- A run that did what the words ask for, and whose text was then written, keeps what the command promises.
-use Rattle.std.proofs.Common.{◌≡◌, ◌≢◌, ℕ, ℤ, List, [], Option, Some, Result, Bool, false, inl, inr, refl, sym, ap, subst, ◌∙◌, arith}
+use Rattle.std.proofs.Common.{◌≡◌, ◌≢◌, ℕ, ℤ, List, [], ◌∷◌, ◌++◌, Option, Some, Result, Bool, false, inl, inr, refl, sym, ap, subst, ◌∙◌, arith}
 use Rattle.std.specs.Prelude.{IfOk, IsSome}
 use Rattle.avtp_base.specs.declared.failed.Failed.{Failed}
 use Rattle.avtp_base.specs.Faults.{IsCounted}
@@ -13,7 +13,7 @@ use Rattle.avtp_text.proofs.Growth.{grows_further}
 use Rattle.avtp_text.proofs.Printing.{prefix_none}
 use Rattle.packet_journal.specs.Packets.{PacketJournal}
 use Rattle.sample_schedule.specs.declared.shown.Shown.{Shown}
-use Rattle.avtp_words.specs.Grammar.{Agreeing, IsCommandLine, gateway, output_of, Listening, Request, Turning}
+use Rattle.avtp_words.specs.Grammar.{Agreeing, IsCommandLine, gateway, listen, output_of, Listening, Request, Turning}
 use Rattle.avtp_words.proofs.Commands.{gateway_id}
 use Rattle.avtp_tool.specs.declared.status.Status.{Status}
 use Rattle.avtp_tool.specs.declared.status.Status.TheVariants as status
@@ -21,7 +21,7 @@ use Rattle.avtp_tool.specs.Agree.{HasAgreement, agree_report, compared_text}
 use Rattle.avtp_tool.proofs.AgreeRun.{has_agreement}
 use Rattle.avtp_tool.specs.Gateway.{KeepsInput}
 use Rattle.avtp_tool.proofs.GatewayRun.{keeps_input}
-use Rattle.avtp_tool.specs.HasRun.{ComparesTalker, HasRun, HearsFile, RefusesWords, Reports}
+use Rattle.avtp_tool.specs.HasRun.{ComparesTalker, HasRun, RefusesWords, Reports}
 use Rattle.avtp_tool.specs.Listen.{HasHeadline}
 use Rattle.avtp_tool.specs.Run.{Outcome, came_for, is_listening, made_for, names_of, status_for, yield_for}
 use Rattle.avtp_tool.specs.Yield.{Yield}
@@ -43,12 +43,10 @@ agreement_of request files failed yields asked x y shift p whole compares =
     let told : yields.text ≡ compared_text asked x y = same ∙ rw (compares.told_a, compares.told_b) refl in
     subst (HasAgreement asked p x y) (sym told) (has_agreement asked x y shift p compares.hears_a compares.hears_b)
 
-headline_of : (request : Request) (files : Files) (failed : Bool) (yields : Yield) (asked : Listening) (name bytes : List ℕ) (shift : ℤ) (p : PacketJournal)
-    → yields ≡ yield_for request files failed → HearsFile request files asked name bytes shift p → HasHeadline asked name shift p bytes yields
-headline_of request files failed yields asked name bytes shift p whole hears =
-    let same : yields ≡ yield_for (Rattle.avtp_words.specs.Grammar.listen asked) files failed = whole ∙ ap (λ (q : Request). yield_for q files failed) hears.listens in
-    subst (HasHeadline asked name shift p bytes) (sym same)
-    (has_headline asked files failed hears.earlier hears.later name bytes shift p hears.named hears.done hears.told hears.fits hears.hears)
+headline_of : (request : Request) (files : Files) (fault : Type 0) (failed : Bool) (came : List (List ℕ)) (ended : Status) (yields : Yield) (made : Option (List ℕ)) → Outcome request files fault failed came ended yields made
+    → (asked : Listening) (earlier later : List (List ℕ)) (name bytes : List ℕ) → request ≡ listen asked → came ≡ earlier ++ name ∷ later → files name ≡ Some bytes → HasHeadline asked name bytes fault yields
+headline_of request files fault failed came ended yields made outcome asked earlier later name bytes is reached told =
+    has_headline asked files fault failed earlier later came name bytes ended yields (subst (λ (q : Request). Outcome q files fault failed came ended yields made) is outcome).0 reached told
 
 -- the capture that `gateway` makes, by an outcome of its run
 kept_of : (words : List (List ℕ)) (request : Request) (files : Files) (fault : Type 0) (failed : Bool) (came : List (List ℕ)) (reached : Status) (yields : Yield) (made : Option (List ℕ)) (asked : Turning) (capture : List ℕ)
@@ -82,9 +80,7 @@ reports_of words {request} {handed} {failed} {shelf} {shelf'} {out} {mid} {out'}
       given = tells.part.items;
       begun = so.begun;
       complete = λ quiet. complete_of request files _ failed tells.came tells.ended tells.yields so.made (quiet_not _ _ quiet) tells.outcome;
-      headline = λ quiet asked name bytes shift p hears.
-          headline_of request files failed tells.yields asked name bytes shift p
-          (complete_of request files _ failed tells.came tells.ended tells.yields so.made (quiet_not _ _ quiet) tells.outcome).2 hears;
+      headline = headline_of request files _ failed tells.came tells.ended tells.yields so.made tells.outcome;
       agreement = λ quiet asked x y shift p compares.
           agreement_of request files failed tells.yields asked x y shift p
           (complete_of request files _ failed tells.came tells.ended tells.yields so.made (quiet_not _ _ quiet) tells.outcome).2 compares;
@@ -147,7 +143,7 @@ no_memory words request handed still failed shelf out line nothing kept = record
     given = nothing;
     begun = part_kept (output_of request) (made_for request files) shelf.files shelf.files (KeepsFiles-refl shelf.files);
     complete = λ quiet. (refl, refl, refl, refl);
-    headline = λ quiet asked name bytes shift p hears. headline_of request files failed (yield_for request files failed) asked name bytes shift p refl hears;
+    headline = headline_of request files _ failed (came_for request files) (status_for request files failed) (yield_for request files failed) (made_for request files) (outcome_here request files _ failed);
     agreement = λ quiet asked x y shift p compares. agreement_of request files failed (yield_for request files failed) asked x y shift p refl compares;
     kept = λ asked capture same some.
         kept_of words request files _ failed (came_for request files) (status_for request files failed) (yield_for request files failed) (made_for request files) asked capture line (outcome_here request files _ failed) same some;

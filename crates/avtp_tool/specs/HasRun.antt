@@ -16,7 +16,7 @@ use Rattle.avtp_tool.specs.declared.status.Status.{Status}
 use Rattle.avtp_tool.specs.declared.status.Status.TheVariants as status
 use Rattle.avtp_tool.specs.Agree.{HasAgreement}
 use Rattle.avtp_tool.specs.Gateway.{KeepsInput}
-use Rattle.avtp_tool.specs.Listen.{HasHeadline, listen_status, plan_of}
+use Rattle.avtp_tool.specs.Listen.{HasHeadline, plan_of}
 use Rattle.avtp_tool.specs.Made.{KeepsFilesBut, KeepsSlotsFor, MakesOutput, MakesPart}
 use Rattle.avtp_tool.specs.Outcome.{AsksFor, IsOneMissing}
 use Rattle.avtp_tool.specs.Run.{came_for, is_listening, is_through, made_for, names_of, Outcome, status_for, yield_for}
@@ -27,18 +27,6 @@ use Rattle.avtp_tool.specs.Yield.{Yield}
 -- no fault of reading came
 abbrev pub ReadsAll : ShelfState → ShelfState → Type 0
 ReadsAll shelf shelf' = IsQuiet shelf.reading_faults shelf'.reading_faults
-
--- `listen` reads a capture of this name, after others that were read without a fault or a refusal, and the capture has what a
--- listener hears of a talker that keeps the rules, whatever was lost, repeated or reordered.
-pub record HearsFile (request : Request) (files : Files) (asked : Listening) (name bytes : List ℕ) (shift : ℤ) (p : PacketJournal) : Type 0 where
-  pub listens : request ≡ listen asked
-  pub earlier : List (List ℕ)
-  pub later : List (List ℕ)
-  pub named : asked.files ≡ earlier ++ name ∷ later
-  pub done : listen_status asked files earlier ≡ status.Done
-  pub told : files name ≡ Some bytes
-  pub fits : length bytes ≤ asked.listener.limit
-  pub hears : HearsTalker shift p (plan_of asked.listener) (records_in bytes)
 
 -- `agree` compares two captures, each up to its end, a refused field or the limit, and both have what a listener hears of one
 -- talker that keeps the rules, whatever each lost, repeated or reordered.
@@ -73,9 +61,10 @@ pub record Reports (request : Request) (files : Files) (failed : Bool) (handed :
   -- If no fault of reading came, this is the whole report on these files.
   pub complete : ReadsAll shelf shelf' →
       (came ≡ came_for request files) × (reached ≡ status_for request files failed) × (yields ≡ yield_for request files failed) × (made ≡ made_for request files)
-  -- What `listen` yields of a capture of a talker that keeps the rules. Each file may have a journal of its own.
-  pub headline : ReadsAll shelf shelf' → (asked : Listening) (name bytes : List ℕ) (shift : ℤ) (p : PacketJournal) →
-      HearsFile request files asked name bytes shift p → HasHeadline asked name shift p bytes yields
+  -- What `listen` yields of each file that it came to: as far as that was read and is a talker's that keeps the rules, it is as the
+  -- headline says, for each file with a journal of its own.
+  pub headline : (asked : Listening) (earlier later : List (List ℕ)) (name bytes : List ℕ) → request ≡ listen asked → came ≡ earlier ++ name ∷ later →
+      files name ≡ Some bytes → HasHeadline asked name bytes (Rose shelf.reading_faults shelf'.reading_faults) yields
   -- What `agree` prints of two captures of a talker that keeps the rules.
   pub agreement : ReadsAll shelf shelf' → (asked : Agreeing) (x y : List ℕ) (shift : ℤ) (p : PacketJournal) →
       ComparesTalker request files asked x y shift p → HasAgreement asked p x y yields.text

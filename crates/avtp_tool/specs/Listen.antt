@@ -1,25 +1,26 @@
 -- What `listen` prints and how it ends.
-use Rattle.std.specs.Prelude.{◌≡◌, ℕ, ℤ, List, ◌++◌, Option, None, Some}
-use Rattle.avtp_base.specs.declared.refusal.Refusal.{Refusal}
-use Rattle.avtp_base.specs.Files.{Files}
+use Rattle.std.specs.Prelude.{◌≡◌, ◌⊎◌, ℕ, ℤ, List, ◌++◌, Bool, true, false, Some}
+use mathlib.Core.List.{IsPrefix}
 use Rattle.pcap_frames.specs.Capture.{Record}
-use Rattle.capture_io.specs.Formats.{records_in, refusal_in}
+use Rattle.capture_io.specs.Ends.{EndsAt}
+use Rattle.capture_io.specs.Formats.{records_in}
 use Rattle.packet_journal.specs.Packets.{PacketJournal}
 use Rattle.sample_schedule.specs.declared.shown.Shown.{Shown}
 use Rattle.listener.specs.declared.heard.Counts.{Counts}
 use Rattle.listener.specs.declared.plan.ListenPlan.{ListenPlan}
 use Rattle.listener.specs.Headline.{KeepsHeadline}
 use Rattle.listener.specs.Heard.{counts_of, due_of, shown_of}
+use Rattle.listener.specs.Laws.{HearsTalker}
+use Rattle.listener_laws.specs.Fronts.{IsTrueFront}
 use Rattle.avtp_words.specs.declared.listener.ListenerOptions.{ListenerOptions}
 use Rattle.avtp_words.specs.Grammar.{Listening}
 use Rattle.avtp_text.specs.Listen.{capture_line, list_lines, end_listen_line}
 use Rattle.avtp_text.specs.Notices.{capture_refused_line, read_fault_line, limit_line}
 use Rattle.capture_io.specs.declared.end.End.{End}
 use Rattle.capture_io.specs.declared.end.End.TheVariants as end
-use Rattle.avtp_tool.specs.declared.status.Status.{Status}
-use Rattle.avtp_tool.specs.Reading.{in_order_status, one_status, ReadPlan, Report}
+use Rattle.avtp_tool.specs.Reading.{ReadPlan, Report}
 use Rattle.avtp_tool.specs.Status.{status_of}
-use Rattle.avtp_tool.specs.Yield.{with_more, Yield}
+use Rattle.avtp_tool.specs.Yield.{says, with_more, Yield}
 
 -- the listener that the words ask for
 abbrev pub plan_of : ListenerOptions → ListenPlan
@@ -61,29 +62,35 @@ listen_report asked name = record { status = λ records how. status_of how; yiel
 abbrev pub listen_plan : Listening → ReadPlan
 listen_plan asked = record { names = asked.files; limit = asked.listener.limit; report = listen_report asked }
 
--- the status with which a run of `listen` over these files ends, if no fault of reading comes
-abbrev pub listen_status : Listening → Files → List (List ℕ) → Status
-listen_status asked files names = in_order_status (one_status (listen_plan asked) files) names
-
 -- ---- a talker that keeps the rules
 
--- the last line of a capture that was read to its end or to a refused field
-abbrev pub end_line : Counts → Option Refusal → List ℕ
-end_line counts None = end_listen_line counts
-end_line counts (Some refusal) = capture_refused_line refusal
+-- the capture was read neither to its end nor to a field that is refused
+abbrev pub is_cut_short : End → Bool
+is_cut_short end.Whole = false
+is_cut_short (end.Refused refusal) = false
+is_cut_short end.ReadFault = true
+is_cut_short end.Limit = true
 
--- What a capture of a talker that keeps the rules yields: the capture's name, the lines of what is shown of its records, which
--- keeps the headline and goes to the devices, and the last line.
-pub record YieldsHeadline (asked : Listening) (name : List ℕ) (shift : ℤ) (p : PacketJournal) (bytes : List ℕ) (yields : Yield) : Type 0 where
-  pub shown : List Shown
-  pub keeps : KeepsHeadline shift p (plan_of asked.listener) (records_in bytes) shown
-  pub printed : yields.text ≡ shown_text name shown ++ end_line (counts_of (plan_of asked.listener) (records_in bytes) shown) (refusal_in bytes)
-  pub handed : yields.items ≡ shown
+-- What a capture yields that was opened: the lines of what is shown of the records that were read, which goes to the devices. As
+-- far as these records are a talker's that keeps the rules, it is as the headline says.
+pub record YieldsHeadline (asked : Listening) (name bytes : List ℕ) (fault : Type 0) (yields : Yield) : Type 0 where
+  -- how the reading ended, and the bytes before that place
+  pub how : End
+  pub read : List ℕ
+  pub ends : EndsAt asked.listener.limit (Some bytes) fault how read
+  pub same : yields ≡ heard_yield asked name (records_in read) how
+  -- If the first records are a talker's, what is shown begins with what is due of them, and that is as the headline says, whatever
+  -- records follow.
+  pub front : (shift : ℤ) (p : PacketJournal) (first others : List Record) → records_in read ≡ first ++ others → HearsTalker shift p (plan_of asked.listener) first →
+      IsPrefix (due_of (plan_of asked.listener) first) yields.items × IsTrueFront p (plan_of asked.listener) first others
+  -- If all of them are, and the capture was read to its end, all that is shown keeps the headline.
+  pub whole : (shift : ℤ) (p : PacketJournal) → is_cut_short how ≡ false → HearsTalker shift p (plan_of asked.listener) (records_in read) →
+      KeepsHeadline shift p (plan_of asked.listener) (records_in read) yields.items
 
--- One part of what a run yields is what a capture of a talker that keeps the rules yields.
-pub record HasHeadline (asked : Listening) (name : List ℕ) (shift : ℤ) (p : PacketJournal) (bytes : List ℕ) (yields : Yield) : Type 0 where
+-- A part of what a run yields is what this file yields: a fault if it could not be opened, or else what is as the headline says.
+pub record HasHeadline (asked : Listening) (name bytes : List ℕ) (fault : Type 0) (yields : Yield) : Type 0 where
   pub before : Yield
   pub here : Yield
   pub after : Yield
-  pub keeps : YieldsHeadline asked name shift p bytes here
   pub split : yields ≡ with_more before (with_more here after)
+  pub keeps : (fault × (here ≡ says read_fault_line)) ⊎ YieldsHeadline asked name bytes fault here

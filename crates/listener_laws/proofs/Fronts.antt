@@ -21,15 +21,16 @@ use Rattle.sample_schedule.proofs.Growing.{accepted-stays, take-first}
 use Rattle.sample_schedule.specs.declared.shown.Shown.{Shown}
 use Rattle.sample_schedule.specs.declared.shown.Shown.TheVariants.{Present, Flag}
 use Rattle.listener.specs.declared.plan.ListenPlan.{ListenPlan}
-use Rattle.listener.specs.Heard.{deliveries_of, entries_in, entries_so_far_in, items_in, schedule_plan, shown_of}
+use Rattle.listener.specs.Heard.{deliveries_of, due_of, entries_in, entries_so_far_in, items_in, schedule_plan, shown_of}
 use Rattle.listener.specs.Items.{MadeItem, given_after, items_so_far, left_at_end, made_entry}
-use Rattle.listener.specs.Laws.{HearsTalker, IsFurther, IsPresentedOf, IsWelcome, by_clock, presented_of, shown_by, shown_of_frame, verdict_of}
-use Rattle.listener.proofs.Due.{deliveries_more, entries_at_end, entries_more}
+use Rattle.listener.specs.Laws.{AreOther, ComesBefore, HearsTalker, IsFurther, IsHeardFrom, IsPresentedOf, IsWelcome, by_clock, presented_of, shown_by, shown_of_frame, verdict_of}
+use Rattle.listener.proofs.Due.{deliveries_more, due_first, due_stays, entries_at_end, entries_more}
 use Rattle.listener.proofs.ItemKinds.{all_before}
 use Rattle.listener.proofs.Made.{so_far_more}
 use Rattle.listener.proofs.Shown.{item_shown}
+use Rattle.listener.proofs.TrueHeadline.{headline}
 use Rattle.listener.proofs.TrueTimely.{further_judged, welcome_judged}
-use Rattle.listener_laws.specs.Fronts.{IsSettled}
+use Rattle.listener_laws.specs.Fronts.{IsSettled, IsTrueFront}
 
 presented_more : (xs ys : List Shown) → presented_of (xs ++ ys) ≡ presented_of xs ++ presented_of ys
 presented_more [] ys = refl
@@ -37,10 +38,10 @@ presented_more (Present batch ∷ xs) ys = ap (λ (l : List Presented). batch �
 presented_more (Flag frame seq reason ∷ xs) ys = presented_more xs ys
 
 -- what is presented at the beginning of a list is the beginning of what is presented
-pub presented_front : (xs ys : List Shown) → IsPrefix xs ys → IsPrefix (presented_of xs) (presented_of ys)
+presented_front : (xs ys : List Shown) → IsPrefix xs ys → IsPrefix (presented_of xs) (presented_of ys)
 presented_front xs ys (rest, e) = (presented_of rest, sym (presented_more xs rest) ∙ ap presented_of e)
 
-pub front_all : (P : Presented → Type 0) (xs ys : List Presented) → IsPrefix xs ys → All P ys → All P xs
+front_all : (P : Presented → Type 0) (xs ys : List Presented) → IsPrefix xs ys → All P ys → All P xs
 front_all P xs ys (rest, e) all = all_before P xs rest (subst (λ (l : List Presented). All P l) (sym e) all)
 
 same_front : (xs rest : List Presented) (i : ℕ) (d : Presented) → i < length xs → slice_index_or (xs ++ rest) i d ≡ slice_index_or xs i d
@@ -55,7 +56,7 @@ pairs_before R xs rest all i j d lt within =
     let here = all i j d lt (omega (arith, length-append xs rest, within)) in
     subst (λ (b : Presented). R (slice_index_or xs i d) b) second (subst (λ (a : Presented). R a (slice_index_or (xs ++ rest) j d)) first here)
 
-pub front_pairs : (R : Presented → Presented → Type 0) (xs ys : List Presented) → IsPrefix xs ys → AllPairs R ys → AllPairs R xs
+front_pairs : (R : Presented → Presented → Type 0) (xs ys : List Presented) → IsPrefix xs ys → AllPairs R ys → AllPairs R xs
 front_pairs R xs ys (rest, e) all = pairs_before R xs rest (subst (λ (l : List Presented). AllPairs R l) (sym e) all)
 
 pub longer_front : (xs ys zs : List Shown) → IsPrefix xs ys → IsPrefix ys zs → IsPrefix xs zs
@@ -106,7 +107,7 @@ judged_as_before plan records others place item settled =
     ∙ (sym (verdict_stays clock_spot sp es last place item within)
     ∙ ap (λ (l : List Entry). verdict_in clock_spot sp l place item) (sym (entries_at_end plan records))))
 
-pub front_shown : (plan : ListenPlan) (records others : List Record) (place : ℕ) (made : MadeItem) (item : Item) → IsSettled plan records place → slice_get (items_in plan records) place ≡ Some made → made.entry ≡ OfItem item
+front_shown : (plan : ListenPlan) (records others : List Record) (place : ℕ) (made : MadeItem) (item : Item) → IsSettled plan records place → slice_get (items_in plan records) place ≡ Some made → made.entry ≡ OfItem item
     → shown_of_frame made.last.frame (shown_of plan (records ++ others)) ≡ shown_by made.last (verdict_of plan records place item) ∷ []
 front_shown plan records others place made item settled at is =
     item_shown plan (records ++ others) place made item (item_stays plan records others place settled ∙ at) is
@@ -131,7 +132,7 @@ found_in P frame (Flag other seq reason ∷ rest) batch e holds = by (other == f
     by true f later = absurd cc
     by false f later = later f
 
-pub front_known : (shift : ℤ) (p : PacketJournal) (plan : ListenPlan) (records others : List Record) (place n : ℕ) (made : MadeItem) → HearsTalker shift p plan records → IsSettled plan records place → IsWelcome p plan records place n made
+front_known : (shift : ℤ) (p : PacketJournal) (plan : ListenPlan) (records others : List Record) (place n : ℕ) (made : MadeItem) → HearsTalker shift p plan records → IsSettled plan records place → IsWelcome p plan records place n made
     → Any (IsPresentedOf (by_clock plan) p n made) (presented_of (shown_of plan (records ++ others)))
 front_known shift p plan records others place n made h settled w =
     let judged = welcome_judged shift p plan records place n made h w in
@@ -140,9 +141,24 @@ front_known shift p plan records others place n made h settled w =
     shown ∙ ap (λ (r : Result Accepted Reason). shown_by made.last r ∷ []) judged.verdict_is_ok in
     found_in (IsPresentedOf (by_clock plan) p n made) made.last.frame (shown_of plan (records ++ others)) judged.batch here (record { frame = judged.is.frame_is; is = judged.is.is })
 
-pub front_repeats : (shift : ℤ) (p : PacketJournal) (plan : ListenPlan) (records others : List Record) (place n : ℕ) (made : MadeItem) → HearsTalker shift p plan records → IsSettled plan records place → IsFurther p plan records place n made
+front_repeats : (shift : ℤ) (p : PacketJournal) (plan : ListenPlan) (records others : List Record) (place n : ℕ) (made : MadeItem) → HearsTalker shift p plan records → IsSettled plan records place → IsFurther p plan records place n made
     → shown_of_frame made.last.frame (shown_of plan (records ++ others)) ≡ Flag made.last.frame made.last.seq Repeat ∷ []
 front_repeats shift p plan records others place n made h settled w =
     let judged = further_judged shift p plan records place n made h w in
     front_shown plan records others place made judged.item settled w.timely.there judged.entry
     ∙ ap (λ (r : Result Accepted Reason). shown_by made.last r ∷ []) judged.repeat
+
+pub true_front : (shift : ℤ) (p : PacketJournal) (plan : ListenPlan) (records others : List Record) → HearsTalker shift p plan records → IsTrueFront p plan records others
+true_front shift p plan records others h =
+    let kept = headline shift p plan records h in
+    let due = due_of plan records in
+    let front = presented_front due (shown_of plan records) (due_first plan records) in
+    record {
+      begins = longer_front due (due_of plan (records ++ others)) (shown_of plan (records ++ others)) (due_stays plan records others) (due_first plan (records ++ others));
+      genuine = front_all (IsHeardFrom (by_clock plan) (items_in plan records) p plan.lead) (presented_of due) (presented_of (shown_of plan records)) front kept.genuine;
+      once = front_pairs (AreOther (by_clock plan) p) (presented_of due) (presented_of (shown_of plan records)) front kept.once;
+      in_order = front_pairs ComesBefore (presented_of due) (presented_of (shown_of plan records)) front kept.in_order;
+      known = λ place n made. front_known shift p plan records others place n made h;
+      repeats = λ place n made. front_repeats shift p plan records others place n made h;
+      each_shown = front_shown plan records others;
+    }

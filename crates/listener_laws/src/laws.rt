@@ -24,16 +24,13 @@ ghost use Rattle.listener_laws.specs.Anywhere.{ComesInTime, MustBePresented, Uni
 ghost use Rattle.listener_laws.specs.Completed.{completed};
 ghost use Rattle.listener_laws.specs.Fronts.{IsTrueFront};
 
-use listener::laws::{headline_holds, units_are_true, what_is_due_stays};
+use listener::laws::{headline_holds, units_are_true};
 
 /// If the first records of a capture are a talker's, what is due of them is as the headline says, whatever records follow. What
 /// is shown of the capture begins with it, even if the capture is cut short or has records of others later.
 pub fn fronts_are_true()
     ensures { (shift : ℤ) (p : PacketJournal) (plan : ListenPlan) (records others : List Record) → HearsTalker shift p plan records → IsTrueFront p plan records others }
-{
-    headline_holds();
-    what_is_due_stays();
-}
+{}
 
 /// If a whole capture has what a listener hears of a talker, so has its beginning. What is due of the records that were read
 /// before a fault or a limit is therefore a true front.
