@@ -1,3 +1,4 @@
 pub mod Instants
 pub mod Sent
 pub mod Skipped
+pub mod Clean

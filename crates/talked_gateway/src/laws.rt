@@ -1,17 +1,21 @@
 //! What a gateway makes of a capture of a talker's plan. Each call only states its contract, and does nothing.
 
-ghost use Rattle.std.specs.Prelude.{◌≡◌, ℕ, List, None};
+ghost use Rattle.std.specs.Prelude.{◌≡◌, ◌≤◌, Bool, ℕ, IsSome, List, None};
+ghost use Rattle.aaf_format.specs.declared.aaf.AafFormat.TheVariants.{Int24};
 ghost use Rattle.am824_gateway.specs.declared.scan.To.{To as ToValue};
+ghost use Rattle.am824_gateway.specs.declared.scan.To.TheVariants.{Am824};
 ghost use Rattle.am824_gateway.specs.Scan.{first_fault, shape_in};
 ghost use Rattle.gateway_laws.specs.Kept.{SkipsNone};
 ghost use Rattle.listener.specs.declared.plan.ListenPlan.{ListenPlan};
 ghost use Rattle.listener.specs.Heard.{due_of, shown_of};
 ghost use Rattle.listener.specs.Laws.{presented_of};
+ghost use Rattle.talk_plan.specs.declared.plan.TalkKind.TheVariants.{Aaf};
 ghost use Rattle.talk_plan.specs.declared.plan.TalkPlan.{TalkPlan};
+ghost use Rattle.talk_plan.specs.Plan.{fdf_of};
 ghost use Rattle.talked_headline.specs.Premises.{ListensTo, captured};
 
 use talked_headline::laws::talked_keeps_headline;
-use talker::laws::journal_conforms;
+use talker::laws::{journal_conforms, losses_are_delivered};
 
 /// A gateway skips nothing that a listener without a clock presents of a capture of an audio plan, whatever the capture loses,
 /// repeats or reorders, if a scan finds no fault in it: each packet begins after the end of those before it, and arrives before
@@ -24,4 +28,14 @@ pub fn nothing_talked_is_skipped()
 {
     journal_conforms();
     talked_keeps_headline();
+}
+
+/// A scan finds no fault in a capture of PCM of 24 bits that a plan without a media clock sends, whatever the capture loses, repeats
+/// or reorders, if AM824 has the plan's rate and its number of channels. So a gateway turns all that is presented of it.
+pub fn talked_pcm_can_be_turned()
+    ensures { (plan : TalkPlan) (input places : List ℕ) (listen : ListenPlan) (sparse : Bool) → ListensTo plan input listen → plan.kind ≡ Aaf Int24 sparse → plan.crf ≡ None → IsSome (fdf_of plan.rate) → plan.channels ≤ 256
+        → first_fault Am824 listen.stream (captured plan input places) ≡ None }
+{
+    journal_conforms();
+    losses_are_delivered();
 }
