@@ -1,6 +1,6 @@
 -- What a listener with the talker's clock shows of a whole capture of dense PCM.
 use Rattle.std.proofs.Common.{◌≡◌, ◌≢◌, ℕ, zero, suc, ◌+◌, ◌-◌, ◌*◌, ◌/◌, ◌%◌, ◌^◌, ◌<◌, ◌≤◌, Bool, true, false, ℤ, pos, neg_ℤ, ◌≤ℤ◌, List, [], ◌∷◌, All, length, filter, map, take, Option, Some, None, Ok, zero-mul, refl, sym, ap, ◌∙◌, subst, inl, inr, arith}
-use Rattle.std.specs.Prelude.{Any, Err, IfSome, Result, is_some, option_map, nat_lt, slice_get, ◌==◌, if◌then◌else◌}
+use Rattle.std.specs.Prelude.{AllPairs, Any, Err, IfSome, Result, is_some, option_map, nat_lt, slice_get, ◌==◌, if◌then◌else◌}
 use Rattle.std.specs.List.{filter_map, range_with_len}
 use Rattle.std.proofs.Math.Nat.{div-mul-le_self, lt-div-mul-add, mul-le-mul_right, zero-div}
 use Rattle.std.proofs.lemmas.Bool.{cases_lt}
@@ -50,13 +50,15 @@ use Rattle.listener.specs.declared.plan.ListenPlan.{ListenPlan}
 use Rattle.listener.specs.Heard.{deliveries_of, entries_in, items_in, schedule_plan, shown_of}
 use Rattle.listener.specs.Items.{MadeItem, aaf_item, blocks_of, clock_row, entry_of, iec_item, made_of_one, refused_or, samples_of}
 use Rattle.listener.specs.Known.{clock_numbers}
-use Rattle.listener.specs.Laws.{IsOfPacket, IsPresentedOf, IsShownItem, accepted_before, by_clock, presented_of, shown_by, time_of, verdict_of}
+use Rattle.listener.specs.Laws.{AreOther, IsOfPacket, IsPresentedOf, IsShownItem, accepted_before, by_clock, presented_of, shown_by, time_of, verdict_of}
 use Rattle.listener.proofs.ItemKinds.{at_place}
 use Rattle.listener.proofs.Made.{items_other}
 use Rattle.listener.proofs.Shown.{no_other_shown}
 use Rattle.listener.proofs.TrueHeard.{usable}
 use Rattle.listener.proofs.TrueItems.{Shows, all_shown, clock_entry, copy_entry, copy_item, sent}
 use Rattle.listener.proofs.TrueList.{IsTrueEntry, audio, entries_true, followed, others, prefix_true}
+use Rattle.listener.proofs.TrueOnce.{presented_once}
+use Rattle.listener.proofs.TrueOrder.{never_falls}
 use Rattle.listener.proofs.TrueTimely.{taken, welcome_judged, welcome_shown}
 use Rattle.listener_laws.specs.Anywhere.{ComesInTime, MustBePresented}
 use Rattle.listener_laws.proofs.Anywhere.{origin_at, welcome_here}
@@ -457,5 +459,7 @@ all_presented plan crf input listen rs os w = record {
       let here = w.caught.each place.0 (OfStream n) place.1 in
       let welcome = welcome_here (pos 0) p listen rs place.0 n here.d w.caught.heard w.kind (must_be plan crf input listen rs os place.0 n here.d w place.1 here.there here.copy from) in
       any_packet p n (made_of_one here.d) (by_clock listen) (presented_of (shown_of listen rs)) w.on (welcome_shown (pos 0) p listen rs place.0 n (made_of_one here.d) w.caught.heard welcome);
+  once = subst (λ (by : Bool). AllPairs (AreOther by (journal plan input)) (presented_of (shown_of listen rs))) w.on (presented_once (pos 0) (journal plan input) listen rs w.caught.heard);
+  in_order = never_falls (pos 0) (journal plan input) listen rs w.caught.heard;
   no_other = λ k s lt. shown_so plan crf input listen rs os _ w (no_other_shown listen rs k s lt);
 }

@@ -21,3 +21,4 @@ pub mod Covered
 pub mod Clocked
 pub mod ClockedCapture
 pub mod UnitsAnywhere
+pub mod Files

@@ -1,5 +1,5 @@
 -- What a listener with the talker's clock shows of a whole capture.
-use Rattle.std.specs.Prelude.{◌≡◌, ◌<◌, ◌≤◌, ◌%◌, ◌^◌, ℕ, true, false, List, length, All, Any, Some, None}
+use Rattle.std.specs.Prelude.{◌≡◌, ◌<◌, ◌≤◌, ◌%◌, ◌^◌, ℕ, true, false, List, length, All, AllPairs, Any, Some, None}
 use Rattle.std.specs.Int.{div_ceil}
 use Rattle.aaf_format.specs.declared.aaf.AafFormat.{AafFormat}
 use Rattle.sample_schedule.specs.declared.shown.Reason.TheVariants.{NoClock}
@@ -7,7 +7,7 @@ use Rattle.sample_schedule.specs.declared.shown.Shown.{Shown}
 use Rattle.sample_schedule.specs.declared.shown.Shown.TheVariants.{Present, Flag}
 use Rattle.packet_journal.specs.Packets.{PacketJournal}
 use Rattle.listener.specs.declared.plan.ListenPlan.{ListenPlan}
-use Rattle.listener.specs.Laws.{IsOfPacket, presented_of}
+use Rattle.listener.specs.Laws.{AreOther, ComesBefore, IsOfPacket, presented_of}
 use Rattle.talk_plan.specs.declared.plan.CrfPlan.{CrfPlan}
 use Rattle.talk_plan.specs.declared.plan.TalkKind.TheVariants.{Aaf}
 use Rattle.talk_plan.specs.declared.plan.TalkPlan.{TalkPlan}
@@ -24,10 +24,12 @@ abbrev pub IsFrom : PacketJournal → ℕ → Shown → Type 0
 IsFrom p first (Present batch) = (n : ℕ) × ((first ≤ n) × IsOfPacket true p n batch)
 IsFrom p first (Flag frame seq reason) = (n : ℕ) × ((n < first) × ((seq ≡ n % 256) × (reason ≡ NoClock)))
 
--- Each packet from this one on is presented, by the clock. Nothing else is shown, but for flags of the packets before it, with the
--- reason `noclock`.
+-- Each packet from this one on is presented by the clock, once and in order. Nothing else is shown, but for flags of the packets
+-- before it, with the reason `noclock`.
 pub record ArePresentedFrom (p : PacketJournal) (first : ℕ) (shown : List Shown) : Type 0 where
   pub each : (n : ℕ) → first ≤ n → n < p.times.packets → Any (IsOfPacket true p n) (presented_of shown)
+  pub once : AllPairs (AreOther true p) (presented_of shown)
+  pub in_order : AllPairs ComesBefore (presented_of shown)
   pub no_other : All (IsFrom p first) shown
 
 -- The listener has the talker's clock and does not look ahead. The plan is one of dense PCM, so each packet stamps its first

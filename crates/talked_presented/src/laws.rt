@@ -2,6 +2,7 @@
 
 ghost use Rattle.std.specs.Prelude.{List, ℕ, Bool, false, true, pos, length, [], ◌≡◌, ◌-◌, ◌<◌, ◌≤◌, ◌∷◌, ◌++◌};
 ghost use Rattle.std.specs.List.{range_with_len};
+ghost use Rattle.capture_io.specs.Formats.{records_in};
 ghost use Rattle.pcap_frames.specs.Capture.{Record, whole_records};
 ghost use Rattle.packet_journal.specs.Packets.{PacketJournal};
 ghost use Rattle.packet_journal.specs.Units.{AreUnit};
@@ -28,12 +29,12 @@ use packet_journal::laws::{carried_clock_packet_is_delivered, carried_packet_is_
 use talked_headline::laws::{talked_is_heard, talked_video_is_heard, whole_capture_is_heard};
 use talker::laws::{capture_delivers, capture_reads_back, journal_conforms, losses_are_delivered};
 
-/// Captures of plans with the default lead of `talk`, of each kind, meet the whole premise of the headline, for listeners with the
+/// Files that `talk` makes with its default lead, of each kind, meet the whole premise of the headline for listeners with the
 /// default options of `listen`, without a clock and with the talker's.
-pub fn defaults_are_heard()
-    ensures audio { (plan : TalkPlan) (input : List ℕ) → HasDefaultLead plan input → HearsTalker (pos 0) (journal plan input) (default_listener plan.id) (whole_records (capture plan input)) }
-    ensures clocked { (plan : TalkPlan) (crf : CrfPlan) (input : List ℕ) → HasDefaultClock plan crf input → HearsTalker (pos 0) (journal plan input) (clocked_listener plan.id crf.id) (whole_records (capture plan input)) }
-    ensures h264 { (plan : TalkPlan) (input : List ℕ) → IsDefaultVideo plan input → HearsTalker (pos 0) (journal plan input) (default_listener plan.id) (whole_records (capture plan input)) }
+pub fn files_are_heard()
+    ensures audio { (plan : TalkPlan) (input : List ℕ) → HasDefaultLead plan input → HearsTalker (pos 0) (journal plan input) (default_listener plan.id) (records_in (capture plan input)) }
+    ensures clocked { (plan : TalkPlan) (crf : CrfPlan) (input : List ℕ) → HasDefaultClock plan crf input → HearsTalker (pos 0) (journal plan input) (clocked_listener plan.id crf.id) (records_in (capture plan input)) }
+    ensures h264 { (plan : TalkPlan) (input : List ℕ) → IsDefaultVideo plan input → HearsTalker (pos 0) (journal plan input) (default_listener plan.id) (records_in (capture plan input)) }
 {
     whole_capture_is_heard();
     journal_conforms();
