@@ -38,7 +38,7 @@ use Rattle.avtp_tool.specs.Agree.{agree_report}
 use Rattle.avtp_tool.specs.Gateway.{gateway_report}
 use Rattle.avtp_tool.proofs.AgreeRun.{agree_complete, agree_here}
 use Rattle.avtp_tool.proofs.GatewayRun.{by_end, gateway_complete, gateway_here}
-use Rattle.avtp_tool.proofs.InOrder.{order_here, rest_done}
+use Rattle.avtp_tool.proofs.InOrder.{none_read, order_here}
 use Rattle.avtp_tool.proofs.OneFile.{file_here}
 
 -- ---- files
@@ -195,35 +195,40 @@ opened asked name bytes fault ended yields outcome =
       whole = λ shift p all hears. subst (KeepsHeadline shift p plan records) (sym (items ∙ all_shown plan records outcome.how all)) (headline shift p plan records hears);
     }
 
--- What files in order yield is what one of them yields, between what those before it and those after it yield.
-record IsAmong (one : List ℕ → Status → Yield → Type 0) (name : List ℕ) (yields : Yield) : Type 0 where
+-- What files in order yield is what these yield, and then one with this name, and then those after it.
+record IsAmong (one : List ℕ → Status → Yield → Type 0) (earlier : List (List ℕ)) (name : List ℕ) (yields : Yield) : Type 0 where
   before : Yield
+  done : Status
+  others : InOrder one earlier earlier done before
   here : Yield
   after : Yield
   ended : Status
   outcome : one name ended here
   split : yields ≡ with_more before (with_more here after)
 
-among : (one : List ℕ → Status → Yield → Type 0) (names read earlier later : List (List ℕ)) (name : List ℕ) (ended : Status) (yields : Yield) → InOrder one names read ended yields → read ≡ earlier ++ name ∷ later → IsAmong one name yields
+among : (one : List ℕ → Status → Yield → Type 0) (names read earlier later : List (List ℕ)) (name : List ℕ) (ended : Status) (yields : Yield) → InOrder one names read ended yields → read ≡ earlier ++ name ∷ later → IsAmong one earlier name yields
 unfolding InOrder
 among one [] read [] later name ended yields order came = let e : [] ≡ name ∷ later = sym order.0 ∙ came in absurd cc
 among one [] read (other ∷ earlier) later name ended yields order came = let e : [] ≡ other ∷ (earlier ++ name ∷ later) = sym order.0 ∙ came in absurd cc
 among one (n ∷ ns) read [] later name ended yields (inl (stops, is, outcome)) came =
     let e : n ∷ [] ≡ name ∷ later = sym is ∙ came in
     let same : n ≡ name = cc in
-    record { before = says []; here = yields; after = says []; ended = ended; outcome = subst (λ (it : List ℕ). one it ended yields) same outcome; split = sym (more_none yields) }
+    record { before = says []; done = status.Done; others = none_read one; here = yields; after = says []; ended = ended; outcome = subst (λ (it : List ℕ). one it ended yields) same outcome; split = sym (more_none yields) }
 among one (n ∷ ns) read (other ∷ []) later name ended yields (inl (stops, is, outcome)) came = let e : n ∷ [] ≡ other ∷ name ∷ later = sym is ∙ came in absurd cc
 among one (n ∷ ns) read (other ∷ another ∷ earlier) later name ended yields (inl (stops, is, outcome)) came = let e : n ∷ [] ≡ other ∷ another ∷ (earlier ++ name ∷ later) = sym is ∙ came in absurd cc
 among one (n ∷ ns) read [] later name ended yields (inr (others, first, rest, here, more, goes, outcome, order, is, joins, all)) came =
     let e : n ∷ others ≡ name ∷ later = sym is ∙ came in
     let same : n ≡ name = cc in
-    record { before = says []; here = here; after = more; ended = first; outcome = subst (λ (it : List ℕ). one it first here) same outcome; split = all }
+    record { before = says []; done = status.Done; others = none_read one; here = here; after = more; ended = first; outcome = subst (λ (it : List ℕ). one it first here) same outcome; split = all }
 among one (n ∷ ns) read (other ∷ earlier) later name ended yields (inr (others, first, rest, here, more, goes, outcome, order, is, joins, all)) came =
     let e : n ∷ others ≡ other ∷ (earlier ++ name ∷ later) = sym is ∙ came in
     let same : others ≡ earlier ++ name ∷ later = cc in
+    let first_is : n ≡ other = cc in
     let next = among one ns others earlier later name rest more order same in
     record {
       before = with_more here next.before;
+      done = joined first next.done;
+      others = inr (earlier, first, next.done, here, next.before, goes, subst (λ (it : List ℕ). one it first here) first_is outcome, next.others, refl, refl, refl);
       here = next.here;
       after = next.after;
       ended = next.ended;
@@ -238,12 +243,14 @@ of_file asked name bytes (Some all) fault ended yields is (inl read) = let same 
 of_file asked name bytes (Some all) fault ended yields is (inr unopened) = inl (unopened.0, unopened.2)
 
 pub has_headline : (asked : Listening) (files : Files) (fault : Type 0) (failed : Bool) (earlier later came : List (List ℕ)) (name bytes : List ℕ) (ended : Status) (yields : Yield) → ListenOutcome asked files fault failed came ended yields
-    → came ≡ earlier ++ name ∷ later → files name ≡ Some bytes → HasHeadline asked name bytes fault yields
+    → came ≡ earlier ++ name ∷ later → files name ≡ Some bytes → HasHeadline asked files fault earlier name bytes yields
 has_headline asked files fault failed earlier later came name bytes ended yields outcome reached told =
     let notice : Yield = says (device_notice failed outcome.heard) in
     let this = among (one_outcome (listen_plan asked) files fault) asked.files came earlier later name outcome.heard outcome.given outcome.reads reached in
     record {
       before = this.before;
+      done = this.done;
+      others = this.others;
       here = this.here;
       after = with_more this.after notice;
       split = outcome.notice ∙ ap (λ (y : Yield). with_more y notice) this.split ∙ more_more this.before (with_more this.here this.after) notice ∙ ap (λ (y : Yield). with_more this.before y) (more_more this.here this.after notice);

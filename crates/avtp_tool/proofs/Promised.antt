@@ -44,7 +44,7 @@ agreement_of request files failed yields asked x y shift p whole compares =
     subst (HasAgreement asked p x y) (sym told) (has_agreement asked x y shift p compares.hears_a compares.hears_b)
 
 headline_of : (request : Request) (files : Files) (fault : Type 0) (failed : Bool) (came : List (List ℕ)) (ended : Status) (yields : Yield) (made : Option (List ℕ)) → Outcome request files fault failed came ended yields made
-    → (asked : Listening) (earlier later : List (List ℕ)) (name bytes : List ℕ) → request ≡ listen asked → came ≡ earlier ++ name ∷ later → files name ≡ Some bytes → HasHeadline asked name bytes fault yields
+    → (asked : Listening) (earlier later : List (List ℕ)) (name bytes : List ℕ) → request ≡ listen asked → came ≡ earlier ++ name ∷ later → files name ≡ Some bytes → HasHeadline asked files fault earlier name bytes yields
 headline_of request files fault failed came ended yields made outcome asked earlier later name bytes is reached told =
     has_headline asked files fault failed earlier later came name bytes ended yields (subst (λ (q : Request). Outcome q files fault failed came ended yields made) is outcome).0 reached told
 

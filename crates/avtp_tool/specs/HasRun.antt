@@ -64,7 +64,7 @@ pub record Reports (request : Request) (files : Files) (failed : Bool) (handed :
   -- What `listen` yields of each file that it came to: as far as that was read and is a talker's that keeps the rules, it is as the
   -- headline says, for each file with a journal of its own.
   pub headline : (asked : Listening) (earlier later : List (List ℕ)) (name bytes : List ℕ) → request ≡ listen asked → came ≡ earlier ++ name ∷ later →
-      files name ≡ Some bytes → HasHeadline asked name bytes (Rose shelf.reading_faults shelf'.reading_faults) yields
+      files name ≡ Some bytes → HasHeadline asked files (Rose shelf.reading_faults shelf'.reading_faults) earlier name bytes yields
   -- What `agree` prints of two captures of a talker that keeps the rules.
   pub agreement : ReadsAll shelf shelf' → (asked : Agreeing) (x y : List ℕ) (shift : ℤ) (p : PacketJournal) →
       ComparesTalker request files asked x y shift p → HasAgreement asked p x y yields.text

@@ -1,6 +1,7 @@
 -- What `listen` prints and how it ends.
 use Rattle.std.specs.Prelude.{◌≡◌, ◌⊎◌, ℕ, ℤ, List, ◌++◌, Bool, true, false, Some}
 use mathlib.Core.List.{IsPrefix}
+use Rattle.avtp_base.specs.Files.{Files}
 use Rattle.pcap_frames.specs.Capture.{Record}
 use Rattle.capture_io.specs.Ends.{EndsAt}
 use Rattle.capture_io.specs.Formats.{records_in}
@@ -18,7 +19,8 @@ use Rattle.avtp_text.specs.Listen.{capture_line, list_lines, end_listen_line}
 use Rattle.avtp_text.specs.Notices.{capture_refused_line, read_fault_line, limit_line}
 use Rattle.capture_io.specs.declared.end.End.{End}
 use Rattle.capture_io.specs.declared.end.End.TheVariants as end
-use Rattle.avtp_tool.specs.Reading.{ReadPlan, Report}
+use Rattle.avtp_tool.specs.declared.status.Status.{Status}
+use Rattle.avtp_tool.specs.Reading.{InOrder, one_outcome, ReadPlan, Report}
 use Rattle.avtp_tool.specs.Status.{status_of}
 use Rattle.avtp_tool.specs.Yield.{says, with_more, Yield}
 
@@ -87,10 +89,13 @@ pub record YieldsHeadline (asked : Listening) (name bytes : List ℕ) (fault : T
   pub whole : (shift : ℤ) (p : PacketJournal) → is_cut_short how ≡ false → HearsTalker shift p (plan_of asked.listener) (records_in read) →
       KeepsHeadline shift p (plan_of asked.listener) (records_in read) yields.items
 
--- A part of what a run yields is what this file yields: a fault if it could not be opened, or else what is as the headline says.
-pub record HasHeadline (asked : Listening) (name bytes : List ℕ) (fault : Type 0) (yields : Yield) : Type 0 where
+-- What a run yields of a file that it came to after these others: what they yield, which were all read to their ends, and then a
+-- fault if the file could not be opened, or else what is as the headline says.
+pub record HasHeadline (asked : Listening) (files : Files) (fault : Type 0) (earlier : List (List ℕ)) (name bytes : List ℕ) (yields : Yield) : Type 0 where
   pub before : Yield
+  pub done : Status
+  pub others : InOrder (one_outcome (listen_plan asked) files fault) earlier earlier done before
   pub here : Yield
+  pub keeps : (fault × (here ≡ says read_fault_line)) ⊎ YieldsHeadline asked name bytes fault here
   pub after : Yield
   pub split : yields ≡ with_more before (with_more here after)
-  pub keeps : (fault × (here ≡ says read_fault_line)) ⊎ YieldsHeadline asked name bytes fault here
