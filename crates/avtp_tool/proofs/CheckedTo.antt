@@ -43,7 +43,7 @@ pub flat_lines : {A : Type 0} (line : A → List ℕ) (xs : List A) → joined_l
 flat_lines line [] = refl
 flat_lines line (x ∷ xs) = ap (λ rest. line x ++ rest) (flat_lines line xs)
 
-notes_more : (records : List Record) (r : Record) → notes_of (records ++ r ∷ []) ≡ notes_of records ++ noted (checked_record r.bytes)
+pub notes_more : (records : List Record) (r : Record) → notes_of (records ++ r ∷ []) ≡ notes_of records ++ noted (checked_record r.bytes)
 notes_more records r = flat_map-append (λ (x : Record). noted (checked_record x.bytes)) records (r ∷ []) ∙ ap (λ (rest : List Seen). notes_of records ++ rest) (append-nil (noted (checked_record r.bytes)))
 
 -- ---- the text

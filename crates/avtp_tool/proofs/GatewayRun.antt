@@ -4,7 +4,7 @@ use Rattle.std.specs.Prelude.{◌==◌, if◌then◌else◌, IfSome}
 use Rattle.std.specs.List.{AllByRecursion}
 use Rattle.std.proofs.lemmas.Bool.{eqb-true}
 use Rattle.avtp_base.specs.Files.{Files}
-use Rattle.pcap_frames.specs.Capture.{Record}
+use Rattle.pcap_frames.specs.Capture.{Record, whole_records}
 use Rattle.capture_io.specs.declared.end.End.{End}
 use Rattle.capture_io.specs.declared.end.End.TheVariants as end
 use Rattle.capture_io.specs.Ends.{EndsAt, end_of}
@@ -24,6 +24,7 @@ use Rattle.gateway_laws.proofs.Kept.{all_kept}
 use Rattle.gateway_laws.proofs.Timely.{due_in_time, shown_in_time}
 use Rattle.avtp_words.specs.Grammar.{Turning}
 use Rattle.avtp_tool.specs.declared.status.Status.{Status}
+use Rattle.avtp_tool.proofs.Silent.{silent}
 use Rattle.avtp_tool.specs.Agree.{side_line}
 use Rattle.avtp_tool.specs.declared.status.Status.TheVariants as status
 use Rattle.avtp_tool.specs.Gateway.{GatewayOutcome, HearsInput, KeepsInput, batches_by, came_by, cut, ended_by, fault_in, faulty, format_of, gateway_came, gateway_ended, gateway_made, gateway_report, made_by, records_of, shape_asked, skipped_at, skips_after, skips_in, text_by, turned, turned_capture, turned_status, unopened}
@@ -148,11 +149,13 @@ keeps_input {asked} {files} {fault} {ended = ended} capture small (turned shape 
     let is : turned_capture asked shape batches ≡ capture = cc in
     let fits : IfSome shape IsShape = subst (λ (s : Option Shape). IfSome s IsShape) (sym hears.shape_is) (scanned_fits (format_of asked.to) asked.listener.stream (records_of asked hears.bytes) hears.can.none) in
     let begins : AllByRecursion BeginsInTime batches = subst (AllByRecursion BeginsInTime) (sym hears.presented) (begin_in_time asked (records_in hears.prefix) how) in
+    let kept : Keeps (format_of asked.to) shape asked.id batches capture = subst (Keeps (format_of asked.to) shape asked.id batches) is (all_kept (format_of asked.to) shape asked.id batches fits small begins) in
     record {
       shape = shape;
       batches = batches;
       how = how;
       heard = hears;
-      keeps = subst (Keeps (format_of asked.to) shape asked.id batches) is (all_kept (format_of asked.to) shape asked.id batches fits small begins);
+      keeps = kept;
+      silent = silent (whole_records capture) kept.checked;
       all = λ done. skips_none (format_of asked.to) shape batches (done_none (skips_in asked shape batches) how (sym e ∙ done));
     }

@@ -35,3 +35,4 @@ pub mod TurnRun
 pub mod ScanRuns
 pub mod TurnedInput
 pub mod Putting
+pub mod Silent

@@ -1,7 +1,7 @@
 -- What `gateway` prints, how it ends, and what it makes.
 use Rattle.std.specs.Prelude.{◌≡◌, ◌≢◌, ℕ, ◌==◌, if◌then◌else◌, codes, List, [], ◌∷◌, ◌++◌, flat_map, length, take, Option, Some, None}
 use Rattle.avtp_base.specs.Files.{Files}
-use Rattle.pcap_frames.specs.Capture.{Record}
+use Rattle.pcap_frames.specs.Capture.{Record, whole_records}
 use Rattle.capture_io.specs.declared.end.End.{End}
 use Rattle.capture_io.specs.declared.end.End.TheVariants as end
 use Rattle.capture_io.specs.Ends.{EndsAt, end_of}
@@ -28,6 +28,8 @@ use Rattle.avtp_text.specs.Notices.{read_fault_line}
 use Rattle.avtp_tool.specs.declared.status.Status.{Status}
 use Rattle.avtp_tool.specs.declared.status.Status.TheVariants as status
 use Rattle.avtp_tool.specs.Agree.{IsUnopened, side_line}
+use Rattle.avtp_tool.specs.Check.{check_lines}
+use Rattle.avtp_tool.specs.Lines.{of_each}
 use Rattle.avtp_tool.specs.Listen.{plan_of, shown_by}
 use Rattle.avtp_tool.specs.Status.{status_of}
 
@@ -165,14 +167,16 @@ pub data GatewayOutcome (asked : Turning) (files : Files) (fault : Type 0) (came
       → ended ≡ turned_status (length (skips_in asked shape batches)) how → text ≡ turned_text asked shape batches how → made ≡ Some (turned_capture asked shape batches)
       → GatewayOutcome asked files fault came ended text made
 
--- What a capture keeps that `gateway` makes of IN: it is whole; a listener presents just the samples of the batches that are presented
--- of IN and not skipped, in order, with the same values at the same instants; and `check` finds nothing. With status 0 none is skipped.
+-- What a capture keeps that `gateway` makes of IN. It is whole. A listener presents exactly the samples of the batches that are
+-- presented of IN and not skipped, in order, with the same values at the same instants. `check` prints no finding of it. With
+-- status 0 no batch is skipped.
 pub record KeepsInput (asked : Turning) (files : Files) (fault : Type 0) (ended : Status) (capture : List ℕ) : Type 0 where
   pub shape : Option Shape
   pub batches : List Presented
   pub how : End
   pub heard : HearsInput asked files fault shape batches how
   pub keeps : Keeps (format_of asked.to) shape asked.id batches capture
+  pub silent : of_each check_lines (whole_records capture) ≡ []
   pub all : ended ≡ status.Done → SkipsNone (format_of asked.to) shape batches
 
 -- ---- if no fault of reading comes
