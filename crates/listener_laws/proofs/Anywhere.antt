@@ -33,7 +33,7 @@ use Rattle.listener_laws.proofs.Taken.{HoldsOf, IsAtPlace, all_taken, any_last, 
 
 -- ---- lists
 
-some_at : (ds : List Delivery) (j : ℕ) → j < length ds → (d : Delivery) × (slice_get ds j ≡ Some d)
+pub some_at : (ds : List Delivery) (j : ℕ) → j < length ds → (d : Delivery) × (slice_get ds j ≡ Some d)
 some_at [] j lt = absurd (omega arith)
 some_at (x ∷ ds) zero lt = (x, refl)
 some_at (x ∷ ds) (suc j) lt = some_at ds j (omega arith)

@@ -50,7 +50,7 @@ use Rattle.listener.proofs.UnitWelcome.{unit_made_whole}
 use Rattle.listener.proofs.Welcome.{arrives, both_early}
 use Rattle.listener_laws.specs.Anywhere.{UnitComesInTime, UnitMustBePresented, unit_place}
 use Rattle.listener_laws.specs.Completed.{completed}
-use Rattle.listener_laws.proofs.Anywhere.{accepted_later, fits, not_full}
+use Rattle.listener_laws.proofs.Anywhere.{accepted_later, fits, not_full, some_at}
 use Rattle.listener_laws.proofs.Completed.{gives_unit, unit_there}
 use Rattle.listener_laws.proofs.Taken.{AreTaken, IsAcceptedOf, IsMore, IsPacketAt, IsStep, all_taken, light as bytes_light, none_first, none_is, verdict_so}
 
@@ -310,11 +310,6 @@ front_of (x ∷ ds) zero d at = let same : x ≡ d = cc in (ds, (ap (λ (y : Del
 front_of (x ∷ ds) (suc j) d at =
     let rest = front_of ds j d at in
     (rest.0, (ap (λ (l : List Delivery). x ∷ l) rest.1.0, ap (λ (l : List Delivery). x ∷ l) rest.1.1))
-
-some_at : (ds : List Delivery) (j : ℕ) → j < length ds → (d : Delivery) × (slice_get ds j ≡ Some d)
-some_at [] j lt = absurd (omega arith)
-some_at (x ∷ ds) zero lt = (x, refl)
-some_at (x ∷ ds) (suc j) lt = some_at ds j (omega arith)
 
 abbrev pub counting : (Delivery → Bool) → List Delivery → ℕ → ℕ
 counting waits ds j = length (filter waits (take j ds))

@@ -3,6 +3,7 @@ use Rattle.std.proofs.Common.{◌≡◌, ◌≢◌, ℕ, zero, suc, ◌+◌, ◌
 use Rattle.std.specs.Prelude.{AllPairs, Any, Err, IfSome, Result, is_some, option_map, nat_lt, slice_get, ◌==◌, if◌then◌else◌}
 use Rattle.std.specs.List.{filter_map, range_with_len}
 use Rattle.std.proofs.Math.Nat.{div-mul-le_self, lt-div-mul-add, mul-le-mul_right, zero-div}
+use Rattle.std.proofs.lemmas.List.FromFn.{length-range_with_len}
 use Rattle.std.proofs.lemmas.Bool.{cases_lt}
 use Rattle.std.proofs.lemmas.Bool.Decides.{nat_tests}
 use Rattle.std.proofs.lemmas.Grind.{div_ceil_times}
@@ -77,7 +78,7 @@ use Rattle.talker.proofs.StreamLemmas.{clocks_in}
 use Rattle.talked_presented.specs.Clocked.{ArePresentedFrom, IsFrom, first_covered}
 use Rattle.talked_presented.specs.Whole.{HoldsLead}
 use Rattle.talked_presented.proofs.Caught.{IsCaught, came_by, not_before}
-use Rattle.talked_presented.proofs.Covered.{IsClocked, IsOverStamp, at_stamp, covered_here, first_head, head_is, not_over, over_stamp, stamp_at}
+use Rattle.talked_presented.proofs.Covered.{IsClocked, IsOverStamp, at_stamp, at_start, covered_here, first_head, head_is, not_over, over_stamp, stamp_at}
 use Rattle.talked_presented.proofs.Merged.{AreMerged, IsPlaced, has_place, placed}
 use Rattle.talked_presented.proofs.Sent.{few_wait, has_times, packet_size}
 
@@ -172,9 +173,6 @@ came_upto plan crf input os i n s c sent over at q =
 
 -- ---- a packet from the second point on must be presented
 
-at_start : (instant : ℤ) (num den : ℕ) → instant_at (record { base = instant; num = num; den = den }) (pos 0) ≡ instant
-at_start instant num den = rw (zero-mul num, zero-div den) (omega (arith, ints))
-
 one_natural : (a b : ℕ) → pos a ≡ pos b → a ≡ b
 one_natural a b e = omega (arith, ints)
 
@@ -221,16 +219,12 @@ is_less a b lt = grind (arith, nat_tests)
 not_less : (a b : ℕ) → b ≤ a → nat_lt a b ≡ false
 not_less a b le = grind (arith, nat_tests)
 
-range_long : (a k : ℕ) → length (range_with_len a k) ≡ k
-range_long a zero = refl
-range_long a (suc k) = ap suc (range_long (a + 1) k)
-
 few_last : (n buffer a k : ℕ) → 1 ≤ buffer → a + k ≤ n → length (filter (λ (m : ℕ). nat_lt n (m + buffer)) (range_with_len a k)) < buffer
 few_last n buffer a zero some le = some
 few_last n buffer a (suc k) some le = elim (cases_lt n (a + buffer)) [
   | inl near ↦
       let waits : ℕ → Bool = λ (m : ℕ). nat_lt n (m + buffer) in
-      omega (arith, near, length-filter waits (range_with_len a (suc k)), count_by-le-length waits (range_with_len a (suc k)), range_long a (suc k))
+      omega (arith, near, length-filter waits (range_with_len a (suc k)), count_by-le-length waits (range_with_len a (suc k)), length-range_with_len a (suc k))
   | inr far ↦ rw (not_less n (a + buffer) far) (few_last n buffer (a + 1) k some (omega arith))
 ]
 

@@ -3,6 +3,7 @@ use Rattle.std.proofs.Common.{◌≡◌, ℕ, zero, suc, ◌+◌, ◌-◌, ◌*�
 use Rattle.std.specs.Prelude.{Contains, if◌then◌else◌, ◌==◌}
 use Rattle.std.specs.List.{range_with_len}
 use Rattle.std.proofs.Math.Nat.{div-eq_of_lt-le, div-mul-le_self, mod-lt, mul-le-mul_right, zero-div}
+use Rattle.std.proofs.lemmas.List.FromFn.{length-range_with_len}
 use Rattle.std.proofs.lemmas.Bool.{cases_lt, eqb-true}
 use Rattle.std.proofs.lemmas.Grind.{div_ceil_times}
 use Rattle.std.proofs.lemmas.Int.{ints}
@@ -189,7 +190,7 @@ first_head x = record { instant = pos x; first = neg_ℤ (pos 0) }
 pub head_is : (plan : TalkPlan) (crf : CrfPlan) (j : Journal) (n : ℕ) → IsClocked plan crf j → head_of j n ≡ Some (first_head (stamp_at plan crf n))
 head_is plan crf j n c = rw (c.stamp n, c.dense) refl
 
-at_start : (instant : ℤ) (num den : ℕ) → instant_at (record { base = instant; num = num; den = den }) (pos 0) ≡ instant
+pub at_start : (instant : ℤ) (num den : ℕ) → instant_at (record { base = instant; num = num; den = den }) (pos 0) ≡ instant
 at_start instant num den = rw (zero-mul num, zero-div den) (omega (arith, ints))
 
 no_more : (z : ℤ) → (z +ℤ neg_ℤ (pos 0)) +ℤ pos 0 ≡ z
@@ -236,13 +237,9 @@ in_range a (suc k) m low high = elim (cases_lt a m) [
   | inr not ↦ let same : a ≡ m = omega (arith, low) in (zero, omega arith, same)
 ]
 
-range_long : (a k : ℕ) → length (range_with_len a k) ≡ k
-range_long a zero = refl
-range_long a (suc k) = ap suc (range_long (a + 1) k)
-
 last_in : (count m : ℕ) → m < count → count ≤ m + 64 → Contains (last_of 64 (range_with_len 0 count)) m
 last_in count m lt near =
-    let last : last_of 64 (range_with_len 0 count) ≡ range_with_len (0 + (count - 64)) (count - (count - 64)) = ap (λ (k : ℕ). drop (k - 64) (range_with_len 0 count)) (range_long 0 count) ∙ drop_range 0 count (count - 64) in
+    let last : last_of 64 (range_with_len 0 count) ≡ range_with_len (0 + (count - 64)) (count - (count - 64)) = ap (λ (k : ℕ). drop (k - 64) (range_with_len 0 count)) (length-range_with_len 0 count) ∙ drop_range 0 count (count - 64) in
     subst (λ (l : List ℕ). Contains l m) (sym last) (in_range (0 + (count - 64)) (count - (count - 64)) m (omega arith) (omega arith))
 
 -- if just the packets of the clock came that have a point up to the timestamp, the two points around it came

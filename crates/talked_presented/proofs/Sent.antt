@@ -3,6 +3,7 @@ use Rattle.std.proofs.Common.{◌≡◌, ℕ, zero, suc, ◌+◌, ◌-◌, ◌*�
 use Rattle.std.specs.Prelude.{IsSome, slice_get}
 use Rattle.std.specs.Int.{int_max}
 use Rattle.std.specs.List.{AllByRecursion, range_with_len}
+use Rattle.std.proofs.lemmas.List.FromFn.{length-map-range_with_len}
 use Rattle.std.proofs.lemmas.Bool.{cases_lt}
 use Rattle.std.proofs.lemmas.Int.{ints}
 use Rattle.std.proofs.lemmas.List.{length-map}
@@ -209,10 +210,6 @@ stamped_head j n some = some_head j n (j.stamp n) refl some
 entries_long : (ds : List Delivery) → All IsOther ds → length (entries ds) ≡ length ds
 entries_long ds all = length-map (items_of ds) made_entry ∙ (ap (λ (l : List MadeItem). length l) (items_other ds all) ∙ length-map ds made_of_one)
 
-range_long : (a k : ℕ) → length (map OfStream (range_with_len a k)) ≡ k
-range_long a zero = refl
-range_long a (suc k) = ap suc (range_long (a + 1) k)
-
 pub packet_at : (a k i n : ℕ) → i < k → a + i ≡ n → slice_get (map OfStream (range_with_len a k)) i ≡ Some (OfStream n)
 packet_at a zero i n lt e = absurd (omega arith)
 packet_at a (suc k) zero n lt e = let same : a ≡ n = omega arith in ap (λ (m : ℕ). Some (OfStream m)) same
@@ -256,7 +253,7 @@ are_timely plan input listen rs p none kind off room w heads known =
       heard = w.heard;
       kind = kind;
       off = off;
-      entries = entries_long (deliveries_of listen rs) all ∙ (as_many j listen.lead (map OfStream (range_with_len 0 j.times.packets)) (deliveries_of listen rs) w.from ∙ range_long 0 j.times.packets);
+      entries = entries_long (deliveries_of listen rs) all ∙ (as_many j listen.lead (map OfStream (range_with_len 0 j.times.packets)) (deliveries_of listen rs) w.from ∙ length-map-range_with_len OfStream 0 j.times.packets);
       each = λ n lt.
           let here = caught_at plan input listen rs n w lt in
           let early : time_of listen rs n ≤ℤ pos (j.times.due n) = omega (arith, ints, time n lt, w.stream.early n ready lt) in

@@ -2,6 +2,7 @@
 use Rattle.std.proofs.Common.{◌≡◌, ◌⊎◌, ℕ, zero, suc, ◌+◌, ◌-◌, ◌*◌, ◌<◌, ◌≤◌, true, pos, List, [], ◌∷◌, ◌++◌, length, map, filter, refl, sym, ap, ◌∙◌, subst, inl, inr, arith, length-append}
 use Rattle.std.specs.Prelude.{Contains}
 use Rattle.std.specs.List.{AllByRecursion, range_with_len}
+use Rattle.std.proofs.lemmas.List.FromFn.{length-range_with_len}
 use Rattle.std.proofs.lemmas.Bool.{cases_lt}
 use Rattle.std.proofs.lemmas.List.{length-map, map-append}
 use Rattle.std.proofs.lemmas.List.Elements.{filter-append}
@@ -67,10 +68,6 @@ pub parted : (d : ℕ → Delivery) (m k : ℕ) → first_ones d (m + k) ≡ fir
 parted d m k =
     let place : 0 + m ≡ m = omega arith in
     ap (map d) (more_range 0 m k) ∙ (map-append d (range_with_len 0 m) (range_with_len (0 + m) k) ∙ ap (λ (b : ℕ). first_ones d m ++ map d (range_with_len b k)) place)
-
-range_long : (a k : ℕ) → length (range_with_len a k) ≡ k
-range_long a zero = refl
-range_long a (suc k) = ap suc (range_long (a + 1) k)
 
 -- ---- one unit
 
@@ -139,8 +136,8 @@ next_unit p part plan d m n w made known unit =
     let whole : first_ones d (suc n) ≡ first_ones d m ++ es = ap (first_ones d) (sym to_next) ∙ parted d m (suc n - m) in
     let last : first_ones d (suc n) ≡ before ++ d n ∷ [] = ap (first_ones d) (sym one) ∙ parted d n 1 in
     let stream : in_stream before ≡ first_ones d m ++ earlier = all_streamed d 0 n (λ k lt. w.streamed k (omega (arith, lt, known))) ∙ split in
-    let long : length earlier ≡ n - m = length-map (range_with_len m (n - m)) d ∙ range_long m (n - m) in
-    let all_long : length es ≡ suc n - m = length-map (range_with_len m (suc n - m)) d ∙ range_long m (suc n - m) in
+    let long : length earlier ≡ n - m = length-map (range_with_len m (n - m)) d ∙ length-range_with_len m (n - m) in
+    let all_long : length es ≡ suc n - m = length-map (range_with_len m (suc n - m)) d ∙ length-range_with_len m (suc n - m) in
     let copies = copies_at p plan.lead d m (n - m) (λ k from below. w.copy k (omega (arith, below, low, known))) in
     let few = w.few m n unit known in
     let size = w.size m n unit known in

@@ -2,6 +2,7 @@
 use Rattle.std.proofs.Common.{◌≡◌, ◌≢◌, ℕ, zero, suc, ◌+◌, ◌-◌, ◌<◌, ◌≤◌, Bool, true, false, pos, ◌≤ℤ◌, List, [], ◌∷◌, ◌++◌, All, length, map, filter, Some, refl, sym, ap, ◌∙◌, subst, arith, append_assoc, length-append}
 use Rattle.std.specs.Prelude.{cond, slice_get}
 use Rattle.std.specs.List.{range_with_len, slice_index_or}
+use Rattle.std.proofs.lemmas.List.FromFn.{length-range_with_len}
 use Rattle.std.proofs.lemmas.List.{length-map}
 use Rattle.std.proofs.lemmas.List.Elements.{All-append, All-cons, All-head, All-nil, All-tail, filter-append}
 use Rattle.std.proofs.lemmas.Option.{slice_get-get_or}
@@ -100,10 +101,6 @@ others_in : (n a k : ℕ) → a + k ≤ n → All (λ (m : ℕ). m ≢ n) (range
 others_in n a zero le = All-nil (λ (m : ℕ). m ≢ n)
 others_in n a (suc k) le = All-cons (λ (m : ℕ). m ≢ n) a (range_with_len (a + 1) k) (λ e. absurd (omega arith)) (others_in n (a + 1) k (omega arith))
 
-range_long : (a k : ℕ) → length (range_with_len a k) ≡ k
-range_long a zero = refl
-range_long a (suc k) = ap suc (range_long (a + 1) k)
-
 -- ---- when they came
 
 all_in : (Q : ℕ → Type 0) (a k : ℕ) → ((m : ℕ) → a ≤ m → m < a + k → Q m) → All Q (range_with_len a k)
@@ -169,7 +166,7 @@ unit_in plan input front after from n listen fs es last rest h conforming w spli
     let shows = All-append Shows fs es shows_front shows_run in
     let waits : Delivery → Bool = λ (d : Delivery). ends_unit (part_in d) in
     let ends_sent : ℕ → Bool = λ (k : ℕ). ends_unit (part k) in
-    let long : length es ≡ n - from = as_many p listen.lead (map OfStream run) es second ∙ (length-map run OfStream ∙ range_long from (n - from)) in
+    let long : length es ≡ n - from = as_many p listen.lead (map OfStream run) es second ∙ (length-map run OfStream ∙ length-range_with_len from (n - from)) in
     let long_front : length fs ≡ length front = as_many p listen.lead (map OfStream front) fs first ∙ length-map front OfStream in
     let in_run : length (filter waits es) ≡ 0 = counted p part listen.lead run es heard shows_run second ∙ ap (λ (ks : List ℕ). length ks) (none_ends part from n from (n - from) h.packets (omega arith) (omega (arith, low))) in
     let in_front = counted p part listen.lead front fs heard shows_front first in
@@ -203,7 +200,7 @@ unit_in plan input front after from n listen fs es last rest h conforming w spli
             few = omega (arith, long, few);
           };
           in_time = came_before plan input listen rs (front ++ (run ++ n ∷ [])) after ((fs ++ es) ++ last ∷ []) rest due w' (split ∙ joined_deliveries fs es rest last)
-              (omega (arith, length-append (fs ++ es) (last ∷ []), length-append fs es, long, long_front, length-append front (run ++ n ∷ []), length-append run (n ∷ []), range_long from (n - from))) early;
+              (omega (arith, length-append (fs ++ es) (last ∷ []), length-append fs es, long, long_front, length-append front (run ++ n ∷ []), length-append run (n ∷ []), length-range_with_len from (n - from))) early;
         };
         first = All-append (λ (d : Delivery). ¬ IsCopyOf p listen.lead n d) fs es (never p part listen.lead n front fs heard ends shows_front first h.first)
             (never p part listen.lead n run es heard ends shows_run second (others_in n from (n - from) (omega (arith, low))));
