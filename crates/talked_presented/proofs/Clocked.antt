@@ -1,8 +1,8 @@
 -- What a listener with the talker's clock shows of a whole capture of dense PCM.
-use Rattle.std.proofs.Common.{◌≡◌, ◌≢◌, ℕ, zero, suc, ◌+◌, ◌-◌, ◌*◌, ◌/◌, ◌%◌, ◌^◌, ◌<◌, ◌≤◌, Bool, true, false, ℤ, pos, neg_ℤ, ◌≤ℤ◌, List, [], ◌∷◌, All, length, filter, map, take, Option, Some, None, Ok, zero-mul, refl, sym, ap, ◌∙◌, subst, inl, inr, arith}
+use Rattle.std.proofs.Common.{◌≡◌, ◌≢◌, ℕ, zero, suc, ◌+◌, ◌-◌, ◌*◌, ◌/◌, ◌%◌, ◌^◌, ◌<◌, ◌≤◌, Bool, true, false, ℤ, pos, neg_ℤ, ◌≤ℤ◌, List, [], ◌∷◌, All, length, filter, map, take, Option, Some, None, Ok, refl, sym, ap, ◌∙◌, subst, inl, inr, arith}
 use Rattle.std.specs.Prelude.{AllPairs, Any, Err, IfSome, Result, is_some, option_map, nat_lt, slice_get, ◌==◌, if◌then◌else◌}
 use Rattle.std.specs.List.{filter_map, range_with_len}
-use Rattle.std.proofs.Math.Nat.{div-mul-le_self, lt-div-mul-add, mul-le-mul_right, zero-div}
+use Rattle.std.proofs.Math.Nat.{div-mul-le_self, lt-div-mul-add, mul-le-mul_right}
 use Rattle.std.proofs.lemmas.List.FromFn.{length-range_with_len}
 use Rattle.std.proofs.lemmas.Bool.{cases_lt}
 use Rattle.std.proofs.lemmas.Bool.Decides.{nat_tests}
@@ -18,7 +18,6 @@ use Rattle.clock_track.specs.Rows.{clock_spot}
 use Rattle.time_unfold.specs.Heads.{stamped_index}
 use Rattle.time_unfold.specs.Time.{unfolded}
 use Rattle.time_unfold.specs.declared.head_rule.Head.{Head}
-use Rattle.time_unfold.specs.Lines.{instant_at}
 use Rattle.pcap_frames.specs.Capture.{Record}
 use Rattle.aaf_format.specs.Aaf.{aaf_of, aaf_refusal, aaf_subtype}
 use Rattle.iec61883_format.specs.Iec.{iec_of, iec_refusal}

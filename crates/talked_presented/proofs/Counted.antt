@@ -18,15 +18,12 @@ use Rattle.stream_journal.specs.Journal.{Journal, head_from, head_of, rule_of}
 use Rattle.stream_journal.specs.Known.{IsCounted, stamps_in}
 use Rattle.stream_journal.proofs.Apart.{back_of}
 use Rattle.stream_journal.proofs.OneInstant.{no_restart}
-use Rattle.packet_journal.specs.Carried.{AllCarry, Carries}
-use Rattle.packet_journal.specs.Delivered.{AreFrom, IsCopyOf, OfStream, stream_numbers}
-use Rattle.packet_journal.specs.Deliveries.{delivery}
+use Rattle.packet_journal.specs.Delivered.{AreFrom, OfStream, stream_numbers}
 use Rattle.packet_journal.specs.Packets.{PacketJournal}
 use Rattle.listener.specs.declared.plan.ListenPlan.{ListenPlan}
 use Rattle.listener.specs.Heard.{deliveries_of}
 use Rattle.listener.specs.Known.{IsKnownCopy}
 use Rattle.listener.specs.Laws.{by_clock}
-use Rattle.talked_headline.proofs.Fragments.{numbered}
 
 -- ---- the packet that it is counted from
 
@@ -114,14 +111,6 @@ stamp_kept j room k m instant e below few =
     (last_has room (filter_map f (range_with_len 0 k)) (filter_map f (range_with_len (0 + k) (suc c))) (stamp_at j k instant) (omega (arith, few_stamps f (0 + k) (suc c), parts, few)) has)
 
 -- ---- what came
-
-pub all_from : (p : PacketJournal) (lead a k i : ℕ) (rs : List Record) → ((n frame : ℕ) (r : Record) → Carries p lead n r → IsCopyOf p lead n (delivery frame r)) → AllCarry p lead (range_with_len a k) rs
-    → AreFrom p lead (map OfStream (range_with_len a k)) (numbered i rs)
-unfolding numbered
-all_from p lead a zero i [] each all = tt
-all_from p lead a zero i (r ∷ rs) each all = absurd all
-all_from p lead a (suc k) i [] each all = absurd all
-all_from p lead a (suc k) i (r ∷ rs) each all = (each a i r all.0, all_from p lead (a + 1) k (i + 1) rs each all.1)
 
 -- The first `size` packets of a capture of `count` packets from packet a on are packets a to a + m - 1.
 record IsFront (size a count : ℕ) : Type 0 where

@@ -39,7 +39,7 @@ IsSent s (OfClock m) = m < clocks_in s
 
 -- ---- each frame carries its packet
 
-carried_by : (plan : TalkPlan) (s : Stream) (lead : ℕ) (o : Origin) → IsStream plan s → Expects plan lead → IsSent s o → CarriesFrom s.journal lead o (record_of (frame_by s o))
+pub carried_by : (plan : TalkPlan) (s : Stream) (lead : ℕ) (o : Origin) → IsStream plan s → Expects plan lead → IsSent s o → CarriesFrom s.journal lead o (record_of (frame_by s o))
 unfolding packet_bytes clock_bytes
 carried_by plan s lead (OfStream n) is expects sent =
     let packet : List ℕ = spelling_of (s.journal.packet n) in

@@ -1,5 +1,5 @@
 -- What a listener gets of a whole capture of an audio plan without a clock: packet n in record n, in order and in time.
-use Rattle.std.proofs.Common.{◌≡◌, ℕ, zero, suc, ◌+◌, ◌-◌, ◌*◌, ◌<◌, ◌≤◌, Bool, true, false, ℤ, pos, ◌≤ℤ◌, List, [], All, length, map, Option, Some, None, is_some, refl, sym, ap, ◌∙◌, subst, inl, inr, arith, append-nil, length-append}
+use Rattle.std.proofs.Common.{◌≡◌, ℕ, zero, suc, ◌+◌, ◌-◌, ◌*◌, ◌<◌, ◌≤◌, Bool, true, false, ℤ, pos, ◌≤ℤ◌, List, All, length, map, Option, Some, None, is_some, refl, sym, ap, ◌∙◌, subst, inl, inr, arith, length-append}
 use Rattle.std.specs.Prelude.{IsSome, slice_get}
 use Rattle.std.specs.Int.{int_max}
 use Rattle.std.specs.List.{AllByRecursion, range_with_len}
@@ -18,7 +18,7 @@ use Rattle.stream_journal.specs.Conforming.{IsAudio}
 use Rattle.stream_journal.specs.Delivered.{Copy, IsAudioKind}
 use Rattle.stream_journal.specs.Journal.{IsAt, Journal, head_of}
 use Rattle.stream_journal.proofs.Spacing.{spaced}
-use Rattle.packet_journal.specs.Deliveries.{Delivery, deliveries}
+use Rattle.packet_journal.specs.Deliveries.{Delivery}
 use Rattle.packet_journal.specs.Delivered.{IsCopyOf, OfStream}
 use Rattle.packet_journal.specs.Packets.{PacketJournal, PacketView, Pcm, Am824Data, H264Data, carried, spelling_of}
 use Rattle.sample_schedule.proofs.StageLemmas.{now-next}
@@ -51,7 +51,6 @@ use Rattle.talker.specs.Journal.{Stream, journal, stream_by, stream_of}
 use Rattle.talker.proofs.StreamLemmas.{IsStream, packets_in}
 use Rattle.talker.proofs.TalkLemmas.{audio_plan, frames_alone, plan_keeps, stream_is}
 use Rattle.talked_presented.specs.Whole.{HoldsLead}
-use Rattle.talked_headline.proofs.Fragments.{AllBelong, delivered_first, numbered}
 use Rattle.talked_presented.proofs.Caught.{IsCaught, IsCaughtAt, as_many, is_caught, stream_heard}
 use Rattle.talked_presented.proofs.Merged.{IsSent, stream_frames_are}
 use Rattle.talked_presented.proofs.Whole.{AreTimely}
@@ -138,12 +137,6 @@ packet_size plan input n is known =
     let view = (journal plan input).packet n in
     omega (arith, is.size n known, bytes_size view, carried_less view)
 
--- ---- the deliveries
-
--- records of the stream alone are all delivered
-pub whole_deliveries : (stream id : ℕ) (clock : Option ℕ) (rs : List Record) → stream ≡ id → AllBelong id rs → deliveries stream clock rs ≡ numbered 1 rs
-whole_deliveries stream id clock rs same all = rw same (ap (λ (l : List Record). deliveries id clock l) (sym (append-nil rs)) ∙ (delivered_first id clock 1 rs [] all ∙ append-nil (numbered 1 rs)))
-
 -- ---- when each is judged
 
 pub later_one : (x y : ℕ) → x ≤ y → int_max (pos x) (pos y) ≡ pos y
@@ -215,7 +208,7 @@ packet_at a zero i n lt e = absurd (omega arith)
 packet_at a (suc k) zero n lt e = let same : a ≡ n = omega arith in ap (λ (m : ℕ). Some (OfStream m)) same
 packet_at a (suc k) (suc i) n lt e = packet_at (a + 1) k i n (omega arith) (omega arith)
 
-all_sent : (s : Stream) (a k : ℕ) → a + k ≤ packets_in s → AllByRecursion (IsSent s) (map OfStream (range_with_len a k))
+pub all_sent : (s : Stream) (a k : ℕ) → a + k ≤ packets_in s → AllByRecursion (IsSent s) (map OfStream (range_with_len a k))
 all_sent s a zero le = tt
 all_sent s a (suc k) le = (omega arith, all_sent s (a + 1) k (omega arith))
 

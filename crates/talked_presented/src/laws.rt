@@ -94,9 +94,9 @@ pub fn whole_video_is_presented()
         → ArePresented (by_clock listen) (journal plan input) (unit_ends plan input) (shown_of listen (whole_records (capture plan input))) }
 {
     journal_conforms();
-    capture_delivers();
     capture_reads_back();
     carried_packet_is_delivered();
+    carried_clock_packet_is_delivered();
 }
 
 /// If an H.264 plan has the default lead of `talk`, a listener with the default options of `listen` presents all its units.
