@@ -1,4 +1,4 @@
--- What a listener with the talker's clock shows of a whole capture of dense PCM.
+-- What a listener with the talker's clock shows of a whole capture, if each packet stamps its first sample.
 use Rattle.std.proofs.Common.{◌≡◌, ◌≢◌, ℕ, zero, suc, ◌+◌, ◌-◌, ◌*◌, ◌/◌, ◌%◌, ◌^◌, ◌<◌, ◌≤◌, Bool, true, false, ℤ, pos, neg_ℤ, ◌≤ℤ◌, List, [], ◌∷◌, All, length, filter, map, take, Option, Some, None, Ok, refl, sym, ap, ◌∙◌, subst, inl, inr, arith}
 use Rattle.std.specs.Prelude.{AllPairs, Any, Err, IfSome, Result, is_some, option_map, nat_lt, slice_get, ◌==◌, if◌then◌else◌}
 use Rattle.std.specs.List.{filter_map, range_with_len}
@@ -24,7 +24,7 @@ use Rattle.iec61883_format.specs.Iec.{iec_of, iec_refusal}
 use Rattle.stream_journal.specs.ClockRows.{IsSpotAt}
 use Rattle.stream_journal.specs.Conforming.{AgreesWithClock, Conforms, IsAudio, IsOfKind}
 use Rattle.stream_journal.specs.Delivered.{IsAudioKind, IsDelivered}
-use Rattle.stream_journal.specs.Journal.{DenseAaf, IsAt, IsAtBy, IsAtByClock, Journal, Kind, head_of, rule_of}
+use Rattle.stream_journal.specs.Journal.{Am824, DenseAaf, H264, IsAt, IsAtBy, IsAtByClock, Journal, Kind, SparseAaf, head_of, rule_of}
 use Rattle.stream_journal.specs.Known.{IsCoveredBy}
 use Rattle.stream_journal.proofs.OneInstant.{one_instant}
 use Rattle.stream_journal.proofs.TrueLines.{true_spot}
@@ -83,7 +83,7 @@ use Rattle.talked_presented.proofs.Sent.{few_wait, has_times, packet_size}
 
 -- ---- what a listener has of the capture
 
--- the listener has a whole capture of dense PCM and of its clock
+-- the listener has a whole capture of a stream and of its clock
 pub record HasWhole (plan : TalkPlan) (crf : CrfPlan) (input : List ℕ) (listen : ListenPlan) (rs : List Record) (os : List Origin) : Type 0 where
   pub caught : IsCaught plan input listen rs os
   pub kind : IsAudioKind (journal plan input).times.kind
@@ -96,8 +96,14 @@ pub record HasWhole (plan : TalkPlan) (crf : CrfPlan) (input : List ℕ) (listen
   pub room : HoldsLead plan listen
   pub merged : AreMerged (stream_of plan input) 0 0 os
 
+agrees_by : (kind : Kind) (j : Journal) → IsAudioKind kind → IsOfKind kind j → AgreesWithClock j
+agrees_by DenseAaf j audio is = is.1
+agrees_by SparseAaf j audio is = is.1
+agrees_by (Am824 interval dbc) j audio is = is.1
+agrees_by (H264 part) j audio is = absurd audio
+
 agrees : (plan : TalkPlan) (crf : CrfPlan) (j : Journal) → IsClocked plan crf j → Conforms j → AgreesWithClock j
-agrees plan crf j c is = (subst (λ (k : Kind). IsOfKind k j) c.dense is.kind).1
+agrees plan crf j c is = agrees_by j.kind j c.kind is.kind
 
 -- ---- when packets are sent
 
@@ -179,11 +185,17 @@ one_natural a b e = omega (arith, ints)
 due_is : (plan : TalkPlan) (crf : CrfPlan) (j : Journal) (n : ℕ) → IsClocked plan crf j → IsAudio j → n < j.packets → j.due n ≡ stamp_at plan crf n
 due_is plan crf j n c is lt = one_natural (j.due n) (stamp_at plan crf n) (is.first_instants n (first_head (stamp_at plan crf n)) lt (head_is plan crf j n c) ∙ at_start (pos (stamp_at plan crf n)) 1000000000 j.rate)
 
-by_dense : (kind : Kind) (j : Journal) (n k : ℕ) (x : ℤ) → kind ≡ DenseAaf → IsAtByClock j n k x → IsAtBy kind true j n k x
-by_dense kind j n k x e at = rw e at
+at_clock : (kind : Kind) (j : Journal) (n k : ℕ) (x : ℤ) → IsAudioKind kind → IsAtByClock j n k x → IsAtBy kind true j n k x
+at_clock DenseAaf j n k x audio at = at
+at_clock SparseAaf j n k x audio at = at
+at_clock (Am824 interval dbc) j n k x audio at = at
+at_clock (H264 part) j n k x audio at = absurd audio
 
-dense_by : (kind : Kind) (j : Journal) (n k : ℕ) (x : ℤ) → kind ≡ DenseAaf → IsAtBy kind true j n k x → IsAtByClock j n k x
-dense_by kind j n k x e at = subst (λ (z : Kind). IsAtBy z true j n k x) e at
+by_clock_at : (kind : Kind) (j : Journal) (n k : ℕ) (x : ℤ) → IsAudioKind kind → IsAtBy kind true j n k x → IsAtByClock j n k x
+by_clock_at DenseAaf j n k x audio at = at
+by_clock_at SparseAaf j n k x audio at = at
+by_clock_at (Am824 interval dbc) j n k x audio at = at
+by_clock_at (H264 part) j n k x audio at = absurd audio
 
 -- the points around a timestamp from the second point on
 record IsLate (plan : TalkPlan) (crf : CrfPlan) (n : ℕ) : Type 0 where
@@ -268,7 +280,7 @@ comes plan crf input listen rs os i n d w at there copy le =
         };
       };
       instant = stamp_at plan crf n;
-      at = subst (λ (by : Bool). IsAt by j n 0 (pos (stamp_at plan crf n))) (sym w.on) (by_dense j.kind j n 0 (pos (stamp_at plan crf n)) c.dense at_it);
+      at = subst (λ (by : Bool). IsAt by j n 0 (pos (stamp_at plan crf n))) (sym w.on) (at_clock j.kind j n 0 (pos (stamp_at plan crf n)) c.kind at_it);
       in_time = λ k e before there. came_by plan input listen rs os k (stamp_at plan crf n) e w.caught there (λ o at. let sent = q.before k o before at in omega (arith, sent, early));
     }
 
@@ -284,7 +296,7 @@ waits_by plan crf input listen rs os i n k x w at known is late = elim (cases_lt
       let conforming = w.caught.heard.conforming.times in
       let sound = audio p w.kind conforming in
       let lt : k < j.packets = omega arith in
-      let here = dense_by j.kind j k 0 x c.dense (subst (λ (by : Bool). IsAt by j k 0 x) w.on is) in
+      let here = by_clock_at j.kind j k 0 x c.kind (subst (λ (by : Bool). IsAt by j k 0 x) w.on is) in
       elim (cases_lt k (first_covered crf plan)) [
         | inl early ↦
             let same : here.head ≡ first_head (stamp_at plan crf k) = same_head here.head (first_head (stamp_at plan crf k)) (sym here.is_head ∙ head_is plan crf j k c) in
@@ -293,7 +305,7 @@ waits_by plan crf input listen rs os i n k x w at known is late = elim (cases_lt
             let l = is_late plan crf k c.talked c.crf_is from in
             let at_it = at_stamp plan crf j k l.s c conforming.clock (agrees plan crf j c conforming) lt (over_stamp plan crf j k l.s c lt l.at) in
             let due = due_is plan crf j k c sound lt in
-            let same : x ≡ pos (stamp_at plan crf k) = one_instant j conforming true k 0 x (pos (stamp_at plan crf k)) lt (by_dense j.kind j k 0 x c.dense here) (by_dense j.kind j k 0 (pos (stamp_at plan crf k)) c.dense at_it) in
+            let same : x ≡ pos (stamp_at plan crf k) = one_instant j conforming true k 0 x (pos (stamp_at plan crf k)) lt (at_clock j.kind j k 0 x c.kind here) (at_clock j.kind j k 0 (pos (stamp_at plan crf k)) c.kind at_it) in
             let sent = not_before plan input listen rs os i (OfStream n) w.caught w.kind at in
             few_wait plan input listen k n c.talked sound w.room (omega arith) known (omega (arith, ints, sent, late, same, due))
       ]

@@ -1,7 +1,10 @@
--- A whole capture of dense PCM, and what a listener with the talker's clock has of it.
-use Rattle.std.proofs.Common.{◌≡◌, ℕ, ◌+◌, ◌-◌, ◌*◌, ◌≤◌, false, ℤ, pos, List, [], ◌∷◌, length, map, Option, Some, None, is_some, refl, sym, ap, ◌∙◌, subst, arith}
+-- A whole capture of a plan with a clock, and what a listener with the talker's clock has of it.
+use Rattle.std.proofs.Common.{◌≡◌, ℕ, ◌+◌, ◌-◌, ◌*◌, ◌/◌, ◌%◌, ◌≤◌, true, false, ℤ, pos, List, [], ◌∷◌, length, map, Option, Some, None, is_some, refl, sym, ap, ◌∙◌, subst, inl, inr, arith}
+use Rattle.std.specs.Prelude.{nat_lt}
+use Rattle.std.proofs.lemmas.Bool.Decides.{nat_tests}
+use Rattle.time_unfold.specs.Heads.{stamped_index}
+use Rattle.stream_journal.specs.Journal.{rule_of}
 use Rattle.std.specs.List.{AllByRecursion}
-use Rattle.aaf_format.specs.declared.aaf.AafFormat.{AafFormat}
 use Rattle.packet_journal.specs.Delivered.{Origin, OfClock, OfStream}
 use Rattle.packet_journal.specs.Packets.{PacketJournal}
 use Rattle.listener.specs.declared.plan.ListenPlan.{ListenPlan}
@@ -9,9 +12,9 @@ use Rattle.listener.specs.Laws.{FollowsClock, HearsTalker}
 use Rattle.listener_laws.proofs.Carried.{AreRead, HearsOrigin}
 use Rattle.talk_plan.specs.declared.plan.CrfPlan.{CrfPlan}
 use Rattle.talk_plan.specs.declared.plan.TalkKind.{TalkKind}
-use Rattle.talk_plan.specs.declared.plan.TalkKind.TheVariants.{Aaf}
+use Rattle.talk_plan.specs.declared.plan.TalkKind.TheVariants.{Aaf, Am824, H264}
 use Rattle.talk_plan.specs.declared.plan.TalkPlan.{TalkPlan}
-use Rattle.talk_plan.specs.Plan.{IsAudioPlan, most_input}
+use Rattle.talk_plan.specs.Plan.{IsAudioPlan, interval_of, most_input}
 use Rattle.talk_plan.specs.Beats.{stamped_at}
 use Rattle.talk_plan.specs.Stamps.{beat_of, stamped_by}
 use Rattle.talk_plan.specs.Timing.{event_of, first_packet, run_of, run_start}
@@ -19,19 +22,20 @@ use Rattle.talk_plan.proofs.RateLemmas.{rate_range}
 use Rattle.talk_audio.specs.Audio.{audio_by}
 use Rattle.talk_audio.specs.Streams.{audio_of, headers_of}
 use Rattle.talk_audio.proofs.FormatLemmas.{format_of, has_format}
-use Rattle.talk_clock.specs.Clock.{AreFew, clock_arrival_by}
+use Rattle.talk_clock.specs.Clock.{AreFew, clock_arrival_by, clock_times}
 use Rattle.talker.specs.Frames.{record_of, records}
 use Rattle.talker.specs.Journal.{Stream, journal, stream_by, stream_of}
 use Rattle.talker.specs.state.Frames.{left_of}
 use Rattle.talker.proofs.AudioLemmas.{timely}
 use Rattle.talker.proofs.StreamLemmas.{clocks_in, frames_of, packets_in}
 use Rattle.talker.proofs.TalkLemmas.{audio_plan, is_of, plan_keeps, stream_is}
-use Rattle.talked_presented.specs.Clocked.{HasDefaultClock, HearsClock, clocked_listener}
+use Rattle.talked_presented.specs.Clocked.{HasDefaultClock, HearsClock, StampsFirst, clocked_listener}
 use Rattle.talked_headline.proofs.Talked.{kind_heard}
 use Rattle.talked_presented.proofs.Caught.{is_caught}
 use Rattle.talked_presented.proofs.Clocked.{HasWhole}
 use Rattle.talked_presented.proofs.Covered.{IsClocked, stamp_at}
-use Rattle.talked_presented.proofs.Defaults.{holds}
+use Rattle.talked_presented.proofs.Defaults.{expects_by, holds}
+use Rattle.talked_presented.proofs.Known.{IsInterval, interval_is}
 use Rattle.talked_presented.proofs.Merged.{all_merged, frame_by}
 use Rattle.talked_presented.proofs.Sent.{has_times}
 
@@ -54,20 +58,62 @@ stamp_is plan crf n e r =
     ap (λ (o : Option CrfPlan). stamped_by o plan n 0) e
     ∙ (ap (λ (g : ℕ). stamped_at (beat_of crf plan) (run_start plan g) (event_of plan n 0)) run ∙ ap (stamped_at (beat_of crf plan) (run_start plan 0)) events)
 
-dense_stamp : (kind : TalkKind) (format : AafFormat) (plan : TalkPlan) (input : List ℕ) (n : ℕ) → kind ≡ Aaf format false → (stream_by (audio_by kind plan) plan input).journal.times.stamp n ≡ Some (stamped_by plan.crf plan n 0)
-dense_stamp kind format plan input n e = rw e refl
+-- blocks that begin at a multiple of the interval begin with a stamped one
+first_index : (interval n count : ℕ) → IsInterval interval → count % interval ≡ 0 → (interval - n * count % 256 % interval) % interval ≡ 0
+first_index interval n count (inl e) whole =
+    let times : count ≡ 8 * (count / 8) = let w = rw e at whole in omega arith in
+    rw (e, times) (first_of_8 n (count / 8))
+  where
+    first_of_8 : (n k : ℕ) → (8 - n * (8 * k) % 256 % 8) % 8 ≡ 0
+    first_of_8 n k = let x : n * (8 * k) ≡ 8 * (n * k) = omega arith in rw x (omega arith)
+first_index interval n count (inr (inl e)) whole =
+    let times : count ≡ 16 * (count / 16) = let w = rw e at whole in omega arith in
+    rw (e, times) (first_of_16 n (count / 16))
+  where
+    first_of_16 : (n k : ℕ) → (16 - n * (16 * k) % 256 % 16) % 16 ≡ 0
+    first_of_16 n k = let x : n * (16 * k) ≡ 16 * (n * k) = omega arith in rw x (omega arith)
+first_index interval n count (inr (inr e)) whole =
+    let times : count ≡ 32 * (count / 32) = let w = rw e at whole in omega arith in
+    rw (e, times) (first_of_32 n (count / 32))
+  where
+    first_of_32 : (n k : ℕ) → (32 - n * (32 * k) % 256 % 32) % 32 ≡ 0
+    first_of_32 n k = let x : n * (32 * k) ≡ 32 * (n * k) = omega arith in rw x (omega arith)
 
-clocked_is : (plan : TalkPlan) (crf : CrfPlan) (input : List ℕ) (format : AafFormat) → IsAudioPlan plan → length input ≤ most_input → plan.kind ≡ Aaf format false → plan.crf ≡ Some crf → plan.restart ≡ None → IsClocked plan crf (journal plan input).times
-clocked_is plan crf input format p limit dense e r = record {
-  talked = p;
-  crf_is = e;
-  steady = r;
-  few = few_packets plan input p limit;
-  dense = rw dense refl;
-  rate = (has_times plan input p).rate;
-  clock = rw (dense, e) refl;
-  stamp = λ n. dense_stamp plan.kind format plan input n dense ∙ ap Some (stamp_is plan crf n e r);
+is_some_count : (n : ℕ) → 1 ≤ n → nat_lt 0 n ≡ true
+is_some_count n some = grind (arith, nat_tests)
+
+-- what the journal of a plan of this kind has, each packet of which stamps its first sample
+record HasFirst (kind : TalkKind) (plan : TalkPlan) (crf : CrfPlan) (input : List ℕ) : Type 0 where
+  first : (n : ℕ) → stamped_index (rule_of (stream_by (audio_by kind plan) plan input).journal.times.kind n) ≡ 0
+  stamp : (n : ℕ) → (stream_by (audio_by kind plan) plan input).journal.times.stamp n ≡ Some (stamped_by plan.crf plan n 0)
+  clock : (stream_by (audio_by kind plan) plan input).journal.times.clock ≡ clock_times crf plan (stream_by (audio_by kind plan) plan input).journal.times.packets
+  id : crf.id ≡ (stream_by (audio_by kind plan) plan input).journal.clock
+
+has_first : (kind : TalkKind) (plan : TalkPlan) (crf : CrfPlan) (input : List ℕ) → plan.crf ≡ Some crf → 1 ≤ plan.count → StampsFirst kind plan → HasFirst kind plan crf input
+has_first (Aaf format false) plan crf input e some stamps = record { first = λ n. refl; stamp = λ n. refl; clock = rw e refl; id = rw e refl }
+has_first (Aaf format true) plan crf input e some stamps = absurd stamps
+has_first Am824 plan crf input e some stamps = record {
+  first = λ n. first_index (interval_of plan.rate) n plan.count (interval_is plan.rate) stamps;
+  stamp = λ n. rw (first_index (interval_of plan.rate) n plan.count (interval_is plan.rate) stamps, is_some_count plan.count some) refl;
+  clock = rw e refl;
+  id = rw e refl;
 }
+has_first (H264 last_stamp) plan crf input e some stamps = absurd stamps
+
+clocked_is : (plan : TalkPlan) (crf : CrfPlan) (input : List ℕ) → IsAudioPlan plan → length input ≤ most_input → StampsFirst plan.kind plan → plan.crf ≡ Some crf → plan.restart ≡ None → IsClocked plan crf (journal plan input).times
+clocked_is plan crf input p limit stamps e r =
+    let has = has_first plan.kind plan crf input e p.some_count stamps in
+    record {
+      talked = p;
+      crf_is = e;
+      steady = r;
+      few = few_packets plan input p limit;
+      kind = kind_heard plan input p;
+      first = has.first;
+      rate = (has_times plan input p).rate;
+      clock = has.clock;
+      stamp = λ n. has.stamp n ∙ ap Some (stamp_is plan crf n e r);
+    }
 
 -- ---- the capture
 
@@ -106,7 +152,7 @@ whole_heard plan crf input listen h heard are =
       whole = record {
         caught = is_caught plan input listen (records plan input) os heard stream l.lead are merged.sent (all_hear p listen.clock os clock) records_are;
         kind = kind_heard plan input l.talked;
-        clocked = clocked_is plan crf input h.format l.talked l.limit h.dense h.crf_is h.steady;
+        clocked = clocked_is plan crf input l.talked l.limit h.stamps h.crf_is h.steady;
         ahead = h.ahead;
         clock_sent = λ m. (is_of plan input is_plan l.limit).clock.arrival m ∙ ap (λ (o : Option CrfPlan). clock_arrival_by o plan m) h.crf_is;
         on = ap is_some h.with_clock;
@@ -119,21 +165,17 @@ whole_heard plan crf input listen h heard are =
 
 -- ---- the defaults
 
-clock_is : (plan : TalkPlan) (crf : CrfPlan) (input : List ℕ) (format : AafFormat) → plan.kind ≡ Aaf format false → plan.crf ≡ Some crf → crf.id ≡ (journal plan input).clock
-clock_is plan crf input format dense e = rw (dense, e) refl
-
 pub default_hears : (plan : TalkPlan) (crf : CrfPlan) (input : List ℕ) → HasDefaultClock plan crf input → HearsClock plan crf input (clocked_listener plan.id crf.id)
 default_hears plan crf input h = record {
   talk = record {
     talked = h.talked;
     id = h.id;
     limit = h.limit;
-    lead = rw h.dense tt;
+    lead = expects_by plan.kind plan h.lead h.talked.some_count;
     stream = refl;
-    clock = (clock_is plan crf input h.format h.dense h.crf_is, refl);
+    clock = ((has_first plan.kind plan crf input h.crf_is h.talked.some_count h.stamps).id, refl);
   };
-  format = h.format;
-  dense = h.dense;
+  stamps = h.stamps;
   steady = h.steady;
   crf_is = h.crf_is;
   ahead = let lead = h.lead in omega arith;

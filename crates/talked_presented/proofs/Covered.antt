@@ -15,7 +15,9 @@ use Rattle.time_unfold.specs.Lines.{instant_at}
 use Rattle.time_unfold.specs.Stamps.{last_of}
 use Rattle.stream_journal.specs.Clocks.{ClockJournal, Follows, InOneRun, IsJoinedAt, IsNext, IsPlace, Place, pair_at, point}
 use Rattle.stream_journal.specs.Conforming.{AgreesWithClock, IsClock, IsCovered}
-use Rattle.stream_journal.specs.Journal.{DenseAaf, IsAtByClock, Journal, head_of, instant_by}
+use Rattle.stream_journal.specs.Journal.{IsAtByClock, Journal, head_of, instant_by, rule_of}
+use Rattle.stream_journal.specs.Delivered.{IsAudioKind}
+use Rattle.time_unfold.specs.Heads.{stamped_index}
 use Rattle.stream_journal.specs.Known.{IsCoveredBy}
 use Rattle.talk_plan.specs.declared.plan.CrfPlan.{CrfPlan}
 use Rattle.talk_plan.specs.declared.plan.TalkPlan.{TalkPlan}
@@ -29,13 +31,14 @@ use Rattle.talk_clock.specs.Clock.{AreFew, clock_mr, clock_packets, clock_times,
 use Rattle.talk_clock.proofs.ClockPoints.{beside, known as known_place, number, pair_is, place_of, run_at, size_is}
 use Rattle.talk_clock.proofs.ClockRules.{point_small}
 
--- The journal of a plan of dense PCM with a clock and without restarts, as plain numbers: packet n stamps its first sample frame.
+-- The journal of a plan with a clock and without restarts, as plain numbers: packet n stamps its first sample.
 pub record IsClocked (plan : TalkPlan) (crf : CrfPlan) (j : Journal) : Type 0 where
   pub talked : IsAudioPlan plan
   pub crf_is : plan.crf ≡ Some crf
   pub steady : plan.restart ≡ None
   pub few : AreFew plan j.packets
-  pub dense : j.kind ≡ DenseAaf
+  pub kind : IsAudioKind j.kind
+  pub first : (n : ℕ) → stamped_index (rule_of j.kind n) ≡ 0
   pub rate : j.rate ≡ plan.rate
   pub clock : j.clock ≡ clock_times crf plan j.packets
   pub stamp : (n : ℕ) → j.stamp n ≡ Some (stamped_at (beat_of crf plan) (run_start plan 0) (n * plan.count))
@@ -188,7 +191,7 @@ abbrev pub first_head : ℕ → Head
 first_head x = record { instant = pos x; first = neg_ℤ (pos 0) }
 
 pub head_is : (plan : TalkPlan) (crf : CrfPlan) (j : Journal) (n : ℕ) → IsClocked plan crf j → head_of j n ≡ Some (first_head (stamp_at plan crf n))
-head_is plan crf j n c = rw (c.stamp n, c.dense) refl
+head_is plan crf j n c = rw (c.stamp n, c.first n) refl
 
 pub at_start : (instant : ℤ) (num den : ℕ) → instant_at (record { base = instant; num = num; den = den }) (pos 0) ≡ instant
 at_start instant num den = rw (zero-mul num, zero-div den) (omega (arith, ints))

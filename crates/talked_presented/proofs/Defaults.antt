@@ -20,7 +20,7 @@ close plan e = record { from = same_lead plan.lead 2000000 plan.rate plan.count 
 near : (plan : TalkPlan) → plan.lead ≡ 2000000 → 1 ≤ plan.count → IsNearLead plan 2000000
 near plan e some = record { from = less_lead plan.lead 2000000 plan.rate plan.count e some; to = less_lead 2000000 plan.lead plan.rate plan.count (sym e) some }
 
-expects_by : (kind : TalkKind) (plan : TalkPlan) → plan.lead ≡ 2000000 → 1 ≤ plan.count → ExpectsBy kind plan 2000000
+pub expects_by : (kind : TalkKind) (plan : TalkPlan) → plan.lead ≡ 2000000 → 1 ≤ plan.count → ExpectsBy kind plan 2000000
 expects_by (Aaf format false) plan e some = tt
 expects_by (Aaf format true) plan e some = near plan e some
 expects_by Am824 plan e some = λ few. near plan e some

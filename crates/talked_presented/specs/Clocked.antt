@@ -1,7 +1,6 @@
 -- What a listener with the talker's clock shows of a whole capture.
-use Rattle.std.specs.Prelude.{◌≡◌, ◌<◌, ◌≤◌, ◌%◌, ◌^◌, ℕ, true, false, List, length, All, AllPairs, Any, Some, None}
+use Rattle.std.specs.Prelude.{◌≡◌, ◌<◌, ◌≤◌, ◌%◌, ◌^◌, ⊤, ℕ, true, false, List, length, All, AllPairs, Any, Some, None}
 use Rattle.std.specs.Int.{div_ceil}
-use Rattle.aaf_format.specs.declared.aaf.AafFormat.{AafFormat}
 use Rattle.sample_schedule.specs.declared.shown.Reason.TheVariants.{NoClock}
 use Rattle.sample_schedule.specs.declared.shown.Shown.{Shown}
 use Rattle.sample_schedule.specs.declared.shown.Shown.TheVariants.{Present, Flag}
@@ -9,9 +8,10 @@ use Rattle.packet_journal.specs.Packets.{PacketJournal}
 use Rattle.listener.specs.declared.plan.ListenPlan.{ListenPlan}
 use Rattle.listener.specs.Laws.{AreOther, ComesBefore, IsOfPacket, presented_of}
 use Rattle.talk_plan.specs.declared.plan.CrfPlan.{CrfPlan}
-use Rattle.talk_plan.specs.declared.plan.TalkKind.TheVariants.{Aaf}
+use Rattle.talk_plan.specs.declared.plan.TalkKind.{TalkKind}
+use Rattle.talk_plan.specs.declared.plan.TalkKind.TheVariants.{Aaf, Am824, H264}
 use Rattle.talk_plan.specs.declared.plan.TalkPlan.{TalkPlan}
-use Rattle.talk_plan.specs.Plan.{IsAudioPlan, most_input, spacing_of}
+use Rattle.talk_plan.specs.Plan.{IsAudioPlan, interval_of, most_input, spacing_of}
 use Rattle.talked_headline.specs.Premises.{ListensTo}
 use Rattle.talked_presented.specs.Whole.{HoldsLead, default_listener}
 
@@ -32,12 +32,19 @@ pub record ArePresentedFrom (p : PacketJournal) (first : ℕ) (shown : List Show
   pub in_order : AllPairs ComesBefore (presented_of shown)
   pub no_other : All (IsFrom p first) shown
 
--- The listener has the talker's clock and does not look ahead. The plan is one of dense PCM, so each packet stamps its first
--- sample, and it has no restarts.
+-- Each packet of a plan of this kind stamps its first sample: in PCM that is not sparse, and in AM824 if a packet has one or more
+-- whole SYT intervals of data blocks (IEC 61883-6), as a blocking talker sends them.
+abbrev pub StampsFirst : TalkKind → TalkPlan → Type 0
+StampsFirst (Aaf format false) plan = ⊤
+StampsFirst (Aaf format true) plan = ⊥
+StampsFirst Am824 plan = plan.count % interval_of plan.rate ≡ 0
+StampsFirst (H264 last_stamp) plan = ⊥
+
+-- The listener has the talker's clock and does not look ahead. Each packet of the plan stamps its first sample, and the plan has no
+-- restarts.
 pub record HearsClock (plan : TalkPlan) (crf : CrfPlan) (input : List ℕ) (listen : ListenPlan) : Type 0 where
   pub talk : ListensTo plan input listen
-  pub format : AafFormat
-  pub dense : plan.kind ≡ Aaf format false
+  pub stamps : StampsFirst plan.kind plan
   pub steady : plan.restart ≡ None
   pub crf_is : plan.crf ≡ Some crf
   pub ahead : 3 ≤ plan.lead
@@ -49,13 +56,13 @@ pub record HearsClock (plan : TalkPlan) (crf : CrfPlan) (input : List ℕ) (list
 abbrev pub clocked_listener : ℕ → ℕ → ListenPlan
 clocked_listener id clock = record (default_listener id) { clock = Some clock }
 
--- A plan of dense PCM with this clock and without restarts, with the default lead of `talk`, 2 ms, sends this input.
+-- A plan with this clock and without restarts, each packet of which stamps its first sample, sends this input with the default lead
+-- of `talk`, 2 ms.
 pub record HasDefaultClock (plan : TalkPlan) (crf : CrfPlan) (input : List ℕ) : Type 0 where
   pub talked : IsAudioPlan plan
   pub id : plan.id < 2 ^ 64
   pub limit : length input ≤ most_input
-  pub format : AafFormat
-  pub dense : plan.kind ≡ Aaf format false
+  pub stamps : StampsFirst plan.kind plan
   pub steady : plan.restart ≡ None
   pub crf_is : plan.crf ≡ Some crf
   pub lead : plan.lead ≡ 2000000

@@ -4,7 +4,7 @@ use Rattle.aaf_format.specs.declared.aaf.AafFormat.TheVariants.{Int16}
 use Rattle.talk_plan.specs.declared.plan.CrfPlan.{CrfPlan}
 use Rattle.talk_plan.specs.declared.plan.TalkKind.TheVariants.{Aaf, H264}
 use Rattle.talk_plan.specs.declared.plan.TalkPlan.{TalkPlan}
-use Rattle.talker.specs.Examples.{restarting}
+use Rattle.talker.specs.Examples.{restarting, six_blocks}
 
 -- packets of 6 stereo sample frames of 16 bits at 48 kHz, sparse or not, without restarts
 abbrev pub plain : Bool → TalkPlan
@@ -25,6 +25,10 @@ six_points = record { id = 0x0200000000010002; rate = 48000; pull = 0; interval 
 -- the plain plan of dense PCM with that clock
 abbrev pub with_clock : TalkPlan
 with_clock = record (plain false) { crf = Some six_points }
+
+-- packets of 8 data blocks of AM824 at 48 kHz, one SYT interval in each, with that clock
+abbrev pub blocking : TalkPlan
+blocking = record (six_blocks 48000) { count = 8; crf = Some six_points }
 
 -- a byte stream of H.264 (ITU-T H.264, annex B) with one NAL unit of two bytes, an IDR slice
 abbrev pub one_unit : List ℕ

@@ -19,7 +19,7 @@ ghost use Rattle.talker.specs.Journal.{journal};
 ghost use Rattle.talked_headline.specs.Premises.{HasRoomForUnit, ListensToVideo, captured, part_sent};
 ghost use Rattle.talked_presented.specs.Anywhere.{ComesInTime, MustBePresented, UnitMustBePresented};
 ghost use Rattle.talked_presented.specs.Clocked.{ArePresentedFrom, HasDefaultClock, HearsClock, clocked_listener, first_covered};
-ghost use Rattle.talked_presented.specs.Examples.{one_unit, plain, silence, six_points, thirty, with_clock};
+ghost use Rattle.talked_presented.specs.Examples.{blocking, one_unit, plain, silence, six_points, thirty, with_clock};
 ghost use Rattle.talked_presented.specs.Whole.{ArePresented, HasDefaultLead, HearsAll, HearsUnits, IsDefaultVideo, default_listener, unit_ends};
 
 use listener_laws::laws::{
@@ -65,8 +65,9 @@ pub fn defaults_present_all()
     whole_capture_is_presented();
 }
 
-/// A listener with the talker's clock presents each packet of a whole capture of dense PCM without restarts, from the second
-/// timestamp of the clock on. Nothing else is shown, but for flags of the packets before it, with the reason `noclock`.
+/// A listener with the talker's clock presents each packet of a whole capture from the second timestamp of the clock on, once and in
+/// order, if each packet stamps its first sample and there are no restarts. Nothing else is shown, but for flags of the packets
+/// before it, with the reason `noclock`.
 pub fn clocked_capture_is_presented()
     ensures { (plan : TalkPlan) (crf : CrfPlan) (input : List ℕ) (listen : ListenPlan) → HearsClock plan crf input listen
         → ArePresentedFrom (journal plan input) (first_covered crf plan) (shown_of listen (whole_records (capture plan input))) }
@@ -177,6 +178,7 @@ pub fn examples_are_so()
     ensures am824 { (input : List ℕ) → length input ≤ most_input → HasDefaultLead (six_blocks 48000) input }
     ensures h264 { (input : List ℕ) (last_stamp : Bool) → length input ≤ most_input → IsDefaultVideo (thirty last_stamp) input }
     ensures clocked { (input : List ℕ) → length input ≤ most_input → HasDefaultClock with_clock six_points input }
+    ensures clocked_am824 { (input : List ℕ) → length input ≤ most_input → HasDefaultClock blocking six_points input }
     ensures repeated { MustBePresented (plain false) silence (default_listener 0x0200000000010001) (0 ∷ 2 ∷ []) 1 (1 ∷ []) }
     ensures unit { UnitMustBePresented (thirty false) one_unit (default_listener 0x0200000000010001) [] 0 0 (0 ∷ []) }
 {}
