@@ -37,10 +37,16 @@ const ROWS: &str = "\
 0@0*3 | 0@4000000 => 1 1 seq 0 Count { a: 3, b: 6 }, matched 1 only 0 0 differ 1
 0@0*3 | 0@4000001 => matched 0 only 1 1 differ 0
 0@4000001 | 0@0*3 => 1 1 seq 0 Count { a: 6, b: 3 }, matched 1 only 0 0 differ 1
+// The reach by A's rate, which is no whole number of nanoseconds.
+0@0/44100 | 0@8707482 => 1 1 seq 0 At { sample: 0, a: 0, b: 8707482 }, matched 1 only 0 0 differ 1
+0@0/44100 | 0@8707483 => matched 0 only 1 1 differ 0
+0@8000001 | 0@0/44100 => matched 0 only 1 1 differ 0
 // The first one within reach, and each only once.
 0@0 0@1000 | 0@2000 => 1 1 seq 0 At { sample: 0, a: 0, b: 2000 }, matched 1 only 1 0 differ 1
 0@0 0@1000 | 0@2000 0@2500 => 1 1 seq 0 At { sample: 0, a: 0, b: 2000 }, 2 2 seq 0 At { sample: 0, a: 1000, b: 2500 }, matched 2 only 0 0 differ 2
 0@0 0@8000000 | 0@8000001 => 2 1 seq 0 At { sample: 0, a: 8000000, b: 8000001 }, matched 1 only 1 0 differ 1
+256x0@0 | 256x0@8000001 => matched 0 only 256 256 differ 0
+256x0@0 256x0@8000001 | 256x0@8000001 => matched 256 only 256 0 differ 0
 // At one instant A comes before B, so the differences are in the order of B's batches.
 0@0=010101010101 1@0=010101010101 | 1@0 0@0 => 2 1 seq 1 Bytes { sample: 0 }, 1 2 seq 0 Bytes { sample: 0 }, matched 2 only 0 0 differ 2
 // A unit beside samples, and units at one instant and at two.
