@@ -251,14 +251,16 @@ fn add_rate(
 }
 
 fn add_spread(alloc: Global, cells: &mut Vec<String>, spread: &Spread) -> Result<(), AllocError> {
-    for hundredths in [0, 50, 99, 100] {
-        match spread.percentile(hundredths) {
+    let any = spread.count > 0;
+    let values = [
+        any.then_some(spread.least),
+        spread.percentile(50),
+        spread.percentile(99),
+        any.then_some(spread.greatest),
+    ];
+    for value in values {
+        match value {
             Some(value) => {
-                let value = match hundredths {
-                    0 => spread.least,
-                    100 => spread.greatest,
-                    _ => value,
-                };
                 let micros = Micros(value);
                 cells.push(format!(in alloc; "{micros}")?)?;
             }

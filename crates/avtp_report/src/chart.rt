@@ -5,9 +5,9 @@ use std::io::{self, Write};
 use stream_report::{Column, Range, Spread, Stream, Trace};
 
 /// The width and height of a picture, in its own units.
-const WIDTH: u64 = 1000;
+const WIDTH: u64 = 10_000;
 
-const HEIGHT: u64 = 100;
+const HEIGHT: u64 = 1_000;
 
 /// What a picture shows of a column.
 #[derive(Clone, Copy)]
@@ -21,19 +21,6 @@ pub enum Shown {
 struct Scale {
     low: i64,
     high: i64,
-}
-
-/// A place in a picture, in tenths of the picture's unit, which is written with one decimal.
-#[derive(Clone, Copy)]
-struct Place(u64);
-
-impl std::fmt::Display for Place {
-    fn fmt<W: std::fmt::Write>(&self, f: &mut std::fmt::Formatter<W>) -> std::fmt::Result {
-        let Place(hundredths) = *self;
-        let whole = hundredths / 10;
-        let rest = hundredths % 10;
-        write!(f, "{whole}.{rest}")
-    }
 }
 
 /// Writes a picture of a stream over the capture's time.
@@ -76,8 +63,8 @@ pub fn write_chart<W: Write>(
     )
 }
 
-/// A scale for most values: from the 1st percentile to the 99th, with a quarter of that range below and above. Values outside
-/// are drawn at the edge.
+/// A scale for most values: from the 1st percentile to the 99th, with a quarter of that range below and above, but not below 0
+/// for values that are not. Values outside are drawn at the edge.
 fn scale_of(spread: &Spread) -> Option<Scale> {
     let low = spread.percentile(1)?;
     let high = spread.percentile(99)?;
@@ -85,10 +72,12 @@ fn scale_of(spread: &Spread) -> Option<Scale> {
     let part = part
         .max(low.saturating_abs().max(high.saturating_abs()) / 50)
         .max(500);
+    let lowest = if spread.least < 0 { i64::MIN } else { 0 };
     Some(Scale {
         low: low
             .saturating_sub(part)
-            .max(spread.least.saturating_sub(part)),
+            .max(spread.least.saturating_sub(part))
+            .max(lowest),
         high: high
             .saturating_add(part)
             .min(spread.greatest.saturating_add(part)),
@@ -96,23 +85,22 @@ fn scale_of(spread: &Spread) -> Option<Scale> {
 }
 
 /// How far down a value is in the picture.
-fn down(scale: Scale, value: i64) -> Place {
-    let all = u128::from(scale.high.abs_diff(scale.low)).max(1);
+fn down(scale: Scale, value: i64) -> u64 {
     let value = value.max(scale.low).min(scale.high);
-    let part = u128::from(scale.high.abs_diff(value));
-    let tenths = part
-        .saturating_mul(u128::from(HEIGHT * 10))
-        .checked_div(all);
-    Place(u64::try_from(tenths.unwrap_or(0)).unwrap_or(0))
+    let all = scale.high.abs_diff(scale.low);
+    part_of(HEIGHT, scale.high.abs_diff(value), all)
 }
 
 /// How far right a time is in the picture.
-fn right(since: u64, duration: u64) -> Place {
-    let tenths = u128::from(since)
-        .saturating_mul(u128::from(WIDTH * 10))
-        .checked_div(u128::from(duration))
-        .unwrap_or(0);
-    Place(u64::try_from(tenths).unwrap_or(0).min(WIDTH * 10))
+fn right(since: u64, duration: u64) -> u64 {
+    part_of(WIDTH, since, duration)
+}
+
+/// The length that is to a whole length as a part is to all; the whole one if the part is greater than all, and 0 of nothing.
+fn part_of(length: u64, part: u64, all: u64) -> u64 {
+    let product = u128::from(part).saturating_mul(u128::from(length));
+    let scaled = product.checked_div(u128::from(all)).unwrap_or(0);
+    u64::try_from(scaled).unwrap_or(length).min(length)
 }
 
 /// Where a column begins, in nanoseconds.
@@ -124,7 +112,7 @@ fn begin_of(trace: &Trace, column: &Column) -> u64 {
 fn write_rules<W: Write>(out: &mut W, scale: Scale) -> io::Result<()> {
     write!(
         out,
-        "<path class=\"rule\" d=\"M0 25H{WIDTH}M0 50H{WIDTH}M0 75H{WIDTH}"
+        "<path class=\"rule\" d=\"M0 250H{WIDTH}M0 500H{WIDTH}M0 750H{WIDTH}"
     )?;
     if scale.low < 0 && scale.high > 0 {
         let zero = down(scale, 0);

@@ -21,8 +21,10 @@ pub struct Report {
     /// Whether pictures of the streams are wanted.
     pictured: bool,
     places: HashMap<StreamKey, usize>,
-    /// The stream of the last packet, which is often the next packet's, too.
-    last: Option<(StreamKey, usize)>,
+    /// The place of the last packet's stream.
+    last: usize,
+    /// For each stream, the place of the one whose packet came after it when that was looked up last: streams mostly take turns.
+    followers: Vec<usize>,
     /// The streams, in the order in which they were first seen.
     pub streams: Vec<Stream>,
     pub others: Others,
@@ -40,7 +42,8 @@ impl Report {
             alloc,
             pictured,
             places: HashMap::new(alloc),
-            last: None,
+            last: 0,
+            followers: Vec::new(alloc),
             streams: Vec::new(alloc),
             others: Others::new(alloc),
             frames: 0,
@@ -54,7 +57,7 @@ impl Report {
         self.frames = self.frames.saturating_add(1);
         let begin = self.first_arrival.unwrap_or(record.arrival);
         self.first_arrival = Some(begin);
-        let since = u64::try_from(record.arrival.saturating_sub(begin)).unwrap_or(0);
+        let since = record.arrival.wrapping_sub(begin).max(0).cast_unsigned();
         self.duration = self.duration.max(since);
         let came = Came {
             at,
@@ -134,12 +137,42 @@ impl Report {
         sender: &Sender,
         at: At,
     ) -> Result<Option<&mut Stream>, NoMemory> {
-        let place = match self.known(key) {
+        let place = match self.expected(key) {
+            Some(place) => place,
+            None => self.find(key, sender, at)?,
+        };
+        self.last = place;
+        Ok(self.streams.get_mut(place))
+    }
+
+    /// The place of the stream with this key, if it is that of the last packet, or the one that followed it before.
+    fn expected(&self, key: StreamKey) -> Option<usize> {
+        if self.is_at(self.last, key) {
+            return Some(self.last);
+        }
+        let follower = self.followers.get(self.last).copied()?;
+        self.is_at(follower, key).then_some(follower)
+    }
+
+    /// Whether the stream at this place has this key.
+    fn is_at(&self, place: usize, key: StreamKey) -> bool {
+        match self.streams.get(place) {
+            Some(stream) => stream.key == key,
+            None => false,
+        }
+    }
+
+    /// Finds the place of the stream with this key, which begins here if it is new, and keeps it as the follower of the last one.
+    #[inline(never)]
+    fn find(&mut self, key: StreamKey, sender: &Sender, at: At) -> Result<usize, NoMemory> {
+        let place = match self.places.get(&key).copied() {
             Some(place) => place,
             None => self.begin(key, sender, at)?,
         };
-        self.last = Some((key, place));
-        Ok(self.streams.get_mut(place))
+        if let Some(follower) = self.followers.get_mut(self.last) {
+            *follower = place;
+        }
+        Ok(place)
     }
 
     /// Begins a stream, and returns its place. If 1,024 streams are tracked already, it begins none, and the place is past the
@@ -151,16 +184,9 @@ impl Report {
             self.streams
                 .push(Stream::new(self.alloc, key, *sender, at, trace))?;
             self.places.insert(key, place)?;
+            self.followers.push(place)?;
         }
         Ok(place)
-    }
-
-    /// The place of the stream with this key, if it has begun.
-    fn known(&self, key: StreamKey) -> Option<usize> {
-        match self.last {
-            Some((last, place)) if last == key => Some(place),
-            _ => self.places.get(&key).copied(),
-        }
     }
 }
 

@@ -6,6 +6,7 @@ mod chart;
 mod gather;
 mod named;
 mod page;
+mod page_file;
 mod reading;
 mod said;
 mod style;
@@ -14,15 +15,16 @@ mod units;
 mod words;
 
 use crate::page::write_page;
+use crate::page_file::PageFile;
 use crate::reading::{Ending, Reading, read_files};
 use crate::table::write_table;
 use crate::words::{Words, read_words};
 use avtp_base::NoMemory;
-use avtp_files::FaultTeller;
+use avtp_files::{FaultTeller, FileSink};
 use std::alloc::Global;
 use std::io::{BufWriter, ErrorKind, Write};
 use std::process::ExitCode;
-use std::{env, fs, io};
+use std::{env, io};
 use stream_report::{Verdict, verdicts_of};
 
 /// How a run ends. The statuses are those of the command `avtp`.
@@ -58,13 +60,13 @@ const USAGE: &str = "usage: avtp-report [--html OUT] FILE..";
 
 static HELP: &str = "usage: avtp-report [--html OUT] FILE..
 
-Tells of each AVTP stream (IEEE 1722) in the captures FILE.., which are read as one, what
-is counted of it, and what is wrong with it. With --html the same is written to OUT as one
-page with pictures. pcap and pcapng captures are read; /dev/stdin is one, too.
+Prints statistics of each AVTP stream (IEEE 1722) in the captures FILE.., which are read
+as one, and what is wrong with it. --html also writes OUT, one page with pictures.
+Captures are pcap or pcapng; standard input is /dev/stdin.
 
-It ends with 0, or 1 where something is wrong with a stream, 2 where these words are no
-command line, 3 where a capture is refused, 4 where a file cannot be read, 5 where the
-table or OUT cannot be written, and 6 where no memory is found.
+The exit status is 0; 1 if something is wrong with a stream; 2 for a bad command line; 3 if
+a capture is refused; 4 if a file cannot be read; 5 if the table or OUT cannot be written;
+and 6 if memory runs out.
 ";
 
 /// The version of this program and of `avtp`.
@@ -107,21 +109,17 @@ fn words_of(rt: &HostRuntime) -> Result<Vec<String>, Status> {
 fn print_status(rt: &HostRuntime, written: io::Result<()>) -> Status {
     match written {
         Ok(()) => Status::Done,
-        Err(error) => unwritten(rt, STANDARD_OUTPUT, &error),
+        Err(error) => unprinted(rt, &error),
     }
 }
 
-/// What standard output is called on standard error.
-const STANDARD_OUTPUT: &str = "standard output";
-
-/// The status of a run that could not write a file. Standard error says why, unless memory ran out or the reader of a pipe is
-/// gone.
-fn unwritten(rt: &HostRuntime, name: &str, error: &io::Error) -> Status {
+/// How a run ends that could not print. Standard error says why, unless memory ran out or the reader of a pipe is gone.
+fn unprinted(rt: &HostRuntime, error: &io::Error) -> Status {
     if error.kind() == ErrorKind::OutOfMemory {
         return Status::Memory;
     }
     if error.kind() != ErrorKind::BrokenPipe {
-        FaultTeller::new(rt, Some(PROGRAM)).tell(name, error);
+        FaultTeller::new(rt, Some(PROGRAM)).tell("standard output", error);
     }
     Status::WriteFault
 }
@@ -144,7 +142,7 @@ fn report(rt: &HostRuntime, words: &[String], html: Option<usize>) -> Status {
         order: &order,
     };
     if let Err(error) = print_table(rt, &told) {
-        return unwritten(rt, STANDARD_OUTPUT, &error);
+        return unprinted(rt, &error);
     }
     let Some(place) = html else {
         return ended(&told);
@@ -153,10 +151,11 @@ fn report(rt: &HostRuntime, words: &[String], html: Option<usize>) -> Status {
         Some(name) => name.as_str(),
         None => return Status::Words,
     };
-    if let Err(error) = make_page(rt, name, &told) {
-        return unwritten(rt, name, &error);
+    match make_page(rt, name, &told) {
+        Ok(()) => ended(&told),
+        Err(error) if error.kind() == ErrorKind::OutOfMemory => Status::Memory,
+        Err(_) => Status::WriteFault,
     }
-    ended(&told)
 }
 
 /// What was found in the captures.
@@ -170,14 +169,15 @@ pub struct Told<'a> {
 }
 
 impl Told<'_> {
-    /// Whether nothing is wrong with any stream.
-    pub fn is_good(&self) -> bool {
+    /// The number of streams with a verdict.
+    pub fn sick(&self) -> usize {
+        let mut sick: usize = 0;
         for of in self.verdicts.iter() {
             if !of.is_empty() {
-                return false;
+                sick = sick.saturating_add(1);
             }
         }
-        true
+        sick
     }
 }
 
@@ -214,9 +214,16 @@ fn print_table(rt: &HostRuntime, told: &Told<'_>) -> io::Result<()> {
     out.flush()
 }
 
+/// Writes the page to a file that is none of those that were read. Standard error says why if it cannot be written.
 fn make_page(rt: &HostRuntime, name: &str, told: &Told<'_>) -> io::Result<()> {
-    let mut out = BufWriter::new(rt.alloc(), fs::create(rt, name)?)?;
-    write_page(rt.alloc(), &mut out, told)?;
+    let alloc = rt.alloc();
+    let mut captures = Vec::new(alloc);
+    for file in told.reading.files.iter() {
+        captures.push(file.name.clone()?)?;
+    }
+    let sink = FileSink::named(*rt, String::from_str(alloc, name)?, captures).telling(PROGRAM);
+    let mut out = BufWriter::new(alloc, PageFile { sink })?;
+    write_page(alloc, &mut out, told)?;
     out.flush()
 }
 
@@ -229,7 +236,7 @@ fn ended(told: &Told<'_>) -> Status {
             Ending::Fault => return Status::ReadFault,
         }
     }
-    if told.is_good() {
+    if told.sick() == 0 {
         Status::Done
     } else {
         Status::Found

@@ -15,16 +15,17 @@ use stream_report::{Stream, Verdict};
 
 /// Writes the page. It is complete in itself: a browser fetches nothing for it.
 pub fn write_page<W: Write>(alloc: Global, out: &mut W, told: &Told<'_>) -> io::Result<()> {
-    write_head(out, told.reading)?;
+    write_head(out, told)?;
     write_summary(out, told)?;
     write_streams(out, told)?;
-    write_rows(alloc, out, told)?;
     write_others(out, told.reading)?;
+    write_rows(alloc, out, told)?;
     write_columns(out)?;
     writeln!(out, "</body></html>")
 }
 
-fn write_head<W: Write>(out: &mut W, reading: &Reading) -> io::Result<()> {
+fn write_head<W: Write>(out: &mut W, told: &Told<'_>) -> io::Result<()> {
+    let reading = told.reading;
     writeln!(
         out,
         "<!DOCTYPE html>\n<html lang=\"en\"><head><meta charset=\"utf-8\">"
@@ -62,13 +63,17 @@ fn write_head<W: Write>(out: &mut W, reading: &Reading) -> io::Result<()> {
     let duration = Span(reading.report.duration);
     let streams = reading.report.streams.len();
     let noun = if streams == 1 { "stream" } else { "streams" };
-    writeln!(out, "<p>{streams} {noun} in {duration}.</p>")
+    let sick = told.sick();
+    writeln!(
+        out,
+        "<p>{streams} {noun} in {duration}, {sick} with a verdict.</p>"
+    )
 }
 
 /// Writes all verdicts, the worst streams first.
 fn write_summary<W: Write>(out: &mut W, told: &Told<'_>) -> io::Result<()> {
     writeln!(out, "<h2>Verdicts</h2>")?;
-    if told.is_good() {
+    if told.sick() == 0 {
         return writeln!(
             out,
             "<p class=\"good\">Nothing is wrong with any stream.</p>"
@@ -134,6 +139,9 @@ fn write_streams<W: Write>(out: &mut W, told: &Told<'_>) -> io::Result<()> {
     Ok(())
 }
 
+/// With more streams than these, the pictures of those without a verdict are folded.
+const MOST_UNFOLDED: usize = 16;
+
 fn write_stream<W: Write>(
     out: &mut W,
     place: usize,
@@ -157,9 +165,16 @@ fn write_stream<W: Write>(
         write_verdicts(out, stream, verdicts, reading)?;
         writeln!(out, "</div>")?;
     }
+    let folded = verdicts.is_empty() && reading.report.streams.len() > MOST_UNFOLDED;
+    if folded {
+        writeln!(out, "<details><summary>Pictures</summary>")?;
+    }
     let duration = reading.report.duration;
     write_chart(out, stream, Shown::Lead, duration)?;
     write_chart(out, stream, Shown::Distance, duration)?;
+    if folded {
+        writeln!(out, "</details>")?;
+    }
     writeln!(out, "</section>")
 }
 
@@ -209,13 +224,13 @@ fn write_others<W: Write>(out: &mut W, reading: &Reading) -> io::Result<()> {
 
 /// Writes what each column of the table holds.
 fn write_columns<W: Write>(out: &mut W) -> io::Result<()> {
-    writeln!(out, "<h2>The columns</h2>\n<dl>")?;
+    writeln!(out, "<details><summary>What the columns hold</summary><dl>")?;
     for heading in HEADINGS.iter() {
         let name = heading.name;
         let meaning = heading.meaning;
         writeln!(out, "<dt>{name}</dt><dd>{meaning}</dd>")?;
     }
-    writeln!(out, "</dl>")?;
+    writeln!(out, "</dl></details>")?;
     writeln!(
         out,
         "<p class=\"faint\">Timestamps have 32 bits, so a lead is known modulo 4.29 s, and stands between -2.15 and 2.15 s; a media clock's is known whole. Percentiles are exact to 1.6 %. At most 191 packets lost in a row are counted, and at most {MOST_STREAMS} streams.</p>"

@@ -16,7 +16,7 @@ pub struct Said<'a> {
 impl fmt::Display for Said<'_> {
     fn fmt<W: fmt::Write>(&self, f: &mut fmt::Formatter<W>) -> fmt::Result {
         match self.verdict {
-            Verdict::Swapped { .. } | Verdict::NotInOrder { .. } => say_order(self.verdict, f),
+            Verdict::NotInOrder { .. } => self.say_order(f),
             Verdict::Clocks { lead, guess, exact } => say_clocks(lead, guess, exact, f),
             Verdict::FirstStamp { found, wanted } => say_first(found, wanted, f),
             Verdict::Steps { .. } => self.say_steps(f),
@@ -75,6 +75,37 @@ impl Said<'_> {
             }
             None => Ok(()),
         }
+    }
+
+    fn say_order<W: fmt::Write>(&self, f: &mut fmt::Formatter<W>) -> fmt::Result {
+        let Verdict::NotInOrder {
+            off,
+            compared,
+            first,
+            swapped,
+        } = self.verdict
+        else {
+            return Ok(());
+        };
+        let off = Grouped(off);
+        let compared = Grouped(compared);
+        let place = self.place("in", first.at);
+        let tail = if swapped {
+            " (byte-swapped they would)"
+        } else {
+            ""
+        };
+        if first.wanted == 0 {
+            return write!(
+                f,
+                "timestamps are not in order: {off} of {compared} go back, or far ahead{tail}, first {place}"
+            );
+        }
+        let wanted = Span(first.wanted);
+        write!(
+            f,
+            "timestamps are not in order: {off} of {compared} do not advance by {wanted}{tail}, first {place}"
+        )
     }
 
     fn say_steps<W: fmt::Write>(&self, f: &mut fmt::Formatter<W>) -> fmt::Result {
@@ -221,35 +252,6 @@ fn plain(verdict: Verdict) -> (Tally, &'static str) {
 fn say<W: fmt::Write>(packets: Tally, f: &mut fmt::Formatter<W>, words: &str) -> fmt::Result {
     let packets = Packets(packets.count);
     write!(f, "{packets} {words}")
-}
-
-fn say_order<W: fmt::Write>(verdict: Verdict, f: &mut fmt::Formatter<W>) -> fmt::Result {
-    let (off, compared, wanted, tail) = match verdict {
-        Verdict::Swapped {
-            off,
-            compared,
-            wanted,
-        } => (off, compared, wanted, " (byte-swapped they would)"),
-        Verdict::NotInOrder {
-            off,
-            compared,
-            wanted,
-        } => (off, compared, wanted, ""),
-        _ => return Ok(()),
-    };
-    let off = Grouped(off);
-    let compared = Grouped(compared);
-    if wanted == 0 {
-        return write!(
-            f,
-            "timestamps are not in order: {off} of {compared} go back, or far ahead{tail}"
-        );
-    }
-    let wanted = Span(wanted);
-    write!(
-        f,
-        "timestamps are not in order: {off} of {compared} do not advance by {wanted}{tail}"
-    )
 }
 
 fn say_clocks<W: fmt::Write>(

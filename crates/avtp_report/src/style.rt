@@ -20,8 +20,10 @@ code { font-family: ui-monospace, 'DejaVu Sans Mono', monospace; font-size: .92e
 ul.verdicts { list-style: none; margin: 0; padding: 0; }
 ul.verdicts > li { border-left: 4px solid var(--loss); background: var(--card); margin: .5rem 0; padding: .5rem .8rem; }
 ul.verdicts ul { margin: .2rem 0 0; padding-left: 1.1rem; }
+@media (min-width: 701px) { ul.verdicts > li { display: grid; grid-template-columns: 12.5rem 1fr; gap: 1rem; } ul.verdicts ul { margin: 0; } }
 section.stream { border-top: 1px solid var(--line); padding: 1rem 0 .6rem; break-inside: avoid; }
 section.stream ul { margin: .3rem 0; padding-left: 1.2rem; }
+summary { color: var(--faint); font-size: .88rem; cursor: pointer; width: max-content; }
 figure { margin: .6rem 0 0; }
 figcaption { display: flex; justify-content: space-between; gap: 1rem; color: var(--faint); font-size: .82rem; }
 figure .foot { border-top: 1px solid var(--line); padding-top: .1rem; }

@@ -1,7 +1,7 @@
 //! How many packets of a stream are lost, how many came more than once, and how many came after later ones.
 
-ghost use Rattle.std.specs.Prelude.{◌≡◌, ◌%◌, ◌≤◌, ℕ, List, [], ◌∷◌};
-ghost use Rattle.stream_report.specs.Sequence.{CountsOf, Few, Follows, Passes, StandsFor, place_of};
+ghost use Rattle.std.specs.Prelude.{◌≡◌, ◌-◌, ◌%◌, ◌≤◌, ℕ, List, [], ◌∷◌};
+ghost use Rattle.stream_report.specs.Sequence.{CountsOf, Few, Follows, Passes, StandsFor, greatest, place_of};
 ghost use Rattle.stream_report.specs.state.Orders.{Passed};
 
 use crate::sequence::{Place, Window};
@@ -10,6 +10,7 @@ use crate::tally::{At, Tally};
 /// The counts of a stream by its sequence numbers.
 #[derive(Clone, Copy)]
 pub struct Order {
+    window: Window,
     /// Packets that are missing, and the most of them in a row.
     pub lost: Tally,
     pub most_lost: u64,
@@ -17,7 +18,6 @@ pub struct Order {
     pub repeated: Tally,
     /// Packets that came after later ones.
     pub late: Tally,
-    window: Window,
 }
 
 impl Order {
@@ -65,6 +65,8 @@ impl Order {
     pub fn resume(&mut self, seq: u8, at: At) -> u64
         ensures counts { (first : ℕ) → (later : List ℕ) → (number : ℕ) → CountsOf self.old first later → Passes first later number → number % 256 ≡ seq
             → Few first (number ∷ later) → CountsOf self.new first (number ∷ later) }
+        ensures missing { (first : ℕ) → (later : List ℕ) → (number : ℕ) → CountsOf self.old first later → Passes first later number → number % 256 ≡ seq
+            → result ≡ number - greatest first later - 1 }
     {
         let missing = self.window.ahead(seq).saturating_sub(1);
         self.pass(seq, missing, at);

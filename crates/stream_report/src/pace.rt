@@ -123,6 +123,9 @@ pub struct Pace {
     last: Option<Stamped>,
     /// The number of timestamps that were compared with the one before.
     pub compared: u64,
+    /// The time that passed over the timestamps that advanced as they should: by the nominal rate, and by the timestamps.
+    pub nominal: u64,
+    pub told: u64,
     /// The misses if each timestamp belongs to the event that the standard says.
     pub by_anchor: Misses,
     /// The misses if each timestamp belongs to the packet's first event, as some talkers stamp.
@@ -130,9 +133,6 @@ pub struct Pace {
     /// Like `by_anchor` and `by_first`, but with the bytes swapped. Only timestamps that miss unswapped are compared.
     pub swapped_by_anchor: Misses,
     pub swapped_by_first: Misses,
-    /// The time over which timestamps advanced as they should: by the nominal rate, and by the timestamps.
-    pub nominal: u64,
-    pub told: u64,
 }
 
 /// How a timestamp compares with the one before.
@@ -173,17 +173,12 @@ impl Pace {
         better(&self.swapped_by_anchor, &self.swapped_by_first)
     }
 
-    /// By how much the first timestamp that missed should have advanced, in the reading that has fewer misses if the bytes are
-    /// swapped.
-    pub fn wanted(&self) -> u64 {
-        let misses = if self.swapped_by_first.count < self.swapped_by_anchor.count {
-            &self.by_first
+    /// The first timestamp that missed, in the reading that has fewer misses if the bytes are swapped.
+    pub fn first_miss(&self) -> Option<Miss> {
+        if self.swapped_by_first.count < self.swapped_by_anchor.count {
+            self.by_first.first
         } else {
-            &self.by_anchor
-        };
-        match misses.first {
-            Some(miss) => miss.wanted,
-            None => 0,
+            self.by_anchor.first
         }
     }
 
@@ -197,16 +192,20 @@ impl Pace {
 
     /// Notes a timestamp, after the one that was noted before.
     pub fn note(&mut self, stamped: &Stamped, beat: Option<Beat>) -> Advance {
-        let before = self.last;
-        self.last = Some(*stamped);
-        let Some(last) = before else {
-            return Advance::Begun;
+        let advance = match self.last {
+            Some(last) => self.compare(&last, stamped, beat),
+            None => Advance::Begun,
         };
+        self.last = Some(*stamped);
+        advance
+    }
+
+    fn compare(&mut self, last: &Stamped, stamped: &Stamped, beat: Option<Beat>) -> Advance {
         let is_first = self.compared == 0;
         self.compared = self.compared.saturating_add(1);
         match beat {
-            Some(beat) => self.note_paced(&last, stamped, beat, is_first),
-            None => self.note_unpaced(&last, stamped, is_first),
+            Some(beat) => self.note_paced(last, stamped, beat, is_first),
+            None => self.note_unpaced(last, stamped, is_first),
         }
     }
 

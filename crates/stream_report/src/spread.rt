@@ -57,8 +57,21 @@ fn place_of(value: i64) -> usize
     }
 }
 
-/// Adds counts of 0 before or after these counts, which begin with the bucket at `first`, until they reach the bucket at
-/// `place`. Returns the place of the first count.
+/// Widens counts, the first of which is that of the bucket at `first`, if they do not reach a place. Returns the place of the first
+/// one then.
+fn reach(counts: &mut Vec<u32>, first: usize, place: usize) -> Result<usize, NoMemory>
+    requires { place < 2 * side }
+    ensures { IfOk result (Widens first counts.old.items place counts.new.items) }
+{
+    if first <= place && place - first < counts.len() {
+        return Ok(first);
+    }
+    widen(counts, first, place)
+}
+
+/// Widens counts, the first of which is that of the bucket at `first`, until they reach a place. Returns the place of the first
+/// one then.
+#[inline(never)]
 fn widen(counts: &mut Vec<u32>, first: usize, place: usize) -> Result<usize, NoMemory>
     requires { place < 2 * side }
     ensures { IfOk result (Widens first counts.old.items place counts.new.items) }
@@ -139,7 +152,7 @@ impl Spread {
         ensures { OnOk result ((values : List ℤ) → TellsOf self.old values → length values < most_values → TellsOf self.new (value ∷ values)) }
     {
         let place = place_of(value);
-        self.first = widen(&mut self.counts, self.first, place)?;
+        self.first = reach(&mut self.counts, self.first, place)?;
         count_at(&mut self.counts, place - self.first);
         self.count = self.count.saturating_add(1);
         self.least = self.least.min(value);
@@ -176,7 +189,7 @@ impl Spread {
         ensures reaches { (values : List ℤ) → TellsOf self.now values → rank ≤ length values → Reaches values rank result }
     {
         let mut below: u128 = 0;
-        for place in 0..2 * SIDE {
+        for place in self.first..2 * SIDE {
             below = below.saturating_add(u128::from(self.count_in(place)));
             if below >= rank {
                 return place;

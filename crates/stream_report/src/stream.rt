@@ -64,33 +64,43 @@ const LEAST_HOLD: u64 = 8;
 /// If no packet comes for this many packets' times, the next one is a later one, whatever its sequence number is.
 const LONG_PAUSE: u64 = 64;
 
-/// What is counted for a stream.
+/// What is counted for a stream. What each packet changes comes first.
 #[derive(Drop)]
 pub struct Stream {
     pub key: StreamKey,
     pub sender: Sender,
-    pub first: At,
     pub format: Format,
-    /// The number of events of the first packet that has any.
-    pub count: u32,
-    /// How long the first packet that has events takes at the nominal rate, in nanoseconds; 0 if this is not known.
+    /// None before a packet tells its rate.
+    beat: Option<Beat>,
+    /// The time of the first packet that has any events, by the nominal rate, in nanoseconds; 0 if it is not known.
     pub packet_time: u64,
     /// The number of packets that are not refused.
     pub packets: u64,
     /// When the first and the last packet that is not refused arrived.
     pub first_arrival: i64,
     pub last_arrival: i64,
+    last: Option<Last>,
+    /// The events of the packets that came in order, before the newest.
+    events: u64,
+    last_lead: Option<i64>,
+    /// The number of packets directly after another whose arrival was compared with that one's time.
+    pub compared: u64,
     /// The time from each packet to the next in the capture, in nanoseconds.
     pub distances: Spread,
     /// Timestamp minus arrival, in nanoseconds: for a media clock exactly; otherwise modulo 2^32, from -2^31 on.
     pub leads: Spread,
-    /// Packets whose lead is below 0.
-    pub late: Tally,
-    pub pace: Pace,
+    /// `None` if no pictures are wanted.
+    pub trace: Option<Trace>,
+    /// None before its first packet that is not refused.
+    order: Option<Order>,
     pub trend: Trend,
-    /// The number of packets whose arrival was compared with the time of the packet directly before, and the number of uneven
-    /// arrivals.
-    pub compared: u64,
+    pub pace: Pace,
+    pub first: At,
+    /// The number of events of the first packet that has any.
+    pub count: u32,
+    /// The leads below 0.
+    pub late: Tally,
+    /// Arrivals that are off the time of the packet before.
     pub uneven: Tally,
     pub restarts: Tally,
     pub flapping: Tally,
@@ -109,16 +119,6 @@ pub struct Stream {
     /// Packets of a sender, and of a format, other than the first packet's.
     pub senders: Tally,
     pub formats: Tally,
-    /// `None` if no pictures are wanted.
-    pub trace: Option<Trace>,
-    /// `None` until a packet gives its rate.
-    beat: Option<Beat>,
-    /// `None` until the first packet that is not refused.
-    order: Option<Order>,
-    last: Option<Last>,
-    /// The number of events in the packets that came in order before the newest.
-    events: u64,
-    last_lead: Option<i64>,
 }
 
 /// How a packet follows the ones before it.
@@ -128,8 +128,10 @@ enum Step {
     Next,
     /// This many packets are missing before it.
     After(u64),
-    /// It came after later ones.
+    /// It came after later ones, and was counted as missing.
     Late,
+    /// It is from before the first one.
+    Early,
     Repeat,
 }
 
@@ -221,6 +223,9 @@ impl Stream {
         let Some(trace) = &mut self.trace else {
             return Ok(());
         };
+        if step == Step::Late {
+            trace.take_back();
+        }
         let column = Column {
             slot: 0,
             lead: lead.map(Range::of),
@@ -239,7 +244,7 @@ impl Stream {
             self.first_arrival = arrival;
             return Ok(None);
         }
-        let distance = arrival.saturating_sub(before);
+        let distance = arrival.wrapping_sub(before);
         self.distances.note(distance)?;
         Ok(Some(distance))
     }
@@ -333,7 +338,8 @@ impl Stream {
         }
         match order.note(seq, at) {
             Place::Ahead { missing } => after(u64::from(missing)),
-            Place::Late | Place::Early => Step::Late,
+            Place::Late => Step::Late,
+            Place::Early => Step::Early,
             Place::Repeat => Step::Repeat,
         }
     }
@@ -447,9 +453,9 @@ impl Stream {
         let stamp = stamped.stamp;
         let lead = stamp
             .lead(arrival)
-            .saturating_sub(i64::try_from(before_anchor).unwrap_or(0));
+            .wrapping_sub(before_anchor.cast_signed());
         let change = match self.last_lead {
-            Some(before) => stamp.wrapped(lead.saturating_sub(before)),
+            Some(before) => stamp.wrapped(lead.wrapping_sub(before)),
             None => 0,
         };
         let goes_on = match advance {
@@ -459,8 +465,8 @@ impl Stream {
         };
         let change = if goes_on { change } else { 0 };
         self.last_lead = Some(lead);
-        let since = arrival.saturating_sub(self.first_arrival);
-        self.trend.note(u64::try_from(since).unwrap_or(0), change);
+        let since = arrival.wrapping_sub(self.first_arrival).max(0);
+        self.trend.note(since.cast_unsigned(), change);
     }
 
     /// Counts the lead of a packet, if it has one.
@@ -492,6 +498,9 @@ fn after(missing: u64) -> Step {
 /// Whether a packet has another format than the stream. A packet without data has no rate, and a packet of a media clock may
 /// have fewer timestamps.
 fn is_change(was: &Format, now: &Format) -> bool {
+    if was == now {
+        return false;
+    }
     match (was, now) {
         (
             Format::Iec { rate, quadlets },
@@ -519,6 +528,6 @@ fn is_change(was: &Format, now: &Format) -> bool {
                 points: _,
             },
         ) => (kind, base, pull, interval) != (now_kind, now_base, now_pull, now_interval),
-        (was, now) => was != now,
+        _ => true,
     }
 }

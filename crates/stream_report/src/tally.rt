@@ -1,6 +1,7 @@
 //! The number of times that something was seen, and the frame in which it was first seen.
 
-ghost use Rattle.std.specs.Prelude.{◌≡◌, ◌+◌, ◌-◌, ◌^◌, min};
+ghost use Rattle.std.specs.Prelude.{◌≡◌, ◌==◌, ◌+◌, ◌-◌, ◌^◌, min, None, Some, if◌then◌else◌};
+ghost use Rattle.std.specs.Option.{option_or};
 
 /// A frame: the number of its file, and its number in the file, both from 1.
 #[derive(Clone, Copy, PartialEq, Eq)]
@@ -26,6 +27,7 @@ impl Tally {
     /// Counts one more, in this frame.
     pub fn note(&mut self, at: At)
         ensures count { self.new.count ≡ min (self.old.count + 1) (2 ^ 64 - 1) }
+        ensures first { self.new.first ≡ option_or self.old.first (Some at) }
     {
         self.add(1, at);
     }
@@ -33,6 +35,7 @@ impl Tally {
     /// Adds to the count, in this frame.
     pub fn add(&mut self, more: u64, at: At)
         ensures count { self.new.count ≡ min (self.old.count + more) (2 ^ 64 - 1) }
+        ensures first { self.new.first ≡ (if more == 0 then self.old.first else option_or self.old.first (Some at)) }
     {
         self.count = self.count.saturating_add(more);
         if more > 0 && self.first.is_none() {
@@ -43,6 +46,7 @@ impl Tally {
     /// Takes back one that was counted too early, because the packet was only late.
     pub fn take_back(&mut self)
         ensures count { self.new.count ≡ self.old.count - 1 }
+        ensures first { self.new.first ≡ (if self.new.count == 0 then None else self.old.first) }
     {
         self.count = self.count.saturating_sub(1);
         if self.count == 0 {

@@ -52,7 +52,7 @@ pub struct Column {
     pub slot: u64,
     pub lead: Option<Range>,
     pub distance: Option<Range>,
-    /// The number of packets that are missing before packets of this stretch.
+    /// The packets that are missing before one of these, and did not come late.
     pub lost: u64,
 }
 
@@ -99,6 +99,16 @@ impl Trace {
         }
         added.slot = since.checked_shr(self.shift).unwrap_or(0);
         self.add(added)
+    }
+
+    /// Takes back one missing packet, which came late, in the newest column that has any.
+    pub fn take_back(&mut self) {
+        for column in self.columns.iter_mut().rev() {
+            if column.lost > 0 {
+                column.lost = column.lost.saturating_sub(1);
+                return;
+            }
+        }
     }
 
     /// Makes columns twice as wide.

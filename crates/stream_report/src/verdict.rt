@@ -17,17 +17,12 @@ pub enum ClockGuess {
 /// A verdict, the worst first. Times are in nanoseconds.
 #[derive(Clone, Copy)]
 pub enum Verdict {
-    /// Most timestamps do not advance as their packets do, and with swapped bytes they would.
-    Swapped {
-        off: u64,
-        compared: u64,
-        wanted: u64,
-    },
-    /// Most timestamps do not advance as their packets do.
+    /// Most timestamps do not advance as their packets do; with swapped bytes they would if `swapped` is set.
     NotInOrder {
         off: u64,
         compared: u64,
-        wanted: u64,
+        first: Miss,
+        swapped: bool,
     },
     /// Presentation times are far from their arrivals: `lead` is the median distance. It is exact if `exact` is set; otherwise
     /// it is known modulo 2^32.
@@ -123,27 +118,26 @@ impl Verdict {
     /// How bad it is; 0 is the worst.
     pub fn rank(&self) -> u8 {
         match self {
-            Verdict::Swapped { .. } => 0,
-            Verdict::NotInOrder { .. } => 1,
-            Verdict::Clocks { .. } => 2,
-            Verdict::Malformed { .. } => 3,
-            Verdict::Senders { .. } => 4,
-            Verdict::Lost { .. } => 5,
-            Verdict::Late { .. } => 6,
-            Verdict::FirstStamp { .. } => 7,
-            Verdict::Steps { .. } => 8,
-            Verdict::Blocks { .. } => 9,
-            Verdict::Repeated { .. } => 10,
-            Verdict::Reordered { .. } => 11,
-            Verdict::Flapping { .. } => 12,
-            Verdict::Missing { .. } => 13,
-            Verdict::Unwanted { .. } => 14,
-            Verdict::Drift { .. } => 15,
-            Verdict::Jitter { .. } => 16,
-            Verdict::Formats { .. } => 17,
-            Verdict::Labels { .. } => 18,
-            Verdict::Reserved { .. } => 19,
-            Verdict::Uncertain { .. } => 20,
+            Verdict::NotInOrder { .. } => 0,
+            Verdict::Clocks { .. } => 1,
+            Verdict::Malformed { .. } => 2,
+            Verdict::Senders { .. } => 3,
+            Verdict::Lost { .. } => 4,
+            Verdict::Late { .. } => 5,
+            Verdict::FirstStamp { .. } => 6,
+            Verdict::Steps { .. } => 7,
+            Verdict::Blocks { .. } => 8,
+            Verdict::Repeated { .. } => 9,
+            Verdict::Reordered { .. } => 10,
+            Verdict::Flapping { .. } => 11,
+            Verdict::Missing { .. } => 12,
+            Verdict::Unwanted { .. } => 13,
+            Verdict::Drift { .. } => 14,
+            Verdict::Jitter { .. } => 15,
+            Verdict::Formats { .. } => 16,
+            Verdict::Labels { .. } => 17,
+            Verdict::Reserved { .. } => 18,
+            Verdict::Uncertain { .. } => 19,
         }
     }
 }

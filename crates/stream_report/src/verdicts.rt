@@ -80,20 +80,12 @@ fn order_verdict(stream: &Stream) -> Option<Verdict> {
     if compared == 0 || !is_more(off, compared, 2) {
         return None;
     }
-    let wanted = pace.wanted();
-    if is_more(pace.swapped_misses().count, compared, FEW) {
-        Some(Verdict::NotInOrder {
-            off,
-            compared,
-            wanted,
-        })
-    } else {
-        Some(Verdict::Swapped {
-            off,
-            compared,
-            wanted,
-        })
-    }
+    Some(Verdict::NotInOrder {
+        off,
+        compared,
+        first: pace.first_miss()?,
+        swapped: !is_more(pace.swapped_misses().count, compared, FEW),
+    })
 }
 
 /// Presentation times are far from arrivals. The timestamps of a media clock are those of its events, which may be in the past.

@@ -9,6 +9,8 @@ missing-is a d g n e f = omega (arith, e, f)
 
 pub returns : goal.returns
 returns c = record {
+  missing = λ first later number counts passes seq.
+      missing-is _ _ _ _ c.saturating_sub-missing.ensures (c.ahead.ensures ∙ ahead-exact (greatest first later) number c.args.seq _ seq counts.window.newest passes.ahead passes.most);
   counts = λ first later number counts passes seq few.
       counts-ahead c.args.self.now _ first later number c.saturating_sub-missing.result counts passes.ahead
       (missing-is _ _ _ _ c.saturating_sub-missing.ensures (c.ahead.ensures ∙ ahead-exact (greatest first later) number c.args.seq _ seq counts.window.newest passes.ahead passes.most))

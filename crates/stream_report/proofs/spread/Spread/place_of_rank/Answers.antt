@@ -8,6 +8,6 @@ all-places le ge = omega (arith, le, ge)
 
 pub returns-clause-reaches : goal.returns-clause-reaches
 returns-clause-reaches c values tells within =
-    let at : c.loop-place.place ≡ 7424 = all-places c.loop-place-test.false c.loop-place.auto.place-end in
+    let at : c.loop-place.place ≡ 7424 = all-places c.loop-place-test.false (c.loop-place.auto.place-end (omega (arith, tells.places))) in
     let is = c.loop-place.invariant.0 ∙ ap (λ (p : ℕ). sum (take (p - c.args.self.now.first) c.args.self.now.counts.items)) at ∙ tells.counts 7424 (omega arith) in
     absurd (omega (arith, is, c.loop-place.invariant.1, within, all-below c.args.self.now values tells (omega (arith, ints))))
