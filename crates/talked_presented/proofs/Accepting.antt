@@ -21,7 +21,7 @@ abbrev pub AreOf : (ℕ → Accepted → Type 0) → ℕ → List Accepted → T
 AreOf P k [] = ⊤
 AreOf P k (a ∷ rest) = P k a × AreOf P (k + 1) rest
 
-pub one_more : (P : ℕ → Accepted → Type 0) (k n : ℕ) (xs : List Accepted) (a : Accepted) → k + length xs ≡ n → AreOf P k xs → P n a → AreOf P k (xs ++ a ∷ [])
+one_more : (P : ℕ → Accepted → Type 0) (k n : ℕ) (xs : List Accepted) (a : Accepted) → k + length xs ≡ n → AreOf P k xs → P n a → AreOf P k (xs ++ a ∷ [])
 one_more P k n [] a e are is = let same : n ≡ k = omega arith in (subst (λ (m : ℕ). P m a) same is, tt)
 one_more P k n (x ∷ xs) a e are is = (are.0, one_more P (k + 1) n xs a (omega arith) are.1 is)
 
@@ -69,7 +69,7 @@ accept_none : (clock : Clock) (plan : SchedulePlan) (es : List Entry) (P : ℕ �
 unfolding accepted by_instant steps
 accept_none clock plan es P = record { long = refl; are = tt; sorted = refl; batches = []; presents = refl }
 
-pub accepted_more : (clock : Clock) (plan : SchedulePlan) (es : List Entry) (n : ℕ) (item : Item) (a : Accepted) → slice_get es n ≡ Some (OfItem item) → verdict_in clock plan es n item ≡ Ok a → accepted clock plan es (suc n) ≡ accepted clock plan es n ++ a ∷ []
+accepted_more : (clock : Clock) (plan : SchedulePlan) (es : List Entry) (n : ℕ) (item : Item) (a : Accepted) → slice_get es n ≡ Some (OfItem item) → verdict_in clock plan es n item ≡ Ok a → accepted clock plan es (suc n) ≡ accepted clock plan es n ++ a ∷ []
 accepted_more clock plan es n item a there ok = accepted-next clock plan es n (OfItem item) there ∙ rw ok refl
 
 step_more : (clock : Clock) (plan : SchedulePlan) (es : List Entry) (n : ℕ) (item : Item) (a : Accepted) → slice_get es n ≡ Some (OfItem item) → verdict_in clock plan es n item ≡ Ok a

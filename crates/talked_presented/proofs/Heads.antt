@@ -1,12 +1,11 @@
 -- Each packet of a plan without restarts has a timestamp, or one that it is counted from.
-use Rattle.std.proofs.Common.{◌≡◌, ℕ, ◌+◌, ◌-◌, ◌*◌, ◌%◌, ◌<◌, ◌≤◌, Bool, true, false, List, Option, None, refl, inl, inr, arith}
+use Rattle.std.proofs.Common.{◌≡◌, ℕ, ◌+◌, ◌-◌, ◌*◌, ◌%◌, ◌<◌, ◌≤◌, Bool, true, false, List, None, refl, inl, inr, arith}
 use Rattle.std.specs.Prelude.{◌==◌, IsSome, nat_le, nat_lt}
 use Rattle.std.specs.Int.{div_ceil}
 use Rattle.std.proofs.lemmas.Bool.{cases_lt}
 use Rattle.std.proofs.lemmas.Bool.Decides.{nat_tests}
 use Rattle.std.proofs.lemmas.Grind.{div_ceil_times}
 use Rattle.std.proofs.Math.Nat.{mul-le-mul_right}
-use Rattle.time_unfold.specs.declared.head_rule.Head.{Head}
 use Rattle.stream_journal.specs.Conforming.{is_stamped}
 use Rattle.stream_journal.specs.Journal.{Kind, SparseAaf, head_of, rule_of}
 use Rattle.talk_plan.specs.declared.plan.TalkKind.{TalkKind}
@@ -35,9 +34,6 @@ is_within a b h = grind (arith, nat_tests)
 
 one_bit : (plan : TalkPlan) (m n : ℕ) → plan.restart ≡ None → mr_of plan m ≡ mr_of plan n
 one_bit plan m n e = rw e refl
-
-some_of : (h : Option Head) (head : Option Head) → h ≡ head → IsSome head → IsSome h
-some_of h head e some = rw e some
 
 head_by : (kind : Kind) (plan : TalkPlan) (packets n : ℕ) (b : Bool) → plan.restart ≡ None → is_stamped (rule_of kind n) n plan.count ≡ b → (b ≡ false → IsFoundBefore kind plan.count n) → IsSome (head_of (nominal_times kind plan packets) n)
 head_by kind plan packets n true alone e found = rw e refl

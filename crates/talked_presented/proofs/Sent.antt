@@ -92,7 +92,7 @@ due_before plan input n p =
     (omega (arith, near.to, most_early s.plan.crf)) in
     subst P has.plan_is here
 
-pub due_soon : (plan : TalkPlan) (input : List ℕ) (n : ℕ) → IsAudioPlan plan → (journal plan input).times.due n ≤ (stream_of plan input).arrival n + plan.lead + 1
+due_soon : (plan : TalkPlan) (input : List ℕ) (n : ℕ) → IsAudioPlan plan → (journal plan input).times.due n ≤ (stream_of plan input).arrival n + plan.lead + 1
 due_soon plan input n p =
     let after = due_after plan input n p in
     let sent = (has_times plan input p).arrival n in
@@ -143,7 +143,7 @@ pub later_one : (x y : ℕ) → x ≤ y → int_max (pos x) (pos y) ≡ pos y
 later_one x y le = grind (arith, ints)
 
 -- deliveries that come in the order of their arrivals are judged when they come
-pub judged_at : (plan : ListenPlan) (rs : List Record) (at : ℕ → ℕ) (n : ℕ) → All IsOther (deliveries_of plan rs) → ((m : ℕ) → at m ≤ at (m + 1)) → ((m : ℕ) → m ≤ n → (d : Delivery) × ((slice_get (deliveries_of plan rs) m ≡ Some d) × (d.arrival ≡ pos (at m))))
+judged_at : (plan : ListenPlan) (rs : List Record) (at : ℕ → ℕ) (n : ℕ) → All IsOther (deliveries_of plan rs) → ((m : ℕ) → at m ≤ at (m + 1)) → ((m : ℕ) → m ≤ n → (d : Delivery) × ((slice_get (deliveries_of plan rs) m ≡ Some d) × (d.arrival ≡ pos (at m))))
     → time_of plan rs n ≡ pos (at n)
 judged_at plan rs at zero all rises each =
     let here = each zero (omega arith) in
@@ -165,7 +165,7 @@ due_head j n None kind is known e some = absurd cc
 due_head j n (Some head) kind is known e some = at_nominal j.kind j n 0 _ kind (record { head = head; is_head = e; at = is.first_instants n head known e })
 
 -- the item of a copy that has a head is timely if it is known and came no later than the packet is due
-pub timely_of : (shift : ℤ) (p : PacketJournal) (plan : ListenPlan) (records : List Record) (place n : ℕ) (d : Delivery) → HearsTalker shift p plan records → IsAudioKind p.times.kind → plan.clock ≡ None → slice_get (deliveries_of plan records) place ≡ Some d
+timely_of : (shift : ℤ) (p : PacketJournal) (plan : ListenPlan) (records : List Record) (place n : ℕ) (d : Delivery) → HearsTalker shift p plan records → IsAudioKind p.times.kind → plan.clock ≡ None → slice_get (deliveries_of plan records) place ≡ Some d
     → (copy : IsCopyOf p plan.lead n d) → IsSome (head_of p.times n) → IsKnownCopy p plan records place (record { number = n; arrival = copy.arrival }) → time_of plan records place ≤ℤ pos (p.times.due n) → IsTimely p plan records place n (made_of_one d)
 timely_of shift p plan records place n d h kind off at copy some known early =
     let by_is : by_clock plan ≡ false = rw off refl in
@@ -203,7 +203,7 @@ stamped_head j n some = some_head j n (j.stamp n) refl some
 entries_long : (ds : List Delivery) → All IsOther ds → length (entries ds) ≡ length ds
 entries_long ds all = length-map (items_of ds) made_entry ∙ (ap (λ (l : List MadeItem). length l) (items_other ds all) ∙ length-map ds made_of_one)
 
-pub packet_at : (a k i n : ℕ) → i < k → a + i ≡ n → slice_get (map OfStream (range_with_len a k)) i ≡ Some (OfStream n)
+packet_at : (a k i n : ℕ) → i < k → a + i ≡ n → slice_get (map OfStream (range_with_len a k)) i ≡ Some (OfStream n)
 packet_at a zero i n lt e = absurd (omega arith)
 packet_at a (suc k) zero n lt e = let same : a ≡ n = omega arith in ap (λ (m : ℕ). Some (OfStream m)) same
 packet_at a (suc k) (suc i) n lt e = packet_at (a + 1) k i n (omega arith) (omega arith)

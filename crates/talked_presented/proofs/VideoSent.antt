@@ -82,11 +82,11 @@ front_heard plan input listen m conforming stream clock is expects are le =
 
 -- ---- a whole capture
 
-pub whole_records_are : (plan : TalkPlan) (input : List ℕ) (last_stamp : Bool) → plan.kind ≡ H264 last_stamp → IsVideoPlan plan → length input ≤ most_input → records plan input ≡ front_records (stream_of plan input) 0 (journal plan input).times.packets
+whole_records_are : (plan : TalkPlan) (input : List ℕ) (last_stamp : Bool) → plan.kind ≡ H264 last_stamp → IsVideoPlan plan → length input ≤ most_input → records plan input ≡ front_records (stream_of plan input) 0 (journal plan input).times.packets
 whole_records_are plan input last_stamp kind talked limit =
     ap (map record_of) (frames_alone plan input (video_plan plan last_stamp kind talked) talked.crf limit ∙ sym (stream_frames_are (stream_of plan input) (range_with_len 0 (journal plan input).times.packets)))
 
-pub units_timely : (plan : TalkPlan) (input : List ℕ) (listen : ListenPlan) → HearsUnits plan input listen → IsConforming (pos 0) (journal plan input)
+units_timely : (plan : TalkPlan) (input : List ℕ) (listen : ListenPlan) → HearsUnits plan input listen → IsConforming (pos 0) (journal plan input)
     → AreRead (journal plan input) listen.lead
     → AreTimelyUnits (journal plan input) (part_sent input) listen (delivered (stream_of plan input)) (stream_of plan input).arrival
 units_timely plan input listen h conforming are =
