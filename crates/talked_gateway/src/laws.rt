@@ -19,7 +19,8 @@ use talker::laws::{journal_conforms, losses_are_delivered};
 
 /// A gateway skips nothing that a listener without a clock presents of a capture of an audio plan, whatever the capture loses,
 /// repeats or reorders, if a scan finds no fault in it: each packet begins after the end of those before it, and arrives before
-/// 2^32 seconds. So it is of what is due while more records may follow.
+/// 2^32 seconds. So it is of what is due while more records may follow. Where some packets have no timestamp, the listener's lead
+/// is within 127 packets' time of the plan's: in sparse PCM, and in AM824 whose packets have fewer blocks than SYT_INTERVAL.
 pub fn nothing_talked_is_skipped()
     ensures shown { (to : ToValue) (plan : TalkPlan) (input places : List ℕ) (listen : ListenPlan) → ListensTo plan input listen → listen.clock ≡ None → first_fault to listen.stream (captured plan input places) ≡ None
         → SkipsNone to (shape_in listen.stream (captured plan input places)) (presented_of (shown_of listen (captured plan input places))) }
