@@ -8,4 +8,5 @@ pub mod Delivered
 pub mod Kept
 pub mod Timely
 pub mod Apart
+pub mod Scanned
 pub mod Returned

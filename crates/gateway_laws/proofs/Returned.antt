@@ -1,6 +1,6 @@
 -- AM824 of a gateway comes back as the same frames.
 use Rattle.std.proofs.Common.{◌≡◌, ℕ, zero, suc, ◌+◌, ◌-◌, ◌*◌, ◌/◌, ◌^◌, ◌<◌, ◌≤◌, Bool, true, false, inl, inr, ℤ, pos, ◌<ℤ◌, List, [], ◌∷◌, ◌++◌, length, drop, map, take, Option, Some, None, refl, sym, ap, subst, ◌∙◌, eq-eqb, arith}
-use Rattle.std.specs.Prelude.{◌==◌, get_or, if◌then◌else◌, int_le, nat_lt, not, ⊤}
+use Rattle.std.specs.Prelude.{◌==◌, IfSome, if◌then◌else◌, int_le, nat_lt, not, ⊤}
 use Rattle.std.specs.List.{AllByRecursion, list_any}
 use Rattle.std.proofs.Math.Nat.{lt-div-mul-add, mul-le-mul_right}
 use Rattle.std.proofs.lemmas.Bool.{cases_lt}
@@ -21,25 +21,26 @@ use Rattle.am824_gateway.specs.declared.scan.To.{To}
 use Rattle.am824_gateway.specs.declared.scan.To.TheVariants.{Aaf, Am824}
 use Rattle.am824_gateway.specs.declared.skip.Skip.{Skip}
 use Rattle.am824_gateway.specs.declared.skip.Skip.TheVariants.{ShapeOff, Overlap, Range}
-use Rattle.am824_gateway.specs.Labels.{are_linear, first_are_linear, labelled, turned, value_in, value_out}
+use Rattle.am824_gateway.specs.Labels.{labelled, turned, value_in, value_out}
 use Rattle.am824_gateway.specs.Laws.{Cut, cut_frame, cut_instant, cuts_after, cuts_from}
 use Rattle.am824_gateway.specs.Packets.{gateway_frames, packet_of, samples_of, values_of}
-use Rattle.am824_gateway.specs.Pieces.{Given, arrival_at, block_after, captures_end, given_with, has_labels, has_shape, is_late, most_frames, next_block, nothing_given, overlaps, piece_count, pieces_from, pieces_of, skip_by, unless}
-use Rattle.am824_gateway.specs.Scan.{IsShape}
+use Rattle.am824_gateway.specs.Pieces.{Given, arrival_at, block_after, captures_end, given_with, has_shape, is_late, most_frames, next_block, nothing_given, overlaps, piece_count, pieces_from, pieces_of, skip_by, unless}
+use Rattle.am824_gateway.specs.Scan.{IsShape, shape_in}
 use Rattle.am824_gateway.proofs.CutLemmas.{frames_are_cuts}
-use Rattle.am824_gateway.proofs.GatewayLemmas.{length_labelled, length_values}
+use Rattle.am824_gateway.proofs.GatewayLemmas.{length_values}
 use Rattle.am824_gateway.proofs.PieceLemmas.{fits, late_one, one_piece, some_rate}
 use Rattle.am824_gateway.proofs.ValueLemmas.{back}
 use Rattle.gateway_laws.specs.Heard.{BeginsInTime, packet_heard, packets_heard}
 use Rattle.gateway_laws.specs.Kept.{Hears}
-use Rattle.gateway_laws.specs.Returned.{gateway_records, presented_again}
+use Rattle.gateway_laws.specs.Returned.{frames_made, gateway_records, other}
 use Rattle.gateway_laws.specs.Stamped.{all_counted, counted_from_first}
 use Rattle.gateway_laws.proofs.Apart.{AreApart, all_apart}
 use Rattle.gateway_laws.proofs.Carried.{counted_sample, stamped_all}
-use Rattle.gateway_laws.proofs.Delivered.{is_schedule}
+use Rattle.gateway_laws.proofs.Delivered.{empty_schedule, is_schedule}
 use Rattle.gateway_laws.proofs.Heard.{heard_carry, interval_known}
 use Rattle.gateway_laws.proofs.Kept.{all_rising, no_rest}
 use Rattle.gateway_laws.proofs.Read.{IsCarried, all_carried, samples_long}
+use Rattle.gateway_laws.proofs.Scanned.{heard_labels, shape_found}
 use Rattle.gateway_laws.proofs.Stamped.{stamped_presented, starts_at}
 use Rattle.gateway_laws.proofs.Timely.{shown_in_time}
 use Rattle.am824_gateway.proofs.CutLemmas.{rise_all}
@@ -122,44 +123,7 @@ frames_of_bodies to shape id n block (c ∷ cs) chain =
 pub frames_by_bodies : (to : To) (shape : Shape) (id : ℕ) (batches : List Presented) → gateway_frames to (Some shape) id batches ≡ body_frames to shape id 0 0 (map (body_of to shape) (cuts_after to shape nothing_given batches))
 frames_by_bodies to shape id batches = frames_are_cuts to shape id nothing_given batches ∙ frames_of_bodies to shape id 0 0 (cuts_after to shape nothing_given batches) (all_chained to shape nothing_given batches)
 
--- ---- labels
-
-linear_more : (n : ℕ) (xs ys : List ℕ) → 4 * n ≤ length xs → first_are_linear n (xs ++ ys) ≡ first_are_linear n xs
-linear_more zero xs ys h = refl
-linear_more (suc n) xs ys h =
-    let rest = linear_more n xs ys (omega (arith, h)) in
-    let here = get_front xs ys (4 * n) (omega (arith, h)) in
-    rw (rest, here) refl
-  where
-    get_front : (us vs : List ℕ) (i : ℕ) → i < length us → get_or (us ++ vs) i 0 ≡ get_or us i 0
-    get_front [] vs i lt = absurd (omega (arith, lt))
-    get_front (u ∷ us) vs zero lt = refl
-    get_front (u ∷ us) vs (suc i) lt = get_front us vs i (omega (arith, lt))
-
-get_next : (xs ys : List ℕ) (y i : ℕ) → i ≡ length xs → get_or (xs ++ y ∷ ys) i 0 ≡ y
-get_next [] ys y i e = rw e refl
-get_next (x ∷ xs) ys y zero e = absurd (omega (arith, e))
-get_next (x ∷ xs) ys y (suc i) e = get_next xs ys y i (omega (arith, e))
-
-linear_labels : (n : ℕ) (v : List ℕ) → 3 * n ≤ length v → first_are_linear n (labelled n v) ≡ true
-linear_labels zero v h = refl
-linear_labels (suc n) v h =
-    let long = length_labelled n v (omega (arith, h)) in
-    let front = linear_more n (labelled n v) (0x40 ∷ take 3 (drop (3 * n) v)) (omega (arith, long)) ∙ linear_labels n v (omega (arith, h)) in
-    let next = get_next (labelled n v) (take 3 (drop (3 * n) v)) 0x40 (4 * n) (sym long) in
-    rw (front, next) refl
-
-are_labels : (n : ℕ) (v : List ℕ) → 3 * n ≤ length v → are_linear (labelled n v) ≡ true
-are_labels n v h =
-    let long = length_labelled n v h in
-    let fourth : length (labelled n v) / 4 ≡ n = omega (arith, long) in
-    rw fourth (linear_labels n v h)
-
 -- ---- a packet that is heard is one piece again
-
-abbrev other : To → To
-other Am824 = Aaf
-other Aaf = Am824
 
 same_size : (to : To) → value_in (other to) ≡ value_out to
 same_size Am824 = refl
@@ -182,12 +146,6 @@ HasRoom on shape c = c.piece.count ≤ most_frames on shape.channels
 
 heard_long : (to : To) (shape : Shape) (c : Cut) → IsCarried to shape c → length (samples_of to shape c.batch c.piece) ≡ c.piece.count * (value_in (other to) * shape.channels)
 heard_long to shape c fine = rw (same_size to) (samples_long to shape c fine)
-
-heard_labels : (to : To) (shape : Shape) (c : Cut) → IsCarried to shape c → has_labels (other to) (samples_of to shape c.batch c.piece) ≡ true
-heard_labels Aaf shape c fine = refl
-heard_labels Am824 shape c fine =
-    let long = length_values Am824 shape c.batch c.piece fine.within.inside fine.size in
-    are_labels (c.piece.count * shape.channels) (values_of Am824 shape c.batch c.piece) (omega (arith, long))
 
 heard_shape : (to : To) (shape : Shape) (i : ℕ) (c : Cut) → IsCarried to shape c → has_shape (other to) shape (heard_of to shape i c) ≡ true
 heard_shape to shape i c fine =
@@ -255,7 +213,11 @@ come_back to shape given i (c ∷ cs) is fine room apart over =
 
 -- ---- all that is heard
 
-heard_again : (to : To) (shape : Shape) (id : ℕ) (batches : List Presented) (plan : ListenPlan) → IsShape shape → id < 2 ^ 64 → AllByRecursion BeginsInTime batches → Hears id plan (gateway_records to shape id batches)
+-- the batches that a listener presents of a gateway's frames
+abbrev presented_again : ListenPlan → To → Shape → ℕ → List Presented → List Presented
+presented_again plan to shape id batches = presented_of (shown_of plan (gateway_records to (Some shape) id batches))
+
+heard_again : (to : To) (shape : Shape) (id : ℕ) (batches : List Presented) (plan : ListenPlan) → IsShape shape → id < 2 ^ 64 → AllByRecursion BeginsInTime batches → Hears id plan (gateway_records to (Some shape) id batches)
     → presented_again plan to shape id batches ≡ all_counted (packets_heard to shape 1 (cuts_after to shape nothing_given batches)) (map cut_instant (cuts_after to shape nothing_given batches))
 heard_again to shape id batches plan is small begins hears =
     let cuts : List Cut = cuts_after to shape nothing_given batches in
@@ -269,7 +231,7 @@ heard_again to shape id batches plan is small begins hears =
     (rise_all to shape nothing_given batches (all_rising batches begins)) schedule.room)
 
 -- the bodies that a gateway sends of what is presented of another gateway's frames
-turned_again : (to : To) (shape : Shape) (id : ℕ) (batches : List Presented) (plan : ListenPlan) → IsShape shape → id < 2 ^ 64 → AllByRecursion BeginsInTime batches → Hears id plan (gateway_records to shape id batches)
+turned_again : (to : To) (shape : Shape) (id : ℕ) (batches : List Presented) (plan : ListenPlan) → IsShape shape → id < 2 ^ 64 → AllByRecursion BeginsInTime batches → Hears id plan (gateway_records to (Some shape) id batches)
     → AllByRecursion (HasRoom (other to) shape) (cuts_after to shape nothing_given batches)
     → map (body_of (other to) shape) (cuts_after (other to) shape nothing_given (presented_again plan to shape id batches)) ≡ map (turn_body (other to) shape) (map (body_of to shape) (cuts_after to shape nothing_given batches))
 turned_again to shape id batches plan is small begins hears room =
@@ -323,16 +285,59 @@ same_bodies shape (c ∷ cs) fine =
     ap (λ (b : Body). b ∷ map (turn_body Am824 shape) (map (turn_body Aaf shape) (map (body_of Am824 shape) cs))) (same_body shape c fine.0)
     ∙ ap (λ (bs : List Body). body_of Am824 shape c ∷ bs) (same_bodies shape cs fine.1)
 
-pub comes_back : (shape : Shape) (id via : ℕ) (batches : List Presented) (there back_plan : ListenPlan) → IsShape shape → id < 2 ^ 64 → via < 2 ^ 64 → AllByRecursion BeginsInTime batches
-    → Hears id there (gateway_records Am824 shape id batches) → Hears via back_plan (gateway_records Aaf shape via (presented_again there Am824 shape id batches))
+comes_with_shape : (shape : Shape) (id via : ℕ) (batches : List Presented) (there back_plan : ListenPlan) → IsShape shape → id < 2 ^ 64 → via < 2 ^ 64 → AllByRecursion BeginsInTime batches
+    → Hears id there (gateway_records Am824 (Some shape) id batches) → Hears via back_plan (gateway_records Aaf (Some shape) via (presented_again there Am824 shape id batches))
     → gateway_frames Am824 (Some shape) id (presented_again back_plan Aaf shape via (presented_again there Am824 shape id batches)) ≡ gateway_frames Am824 (Some shape) id batches
-comes_back shape id via batches there back_plan is small via_small begins hears hears_back =
+comes_with_shape shape id via batches there back_plan is small via_small begins hears hears_back =
     let cs : List Cut = cuts_after Am824 shape nothing_given batches in
     let hs : List Presented = presented_again there Am824 shape id batches in
-    let again = shown_in_time there (gateway_records Am824 shape id batches) in
+    let again = shown_in_time there (gateway_records Am824 (Some shape) id batches) in
     let fine = all_carried Am824 shape nothing_given batches is (omega arith) in
     let two = turned_again Am824 shape id batches there is small begins hears (all_more shape cs is fine) in
     let room = few_cuts shape (cuts_after Aaf shape nothing_given hs) (subst (AllByRecursion (HasFew (most_frames Am824 shape.channels))) (sym two) (few_bodies shape cs fine)) in
     let three = turned_again Aaf shape via hs back_plan is via_small again hears_back room in
     let bodies = three ∙ (ap (map (turn_body Am824 shape)) two ∙ same_bodies shape cs fine) in
     frames_by_bodies Am824 shape id (presented_again back_plan Aaf shape via hs) ∙ (ap (body_frames Am824 shape id 0 0) bodies ∙ sym (frames_by_bodies Am824 shape id batches))
+
+-- nothing is presented of no records
+none_again : (id : ℕ) (plan : ListenPlan) → Hears id plan [] → presented_of (shown_of plan []) ≡ []
+none_again id plan hears = (let schedule = empty_schedule id plan hears in schedule.batches ∙ stamped_presented clock_spot (schedule_plan plan) [] [] schedule.without tt tt schedule.room)
+
+-- records that are there have a shape
+shape_by : (to : To) (shape : Shape) (id : ℕ) (batches : List Presented) (plan : ListenPlan) (f : SentFrame) (fs : List SentFrame) → gateway_frames to (Some shape) id batches ≡ f ∷ fs → IsShape shape → id < 2 ^ 64 → plan.stream ≡ id
+    → shape_in plan.stream (gateway_records to (Some shape) id batches) ≡ Some shape
+shape_by to shape id batches plan f fs e is small stream =
+    let some : 1 ≤ length (gateway_records to (Some shape) id batches) = rw e (omega arith) in
+    ap (λ (n : ℕ). shape_in n (gateway_records to (Some shape) id batches)) stream ∙ shape_found to shape id batches is small some
+
+-- with the shape that is found
+comes_found : (shape : Shape) (id via : ℕ) (batches : List Presented) (there back_plan : ListenPlan) (one two : List SentFrame) → gateway_frames Am824 (Some shape) id batches ≡ one
+    → gateway_frames Aaf (Some shape) via (presented_again there Am824 shape id batches) ≡ two → IsShape shape → id < 2 ^ 64 → via < 2 ^ 64 → AllByRecursion BeginsInTime batches
+    → Hears id there (gateway_records Am824 (Some shape) id batches) → Hears via back_plan (map record_of (frames_made Aaf there via (gateway_records Am824 (Some shape) id batches)))
+    → frames_made Am824 back_plan id (map record_of (frames_made Aaf there via (gateway_records Am824 (Some shape) id batches))) ≡ gateway_frames Am824 (Some shape) id batches
+comes_found shape id via batches there back_plan [] two e f is small via_small begins hears hears_back = rw e refl
+comes_found shape id via batches there back_plan (x ∷ one) two e f is small via_small begins hears hears_back =
+    let hs : List Presented = presented_again there Am824 shape id batches in
+    let made : frames_made Aaf there via (gateway_records Am824 (Some shape) id batches) ≡ gateway_frames Aaf (Some shape) via hs = ap (λ (o : Option Shape). gateway_frames Aaf o via hs) (shape_by Am824 shape id batches there x one e is small hears.stream) in
+    let heard : Hears via back_plan (gateway_records Aaf (Some shape) via hs) = subst (λ (fs : List SentFrame). Hears via back_plan (map record_of fs)) made hears_back in
+    let all = comes_with_shape shape id via batches there back_plan is small via_small begins hears heard in
+    ap (λ (fs : List SentFrame). frames_made Am824 back_plan id (map record_of fs)) made ∙ back two f heard all
+  where
+    hs : List Presented
+    hs = presented_again there Am824 shape id batches
+
+    back : (fs : List SentFrame) → gateway_frames Aaf (Some shape) via hs ≡ fs → Hears via back_plan (gateway_records Aaf (Some shape) via hs)
+        → gateway_frames Am824 (Some shape) id (presented_again back_plan Aaf shape via hs) ≡ gateway_frames Am824 (Some shape) id batches
+        → frames_made Am824 back_plan id (gateway_records Aaf (Some shape) via hs) ≡ gateway_frames Am824 (Some shape) id batches
+    back (y ∷ fs) g heard all = ap (λ (o : Option Shape). gateway_frames Am824 o id (presented_again back_plan Aaf shape via hs)) (shape_by Aaf shape via hs back_plan y fs g is via_small heard.stream) ∙ all
+    back [] g heard all =
+        let records : gateway_records Aaf (Some shape) via hs ≡ [] = ap (map record_of) g in
+        let none : presented_again back_plan Aaf shape via hs ≡ [] = ap (λ (rs : List Record). presented_of (shown_of back_plan rs)) records ∙ none_again via back_plan (subst (Hears via back_plan) records heard) in
+        ap (λ (rs : List Record). frames_made Am824 back_plan id rs) records ∙ (sym (ap (λ (bs : List Presented). gateway_frames Am824 (Some shape) id bs) none) ∙ all)
+
+pub comes_back : (shape : Option Shape) (id via : ℕ) (batches : List Presented) (there back_plan : ListenPlan) → IfSome shape IsShape → id < 2 ^ 64 → via < 2 ^ 64 → AllByRecursion BeginsInTime batches
+    → Hears id there (gateway_records Am824 shape id batches) → Hears via back_plan (map record_of (frames_made Aaf there via (gateway_records Am824 shape id batches)))
+    → frames_made Am824 back_plan id (map record_of (frames_made Aaf there via (gateway_records Am824 shape id batches))) ≡ gateway_frames Am824 shape id batches
+comes_back None id via batches there back_plan is small via_small begins hears hears_back = refl
+comes_back (Some shape) id via batches there back_plan is small via_small begins hears hears_back =
+    comes_found shape id via batches there back_plan (gateway_frames Am824 (Some shape) id batches) (gateway_frames Aaf (Some shape) via (presented_again there Am824 shape id batches)) refl refl is small via_small begins hears hears_back

@@ -1,19 +1,27 @@
--- What a listener presents of a gateway's frames, as they are captured.
-use Rattle.std.specs.Prelude.{ℕ, List, map, Some}
+-- What a gateway makes of a capture, which may be one that a gateway made.
+use Rattle.std.specs.Prelude.{ℕ, List, map, Option}
 use Rattle.sample_schedule.specs.Batches.{Presented}
-use Rattle.talker.specs.Frames.{record_of}
+use Rattle.talker.specs.Frames.{SentFrame, record_of}
 use Rattle.pcap_frames.specs.Capture.{Record}
 use Rattle.listener.specs.declared.plan.ListenPlan.{ListenPlan}
 use Rattle.listener.specs.Heard.{shown_of}
 use Rattle.listener.specs.Laws.{presented_of}
 use Rattle.am824_gateway.specs.declared.scan.Shape.{Shape}
 use Rattle.am824_gateway.specs.declared.scan.To.{To}
+use Rattle.am824_gateway.specs.declared.scan.To.TheVariants.{Aaf, Am824}
 use Rattle.am824_gateway.specs.Packets.{gateway_frames}
+use Rattle.am824_gateway.specs.Scan.{shape_in}
 
--- the records of a gateway's frames, for batches of a stream of this shape
-abbrev pub gateway_records : To → Shape → ℕ → List Presented → List Record
-gateway_records to shape id batches = map record_of (gateway_frames to (Some shape) id batches)
+-- the format that one of this format is turned into
+abbrev pub other : To → To
+other Am824 = Aaf
+other Aaf = Am824
 
--- the batches that a listener presents of the records of a gateway's frames
-abbrev pub presented_again : ListenPlan → To → Shape → ℕ → List Presented → List Presented
-presented_again plan to shape id batches = presented_of (shown_of plan (gateway_records to shape id batches))
+-- the records of a gateway's frames
+abbrev pub gateway_records : To → Option Shape → ℕ → List Presented → List Record
+gateway_records to shape id batches = map record_of (gateway_frames to shape id batches)
+
+-- The frames that a gateway makes under this id of what a listener presents of records. The shape is the one that a scan finds
+-- in them.
+abbrev pub frames_made : To → ListenPlan → ℕ → List Record → List SentFrame
+frames_made to plan id records = gateway_frames to (shape_in plan.stream records) id (presented_of (shown_of plan records))

@@ -1,6 +1,6 @@
 //! Laws of what listeners present of the captures that a gateway makes. Each call is its contract, and does nothing.
 
-ghost use Rattle.std.specs.Prelude.{◌≡◌, ◌%◌, ◌^◌, ◌<◌, ◌∷◌, ◌++◌, ℕ, ℤ, IfSome, List, Option, Some, false, map};
+ghost use Rattle.std.specs.Prelude.{◌≡◌, ◌%◌, ◌^◌, ◌<◌, ◌≤◌, ◌∷◌, ◌++◌, ℕ, ℤ, IfSome, List, None, Option, Some, false, length, map};
 ghost use Rattle.am824_gateway.specs.Laws.{Cut};
 ghost use Rattle.gateway_laws.specs.Noted.{cut_seen, nothing_found};
 ghost use Rattle.sequence_track.specs.Findings.{findings};
@@ -15,19 +15,19 @@ ghost use Rattle.sample_schedule.specs.declared.plan.SchedulePlan.{SchedulePlan}
 ghost use Rattle.sample_schedule.specs.Laws.{presented};
 ghost use Rattle.sample_schedule.specs.Schedule.{given, shown};
 ghost use Rattle.sample_schedule.specs.Verdicts.{Clock};
-ghost use Rattle.talker.specs.Frames.{capture_of};
+ghost use Rattle.talker.specs.Frames.{capture_of, record_of};
 ghost use Rattle.am824_gateway.specs.declared.scan.Shape.{Shape as ShapeValue};
 ghost use Rattle.am824_gateway.specs.declared.scan.To.{To as ToValue};
 ghost use Rattle.am824_gateway.specs.Laws.{HasRisingInstants, Rise, cuts_after, given_batches};
 ghost use Rattle.am824_gateway.specs.Packets.{gateway_frames};
 ghost use Rattle.am824_gateway.specs.Pieces.{Given as GivenOut};
 ghost use Rattle.am824_gateway.specs.Samples.{samples_presented};
-ghost use Rattle.am824_gateway.specs.Scan.{IsShape};
+ghost use Rattle.am824_gateway.specs.Scan.{IsShape, first_fault, shape_in};
 ghost use Rattle.gateway_laws.specs.Carried.{CarryCuts, samples_heard};
 ghost use Rattle.gateway_laws.specs.InOrder.{AreInOrder, IsNotFull};
 ghost use Rattle.am824_gateway.specs.declared.scan.To.TheVariants.{Aaf, Am824};
 ghost use Rattle.gateway_laws.specs.Kept.{Hears, Keeps};
-ghost use Rattle.gateway_laws.specs.Returned.{gateway_records, presented_again};
+ghost use Rattle.gateway_laws.specs.Returned.{frames_made, gateway_records, other};
 ghost use Rattle.listener.specs.declared.plan.ListenPlan.{ListenPlan};
 ghost use Rattle.listener.specs.Heard.{due_of, shown_of};
 ghost use Rattle.listener.specs.Laws.{presented_of};
@@ -88,10 +88,18 @@ pub fn presented_batches_begin_in_time()
     ensures due { (plan : ListenPlan) (records : List Record) → AllByRecursion BeginsInTime (presented_of (due_of plan records)) }
 {}
 
-/// AM824 of a gateway that is converted to PCM, under any stream id, and back to AM824 under its first id, has the same bytes.
-/// The listeners have no clock, and their buffers are never full.
+/// What a gateway made can be converted back, whatever the batches: a scan for the other format finds no fault in it and, if
+/// there is a frame, the gateway's own shape.
+pub fn captures_of_pieces_can_be_turned()
+    ensures fault { (to : ToValue) (shape : Option ShapeValue) (id : ℕ) (batches : List Presented) → IfSome shape IsShape → id < 2 ^ 64 → first_fault (other to) id (gateway_records to shape id batches) ≡ None }
+    ensures shape { (to : ToValue) (shape : ShapeValue) (id : ℕ) (batches : List Presented) → IsShape shape → id < 2 ^ 64 → 1 ≤ length (gateway_records to (Some shape) id batches)
+        → shape_in id (gateway_records to (Some shape) id batches) ≡ Some shape }
+{}
+
+/// AM824 of a gateway that is converted to PCM, under any stream id, and back to AM824 under its first id, each time with the
+/// shape that the scan finds, has the same bytes. The listeners have no clock, and their buffers are never full.
 pub fn am824_comes_back()
-    ensures { (shape : ShapeValue) (id via : ℕ) (batches : List Presented) (there back : ListenPlan) → IsShape shape → id < 2 ^ 64 → via < 2 ^ 64 → AllByRecursion BeginsInTime batches
-        → Hears id there (gateway_records Am824 shape id batches) → Hears via back (gateway_records Aaf shape via (presented_again there Am824 shape id batches))
-        → gateway_frames Am824 (Some shape) id (presented_again back Aaf shape via (presented_again there Am824 shape id batches)) ≡ gateway_frames Am824 (Some shape) id batches }
+    ensures { (shape : Option ShapeValue) (id via : ℕ) (batches : List Presented) (there back : ListenPlan) → IfSome shape IsShape → id < 2 ^ 64 → via < 2 ^ 64 → AllByRecursion BeginsInTime batches
+        → Hears id there (gateway_records Am824 shape id batches) → Hears via back (map record_of (frames_made Aaf there via (gateway_records Am824 shape id batches)))
+        → frames_made Am824 back id (map record_of (frames_made Aaf there via (gateway_records Am824 shape id batches))) ≡ gateway_frames Am824 shape id batches }
 {}
