@@ -1,11 +1,10 @@
 -- A pair of listeners takes bytes.
-use Rattle.std.proofs.Common.{◌≡◌, ℕ, zero, suc, ◌+◌, ◌^◌, ◌<◌, ◌≤◌, Bool, true, false, cond, ◌⊎◌, inl, inr, List, [], ◌∷◌, ◌++◌, length, take, drop, Option, Some, None, Result, Ok, Err, refl, sym, ap, ◌∙◌, subst, arith, append-nil}
+use Rattle.std.proofs.Common.{◌≡◌, ℕ, zero, suc, ◌^◌, ◌≤◌, Bool, true, false, cond, List, [], ◌∷◌, ◌++◌, length, take, drop, Option, Some, None, Result, Ok, Err, refl, sym, ap, ◌∙◌, subst, arith, append-nil}
 use Rattle.std.specs.Prelude.{is_none}
 use mathlib.Core.List.{IsPrefix}
 use Rattle.avtp_base.specs.declared.refusal.Refusal.{Refusal}
 use Rattle.pcap_frames.specs.Capture.{Record, first_refusal, record_of, record_size, records_behind, records_from, style_of, whole_records}
 use Rattle.pcap_frames.specs.declared.style.Style.{Style}
-use Rattle.pcap_frames.specs.Reading.{taken}
 use Rattle.pcap_frames.specs.Layout.{record_refusal}
 use Rattle.pcap_frames.proofs.Firsts.{records_first}
 use Rattle.sample_schedule.specs.Batches.{Presented}
@@ -13,22 +12,21 @@ use Rattle.sample_schedule.specs.declared.shown.Shown.{Shown}
 use Rattle.listener.specs.declared.listener.ListenFault.{ListenFault}
 use Rattle.listener.specs.declared.listener.ListenFault.TheVariants.{Refused, Memory}
 use Rattle.listener.specs.declared.plan.ListenPlan.{ListenPlan}
-use Rattle.listener.specs.Feeding.{Feeding, IsQuiet, StandsFor as IsFed, bytes_after, is_ended, is_memory, out}
+use Rattle.listener.specs.Feeding.{Feeding, IsQuiet, StandsFor as IsFed, bytes_after, is_ended, out}
 use Rattle.listener.specs.Laws.{presented_of}
-use Rattle.listener.specs.Listening.{ListenState, is_closed, out as out_of}
+use Rattle.listener.specs.Listening.{out as out_of}
 use Rattle.listener.proofs.Due.{due_none}
-use Rattle.listener.proofs.Listened.{first_long, out_at_end, out_further, out_open, out_same, take_first}
+use Rattle.listener.proofs.Listened.{out_at_end, out_further, out_open, out_same}
 use Rattle.listener_pair.specs.declared.difference.PairCounts.{PairCounts}
 use Rattle.listener_pair.specs.declared.difference.Which.{Which}
 use Rattle.listener_pair.specs.declared.difference.Which.TheVariants.{A, B}
-use Rattle.listener_pair.specs.Differences.{counts_of, differences}
-use Rattle.listener_pair.specs.Merged.{known, merged}
+use Rattle.listener_pair.specs.Differences.{counts_of}
 use Rattle.listener_pair.specs.Matching.{IsIdle, MatchingState, StandsFor as IsMatched, known_of, wanted}
 use Rattle.listener_pair.proofs.Standing.{idle-counts, lacks-open, wants-a, wants-b}
 use Rattle.capture_pair.specs.declared.source.ByteSource.{ByteSource}
 use Rattle.capture_pair.specs.Feeding.{AreShort, FedPair, KeepsOther, KeepsSide, StandsFor, bytes_of, fed_of, known_by}
 use Rattle.capture_pair.specs.Pairing.{Matches, Pairs}
-use Rattle.capture_pair.specs.state.Fed.{EndedBy, EndedOn, FedBy, FedOn, IsBegun}
+use Rattle.capture_pair.specs.state.Fed.{EndedBy, EndedOn, FedOn, IsBegun}
 use Rattle.capture_pair.specs.state.Sides.{Holds, IsHeard, IsSettled, Kept, OfBytes, ShowsBytes, Taken, kept_of_bytes}
 use Rattle.capture_pair.proofs.Filling.{counts-all}
 use Rattle.capture_pair.proofs.Heard.{heard-of}

@@ -15,9 +15,9 @@ use Rattle.listener_pair.specs.Matching.{IsIdle, MatchingState, StandsFor, known
 use Rattle.listener_pair.specs.state.Window.{first_side}
 use Rattle.listener_pair.proofs.Standing.{no-next, wants-a}
 use Rattle.capture_pair.specs.Pairing.{Matches, Pairs}
-use Rattle.capture_pair.specs.state.Sides.{Filled, Fills, Holds, IsBounded, IsHeard, IsSettled, MatchesOn, ended_of, open_sides, wants_side}
+use Rattle.capture_pair.specs.state.Sides.{Filled, Fills, Holds, IsBounded, IsHeard, IsSettled, open_sides, wants_side}
 use Rattle.capture_pair.proofs.Joined.{GoesOn, IsAsked, idle-ended, known-idle, some-all}
-use Rattle.capture_pair.proofs.Handing.{presented-split, wants-no, wants-yes}
+use Rattle.capture_pair.proofs.Handing.{presented-split}
 
 -- ---- A's side is filled, and then B's
 

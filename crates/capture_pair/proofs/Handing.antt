@@ -1,5 +1,5 @@
 -- What a listener shows is given to the matching.
-use Rattle.std.proofs.Common.{◌≡◌, ℕ, zero, suc, ◌+◌, ◌^◌, ◌<◌, ◌≤◌, Bool, true, false, cond, ◌⊎◌, inl, inr, List, [], ◌∷◌, ◌++◌, length, take, drop, Option, Some, None, refl, sym, ap, ◌∙◌, subst, append_assoc, append-nil, length-append, arith}
+use Rattle.std.proofs.Common.{◌≡◌, ℕ, zero, suc, ◌+◌, ◌<◌, ◌≤◌, Bool, true, false, ◌⊎◌, inl, inr, List, [], ◌∷◌, ◌++◌, length, take, drop, Option, Some, None, refl, sym, ap, ◌∙◌, subst, append-nil, arith}
 use Rattle.std.specs.Prelude.{IfNone, slice_get}
 use Rattle.std.specs.Option.{option_to_list}
 use Rattle.sample_schedule.specs.Batches.{Presented}
@@ -11,7 +11,6 @@ use Rattle.listener_pair.specs.declared.difference.Which.TheVariants.{A, B}
 use Rattle.listener_pair.specs.Merged.{IsInOrder}
 use Rattle.listener_pair.specs.Matching.{MatchingState, StandsFor, ended_by, given_to, lacks, nexts_left, wanted}
 use Rattle.listener_pair.proofs.Standing.{ended-a, ended-b, given-a, given-b, lacks-open, wants-a, wants-b}
-use Rattle.capture_pair.specs.Pairing.{Matches}
 use Rattle.capture_pair.specs.state.Sides.{Filled, Fills, Going, IsHeard, IsOtherSame, MatchesOn, ended_of, handed, is_passed, one_if_open, open_sides, wants_side}
 use Rattle.capture_pair.proofs.Joined.{order-front}
 

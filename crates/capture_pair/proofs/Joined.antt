@@ -1,6 +1,6 @@
 -- The known part of what two sides present, if a matching was given the first batches of each.
-use Rattle.std.proofs.Common.{◌≡◌, ℕ, zero, suc, ℤ, ◌+◌, ◌<◌, Bool, true, false, cond, ◌&&◌, ◌||◌, ◌⊎◌, inl, inr, ◌≤ℤ◌, ◌<ℤ◌, List, [], ◌∷◌, ◌++◌, length, Option, Some, None, refl, sym, ap, ◌∙◌, subst, append_assoc, append-nil, length-append, arith}
-use Rattle.std.specs.Prelude.{int_lt, is_some, slice_get}
+use Rattle.std.proofs.Common.{◌≡◌, ℕ, zero, suc, ℤ, ◌+◌, ◌<◌, Bool, true, false, cond, ◌&&◌, ◌||◌, ◌⊎◌, inl, inr, ◌≤ℤ◌, ◌<ℤ◌, List, [], ◌∷◌, ◌++◌, length, Option, Some, None, refl, sym, ap, ◌∙◌, subst, append_assoc, append-nil, arith}
+use Rattle.std.specs.Prelude.{int_lt, slice_get}
 use Rattle.std.specs.List.{AllByRecursion, list_any}
 use Rattle.std.specs.Option.{option_to_list}
 use Rattle.std.proofs.lemmas.Int.{ints}
@@ -16,7 +16,7 @@ use Rattle.listener_pair.specs.Matching.{EndsOn, IsIdle, IsSorted, MatchingState
 use Rattle.listener_pair.proofs.Counting.{differences-front}
 use Rattle.listener_pair.proofs.Known.{known-cons, known-nil, settled-a, settled-b}
 use Rattle.listener_pair.proofs.Sorting.{all-join, all-left, all-right, all-weaker, batches-append, merged-is}
-use Rattle.listener_pair.proofs.Standing.{known-is, lacks-none, lacks-open, wants-a, wants-b}
+use Rattle.listener_pair.proofs.Standing.{known-is, lacks-none, wants-a, wants-b}
 
 -- ---- what holds of all
 

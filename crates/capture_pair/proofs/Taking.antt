@@ -1,6 +1,5 @@
 -- A pair of listeners takes records.
-use Rattle.std.proofs.Common.{◌≡◌, ℕ, ◌+◌, ◌^◌, ◌<◌, ◌≤◌, Bool, true, false, List, [], ◌∷◌, ◌++◌, length, take, drop, Option, Some, None, refl, sym, ap, ◌∙◌, subst, arith}
-use Rattle.std.specs.Prelude.{slice_get}
+use Rattle.std.proofs.Common.{◌≡◌, ℕ, ◌^◌, ◌<◌, ◌≤◌, true, false, List, [], ◌∷◌, ◌++◌, length, take, Some, refl, sym, ap, ◌∙◌, subst, arith}
 use mathlib.Core.List.{IsPrefix}
 use Rattle.pcap_frames.specs.Capture.{Record}
 use Rattle.sample_schedule.specs.Batches.{Presented}
@@ -13,8 +12,7 @@ use Rattle.listener.proofs.Listened.{first_long, out_at_end, out_further, out_op
 use Rattle.listener_pair.specs.declared.difference.PairCounts.{PairCounts}
 use Rattle.listener_pair.specs.declared.difference.Which.{Which}
 use Rattle.listener_pair.specs.declared.difference.Which.TheVariants.{A, B}
-use Rattle.listener_pair.specs.Differences.{counts_of, differences}
-use Rattle.listener_pair.specs.Merged.{known, merged}
+use Rattle.listener_pair.specs.Differences.{counts_of}
 use Rattle.listener_pair.specs.Matching.{IsIdle, MatchingState, StandsFor as IsMatched, known_of, wanted}
 use Rattle.listener_pair.proofs.Standing.{idle-counts, lacks-open, wants-a, wants-b}
 use Rattle.capture_pair.specs.declared.source.RecordSource.{RecordSource}

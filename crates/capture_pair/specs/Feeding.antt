@@ -1,6 +1,5 @@
 -- Two listeners with one plan, each of which is fed the bytes of a capture, and the differences of what they present.
-use Rattle.std.specs.Prelude.{◌≡◌, ℕ, ◌+◌, ◌^◌, ◌≤◌, Bool, List, length, Option}
-use Rattle.sample_schedule.specs.Batches.{Presented}
+use Rattle.std.specs.Prelude.{◌≡◌, ℕ, ◌+◌, ◌^◌, ◌≤◌, List, length, Option}
 use Rattle.listener.specs.declared.plan.ListenPlan.{ListenPlan}
 use Rattle.listener.specs.Feeding.{Feeding, StandsFor as IsFed, is_ended, out, work}
 use Rattle.listener.specs.Laws.{presented_of}
@@ -8,7 +7,7 @@ use Rattle.listener_pair.specs.declared.difference.Which.{Which}
 use Rattle.listener_pair.specs.declared.difference.Which.TheVariants.{A, B}
 use Rattle.listener_pair.specs.Merged.{Sided, known, merged}
 use Rattle.listener_pair.specs.Matching.{IsIdle, MatchingState, nexts_left, wanted}
-use Rattle.capture_pair.specs.Pairing.{Pairs, other_of}
+use Rattle.capture_pair.specs.Pairing.{Pairs}
 
 -- Two listeners that are fed, and the matching of what they present.
 pub record FedPair : Type 0 where

@@ -1,5 +1,5 @@
-use Rattle.std.proofs.Common.{◌≡◌, ◌+◌, ◌≤◌, ◌∙◌, true, false, ap, sym, arith}
-use Rattle.listener_pair.specs.Matching.{MatchingState, nexts_left, wanted}
+use Rattle.std.proofs.Common.{◌≡◌, ◌∙◌, true, ap, sym, arith}
+use Rattle.listener_pair.specs.Matching.{nexts_left, wanted}
 use Rattle.capture_pair.specs.state.Sides.{handed, is_passed}
 use Rattle.capture_pair.proofs.Handing.{going-filled, going-next, handed-nexts, handed-passed}
 use Rattle.capture_pair.proofs.sides.fill.Goals as goal

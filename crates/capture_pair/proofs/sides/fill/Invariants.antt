@@ -1,4 +1,4 @@
-use Rattle.std.proofs.Common.{◌≡◌, ◌+◌, ◌≤◌, List, ℕ, Some}
+use Rattle.std.proofs.Common.{◌≡◌, ◌≤◌, List, ℕ, Some}
 use Rattle.sample_schedule.specs.declared.shown.Shown.{Shown as ShownValue}
 use Rattle.listener_pair.specs.Matching.{wanted}
 use Rattle.capture_pair.specs.state.Sides.{Going, IsHeard, MatchesOn, Taken}

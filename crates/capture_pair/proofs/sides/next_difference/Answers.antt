@@ -1,7 +1,7 @@
-use Rattle.std.proofs.Common.{◌≡◌, ◌+◌, ◌∙◌, List, ℕ, Bool, Option, None, true, false, length, ap, sym, refl, subst, arith}
+use Rattle.std.proofs.Common.{◌≡◌, ◌+◌, ◌∙◌, Option, None, length, ap, sym, refl, subst, arith}
 use Rattle.std.specs.Prelude.{is_some, not}
 use Rattle.std.specs.Option.{option_to_list}
-use Rattle.listener_pair.specs.Matching.{IsIdle, MatchingState, wanted}
+use Rattle.listener_pair.specs.Matching.{IsIdle}
 use Rattle.listener_pair.specs.declared.difference.Difference.{Difference}
 use Rattle.capture_pair.specs.Pairing.{Pairs}
 use Rattle.capture_pair.specs.state.Sides.{Kept}

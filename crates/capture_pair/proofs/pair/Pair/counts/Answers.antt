@@ -1,4 +1,4 @@
-use Rattle.std.proofs.Common.{◌≡◌, ◌∙◌, ap, sym, subst}
+use Rattle.std.proofs.Common.{◌∙◌, ap, sym, subst}
 use Rattle.listener.specs.Feeding.{IsQuiet}
 use Rattle.listener_pair.specs.Differences.{counts_of}
 use Rattle.listener_pair.specs.Matching.{IsIdle}

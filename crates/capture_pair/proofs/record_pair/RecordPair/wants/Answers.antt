@@ -1,4 +1,4 @@
-use Rattle.std.proofs.Common.{◌≡◌, ◌∙◌, ap, sym, subst}
+use Rattle.std.proofs.Common.{◌∙◌, ap, sym, subst}
 use Rattle.listener.specs.Listening.{IsIdle as IsIdleListener, is_closed}
 use Rattle.listener_pair.specs.Matching.{IsIdle}
 use Rattle.capture_pair.specs.Pairing.{EndsAreClosed, PairState}
