@@ -1,5 +1,5 @@
 -- Two captures of one talker never differ.
-use Rattle.std.proofs.Common.{◌≡◌, ℕ, zero, suc, ◌+◌, ◌*◌, ◌%◌, ◌<◌, ◌≤◌, Bool, true, false, cond, ◌&&◌, ◌||◌, ◌⊎◌, inl, inr, ℤ, ◌-ℤ◌, pos, List, [], ◌∷◌, ◌++◌, length, Option, Some, None, refl, sym, ap, ◌∙◌, subst, arith, mul-le-mul_left}
+use Rattle.std.proofs.Common.{◌≡◌, ℕ, zero, suc, ◌*◌, ◌%◌, ◌≤◌, Bool, true, false, cond, ◌&&◌, ◌||◌, ◌⊎◌, inl, inr, ℤ, ◌-ℤ◌, List, [], ◌∷◌, ◌++◌, Option, Some, None, refl, sym, ap, ◌∙◌, subst, arith, mul-le-mul_left}
 use Rattle.std.specs.Prelude.{◌==◌, nat_le, unsigned_abs, option_map}
 use Rattle.std.specs.List.{AllByRecursion, cons_option, filter_map, find}
 use Rattle.std.specs.Str.{bytes_eq}
@@ -18,10 +18,9 @@ use Rattle.sample_schedule.specs.Batches.{Presented, is_unit, sample_instant}
 use Rattle.sample_schedule.specs.Verdicts.{first_instant, same_instant}
 use Rattle.listener.specs.declared.plan.ListenPlan.{ListenPlan}
 use Rattle.listener.specs.Heard.{shown_of}
-use Rattle.listener.specs.Laws.{AreSame, HearsTalker, IsOfJournal, IsOfPacket, by_clock, presented_of, sample_count}
+use Rattle.listener.specs.Laws.{AreSame, HearsTalker, IsOfPacket, by_clock, presented_of, sample_count}
 use Rattle.listener.proofs.TrueOnce.{first_at, one_packet, same_samples}
 use Rattle.listener_pair.specs.declared.difference.Difference.{Difference}
-use Rattle.listener_pair.specs.declared.difference.Way.{Way}
 use Rattle.listener_pair.specs.declared.difference.Way.TheVariants.{At as AtWay, Bytes as BytesWay}
 use Rattle.listener_pair.specs.declared.difference.Which.{Which}
 use Rattle.listener_pair.specs.declared.difference.Which.TheVariants.{A, B}

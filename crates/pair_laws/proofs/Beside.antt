@@ -1,5 +1,5 @@
 -- A capture beside itself never differs.
-use Rattle.std.proofs.Common.{◌≡◌, ◌≢◌, ℕ, zero, suc, ◌+◌, ◌*◌, ◌<◌, ◌≤◌, Bool, true, false, cond, ◌&&◌, ◌||◌, not, eqb, ◌⊎◌, inl, inr, ℤ, ◌≤ℤ◌, ◌<ℤ◌, ◌-ℤ◌, pos, List, [], ◌∷◌, ◌++◌, length, map, filter, Option, Some, None, refl, sym, ap, ◌∙◌, subst, arith, append-nil, append_assoc, length-append}
+use Rattle.std.proofs.Common.{◌≡◌, ◌≢◌, ℕ, suc, ◌+◌, ◌*◌, ◌<◌, ◌≤◌, Bool, true, false, cond, ◌&&◌, ◌||◌, not, eqb, ℤ, ◌≤ℤ◌, ◌<ℤ◌, ◌-ℤ◌, pos, List, [], ◌∷◌, ◌++◌, length, map, Option, Some, None, refl, sym, ap, ◌∙◌, subst, arith, append_assoc, length-append}
 use Rattle.std.specs.Prelude.{◌==◌, nat_le, unsigned_abs, option_map}
 use Rattle.std.specs.List.{AllByRecursion, IsDistinct, cons_option, filter_map, find, list_any}
 use Rattle.std.proofs.lemmas.Int.{ints}
@@ -13,11 +13,10 @@ use Rattle.listener_pair.specs.declared.difference.PairCounts.{PairCounts}
 use Rattle.listener_pair.specs.declared.difference.Which.{Which}
 use Rattle.listener_pair.specs.declared.difference.Which.TheVariants.{A, B}
 use Rattle.listener_pair.specs.declared.placed.Placed.{Placed}
-use Rattle.listener_pair.specs.Merged.{IsInOrder, Sided, is_side, merged}
-use Rattle.listener_pair.specs.Pairs.{Paired, are_near, at_place, fits, left_by, may_pair, pair_by, pairs, pairs_from, partner_of, reaches, unpaired, unpaired_from, unpaired_with, within_reach, without_first}
-use Rattle.listener_pair.specs.Differences.{alone, between, counts_of, difference_by, difference_of, differences}
+use Rattle.listener_pair.specs.Merged.{Sided, is_side, merged}
+use Rattle.listener_pair.specs.Pairs.{Paired, are_near, at_place, fits, left_by, may_pair, pair_by, pairs, pairs_from, partner_of, unpaired, unpaired_from, within_reach, without_first}
+use Rattle.listener_pair.specs.Differences.{alone, counts_of, difference_by, difference_of, differences}
 use Rattle.listener_pair.specs.Matching.{IsSorted, MayPrecede, batches_of, of_side}
-use Rattle.listener_pair.specs.Ways.{way_of}
 use Rattle.listener_pair.proofs.Samples.{equal-batches, no-way}
 use Rattle.listener_pair.proofs.Sorting.{all-left, all-right, all-weaker, batches-append}
 use Rattle.listener_pair.proofs.Windows.{le-yes}

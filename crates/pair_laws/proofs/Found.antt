@@ -1,10 +1,9 @@
 -- Two batches of one packet or unit are paired.
-use Rattle.std.proofs.Common.{◌≡◌, ◌≢◌, ℕ, zero, suc, ◌+◌, ◌*◌, ◌%◌, ◌<◌, ◌≤◌, Bool, true, false, cond, ◌&&◌, ◌||◌, not, ◌⊎◌, inl, inr, ℤ, ◌-ℤ◌, pos, List, [], ◌∷◌, ◌++◌, length, Option, Some, None, refl, sym, ap, ◌∙◌, subst, arith, append_assoc, append-nil, length-append}
+use Rattle.std.proofs.Common.{◌≡◌, ◌≢◌, ℕ, zero, suc, ◌+◌, ◌*◌, ◌%◌, ◌<◌, ◌≤◌, Bool, true, false, cond, ◌&&◌, ◌||◌, not, ◌⊎◌, inl, inr, ℤ, ◌-ℤ◌, List, [], ◌∷◌, ◌++◌, length, Option, Some, None, refl, sym, ap, ◌∙◌, subst, arith, append_assoc, length-append}
 use Rattle.std.specs.Prelude.{◌==◌, Any, nat_le, slice_get, slice_index_or, unsigned_abs}
 use Rattle.std.specs.List.{AllByRecursion, find}
-use Rattle.std.proofs.lemmas.Int.{ints}
 use Rattle.pcap_frames.specs.Capture.{Record}
-use Rattle.stream_journal.specs.Conforming.{Conforms, IsAudio}
+use Rattle.stream_journal.specs.Conforming.{Conforms}
 use Rattle.stream_journal.specs.Delivered.{IsAudioKind}
 use Rattle.stream_journal.specs.Journal.{Am824, DenseAaf, H264, Kind, SparseAaf}
 use Rattle.packet_journal.specs.Packets.{PacketJournal}
@@ -20,14 +19,14 @@ use Rattle.listener_pair.specs.declared.difference.Which.{Which}
 use Rattle.listener_pair.specs.declared.difference.Which.TheVariants.{A, B}
 use Rattle.listener_pair.specs.declared.placed.Placed.{Placed}
 use Rattle.listener_pair.specs.Merged.{Sided, is_side, merged}
-use Rattle.listener_pair.specs.Pairs.{Paired, are_near, at_place, fits, left_by, may_pair, pair_by, pairs, pairs_from, partner_of, reaches, unpaired, unpaired_from, within_reach, without_first}
+use Rattle.listener_pair.specs.Pairs.{Paired, are_near, at_place, fits, left_by, may_pair, pair_by, pairs, pairs_from, partner_of, unpaired, unpaired_from, within_reach, without_first}
 use Rattle.listener_pair.specs.Matching.{IsSorted, MayPrecede, batches_of, of_side}
 use Rattle.listener_pair.proofs.Sorting.{all-left, all-right, all-weaker, batches-append}
 use Rattle.listener_pair.proofs.Windows.{le-yes}
 use Rattle.pair_laws.specs.Agreeing.{HasPace, IsOfAnother, IsPairOf, IsPresentedOfTalker, KeepsPace}
 use Rattle.pair_laws.specs.Beside.{AreAllTold, AreTold, IsPresentation}
-use Rattle.pair_laws.proofs.Agreeing.{both-left, both-right, left-all, one-that-fits, without-all}
-use Rattle.pair_laws.proofs.Beside.{AllAt, batches-at, between-at, part-few, parts, pairs-cons, pairs-nil, same-same, sides-length, sorted-after, sorted-back, sorted-before, unpaired-cons, unpaired-nil, zero-far}
+use Rattle.pair_laws.proofs.Agreeing.{both-right, left-all, one-that-fits, without-all}
+use Rattle.pair_laws.proofs.Beside.{batches-at, between-at, part-few, parts, pairs-cons, pairs-nil, same-same, sides-length, sorted-after, sorted-back, sorted-before, unpaired-cons, unpaired-nil, zero-far}
 use Rattle.capture_pair.proofs.Joined.{merges}
 use Rattle.pair_laws.proofs.Paces.{presented-of-talker}
 use Rattle.pair_laws.proofs.Told.{shown-told}

@@ -1,7 +1,6 @@
 -- What is known of what two listeners present of one talker has no differences.
-use Rattle.std.proofs.Common.{◌≡◌, Bool, true, false, ℤ, List, [], ◌++◌, refl, sym, ap, ◌∙◌, subst}
+use Rattle.std.proofs.Common.{◌≡◌, Bool, true, false, ℤ, List, [], refl, sym, ap, ◌∙◌, subst}
 use Rattle.std.specs.List.{AllByRecursion}
-use mathlib.Core.List.{IsPrefix}
 use Rattle.pcap_frames.specs.Capture.{Record}
 use Rattle.packet_journal.specs.Packets.{PacketJournal}
 use Rattle.sample_schedule.specs.Batches.{Presented}
@@ -9,7 +8,7 @@ use Rattle.sample_schedule.specs.declared.shown.Shown.{Shown}
 use Rattle.listener.specs.declared.plan.ListenPlan.{ListenPlan}
 use Rattle.listener.specs.Heard.{due_of, shown_of}
 use Rattle.listener.specs.Laws.{HearsTalker, by_clock, presented_of}
-use Rattle.listener.specs.Listening.{ListenState, is_closed, out}
+use Rattle.listener.specs.Listening.{ListenState, is_closed}
 use Rattle.listener.proofs.Due.{due_first}
 use Rattle.listener.proofs.Listened.{out_ended, out_open}
 use Rattle.listener_pair.specs.Differences.{differences}

@@ -1,5 +1,5 @@
 -- What a listener presents of a talker keeps the talker's pace.
-use Rattle.std.proofs.Common.{◌≡◌, ℕ, zero, suc, ◌+◌, ◌*◌, ◌<◌, ◌≤◌, Bool, true, false, cond, ◌⊎◌, inl, inr, ℤ, pos, List, [], ◌∷◌, ◌++◌, length, map, fold, Option, Some, None, Result, Ok, Err, refl, sym, ap, ◌∙◌, subst, arith}
+use Rattle.std.proofs.Common.{◌≡◌, ℕ, zero, suc, ◌+◌, ◌*◌, ◌≤◌, Bool, true, false, inl, inr, ℤ, pos, List, [], ◌∷◌, ◌++◌, length, map, fold, Option, Some, None, Result, Ok, Err, refl, sym, ◌∙◌, subst, arith}
 use Rattle.std.specs.Prelude.{◌==◌, if◌then◌else◌, All, IfOk, IfSome, option_map, option_and_then, slice_get}
 use Rattle.std.specs.List.{AllByRecursion, filter_map}
 use Rattle.std.proofs.lemmas.Bool.{eqb-true}
@@ -13,15 +13,14 @@ use Rattle.clock_track.proofs.LineFacts.{spaced, spaced_least, spaced_own, space
 use Rattle.pcap_frames.specs.Capture.{Record}
 use Rattle.stream_journal.specs.ClockRows.{IsSpotAt, IsTrueRow}
 use Rattle.stream_journal.specs.Clocks.{pair_at}
-use Rattle.stream_journal.specs.Conforming.{Conforms, IsAudio, IsClock}
+use Rattle.stream_journal.specs.Conforming.{IsAudio, IsClock}
 use Rattle.stream_journal.specs.Delivered.{IsAudioKind}
 use Rattle.stream_journal.specs.Journal.{Am824, DenseAaf, H264, Journal, Kind, Part, SparseAaf}
 use Rattle.stream_journal.proofs.TrueLines.{true_spot}
 use Rattle.packet_journal.specs.Packets.{PacketJournal, carried}
 use Rattle.sample_schedule.specs.declared.accepted.Accepted.{Accepted}
 use Rattle.sample_schedule.specs.declared.entry.Entry.{Entry}
-use Rattle.sample_schedule.specs.declared.entry.Entry.TheVariants.{Item as OfItem, Clock as OfClock}
-use Rattle.sample_schedule.specs.declared.item.Item.TheVariants.{Packet as OfPacket, Unit as OfUnit, Bad as OfBad}
+use Rattle.sample_schedule.specs.declared.item.Item.TheVariants.{Packet as OfPacket}
 use Rattle.sample_schedule.specs.declared.item.Packet.{Packet}
 use Rattle.sample_schedule.specs.declared.plan.SchedulePlan.{SchedulePlan}
 use Rattle.sample_schedule.specs.declared.shown.Reason.{Reason}
@@ -41,7 +40,7 @@ use Rattle.listener.specs.Laws.{HearsTalker, IsOfJournal, by_clock, presented_of
 use Rattle.listener.proofs.TrueHeard.{IsFollowed}
 use Rattle.listener.proofs.TrueItems.{sent}
 use Rattle.listener.proofs.TrueList.{IsBadEntry, IsClockEntry, IsStreamEntry, IsTrueEntry, IsUnitEntry, batches_are, entries_true, followed, prefix_true, presented_true}
-use Rattle.pair_laws.specs.Agreeing.{HasPace, IsPresentedOfTalker, KeepsPace}
+use Rattle.pair_laws.specs.Agreeing.{IsPresentedOfTalker, KeepsPace}
 
 -- ---- lines
 

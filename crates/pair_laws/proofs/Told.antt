@@ -1,5 +1,5 @@
 -- Batches that one listener presents at one first instant have different sequence numbers.
-use Rattle.std.proofs.Common.{◌≡◌, ◌≢◌, ℕ, ◌<◌, Bool, true, false, ℤ, List, [], ◌∷◌, map, refl, sym, ap, ◌∙◌, subst}
+use Rattle.std.proofs.Common.{◌≡◌, ◌<◌, List, [], ◌∷◌, map, sym, ◌∙◌, subst}
 use Rattle.std.specs.List.{AllByRecursion}
 use Rattle.clock_track.specs.Rows.{clock_spot}
 use Rattle.pcap_frames.specs.Capture.{Record}
