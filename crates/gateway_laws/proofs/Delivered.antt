@@ -108,7 +108,7 @@ one_each to shape id frame (c ∷ cs) is small all =
     let rest = one_each to shape id (suc frame) cs is small all.1 in
     rw (entry, rest) refl
 
-entries_are : (to : To) (shape : Shape) (id : ℕ) (cs : List Cut) → IsShape shape → id < 2 ^ 64 → AllByRecursion (IsCarried to shape) cs
+pub entries_are : (to : To) (shape : Shape) (id : ℕ) (cs : List Cut) → IsShape shape → id < 2 ^ 64 → AllByRecursion (IsCarried to shape) cs
     → entries (deliveries id None (map record_of (map (cut_frame to shape id) cs))) ≡ packet_entries (packets_heard to shape 1 cs)
 entries_are to shape id cs is small all =
     let ds : List Delivery = all_delivered to shape id 1 cs in

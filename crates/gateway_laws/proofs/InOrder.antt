@@ -1,5 +1,5 @@
 -- Items that come in their order are presented in that order.
-use Rattle.std.proofs.Common.{◌≡◌, ℕ, zero, suc, ◌+◌, ◌<◌, ◌≤◌, Bool, true, false, ℤ, ◌<ℤ◌, List, [], ◌∷◌, ◌++◌, length, map, take, Option, Some, None, refl, sym, ap, subst, ◌∙◌, arith}
+use Rattle.std.proofs.Common.{◌≡◌, ℕ, zero, suc, ◌+◌, ◌<◌, ◌≤◌, Bool, true, false, ℤ, ◌<ℤ◌, List, [], ◌∷◌, ◌++◌, length, map, take, Option, Some, None, inl, inr, refl, sym, ap, subst, ◌∙◌, arith}
 use Rattle.std.specs.Prelude.{◌==◌, if◌then◌else◌, fold, int_le, int_lt, slice_get, Ok, Err}
 use Rattle.std.specs.List.{AllByRecursion, list_any}
 use Rattle.std.proofs.lemmas.Int.{ints}
@@ -7,20 +7,20 @@ use Rattle.std.proofs.lemmas.List.{take_all}
 use Rattle.sample_schedule.specs.declared.accepted.Accepted.{Accepted}
 use Rattle.sample_schedule.specs.declared.entry.Entry.{Entry}
 use Rattle.sample_schedule.specs.declared.entry.Entry.TheVariants.{Item as OfItem}
-use Rattle.sample_schedule.specs.declared.item.Item.{Item}
 use Rattle.sample_schedule.specs.declared.plan.SchedulePlan.{SchedulePlan}
 use Rattle.sample_schedule.specs.declared.shown.Reason.TheVariants.{Full}
 use Rattle.sample_schedule.specs.Batches.{Presented}
 use Rattle.sample_schedule.specs.Laws.{given_by, place_of, presented, shown_at, verdict_in}
 use Rattle.sample_schedule.specs.Order.{by_instant, put_behind, standing}
-use Rattle.sample_schedule.specs.Schedule.{Given, accepted, accepted_by, given, now_at, prefix_of, shown_of, verdict_at}
+use Rattle.sample_schedule.specs.Schedule.{Given, accepted, given, now_at, prefix_of, shown, shown_of}
 use Rattle.sample_schedule.specs.Verdicts.{Clock, first_instant, is_copy, is_full, timed, verdict}
-use Rattle.sample_schedule.proofs.Judged.{as-judged}
+use Rattle.sample_schedule.proofs.Judged.{In, IsJudged, all-judged, as-judged}
 use Rattle.sample_schedule.proofs.LawLemmas.{accepted-presented}
+use Rattle.sample_schedule.proofs.StageLemmas.{accepted-next}
 use Rattle.gateway_laws.specs.InOrder.{AreInOrder, IsNotFull, IsTimedAt}
 
 -- the batches as they are accepted, the first at this place
-abbrev placed : ℕ → List Presented → List Accepted
+abbrev pub placed : ℕ → List Presented → List Accepted
 placed n [] = []
 placed n (b ∷ bs) = record { place = n; instant = first_instant b; batch = b } ∷ placed (suc n) bs
 
@@ -91,15 +91,6 @@ none_by_instant = refl
 
 -- ---- verdicts
 
-module_of : (clock : Clock) (plan : SchedulePlan) (entries : List Entry) (i : ℕ) (earlier : List Accepted) (item : Item) → slice_get entries i ≡ Some (OfItem item)
-    → verdict_at clock plan entries i earlier ≡ Some (verdict plan (now_at entries i) earlier i (timed clock plan (prefix_of plan entries i) item))
-unfolding verdict_at
-module_of clock plan entries i earlier item at = rw at refl
-
-accepted_more : (clock : Clock) (plan : SchedulePlan) (entries : List Entry) (i : ℕ) → accepted clock plan entries (suc i) ≡ accepted clock plan entries i ++ accepted_by (verdict_at clock plan entries i (accepted clock plan entries i))
-unfolding accepted
-accepted_more clock plan entries i = refl
-
 none_accepted : (clock : Clock) (plan : SchedulePlan) (entries : List Entry) → accepted clock plan entries 0 ≡ []
 unfolding accepted
 none_accepted clock plan entries = refl
@@ -121,23 +112,25 @@ mapped : (gs : List Given) → AllByRecursion IsNotFull (map shown_of gs) → Al
 mapped [] all = tt
 mapped (g ∷ gs) all = (all.0, mapped gs all.1)
 
--- an item that is timed is accepted
-taken : (clock : Clock) (plan : SchedulePlan) (entries : List Entry) (i : ℕ) (b : Presented) (earlier : List Accepted) → IsTimedAt clock plan entries i b → AllByRecursion IsNotFull (map shown_of (given clock plan entries)) → accepted clock plan entries i ≡ earlier
-    → list_any (is_copy (first_instant b) b.seq) earlier ≡ false → accepted_by (verdict_at clock plan entries i earlier) ≡ record { place = i; instant = first_instant b; batch = b } ∷ []
-taken clock plan entries i b earlier is room same copy =
+-- a timed item that is no copy is judged by the room alone
+judged : (clock : Clock) (plan : SchedulePlan) (entries : List Entry) (i : ℕ) (b : Presented) (earlier : List Accepted) → (is : IsTimedAt clock plan entries i b) → accepted clock plan entries i ≡ earlier → list_any (is_copy (first_instant b) b.seq) earlier ≡ false
+    → verdict_in clock plan entries i is.item ≡ (if is_full plan (standing (now_at entries i) earlier) (length b.bytes) then Err Full else Ok (record { place = i; instant = first_instant b; batch = b }))
+judged clock plan entries i b earlier is same copy =
     let early = is.early in
     let late : int_lt (first_instant b) (now_at entries i) ≡ false = grind (arith, ints) in
-    let here = module_of clock plan entries i earlier is.item is.there in
     let decides = ap (λ (r : _). verdict plan (now_at entries i) earlier i r) is.batch_is ∙ decide plan (now_at entries i) earlier i b late copy in
-    let shows = as-judged clock plan entries i is.item is.there in
-    let verdict_is : verdict_in clock plan entries i is.item ≡ (if is_full plan (standing (now_at entries i) earlier) (length b.bytes) then Err Full else Ok (record { place = i; instant = first_instant b; batch = b })) =
-    subst (λ (l : List Accepted). verdict plan (now_at entries i) l i (timed clock plan (prefix_of plan entries i) is.item) ≡ (if is_full plan (standing (now_at entries i) earlier) (length b.bytes) then Err Full else Ok (record { place = i; instant = first_instant b; batch = b }))) (sym same) decides in
-    ap accepted_by (here ∙ ap Some decides) ∙ by (is_full plan (standing (now_at entries i) earlier) (length b.bytes)) refl (flagged_in i (given clock plan entries) _ (shows ∙ ap (λ (r : _). given_by i is.item r ∷ []) verdict_is) (mapped (given clock plan entries) room))
+    subst (λ (l : List Accepted). verdict plan (now_at entries i) l i (timed clock plan (prefix_of plan entries i) is.item) ≡ (if is_full plan (standing (now_at entries i) earlier) (length b.bytes) then Err Full else Ok (record { place = i; instant = first_instant b; batch = b }))) (sym same) decides
+
+-- if nothing is flagged since the buffer is full, there is room
+has_room : (clock : Clock) (plan : SchedulePlan) (entries : List Entry) (i : ℕ) (b : Presented) (earlier : List Accepted) → IsTimedAt clock plan entries i b → AllByRecursion IsNotFull (shown clock plan entries) → accepted clock plan entries i ≡ earlier
+    → list_any (is_copy (first_instant b) b.seq) earlier ≡ false → is_full plan (standing (now_at entries i) earlier) (length b.bytes) ≡ false
+has_room clock plan entries i b earlier is room same copy =
+    let shows = as-judged clock plan entries i is.item is.there ∙ ap (λ (r : _). given_by i is.item r ∷ []) (judged clock plan entries i b earlier is same copy) in
+    by (is_full plan (standing (now_at entries i) earlier) (length b.bytes)) refl (flagged_in i (given clock plan entries) _ shows (mapped (given clock plan entries) room))
   where
-    by : (full : Bool) → is_full plan (standing (now_at entries i) earlier) (length b.bytes) ≡ full → IsNotFull (shown_of (given_by i is.item (if full then Err Full else Ok (record { place = i; instant = first_instant b; batch = b }))))
-        → accepted_by (Some (if full then Err Full else Ok (record { place = i; instant = first_instant b; batch = b }))) ≡ record { place = i; instant = first_instant b; batch = b } ∷ []
+    by : (full : Bool) → is_full plan (standing (now_at entries i) earlier) (length b.bytes) ≡ full → IsNotFull (shown_of (given_by i is.item (if full then Err Full else Ok (record { place = i; instant = first_instant b; batch = b })))) → is_full plan (standing (now_at entries i) earlier) (length b.bytes) ≡ false
     by true e not_full = absurd (not_full refl)
-    by false e not_full = refl
+    by false e not_full = e
 
 -- ---- all of them
 
@@ -146,12 +139,28 @@ within [] k below e = absurd (omega arith)
 within (x ∷ xs) zero below e = absurd cc
 within (x ∷ xs) (suc k) below e = within xs k (omega (arith, below)) e
 
+-- Each entry is an item that is timed, the first instants rise, and there is room for each once those before it are accepted.
+pub record AreFree (clock : Clock) (plan : SchedulePlan) (entries : List Entry) (batches : List Presented) : Type 0 where
+  pub all : length batches ≡ length entries
+  pub timed_at : (i : ℕ) (batch : Presented) → slice_get batches i ≡ Some batch → IsTimedAt clock plan entries i batch
+  pub rise : (i j : ℕ) (a b : Presented) → i < j → slice_get batches i ≡ Some a → slice_get batches j ≡ Some b → first_instant a <ℤ first_instant b
+  pub room : (i : ℕ) (b : Presented) → slice_get batches i ≡ Some b → accepted clock plan entries i ≡ placed 0 (take i batches) → list_any (is_copy (first_instant b) b.seq) (placed 0 (take i batches)) ≡ false
+      → is_full plan (standing (now_at entries i) (placed 0 (take i batches))) (length b.bytes) ≡ false
+
 -- The first n items are accepted, and are in order.
 record AreTaken (clock : Clock) (plan : SchedulePlan) (entries : List Entry) (batches : List Presented) (n : ℕ) : Type 0 where
   accepted_is : accepted clock plan entries n ≡ placed 0 (take n batches)
   sorted_is : by_instant (placed 0 (take n batches)) ≡ placed 0 (take n batches)
 
-one_more : (clock : Clock) (plan : SchedulePlan) (entries : List Entry) (batches : List Presented) (n : ℕ) (o : Option Presented) → slice_get batches n ≡ o → n < length batches → AreInOrder clock plan entries batches → AreTaken clock plan entries batches n
+-- the next one is accepted
+accept : (clock : Clock) (plan : SchedulePlan) (entries : List Entry) (batches : List Presented) (n : ℕ) (b : Presented) → slice_get batches n ≡ Some b → (is : AreFree clock plan entries batches) → accepted clock plan entries n ≡ placed 0 (take n batches) → (t : IsTimedAt clock plan entries n b)
+    → verdict_in clock plan entries n t.item ≡ Ok (record { place = n; instant = first_instant b; batch = b })
+accept clock plan entries batches n b e is before t =
+    let earlier = fronts (first_instant b) batches n (λ k a below at. is.rise k n a b below at e) in
+    let copy = no_copy (first_instant b) b.seq 0 (take n batches) earlier in
+    judged clock plan entries n b (placed 0 (take n batches)) t before copy ∙ rw (is.room n b e before copy) refl
+
+one_more : (clock : Clock) (plan : SchedulePlan) (entries : List Entry) (batches : List Presented) (n : ℕ) (o : Option Presented) → slice_get batches n ≡ o → n < length batches → AreFree clock plan entries batches → AreTaken clock plan entries batches n
     → AreTaken clock plan entries batches (suc n)
 one_more clock plan entries batches n None e h is before = absurd (within batches n h e)
 one_more clock plan entries batches n (Some b) e h is before =
@@ -163,22 +172,63 @@ one_more clock plan entries batches n (Some b) e h is before =
     let place : 0 + length (take n batches) ≡ n = omega (arith, long) in
     let more = rw place at more in
     let all : placed 0 (take (suc n) batches) ≡ placed 0 (take n batches) ++ a ∷ [] = ap (placed 0) fronted ∙ more in
-    let one = taken clock plan entries n b (placed 0 (take n batches)) (is.timed_at n b e) is.room before.accepted_is (no_copy (first_instant b) b.seq 0 (take n batches) earlier) in
-    let step = accepted_more clock plan entries n in
-    let step = rw (before.accepted_is, one) at step in
+    let t = is.timed_at n b e in
+    let ok = accept clock plan entries batches n b e is before.accepted_is t in
+    let step : accepted clock plan entries (suc n) ≡ accepted clock plan entries n ++ a ∷ [] = accepted-next clock plan entries n (OfItem t.item) t.there ∙ rw ok refl in
+    let step = rw (before.accepted_is) at step in
     record {
       accepted_is = step ∙ sym all;
       sorted_is = ap by_instant all ∙ (by_instant_more (placed 0 (take n batches)) a ∙ (ap (λ (l : List Accepted). put_behind l a) before.sorted_is ∙ (put_last 0 (take n batches) a earlier ∙ sym all)));
     }
 
-all_accepted : (clock : Clock) (plan : SchedulePlan) (entries : List Entry) (batches : List Presented) (n : ℕ) → AreInOrder clock plan entries batches → n ≤ length batches → AreTaken clock plan entries batches n
+all_accepted : (clock : Clock) (plan : SchedulePlan) (entries : List Entry) (batches : List Presented) (n : ℕ) → AreFree clock plan entries batches → n ≤ length batches → AreTaken clock plan entries batches n
 all_accepted clock plan entries batches zero is h = record { accepted_is = none_accepted clock plan entries; sorted_is = none_by_instant }
 all_accepted clock plan entries batches (suc n) is h = one_more clock plan entries batches n (slice_get batches n) refl (omega (arith, h)) is (all_accepted clock plan entries batches n is (omega (arith, h)))
 
 pub all_presented : (clock : Clock) (plan : SchedulePlan) (entries : List Entry) (batches : List Presented) → AreInOrder clock plan entries batches → map (λ (a : Accepted). a.batch) (presented (given clock plan entries)) ≡ batches
 all_presented clock plan entries batches is =
-    let all = all_accepted clock plan entries batches (length batches) is (omega arith) in
+    let free : AreFree clock plan entries batches = record {
+      all = is.all;
+      timed_at = is.timed_at;
+      rise = is.rise;
+      room = λ i b at same copy. has_room clock plan entries i b (placed 0 (take i batches)) (is.timed_at i b at) is.room same copy;
+    } in
+    let all = all_accepted clock plan entries batches (length batches) free (omega arith) in
     let whole = take_all (length batches) batches (omega arith) in
     let accepted_is = rw (whole, is.all) at all.accepted_is in
     let sorted_is = rw whole at all.sorted_is in
     ap (λ (l : List Accepted). map (λ (a : Accepted). a.batch) l) (accepted-presented clock plan entries ∙ (ap by_instant accepted_is ∙ sorted_is)) ∙ batches_of 0 batches
+
+-- ---- none is flagged
+
+place_there : (batches : List Presented) (entries : List Entry) (i : ℕ) (e : Entry) → length batches ≡ length entries → slice_get entries i ≡ Some e → (b : Presented) × (slice_get batches i ≡ Some b)
+place_there [] [] i e long there = absurd cc
+place_there [] (x ∷ entries) i e long there = absurd (omega (arith, long))
+place_there (b ∷ batches) [] i e long there = absurd cc
+place_there (b ∷ batches) (x ∷ entries) zero e long there = (b, refl)
+place_there (b ∷ batches) (x ∷ entries) (suc i) e long there = place_there batches entries i e (omega (arith, long)) there
+
+place_within : (batches : List Presented) (i : ℕ) (b : Presented) → slice_get batches i ≡ Some b → i < length batches
+place_within [] i b e = absurd cc
+place_within (x ∷ batches) zero b e = omega arith
+place_within (x ∷ batches) (suc i) b e = let rest = place_within batches i b e in omega (arith, rest)
+
+one_shown : (clock : Clock) (plan : SchedulePlan) (entries : List Entry) (batches : List Presented) (g : Given) → AreFree clock plan entries batches → IsJudged clock plan entries g → IsNotFull (shown_of g)
+one_shown clock plan entries batches g is j =
+    let found = place_there batches entries (place_of g) (OfItem j.item) is.all j.there in
+    let t = is.timed_at (place_of g) found.0 found.1 in
+    let within = place_within batches (place_of g) found.0 found.1 in
+    let before = all_accepted clock plan entries batches (place_of g) is (omega (arith, within)) in
+    let ok = accept clock plan entries batches (place_of g) found.0 found.1 is before.accepted_is t in
+    let equal : Some (OfItem t.item) ≡ Some (OfItem j.item) = sym t.there ∙ j.there in
+    let item : t.item ≡ j.item = cc in
+    let ok = rw item at ok in
+    subst (λ (k : Given). IsNotFull (shown_of k)) (sym (ap (given_by (place_of g) j.item) ok) ∙ j.same) tt
+
+all_shown : (gs : List Given) → ((g : Given) → In gs g → IsNotFull (shown_of g)) → AllByRecursion IsNotFull (map shown_of gs)
+unfolding In
+all_shown [] each = tt
+all_shown (g ∷ gs) each = (each g (inl refl), all_shown gs (λ k later. each k (inr later)))
+
+pub none_full : (clock : Clock) (plan : SchedulePlan) (entries : List Entry) (batches : List Presented) → AreFree clock plan entries batches → AllByRecursion IsNotFull (shown clock plan entries)
+none_full clock plan entries batches is = all_shown (given clock plan entries) (λ g h. one_shown clock plan entries batches g is (all-judged clock plan entries g h))

@@ -6,6 +6,7 @@ pub mod Noted
 pub mod Read
 pub mod Delivered
 pub mod Kept
+pub mod Room
 pub mod Timely
 pub mod Apart
 pub mod Scanned

@@ -20,7 +20,7 @@ use Rattle.sample_schedule.specs.Laws.{presented}
 use Rattle.sample_schedule.specs.Schedule.{arrival_of, given, latest, now_at, prefix_of, shown}
 use Rattle.sample_schedule.specs.Verdicts.{Clock, first_instant, timed}
 use Rattle.am824_gateway.specs.Laws.{Rise}
-use Rattle.gateway_laws.specs.InOrder.{IsNotFull}
+use Rattle.gateway_laws.specs.InOrder.{IsNotFull, IsTimedAt}
 use Rattle.gateway_laws.specs.Stamped.{AreStamped, IsStamped, all_counted, counted_from_first, packet_entries}
 use Rattle.gateway_laws.proofs.InOrder.{all_presented}
 
@@ -48,15 +48,15 @@ timed_so clock plan prefix p x without is =
 -- ---- all of them
 
 -- Packet i is stamped with this instant, and this is its batch.
-record At (ps : List Packet) (xs : List ℤ) (i : ℕ) (b : Presented) : Type 0 where
-  packet : Packet
-  instant : ℤ
-  there : slice_get (packet_entries ps) i ≡ Some (OfItem (OfPacket packet))
-  at : slice_get xs i ≡ Some instant
-  is : IsStamped packet instant
-  batch_is : b ≡ counted_from_first packet instant
+pub record At (ps : List Packet) (xs : List ℤ) (i : ℕ) (b : Presented) : Type 0 where
+  pub packet : Packet
+  pub instant : ℤ
+  pub there : slice_get (packet_entries ps) i ≡ Some (OfItem (OfPacket packet))
+  pub at : slice_get xs i ≡ Some instant
+  pub is : IsStamped packet instant
+  pub batch_is : b ≡ counted_from_first packet instant
 
-at_place : (ps : List Packet) (xs : List ℤ) (i : ℕ) (b : Presented) → AreStamped ps xs → slice_get (all_counted ps xs) i ≡ Some b → At ps xs i b
+pub at_place : (ps : List Packet) (xs : List ℤ) (i : ℕ) (b : Presented) → AreStamped ps xs → slice_get (all_counted ps xs) i ≡ Some b → At ps xs i b
 at_place [] [] i b all e = absurd cc
 at_place [] (x ∷ xs) i b all e = absurd all
 at_place (p ∷ ps) [] i b all e = absurd all
@@ -77,7 +77,7 @@ rises (z ∷ xs) zero (suc j) x y rise h at to = (let same : z ≡ x = cc in sub
 rises (z ∷ xs) (suc i) zero x y rise h at to = absurd (omega arith)
 rises (z ∷ xs) (suc i) (suc j) x y rise h at to = rises xs i j x y rise.1 (omega (arith, h)) at to
 
-counted_length : (ps : List Packet) (xs : List ℤ) → AreStamped ps xs → length (all_counted ps xs) ≡ length (packet_entries ps)
+pub counted_length : (ps : List Packet) (xs : List ℤ) → AreStamped ps xs → length (all_counted ps xs) ≡ length (packet_entries ps)
 counted_length [] [] all = refl
 counted_length [] (x ∷ xs) all = absurd all
 counted_length (p ∷ ps) [] all = absurd all
@@ -109,32 +109,35 @@ not_after xs k i y x rise below e at = elim (or_equal k i below) [
   | inr less ↦ let after = rises xs k i y x rise less e at in omega (arith, ints, after)
 ]
 
-now_early : (ps : List Packet) (xs : List ℤ) (i : ℕ) (x : ℤ) → AreStamped ps xs → Rise xs → slice_get xs i ≡ Some x → pos 0 ≤ℤ x → now_at (packet_entries ps) i ≤ℤ x
+pub now_early : (ps : List Packet) (xs : List ℤ) (i : ℕ) (x : ℤ) → AreStamped ps xs → Rise xs → slice_get xs i ≡ Some x → pos 0 ≤ℤ x → now_at (packet_entries ps) i ≤ℤ x
 unfolding latest
 now_early ps xs i x all rise at begun = latest_by (map arrival_of (take (suc i) (packet_entries ps))) (pos 0) x begun (arrivals_by ps xs (suc i) x all (λ k y below e. not_after xs k i y x rise (omega (arith, below)) e at))
+
+pub stamped_at : (clock : Clock) (plan : SchedulePlan) (packets : List Packet) (instants : List ℤ) → plan.clock ≡ false → AreStamped packets instants → Rise instants
+    → (i : ℕ) (b : Presented) → slice_get (all_counted packets instants) i ≡ Some b → IsTimedAt clock plan (packet_entries packets) i b
+stamped_at clock plan packets instants without all rise i b e =
+    let here = at_place packets instants i b all e in
+    let first = ap first_instant here.batch_is ∙ starts_at here.packet here.instant here.is.known_rate in
+    let now = now_early packets instants i here.instant all rise here.at here.is.begun in
+    record {
+      item = OfPacket here.packet;
+      there = here.there;
+      batch_is = timed_so clock plan (prefix_of plan (packet_entries packets) i) here.packet here.instant without here.is ∙ ap Ok (sym here.batch_is);
+      early = omega (arith, ints, first, now);
+    }
+
+pub stamped_rise : (packets : List Packet) (instants : List ℤ) → AreStamped packets instants → Rise instants
+    → (i j : ℕ) (a b : Presented) → i < j → slice_get (all_counted packets instants) i ≡ Some a → slice_get (all_counted packets instants) j ≡ Some b → first_instant a <ℤ first_instant b
+stamped_rise packets instants all rise i j a b h at to =
+    let one = at_place packets instants i a all at in
+    let two = at_place packets instants j b all to in
+    let from = ap first_instant one.batch_is ∙ starts_at one.packet one.instant one.is.known_rate in
+    let later = ap first_instant two.batch_is ∙ starts_at two.packet two.instant two.is.known_rate in
+    let less = rises instants i j one.instant two.instant rise h one.at two.at in
+    omega (arith, ints, from, later, less)
 
 pub stamped_presented : (clock : Clock) (plan : SchedulePlan) (packets : List Packet) (instants : List ℤ) → plan.clock ≡ false → AreStamped packets instants → Rise instants
     → AllByRecursion IsNotFull (shown clock plan (packet_entries packets)) → map (λ (a : Accepted). a.batch) (presented (given clock plan (packet_entries packets))) ≡ all_counted packets instants
 stamped_presented clock plan packets instants without all rise room =
     all_presented clock plan (packet_entries packets) (all_counted packets instants)
-    (record {
-      all = counted_length packets instants all;
-      timed_at = λ i b e.
-          let here = at_place packets instants i b all e in
-          let first = ap first_instant here.batch_is ∙ starts_at here.packet here.instant here.is.known_rate in
-          let now = now_early packets instants i here.instant all rise here.at here.is.begun in
-          record {
-            item = OfPacket here.packet;
-            there = here.there;
-            batch_is = timed_so clock plan (prefix_of plan (packet_entries packets) i) here.packet here.instant without here.is ∙ ap Ok (sym here.batch_is);
-            early = omega (arith, ints, first, now);
-          };
-      rise = λ i j a b h at to.
-          let one = at_place packets instants i a all at in
-          let two = at_place packets instants j b all to in
-          let from = ap first_instant one.batch_is ∙ starts_at one.packet one.instant one.is.known_rate in
-          let later = ap first_instant two.batch_is ∙ starts_at two.packet two.instant two.is.known_rate in
-          let less = rises instants i j one.instant two.instant rise h one.at two.at in
-          omega (arith, ints, from, later, less);
-      room = room;
-    })
+    (record { all = counted_length packets instants all; timed_at = stamped_at clock plan packets instants without all rise; rise = stamped_rise packets instants all rise; room = room })

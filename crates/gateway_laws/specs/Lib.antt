@@ -5,3 +5,4 @@ pub mod Heard
 pub mod Noted
 pub mod Kept
 pub mod Returned
+pub mod Room

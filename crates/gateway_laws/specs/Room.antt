@@ -1,0 +1,17 @@
+-- Listeners whose buffers are never full of what a gateway sends.
+use Rattle.std.specs.Prelude.{◌≡◌, ℕ, ◌≤◌, ℤ, pos, ◌+ℤ◌, ◌≤ℤ◌, List, [], ◌∷◌, None, ⊤}
+use Rattle.std.specs.List.{AllByRecursion}
+use Rattle.listener.specs.declared.plan.ListenPlan.{ListenPlan}
+
+-- each instant is at least 500 ns after all before it
+abbrev pub AreSpread : List ℤ → Type 0
+AreSpread [] = ⊤
+AreSpread (x ∷ xs) = AllByRecursion (λ y. (x +ℤ pos 500) ≤ℤ y) xs × AreSpread xs
+
+-- A listener of the stream with this id has no clock, and its buffer is at least that of `listen` without options: 4,096 packets,
+-- of 64 MiB together.
+pub record HasDefaultRoom (id : ℕ) (plan : ListenPlan) : Type 0 where
+  pub stream : plan.stream ≡ id
+  pub clock : plan.clock ≡ None
+  pub buffer : 4096 ≤ plan.buffer
+  pub room : 67108864 ≤ plan.room
