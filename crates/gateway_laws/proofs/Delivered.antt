@@ -138,6 +138,9 @@ pub is_schedule : (to : To) (shape : Shape) (id : ℕ) (cs : List Cut) (plan : L
     → Hears id plan (map record_of (map (cut_frame to shape id) cs)) → IsSchedule plan (map record_of (map (cut_frame to shape id) cs)) (packet_entries (packets_heard to shape 1 cs))
 is_schedule to shape id cs plan is small all hears = schedule_by id plan (map record_of (map (cut_frame to shape id) cs)) (packet_entries (packets_heard to shape 1 cs)) hears (entries_are to shape id cs is small all)
 
--- the schedule of no records
+pub no_entries : (id : ℕ) → entries (deliveries id None []) ≡ packet_entries []
+no_entries id = ap (map made_entry) (items_other [] (All-nil IsOther))
+
+-- that of no records
 pub empty_schedule : (id : ℕ) (plan : ListenPlan) → Hears id plan [] → IsSchedule plan [] (packet_entries [])
-empty_schedule id plan hears = schedule_by id plan [] [] hears (ap (map made_entry) (items_other [] (All-nil IsOther)))
+empty_schedule id plan hears = schedule_by id plan [] [] hears (no_entries id)

@@ -1,6 +1,6 @@
 -- A listener has room for packets that come soon before they are presented, and are apart.
-use Rattle.std.proofs.Common.{◌≡◌, ℕ, zero, suc, ◌+◌, ◌*◌, ◌^◌, ◌<◌, ◌≤◌, Bool, true, false, ℤ, pos, ◌+ℤ◌, ◌≤ℤ◌, List, [], ◌∷◌, length, map, take, Some, refl, sym, ap, subst, arith}
-use Rattle.std.specs.Prelude.{⊤, if◌then◌else◌, nat_le, nat_lt, slice_get}
+use Rattle.std.proofs.Common.{◌≡◌, ℕ, zero, suc, ◌+◌, ◌*◌, ◌^◌, ◌<◌, ◌≤◌, Bool, true, false, ℤ, pos, ◌+ℤ◌, ◌≤ℤ◌, List, [], ◌∷◌, length, map, take, Option, Some, None, refl, sym, ap, subst, arith}
+use Rattle.std.specs.Prelude.{⊤, IfSome, if◌then◌else◌, nat_le, nat_lt, slice_get}
 use Rattle.std.specs.List.{AllByRecursion}
 use Rattle.std.proofs.lemmas.Bool.Decides.{nat_tests}
 use Rattle.std.proofs.lemmas.Int.{by_lt_z, ints, int_max_is}
@@ -20,9 +20,11 @@ use Rattle.sample_schedule.specs.Schedule.{latest, now_at, shown}
 use Rattle.sample_schedule.specs.Verdicts.{Clock, first_instant, is_full, total_bytes}
 use Rattle.sample_schedule.proofs.OrderLemmas.{le_false, le_true}
 use Rattle.sample_schedule.proofs.StageLemmas.{now-next}
+use Rattle.packet_journal.specs.Deliveries.{deliveries}
 use Rattle.talker.specs.Frames.{record_of}
 use Rattle.listener.specs.declared.plan.ListenPlan.{ListenPlan}
 use Rattle.listener.specs.Heard.{entries_in, schedule_plan}
+use Rattle.listener.specs.Items.{entries}
 use Rattle.am824_gateway.specs.declared.scan.Shape.{Shape}
 use Rattle.am824_gateway.specs.declared.scan.To.{To}
 use Rattle.am824_gateway.specs.declared.scan.To.TheVariants.{Aaf, Am824}
@@ -37,10 +39,10 @@ use Rattle.gateway_laws.specs.Heard.{BeginsInTime, packets_heard}
 use Rattle.gateway_laws.specs.InOrder.{IsNotFull}
 use Rattle.gateway_laws.specs.Kept.{Hears}
 use Rattle.gateway_laws.specs.Returned.{gateway_records}
-use Rattle.gateway_laws.specs.Room.{AreSpread, HasDefaultRoom}
+use Rattle.gateway_laws.specs.Room.{ArePacketsSpread, AreSpread, HasDefaultRoom}
 use Rattle.gateway_laws.specs.Stamped.{AreStamped, all_counted, packet_entries}
 use Rattle.gateway_laws.proofs.Carried.{stamped_all}
-use Rattle.gateway_laws.proofs.Delivered.{entries_are}
+use Rattle.gateway_laws.proofs.Delivered.{entries_are, no_entries}
 use Rattle.gateway_laws.proofs.Heard.{heard_carry, interval_known}
 use Rattle.gateway_laws.proofs.InOrder.{none_full, placed}
 use Rattle.gateway_laws.proofs.Kept.{all_rising, no_rest}
@@ -170,17 +172,22 @@ cuts_soon : (to : To) (shape : Shape) (frame : ℕ) (cs : List Cut) → AllByRec
 cuts_soon to shape frame [] fine = tt
 cuts_soon to shape frame (c ∷ cs) fine = (record { soon = omega (arith, ints, int_max_is); short = few_bytes to shape c fine.0 }, cuts_soon to shape (suc frame) cs fine.1)
 
-pub has_room : (to : To) (shape : Shape) (id : ℕ) (batches : List Presented) (plan : ListenPlan) → IsShape shape → id < 2 ^ 64 → AllByRecursion BeginsInTime batches → AreSpread (map cut_instant (cuts_after to shape nothing_given batches)) → HasDefaultRoom id plan
-    → Hears id plan (gateway_records to (Some shape) id batches)
-has_room to shape id batches plan is small begins spread default =
+hears_by : (id : ℕ) (plan : ListenPlan) (records : List Record) (es : List Entry) → HasDefaultRoom id plan → entries (deliveries id None records) ≡ es → AllByRecursion IsNotFull (shown clock_spot (schedule_plan plan) es) → Hears id plan records
+hears_by id plan records es default same room =
+    let entries_is : entries_in plan records ≡ es = rw (default.stream, default.clock) same in
+    record { stream = default.stream; clock = default.clock; room = subst (λ (l : List Entry). AllByRecursion IsNotFull (shown clock_spot (schedule_plan plan) l)) (sym entries_is) room }
+
+pub has_room : (to : To) (shape : Option Shape) (id : ℕ) (batches : List Presented) (plan : ListenPlan) → IfSome shape IsShape → id < 2 ^ 64 → AllByRecursion BeginsInTime batches → ArePacketsSpread to shape batches → HasDefaultRoom id plan → Hears id plan (gateway_records to shape id batches)
+has_room to None id batches plan is small begins spread default =
+    let without : (schedule_plan plan).clock ≡ false = rw (default.clock) refl in
+    hears_by id plan [] (packet_entries []) default (no_entries id) (soon_full clock_spot (schedule_plan plan) [] [] without tt tt tt tt default.buffer default.room)
+has_room to (Some shape) id batches plan is small begins spread default =
     let cs : List Cut = cuts_after to shape nothing_given batches in
+    let ps : List Packet = packets_heard to shape 1 cs in
     let fine = all_carried to shape nothing_given batches is (omega arith) in
     let e = ap (map record_of) (frames_are_cuts to shape id nothing_given batches) in
-    let records : List Record = map record_of (map (cut_frame to shape id) cs) in
-    let entries_is : entries_in plan records ≡ packet_entries (packets_heard to shape 1 cs) = rw (default.stream, default.clock) (entries_are to shape id cs is small fine) in
     let carry = heard_carry to shape nothing_given 1 batches is (no_rest (interval_of shape.rate) (interval_known shape is)) begins in
-    let stamped = stamped_all to shape (packets_heard to shape 1 cs) cs carry in
+    let stamped = stamped_all to shape ps cs carry in
     let without : (schedule_plan plan).clock ≡ false = rw (default.clock) refl in
-    let room = soon_full clock_spot (schedule_plan plan) (packets_heard to shape 1 cs) (map cut_instant cs) without stamped (rise_all to shape nothing_given batches (all_rising batches begins)) spread (cuts_soon to shape 1 cs fine) default.buffer default.room in
-    subst (Hears id plan) (sym e)
-    (record { stream = default.stream; clock = default.clock; room = subst (λ (l : List Entry). AllByRecursion IsNotFull (shown clock_spot (schedule_plan plan) l)) (sym entries_is) room })
+    let room = soon_full clock_spot (schedule_plan plan) ps (map cut_instant cs) without stamped (rise_all to shape nothing_given batches (all_rising batches begins)) spread (cuts_soon to shape 1 cs fine) default.buffer default.room in
+    subst (Hears id plan) (sym e) (hears_by id plan (map record_of (map (cut_frame to shape id) cs)) (packet_entries ps) default (entries_are to shape id cs is small fine) room)

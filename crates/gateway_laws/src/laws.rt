@@ -18,9 +18,9 @@ ghost use Rattle.sample_schedule.specs.Verdicts.{Clock};
 ghost use Rattle.talker.specs.Frames.{capture_of, record_of};
 ghost use Rattle.am824_gateway.specs.declared.scan.Shape.{Shape as ShapeValue};
 ghost use Rattle.am824_gateway.specs.declared.scan.To.{To as ToValue};
-ghost use Rattle.am824_gateway.specs.Laws.{HasRisingInstants, Rise, cut_instant, cuts_after, given_batches};
+ghost use Rattle.am824_gateway.specs.Laws.{HasRisingInstants, Rise, cuts_after, given_batches};
 ghost use Rattle.am824_gateway.specs.Packets.{gateway_frames};
-ghost use Rattle.am824_gateway.specs.Pieces.{Given as GivenOut, nothing_given};
+ghost use Rattle.am824_gateway.specs.Pieces.{Given as GivenOut};
 ghost use Rattle.am824_gateway.specs.Samples.{samples_presented};
 ghost use Rattle.am824_gateway.specs.Scan.{IsShape, first_fault, shape_in};
 ghost use Rattle.gateway_laws.specs.Carried.{CarryCuts, samples_heard};
@@ -28,7 +28,7 @@ ghost use Rattle.gateway_laws.specs.InOrder.{AreInOrder, IsNotFull};
 ghost use Rattle.am824_gateway.specs.declared.scan.To.TheVariants.{Aaf, Am824};
 ghost use Rattle.gateway_laws.specs.Kept.{Hears, Keeps};
 ghost use Rattle.gateway_laws.specs.Returned.{frames_made, gateway_records, other};
-ghost use Rattle.gateway_laws.specs.Room.{AreSpread, HasDefaultRoom};
+ghost use Rattle.gateway_laws.specs.Room.{ArePacketsSpread, HasDefaultRoom};
 ghost use Rattle.listener.specs.declared.plan.ListenPlan.{ListenPlan};
 ghost use Rattle.listener.specs.Heard.{due_of, shown_of};
 ghost use Rattle.listener.specs.Laws.{presented_of};
@@ -85,8 +85,8 @@ pub fn captures_of_pieces_are_kept()
 /// A listener without a clock, whose buffer is at least the default one, hears all that a gateway makes, if the packets are presented
 /// at least 500 ns apart: its buffer is never full, since a packet comes at most 2 ms before it is presented.
 pub fn default_buffers_are_never_full()
-    ensures { (to : ToValue) (shape : ShapeValue) (id : ℕ) (batches : List Presented) (plan : ListenPlan) → IsShape shape → id < 2 ^ 64 → AllByRecursion BeginsInTime batches → AreSpread (map cut_instant (cuts_after to shape nothing_given batches)) → HasDefaultRoom id plan
-        → Hears id plan (gateway_records to (Some shape) id batches) }
+    ensures { (to : ToValue) (shape : Option ShapeValue) (id : ℕ) (batches : List Presented) (plan : ListenPlan) → IfSome shape IsShape → id < 2 ^ 64 → AllByRecursion BeginsInTime batches → ArePacketsSpread to shape batches → HasDefaultRoom id plan
+        → Hears id plan (gateway_records to shape id batches) }
 {}
 
 /// Each batch that a listener presents begins at 0 or later, and its instants rise, whatever the records and whether the
