@@ -189,8 +189,8 @@ opened asked name bytes fault ended yields outcome =
       ends = outcome.ends;
       same = outcome.given;
       front = λ shift p first others split hears. (
-          subst (IsPrefix (due_of plan first)) (sym (items ∙ ap (λ (rs : List Record). shown_by plan rs outcome.how) split)) (first_shown plan first others outcome.how),
-          true_front shift p plan first others hears,
+        subst (IsPrefix (due_of plan first)) (sym (items ∙ ap (λ (rs : List Record). shown_by plan rs outcome.how) split)) (first_shown plan first others outcome.how),
+        true_front shift p plan first others hears,
       );
       whole = λ shift p all hears. subst (KeepsHeadline shift p plan records) (sym (items ∙ all_shown plan records outcome.how all)) (headline shift p plan records hears);
     }

@@ -1,11 +1,12 @@
 -- A pair of listeners takes bytes.
-use Rattle.std.proofs.Common.{◌≡◌, ℕ, zero, suc, ◌^◌, ◌≤◌, Bool, true, false, cond, List, [], ◌∷◌, ◌++◌, length, take, drop, Option, Some, None, Result, Ok, Err, refl, sym, ap, ◌∙◌, subst, arith, append-nil}
-use Rattle.std.specs.Prelude.{is_none}
+use Rattle.std.proofs.Common.{◌≡◌, ℕ, zero, suc, ◌+◌, ◌^◌, ◌<◌, ◌≤◌, Bool, true, false, cond, ◌⊎◌, inl, inr, List, [], ◌∷◌, ◌++◌, length, take, drop, Option, Some, None, Result, Ok, Err, refl, sym, ap, ◌∙◌, subst, arith, append-nil}
+use Rattle.std.specs.Prelude.{IfOk, is_none}
 use mathlib.Core.List.{IsPrefix}
 use Rattle.avtp_base.specs.declared.refusal.Refusal.{Refusal}
 use Rattle.pcap_frames.specs.Capture.{Record, first_refusal, record_of, record_size, records_behind, records_from, style_of, whole_records}
 use Rattle.pcap_frames.specs.declared.style.Style.{Style}
-use Rattle.pcap_frames.specs.Layout.{record_refusal}
+use Rattle.pcap_frames.specs.Reading.{taken}
+use Rattle.pcap_frames.specs.Layout.{certain, record_refusal}
 use Rattle.pcap_frames.proofs.Firsts.{records_first}
 use Rattle.sample_schedule.specs.Batches.{Presented}
 use Rattle.sample_schedule.specs.declared.shown.Shown.{Shown}
@@ -174,6 +175,12 @@ pub refused-on : (which : Which) (piece : List ℕ) (result : Result ℕ ListenF
     → first_refusal ((bytes_of which bytes others ++ piece) ++ more) ≡ Some refusal
 refused-on A piece result refusal bytes others more given old a2 b2 t e s = t.0.refused refusal e bytes more s.shown_a s.shows_a
 refused-on B piece result refusal bytes others more given old a2 b2 t e s = t.0.refused refusal e others more s.shown_b s.shows_b
+
+pub uncertain-on : (which : Which) (piece : List ℕ) (result : Result ℕ ListenFault) (old now : FedPair) (a2 b2 : Feeding) → FedOn which piece result old.a old.b a2 b2 → old ≡ now
+    → IfOk result (λ n. (bytes others : List ℕ) (given : ℕ) → StandsFor bytes others given now → certain (first_refusal (bytes_of which bytes others ++ take n piece)) ≡ None)
+uncertain-on A piece (Ok n) old now a2 b2 t same = λ bytes others given s. let st = subst (StandsFor bytes others given) (sym same) s in t.0.uncertain bytes st.shown_a st.shows_a
+uncertain-on B piece (Ok n) old now a2 b2 t same = λ bytes others given s. let st = subst (StandsFor bytes others given) (sym same) s in t.0.uncertain others st.shown_b st.shows_b
+uncertain-on which piece (Err fault) old now a2 b2 t same = tt
 
 -- ---- a pair that was fed nothing
 

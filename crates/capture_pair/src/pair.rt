@@ -1,10 +1,11 @@
 //! Two captures whose bytes come in pieces of any length.
 
-ghost use Rattle.std.specs.Prelude.{◌≡◌, ◌↔◌, ◌+◌, ◌^◌, ◌≤◌, ◌++◌, [], ℕ, true, false, List, length, slice_get, None, Some, Err, IfNone, IfOk, option_map};
+ghost use Rattle.std.specs.Prelude.{◌≡◌, ◌↔◌, ◌+◌, ◌^◌, ◌≤◌, ◌++◌, [], ℕ, true, false, List, length, slice_get, take, None, Some, Err, IfNone, IfOk, option_map};
 ghost use Rattle.std.specs.Option.{option_to_list};
 ghost use Rattle.std.specs.Result.{result_err};
 ghost use Rattle.avtp_base.specs.declared.refusal.Refusal.{Refusal as RefusalValue};
 ghost use Rattle.pcap_frames.specs.Capture.{first_refusal};
+ghost use Rattle.pcap_frames.specs.Layout.{certain};
 ghost use Rattle.pcap_frames.specs.Reading.{taken};
 ghost use Rattle.sample_schedule.specs.Limits.{IsPlan};
 ghost use Rattle.listener.specs.Feeding.{bytes_after, is_ended, is_memory};
@@ -75,9 +76,9 @@ impl Pair {
     /// Takes bytes of the capture that is wanted, up to the end of one record or of the piece, and returns how many. At most
     /// 2^62 bytes of each capture may be taken.
     ///
-    /// Without a fault, `Ok(0)` comes exactly if the piece is empty. `Refused` is the capture's first refusal; what was
-    /// accepted stays, and `end` then ends that side. `Memory` comes if there is no memory for the samples of a record; every
-    /// later `feed` and `end` of that side returns `Memory`.
+    /// Without a fault, `Ok(0)` comes exactly if the piece is empty. `Refused` is the capture's first refusal, and comes as soon as
+    /// the bytes so far show it; what was accepted stays, and `end` then ends that side. `Memory` comes if there is no memory for
+    /// the samples of a record; every later `feed` and `end` of that side returns `Memory`.
     pub fn feed(&mut self, alloc: Global, which: Which, piece: &[u8]) -> Result<usize, ListenFault>
         requires wanted { wanted_by self.old ≡ Some which }
         requires bounded { taken (fed_of which self.old).reader + length piece.now ≤ 2 ^ 62 }
@@ -85,6 +86,7 @@ impl Pair {
         ensures nothing { IfOk result (λ n. (n ≡ 0) ↔ (length piece.now ≡ 0)) }
         ensures stands_a { which ≡ Which.A → (bytes others : List ℕ) (given : ℕ) → AreShort (bytes_after bytes piece.now result) others → StandsFor bytes others given self.old → StandsFor (bytes_after bytes piece.now result) others given self.new }
         ensures stands_b { which ≡ Which.B → (bytes others : List ℕ) (given : ℕ) → AreShort bytes (bytes_after others piece.now result) → StandsFor bytes others given self.old → StandsFor bytes (bytes_after others piece.now result) given self.new }
+        ensures uncertain { IfOk result (λ n. (bytes others : List ℕ) (given : ℕ) → StandsFor bytes others given self.old → certain (first_refusal (bytes_of which bytes others ++ take n piece.now)) ≡ None) }
         ensures refused { (refusal : RefusalValue) → result ≡ Err (IsRefused refusal) → (bytes others more : List ℕ) (given : ℕ) → StandsFor bytes others given self.old → first_refusal ((bytes_of which bytes others ++ piece.now) ++ more) ≡ Some refusal }
         ensures lasting { (fed_of which self.old).out_of_memory ≡ true → result ≡ Err OutOfMemory }
         ensures memory { (fed_of which self.new).out_of_memory ≡ is_memory result }

@@ -1,8 +1,9 @@
 -- Kept for proofs: what the code's own parts hold and do. No clause of a public call rests on it.
 -- A listener of bytes that is fed a piece, or ended.
-use Rattle.std.specs.Prelude.{◌≡◌, ◌↔◌, ℕ, ◌+◌, ◌^◌, ◌≤◌, true, false, List, [], ◌++◌, length, Option, Some, option_map, Result, Err, IfOk}
+use Rattle.std.specs.Prelude.{◌≡◌, ◌↔◌, ℕ, ◌+◌, ◌^◌, ◌≤◌, true, false, List, [], ◌++◌, length, take, Option, Some, None, option_map, Result, Err, IfOk}
 use Rattle.avtp_base.specs.declared.refusal.Refusal.{Refusal}
 use Rattle.pcap_frames.specs.Capture.{first_refusal}
+use Rattle.pcap_frames.specs.Layout.{certain}
 use Rattle.pcap_frames.specs.Reading.{taken}
 use Rattle.listener.specs.declared.listener.ListenFault.{ListenFault}
 use Rattle.listener.specs.declared.listener.ListenFault.TheVariants.{Refused, Memory}
@@ -41,6 +42,7 @@ pub record FedBy (piece : List ℕ) (result : Result ℕ ListenFault) (old new :
   pub stands : (bytes : List ℕ) (n : ℕ) → IsFed bytes n old → IsFed (bytes_after bytes piece result) n new
   pub within : IfOk result (λ n. n ≤ length piece)
   pub nothing : IfOk result (λ n. (n ≡ 0) ↔ (length piece ≡ 0))
+  pub uncertain : IfOk result (λ k. (bytes : List ℕ) (n : ℕ) → IsFed bytes n old → certain (first_refusal (bytes ++ take k piece)) ≡ None)
   pub refused : (refusal : Refusal) → result ≡ Err (Refused refusal) → (bytes more : List ℕ) (n : ℕ) → IsFed bytes n old → first_refusal ((bytes ++ piece) ++ more) ≡ Some refusal
   pub plan : new.listener.plan ≡ old.listener.plan
   pub opened : is_ended new ≡ false

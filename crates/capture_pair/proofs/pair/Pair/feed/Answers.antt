@@ -2,7 +2,7 @@ use Rattle.std.proofs.Common.{◌≡◌, ◌∙◌, Some, ap, sym, subst}
 use Rattle.listener.specs.Feeding.{IsQuiet}
 use Rattle.listener_pair.specs.Matching.{wanted}
 use Rattle.capture_pair.specs.Feeding.{FedPair, KeepsOther, StandsFor}
-use Rattle.capture_pair.proofs.Fed.{fed-a, fed-b, open-side, other-fed, refused-on}
+use Rattle.capture_pair.proofs.Fed.{fed-a, fed-b, open-side, other-fed, refused-on, uncertain-on}
 use Rattle.capture_pair.proofs.pair.Pair.feed.Goals as goal
 
 pub returns-clause-stands_a : goal.returns-clause-stands_a
@@ -18,6 +18,11 @@ returns-clause-stands_b c is bytes others given short s =
     let w : wanted pair.matching ≡ Some c.args.which = ap (λ (p : FedPair). wanted p.matching) c.self.view_is ∙ c.requires.wanted in
     fed-b c.args.which c.args.piece.now c.feed_on-answer.result bytes others given pair c.feed_on-answer.new.a.listener c.feed_on-answer.new.b.listener c.fill_both.new.a.listener c.fill_both.new.b.listener c.fill_both.new.matching is w
     (open-side c.args.which (IsQuiet pair.a) (IsQuiet pair.b) pair c.self.invariant w) c.feed_on-answer.ensures short c.fill_both.ensures.pairs (subst (StandsFor bytes others given) (sym c.self.view_is) s)
+
+pub returns-clause-uncertain : goal.returns-clause-uncertain
+returns-clause-uncertain c =
+    let pair : FedPair = record { a = c.self.inside.a.listener; b = c.self.inside.b.listener; matching = c.self.inside.matching } in
+    uncertain-on c.args.which c.args.piece.now c.feed_on-answer.result pair _ c.feed_on-answer.new.a.listener c.feed_on-answer.new.b.listener c.feed_on-answer.ensures c.self.view_is
 
 pub returns-clause-refused : goal.returns-clause-refused
 returns-clause-refused c refusal is bytes others more given s =
