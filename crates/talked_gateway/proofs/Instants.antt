@@ -45,24 +45,45 @@ soon_after head f k rate some =
     moved : (base q r : ℤ) (n : ℕ) → q ≤ℤ (r +ℤ pos n) → (base +ℤ q) ≤ℤ ((base +ℤ r) +ℤ pos n)
     moved base q r n h = omega (arith, ints, h)
 
+far_by : (q r f : ℤ) (i k rate : ℕ) → (r *ℤ pos rate) ≤ℤ ((f +ℤ pos i) *ℤ pos 1000000000) → ((f +ℤ pos k) *ℤ pos 1000000000) <ℤ ((q +ℤ pos 1) *ℤ pos rate) → i < k → rate ≤ 192000 → (r +ℤ pos 500) ≤ℤ q
+far_by q r f i k rate low high after slow =
+    by_lt_z q (r +ℤ pos 500)
+    (λ less.
+    let below = times_more (q +ℤ pos 1) (r +ℤ pos 500) rate (omega (arith, ints, less)) in
+    let more = more_times r 500 rate in
+    let i_times = more_times f i 1000000000 in
+    let k_times = more_times f k 1000000000 in
+    absurd (omega (arith, ints, low, high, below, more, i_times, k_times, after, slow)))
+    (λ not. not)
+
+-- A later sample of a packet is at least 500 ns later.
+pub far_after : (head f : ℤ) (i k rate : ℕ) → 0 < rate → rate ≤ 192000 → i < k → (instant_at (nominal_line head rate) (f +ℤ pos i) +ℤ pos 500) ≤ℤ instant_at (nominal_line head rate) (f +ℤ pos k)
+far_after head f i k rate some slow after =
+    let q : ℤ = floor_of ((f +ℤ pos k) *ℤ pos 1000000000) rate in
+    let r : ℤ = floor_of ((f +ℤ pos i) *ℤ pos 1000000000) rate in
+    moved head q r (far_by q r f i k rate (floor_below ((f +ℤ pos i) *ℤ pos 1000000000) rate some) (floor_above ((f +ℤ pos k) *ℤ pos 1000000000) rate some) after slow)
+  where
+    moved : (base q r : ℤ) → (r +ℤ pos 500) ≤ℤ q → ((base +ℤ r) +ℤ pos 500) ≤ℤ (base +ℤ q)
+    moved base q r h = omega (arith, ints, h)
+
 -- ---- the packets of a plan
 
--- a sample's time is more than 8 ns
-some_by : (x rate : ℕ) → rate ≤ 192000 → 1000000000 < x * rate + rate → 8 ≤ x
-some_by x rate slow over = elim (cases_lt x 8) [
-  | inl less ↦ let times : (x + 1) * rate ≤ 8 * rate = mul-le-mul_right rate (omega (arith, less)) in absurd (omega arith)
+-- a sample's time is more than 1000 ns
+some_by : (x rate : ℕ) → rate ≤ 192000 → 1000000000 < x * rate + rate → 1000 ≤ x
+some_by x rate slow over = elim (cases_lt x 1000) [
+  | inl less ↦ let times : (x + 1) * rate ≤ 1000 * rate = mul-le-mul_right rate (omega (arith, less)) in absurd (omega arith)
   | inr not ↦ not
 ]
 
-some_offset : (rate : ℕ) → 0 < rate → rate ≤ 192000 → 8 ≤ nominal_offset rate 1
+some_offset : (rate : ℕ) → 0 < rate → rate ≤ 192000 → 1000 ≤ nominal_offset rate 1
 some_offset rate some slow = let over = (is_offset rate 1 some).over in some_by (nominal_offset rate 1) rate slow (omega (arith, over))
 
 -- x, y and z, w are times of parts of n and of m events, which are n's, `last` and one more
-after_by : (s j x y k z w n m most last one front : ℕ) → x + y ≤ n → m ≤ z + w + 1 → j ≤ k → n + last ≤ front → front + one ≤ most → most ≤ m → 8 ≤ one → s + j + x + y + last + 7 ≤ s + k + z + w
+after_by : (s j x y k z w n m most last one front : ℕ) → x + y ≤ n → m ≤ z + w + 1 → j ≤ k → n + last ≤ front → front + one ≤ most → most ≤ m → 1000 ≤ one → s + j + x + y + last + 999 ≤ s + k + z + w
 after_by s j x y k z w n m most last one front under over jumps step next more least = omega (arith, under, over, jumps, step, next, more, least)
 
--- each packet begins after the end of those before it
-pub first_apart : (plan : TalkPlan) (n m : ℕ) → IsAudioPlan plan → n < m → first_instant plan n + nominal_offset plan.rate (plan.count - 1) + 7 ≤ first_instant plan m
+-- each packet begins a while after the end of those before it
+pub first_apart : (plan : TalkPlan) (n m : ℕ) → IsAudioPlan plan → n < m → first_instant plan n + nominal_offset plan.rate (plan.count - 1) + 999 ≤ first_instant plan m
 unfolding nominal_instant
 first_apart plan n m p less =
     let range = rate_range plan p in

@@ -1,4 +1,5 @@
 pub mod Instants
 pub mod Sent
 pub mod Skipped
+pub mod Spread
 pub mod Clean

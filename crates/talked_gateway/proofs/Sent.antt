@@ -1,9 +1,10 @@
 -- The batches that a listener without a clock presents of a plan of audio, by their packets.
-use Rattle.std.proofs.Common.{◌≡◌, ℕ, ◌+◌, ◌-◌, ◌*◌, ◌<◌, ◌≤◌, true, false, ℤ, pos, ◌+ℤ◌, ◌≤ℤ◌, ◌<ℤ◌, List, length, refl, sym, subst, ◌∙◌, arith}
+use Rattle.std.proofs.Common.{◌≡◌, ℕ, ◌+◌, ◌-◌, ◌*◌, ◌<◌, ◌≤◌, true, false, ℤ, pos, ◌+ℤ◌, ◌≤ℤ◌, List, length, Some, refl, sym, ap, subst, ◌∙◌, arith}
 use Rattle.std.proofs.lemmas.Int.{ints}
 use Rattle.stream_journal.specs.Conforming.{Conforms}
 use Rattle.stream_journal.specs.Delivered.{IsAudioKind}
 use Rattle.stream_journal.specs.Journal.{IsAtBy, IsAtNominal, Journal, Kind, DenseAaf, SparseAaf, Am824, H264, nominal_instant}
+use Rattle.time_unfold.specs.declared.head_rule.Head.{Head}
 use Rattle.packet_journal.specs.Packets.{IsConforming, PacketJournal}
 use Rattle.sample_schedule.specs.Batches.{Presented, sample_instant}
 use Rattle.listener.specs.Laws.{IsOfPacket, sample_count}
@@ -14,7 +15,7 @@ use Rattle.talk_plan.specs.declared.plan.TalkPlan.{TalkPlan}
 use Rattle.talk_plan.specs.Plan.{IsAudioKind as IsAudioTalk, IsAudioPlan, most_input}
 use Rattle.talk_plan.specs.Timing.{first_instant, nominal_offset}
 use Rattle.talk_plan.proofs.BeatLemmas.{more_offset}
-use Rattle.talk_plan.proofs.RateLemmas.{rate_from}
+use Rattle.talk_plan.proofs.RateLemmas.{rate_from, rate_range}
 use Rattle.talk_plan.proofs.StampLemmas.{most_early, most_late}
 use Rattle.talk_audio.specs.Audio.{audio_by}
 use Rattle.talk_audio.specs.Streams.{audio_of, packets_of}
@@ -23,7 +24,7 @@ use Rattle.talk_audio.proofs.FormatLemmas.{format_of, has_format}
 use Rattle.talker.specs.Journal.{Stream, journal, stream_by}
 use Rattle.talker.proofs.AudioLemmas.{timely}
 use Rattle.talker.proofs.TalkLemmas.{stream_is}
-use Rattle.talked_gateway.proofs.Instants.{ends_early, first_apart, soon_after}
+use Rattle.talked_gateway.proofs.Instants.{ends_early, far_after, first_apart, soon_after}
 
 -- ---- the journal of a plan
 
@@ -60,10 +61,12 @@ is_due plan input n p limit =
 
 -- ---- a batch
 
--- The batch is packet n of the plan: it begins and ends about when the packet does, and the packet ends early enough for a capture.
+-- The batch is packet n of the plan: it begins and ends about when the packet does, its samples are apart, and the packet ends early
+-- enough for a capture.
 pub record IsSent (plan : TalkPlan) (n : ℕ) (batch : Presented) : Type 0 where
   pub from : pos (first_instant plan n) ≤ℤ (sample_instant batch 0 +ℤ pos 3)
   pub to : (k : ℕ) → k < batch.count → sample_instant batch k ≤ℤ pos (first_instant plan n + nominal_offset plan.rate (plan.count - 1) + 2)
+  pub apart : (i k : ℕ) → i < k → k < batch.count → (sample_instant batch i +ℤ pos 500) ≤ℤ sample_instant batch k
   pub early : first_instant plan n + nominal_offset plan.rate (plan.count - 1) ≤ 4100000000000000000
 
 nominally : (kind : Kind) (j : Journal) (n k : ℕ) (instant : ℤ) → IsAudioKind kind → IsAtBy kind false j n k instant → IsAtNominal j n k instant
@@ -100,6 +103,17 @@ module _ (plan : TalkPlan) (p : PacketJournal) (n : ℕ) (plan_is : IsAudioPlan 
       subst (λ (r : ℕ). x ≤ℤ pos (first_instant plan n + nominal_offset r (plan.count - 1) + 2)) times.rate
       (ends_by (first_instant plan n) (p.times.due n) (nominal_offset rate k) (nominal_offset rate (plan.count - 1)) x (nominal_instant p.times at.head 0) due.to (sym first) soon more)
 
+  at_apart : (i k : ℕ) (x y : ℤ) → i < k → IsAtNominal p.times n i x → IsAtNominal p.times n k y → (x +ℤ pos 500) ≤ℤ y
+  at_apart i k x y after first later =
+      let range = rate_range plan plan_is in
+      let heads : Some first.head ≡ Some later.head = sym first.is_head ∙ later.is_head in
+      let head : first.head ≡ later.head = cc in
+      let at : y ≡ nominal_instant p.times first.head k = later.at ∙ ap (λ (h : Head). nominal_instant p.times h k) (sym head) in
+      let far : (nominal_instant p.times first.head i +ℤ pos 500) ≤ℤ nominal_instant p.times first.head k =
+      far_after first.head.instant first.head.first i k p.times.rate (omega (arith, times.rate, range.least)) (omega (arith, times.rate, range.most)) after in
+      let from = first.at in
+      omega (arith, ints, from, at, far)
+
   sent_by : (batch : Presented) → IsOfPacket false p n batch → IsSent plan n batch
   sent_by batch is =
       let count : batch.count ≡ plan.count = is.count ∙ (counted p.times.kind p.times.count times.audio ∙ times.count) in
@@ -107,6 +121,9 @@ module _ (plan : TalkPlan) (p : PacketJournal) (n : ℕ) (plan_is : IsAudioPlan 
       record {
         from = begins_by (first_instant plan n) (p.times.due n) (sample_instant batch 0) due.from (at_first (sample_instant batch 0) is.known (nominally p.times.kind p.times n 0 (sample_instant batch 0) times.audio (is.instants 0 (omega (arith, count, some)))));
         to = λ k within. at_any k (sample_instant batch k) is.known (omega (arith, count, within)) (nominally p.times.kind p.times n k (sample_instant batch k) times.audio (is.instants k within));
+        apart = λ i k after within.
+            at_apart i k (sample_instant batch i) (sample_instant batch k) after (nominally p.times.kind p.times n i (sample_instant batch i) times.audio (is.instants i (omega (arith, after, within))))
+            (nominally p.times.kind p.times n k (sample_instant batch k) times.audio (is.instants k within));
         early = ends_early plan n plan_is (due.events is.known);
       }
 
@@ -116,11 +133,11 @@ sent plan input n batch p limit conforms is =
 
 -- ---- two batches
 
--- the last sample of a batch is before the first one of another
+-- the samples of a batch are at least 500 ns before the first one of another
 pub record IsBefore (a b : Presented) : Type 0 where
-  pub last : (k : ℕ) → k < a.count → sample_instant a k <ℤ sample_instant b 0
+  pub last : (k : ℕ) → k < a.count → (sample_instant a k +ℤ pos 500) ≤ℤ sample_instant b 0
 
-before_by : (end first : ℕ) (x y : ℤ) → x ≤ℤ pos (end + 2) → pos first ≤ℤ (y +ℤ pos 3) → end + 7 ≤ first → x <ℤ y
+before_by : (end first : ℕ) (x y : ℤ) → x ≤ℤ pos (end + 2) → pos first ≤ℤ (y +ℤ pos 3) → end + 999 ≤ first → (x +ℤ pos 500) ≤ℤ y
 before_by end first x y to from apart = omega (arith, ints, to, from, apart)
 
 pub sent_before : (plan : TalkPlan) (n m : ℕ) (a b : Presented) → IsAudioPlan plan → n < m → IsSent plan n a → IsSent plan m b → IsBefore a b

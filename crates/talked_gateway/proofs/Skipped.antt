@@ -1,5 +1,5 @@
 -- Nothing is skipped of batches that are packets of a plan.
-use Rattle.std.proofs.Common.{◌≡◌, ℕ, zero, suc, ◌+◌, ◌-◌, ◌<◌, ◌≤◌, Bool, true, false, ℤ, pos, ◌-ℤ◌, ◌≤ℤ◌, ◌<ℤ◌, List, [], ◌∷◌, ◌++◌, All, inl, inr, length, Option, Some, None, is_some, refl, ap, subst, arith}
+use Rattle.std.proofs.Common.{◌≡◌, ℕ, zero, suc, ◌+◌, ◌-◌, ◌<◌, ◌≤◌, Bool, true, false, ℤ, pos, ◌+ℤ◌, ◌-ℤ◌, ◌≤ℤ◌, ◌<ℤ◌, List, [], ◌∷◌, ◌++◌, All, inl, inr, length, Option, Some, None, is_some, refl, ap, subst, arith}
 use Rattle.std.specs.Prelude.{⊤, ◌||◌, AllPairs, if◌then◌else◌, int_le, nat_lt, slice_index_or}
 use Rattle.std.specs.List.{AllByRecursion, list_any}
 use Rattle.std.proofs.lemmas.Bool.{cases_lt}
@@ -31,9 +31,10 @@ use Rattle.talked_gateway.proofs.Sent.{IsBefore, IsSent, sent, sent_before}
 
 -- ---- what a gateway asks of batches
 
--- Each batch begins after the end of those before it, has a sample, and ends in time for a capture.
+-- Each batch begins after the end of those before it, has a sample, and ends in time for a capture; its samples are apart.
 pub record IsInTime (batch : Presented) : Type 0 where
   pub some : 1 ≤ batch.count
+  pub apart : (i k : ℕ) → i < k → k < batch.count → (sample_instant batch i +ℤ pos 500) ≤ℤ sample_instant batch k
   pub early : (k : ℕ) → k < batch.count → sample_instant batch k ≤ℤ pos 4100000000000000002
 
 abbrev pub AreApart : List Presented → Type 0
@@ -83,7 +84,10 @@ not_skipped to shape given batch shaped is after = rw (shaped, not_over given.la
 -- those after a batch begin after its last sample
 all_after : (batch : Presented) (batches : List Presented) → IsInTime batch → AllByRecursion (IsBefore batch) batches → AllByRecursion (IsAfter (Some (sample_instant batch (batch.count - 1)))) batches
 all_after batch [] is before = tt
-all_after batch (b ∷ bs) is before = let some = is.some in (before.0.last (batch.count - 1) (omega (arith, some)), all_after batch bs is before.1)
+all_after batch (b ∷ bs) is before =
+    let some = is.some in
+    let last = before.0.last (batch.count - 1) (omega (arith, some)) in
+    (omega (arith, ints, last), all_after batch bs is before.1)
 
 all_given : (to : To) (shape : Shape) (given : Given) (batches : List Presented) → AllByRecursion (IsShapedAs to (Some shape)) batches → AreApart batches → AllByRecursion (IsAfter given.last) batches → given_batches to shape given batches ≡ batches
 all_given to shape given [] shaped apart after = refl
@@ -107,7 +111,7 @@ module _ (plan : TalkPlan) (input : List ℕ) (p : IsAudioPlan plan) (limit : le
   is_sent n batch is = sent plan input n batch p limit conforms is
 
   in_time : (n : ℕ) (batch : Presented) → 1 ≤ batch.count → IsSent plan n batch → IsInTime batch
-  in_time n batch some is = record { some = some; early = λ k within. (let to = is.to k within in let early = is.early in omega (arith, ints, to, early)) }
+  in_time n batch some is = record { some = some; apart = is.apart; early = λ k within. (let to = is.to k within in let early = is.early in omega (arith, ints, to, early)) }
 
   -- of two batches, the one that comes first is of an earlier packet
   before_of : (n m : ℕ) (a b : Presented) → 1 ≤ b.count → IsOfPacket false (journal plan input) n a → IsOfPacket false (journal plan input) m b → AreOther false (journal plan input) a b → ComesBefore a b → IsBefore a b

@@ -1,17 +1,20 @@
 //! What a gateway makes of a capture of a talker's plan. Each call only states its contract, and does nothing.
 
-ghost use Rattle.std.specs.Prelude.{◌≡◌, ◌≤◌, Bool, ℕ, IsSome, List, None};
+ghost use Rattle.std.specs.Prelude.{◌≡◌, ◌≤◌, ◌<◌, ◌^◌, Bool, ℕ, IsSome, List, None, map};
 ghost use Rattle.aaf_format.specs.declared.aaf.AafFormat.TheVariants.{Int24};
 ghost use Rattle.am824_gateway.specs.declared.scan.To.{To as ToValue};
 ghost use Rattle.am824_gateway.specs.declared.scan.To.TheVariants.{Am824};
 ghost use Rattle.am824_gateway.specs.Scan.{first_fault, shape_in};
-ghost use Rattle.gateway_laws.specs.Kept.{SkipsNone};
+ghost use Rattle.gateway_laws.specs.Kept.{Hears, SkipsNone};
+ghost use Rattle.gateway_laws.specs.Returned.{frames_made};
+ghost use Rattle.gateway_laws.specs.Room.{HasDefaultRoom};
 ghost use Rattle.listener.specs.declared.plan.ListenPlan.{ListenPlan};
 ghost use Rattle.listener.specs.Heard.{due_of, shown_of};
 ghost use Rattle.listener.specs.Laws.{presented_of};
 ghost use Rattle.talk_plan.specs.declared.plan.TalkKind.TheVariants.{Aaf};
 ghost use Rattle.talk_plan.specs.declared.plan.TalkPlan.{TalkPlan};
 ghost use Rattle.talk_plan.specs.Plan.{fdf_of};
+ghost use Rattle.talker.specs.Frames.{record_of};
 ghost use Rattle.talked_headline.specs.Premises.{ListensTo, captured};
 
 use talked_headline::laws::talked_keeps_headline;
@@ -26,6 +29,16 @@ pub fn nothing_talked_is_skipped()
         → SkipsNone to (shape_in listen.stream (captured plan input places)) (presented_of (shown_of listen (captured plan input places))) }
     ensures due { (to : ToValue) (plan : TalkPlan) (input places : List ℕ) (listen : ListenPlan) → ListensTo plan input listen → listen.clock ≡ None → first_fault to listen.stream (captured plan input places) ≡ None
         → SkipsNone to (shape_in listen.stream (captured plan input places)) (presented_of (due_of listen (captured plan input places))) }
+{
+    journal_conforms();
+    talked_keeps_headline();
+}
+
+/// A listener without a clock, whose buffer is at least the default one, hears all that a gateway makes of such a capture, under any
+/// stream id: its buffer is never full. So the gateway's promises of what listeners present hold of it.
+pub fn default_listeners_hear_turned_captures()
+    ensures { (to : ToValue) (plan : TalkPlan) (input places : List ℕ) (listen : ListenPlan) (id : ℕ) (hearing : ListenPlan) → ListensTo plan input listen → listen.clock ≡ None → first_fault to listen.stream (captured plan input places) ≡ None
+        → id < 2 ^ 64 → HasDefaultRoom id hearing → Hears id hearing (map record_of (frames_made to listen id (captured plan input places))) }
 {
     journal_conforms();
     talked_keeps_headline();
