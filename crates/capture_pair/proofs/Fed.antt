@@ -1,11 +1,10 @@
 -- A pair of listeners takes bytes.
-use Rattle.std.proofs.Common.{◌≡◌, ℕ, zero, suc, ◌+◌, ◌^◌, ◌<◌, ◌≤◌, Bool, true, false, cond, ◌⊎◌, inl, inr, List, [], ◌∷◌, ◌++◌, length, take, drop, Option, Some, None, Result, Ok, Err, refl, sym, ap, ◌∙◌, subst, arith, append-nil}
+use Rattle.std.proofs.Common.{◌≡◌, ℕ, zero, suc, ◌^◌, ◌≤◌, Bool, true, false, cond, List, [], ◌∷◌, ◌++◌, length, take, drop, Option, Some, None, Result, Ok, Err, refl, sym, ap, ◌∙◌, subst, arith, append-nil}
 use Rattle.std.specs.Prelude.{IfOk, is_none}
 use mathlib.Core.List.{IsPrefix}
 use Rattle.avtp_base.specs.declared.refusal.Refusal.{Refusal}
 use Rattle.pcap_frames.specs.Capture.{Record, first_refusal, record_of, record_size, records_behind, records_from, style_of, whole_records}
 use Rattle.pcap_frames.specs.declared.style.Style.{Style}
-use Rattle.pcap_frames.specs.Reading.{taken}
 use Rattle.pcap_frames.specs.Layout.{certain, record_refusal}
 use Rattle.pcap_frames.proofs.Firsts.{records_first}
 use Rattle.sample_schedule.specs.Batches.{Presented}
@@ -13,7 +12,7 @@ use Rattle.sample_schedule.specs.declared.shown.Shown.{Shown}
 use Rattle.listener.specs.declared.listener.ListenFault.{ListenFault}
 use Rattle.listener.specs.declared.listener.ListenFault.TheVariants.{Refused, Memory}
 use Rattle.listener.specs.declared.plan.ListenPlan.{ListenPlan}
-use Rattle.listener.specs.Feeding.{Feeding, IsQuiet, StandsFor as IsFed, bytes_after, is_ended, out}
+use Rattle.listener.specs.Feeding.{Feeding, IsQuiet, Keeps as KeepsFed, StandsFor as IsFed, bytes_after, is_ended, out}
 use Rattle.listener.specs.Laws.{presented_of}
 use Rattle.listener.specs.Listening.{out as out_of}
 use Rattle.listener.proofs.Due.{due_none}
@@ -25,7 +24,7 @@ use Rattle.listener_pair.specs.Differences.{counts_of}
 use Rattle.listener_pair.specs.Matching.{IsIdle, MatchingState, StandsFor as IsMatched, known_of, wanted}
 use Rattle.listener_pair.proofs.Standing.{idle-counts, lacks-open, wants-a, wants-b}
 use Rattle.capture_pair.specs.declared.source.ByteSource.{ByteSource}
-use Rattle.capture_pair.specs.Feeding.{AreShort, FedPair, KeepsOther, KeepsSide, StandsFor, bytes_of, fed_of, known_by}
+use Rattle.capture_pair.specs.Feeding.{AreShort, FedPair, KeepsOther, StandsFor, bytes_of, fed_of, known_by}
 use Rattle.capture_pair.specs.Pairing.{Matches, Pairs}
 use Rattle.capture_pair.specs.state.Fed.{EndedBy, EndedOn, FedOn, IsBegun}
 use Rattle.capture_pair.specs.state.Sides.{Holds, IsHeard, IsSettled, Kept, OfBytes, ShowsBytes, Taken, kept_of_bytes}
@@ -231,7 +230,7 @@ counted bytes others given pair QuietA QuietB n short s settled idle get =
 
 -- ---- the other side
 
-side-kept : (old new : Feeding) → kept_of_bytes new ≡ kept_of_bytes old → KeepsSide old new
+side-kept : (old new : Feeding) → kept_of_bytes new ≡ kept_of_bytes old → KeepsFed old new
 side-kept old new is = record {
   plan = ap (λ (k : Kept). k.plan) is;
   reader = (let e : Some new.reader ≡ Some old.reader = ap (λ (k : Kept). k.reader) is in cc);

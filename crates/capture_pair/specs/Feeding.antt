@@ -1,7 +1,7 @@
 -- Two listeners with one plan, each of which is fed the bytes of a capture, and the differences of what they present.
 use Rattle.std.specs.Prelude.{◌≡◌, ℕ, ◌+◌, ◌^◌, ◌≤◌, List, length, Option}
 use Rattle.listener.specs.declared.plan.ListenPlan.{ListenPlan}
-use Rattle.listener.specs.Feeding.{Feeding, StandsFor as IsFed, is_ended, out, work}
+use Rattle.listener.specs.Feeding.{Feeding, Keeps as KeepsFed, StandsFor as IsFed, is_ended, out, work}
 use Rattle.listener.specs.Laws.{presented_of}
 use Rattle.listener_pair.specs.declared.difference.Which.{Which}
 use Rattle.listener_pair.specs.declared.difference.Which.TheVariants.{A, B}
@@ -60,23 +60,10 @@ most_left pair = (work pair.a + work pair.b) + nexts_left pair.matching
 
 -- The plans and readers of both listeners are unchanged, and so is whether each has ended or run out of memory.
 pub record Keeps (old new : FedPair) : Type 0 where
-  pub plan_a : new.a.listener.plan ≡ old.a.listener.plan
-  pub plan_b : new.b.listener.plan ≡ old.b.listener.plan
-  pub reader_a : new.a.reader ≡ old.a.reader
-  pub reader_b : new.b.reader ≡ old.b.reader
-  pub ended_a : is_ended new.a ≡ is_ended old.a
-  pub ended_b : is_ended new.b ≡ is_ended old.b
-  pub memory_a : new.a.out_of_memory ≡ old.a.out_of_memory
-  pub memory_b : new.b.out_of_memory ≡ old.b.out_of_memory
-
--- The plan and the reader of a listener are unchanged, and so is whether it has ended or run out of memory.
-pub record KeepsSide (old new : Feeding) : Type 0 where
-  pub plan : new.listener.plan ≡ old.listener.plan
-  pub reader : new.reader ≡ old.reader
-  pub ended : is_ended new ≡ is_ended old
-  pub memory : new.out_of_memory ≡ old.out_of_memory
+  pub a : KeepsFed old.a new.a
+  pub b : KeepsFed old.b new.b
 
 -- the listener of the other side than `which` is unchanged, except for what it has shown
 abbrev pub KeepsOther : Which → FedPair → FedPair → Type 0
-KeepsOther A old new = KeepsSide old.b new.b
-KeepsOther B old new = KeepsSide old.a new.a
+KeepsOther A old new = KeepsFed old.b new.b
+KeepsOther B old new = KeepsFed old.a new.a
