@@ -33,6 +33,7 @@ use Rattle.am824_gateway.proofs.ValueLemmas.{back}
 use Rattle.gateway_laws.specs.Heard.{BeginsInTime, packet_heard, packets_heard}
 use Rattle.gateway_laws.specs.Kept.{Hears}
 use Rattle.gateway_laws.specs.Returned.{frames_made, gateway_records, other}
+use Rattle.gateway_laws.specs.Room.{ArePacketsSpread, AreSpread, HasDefaultRoom}
 use Rattle.gateway_laws.specs.Stamped.{all_counted, counted_from_first}
 use Rattle.gateway_laws.proofs.Apart.{AreApart, all_apart}
 use Rattle.gateway_laws.proofs.Carried.{counted_sample, stamped_all}
@@ -40,6 +41,7 @@ use Rattle.gateway_laws.proofs.Delivered.{empty_schedule, is_schedule}
 use Rattle.gateway_laws.proofs.Heard.{heard_carry, interval_known}
 use Rattle.gateway_laws.proofs.Kept.{all_rising, no_rest}
 use Rattle.gateway_laws.proofs.Read.{IsCarried, all_carried, samples_long}
+use Rattle.gateway_laws.proofs.Room.{has_room}
 use Rattle.gateway_laws.proofs.Scanned.{heard_labels, shape_found}
 use Rattle.gateway_laws.proofs.Stamped.{stamped_presented, starts_at}
 use Rattle.gateway_laws.proofs.Timely.{shown_in_time}
@@ -341,3 +343,44 @@ pub comes_back : (shape : Option Shape) (id via : ℕ) (batches : List Presented
 comes_back None id via batches there back_plan is small via_small begins hears hears_back = refl
 comes_back (Some shape) id via batches there back_plan is small via_small begins hears hears_back =
     comes_found shape id via batches there back_plan (gateway_frames Am824 (Some shape) id batches) (gateway_frames Aaf (Some shape) via (presented_again there Am824 shape id batches)) refl refl is small via_small begins hears hears_back
+
+-- ---- there is room on both ways
+
+abbrev instants : List Body → List ℤ
+instants bs = map (λ (b : Body). b.instant) bs
+
+instants_of : (to : To) (shape : Shape) (cs : List Cut) → instants (map (body_of to shape) cs) ≡ map cut_instant cs
+instants_of to shape [] = refl
+instants_of to shape (c ∷ cs) = ap (λ (xs : List ℤ). cut_instant c ∷ xs) (instants_of to shape cs)
+
+instants_turned : (on : To) (shape : Shape) (bs : List Body) → instants (map (turn_body on shape) bs) ≡ instants bs
+instants_turned on shape [] = refl
+instants_turned on shape (b ∷ bs) = ap (λ (xs : List ℤ). b.instant ∷ xs) (instants_turned on shape bs)
+
+-- the packets of the way back are presented when those of the way there are
+same_instants : (shape : Shape) (id : ℕ) (batches : List Presented) (there : ListenPlan) → IsShape shape → id < 2 ^ 64 → AllByRecursion BeginsInTime batches → Hears id there (gateway_records Am824 (Some shape) id batches)
+    → map cut_instant (cuts_after Am824 shape nothing_given batches) ≡ map cut_instant (cuts_after Aaf shape nothing_given (presented_again there Am824 shape id batches))
+same_instants shape id batches there is small begins hears =
+    let cs : List Cut = cuts_after Am824 shape nothing_given batches in
+    let two = turned_again Am824 shape id batches there is small begins hears (all_more shape cs is (all_carried Am824 shape nothing_given batches is (omega arith))) in
+    sym (instants_of Am824 shape cs)
+    ∙ (sym (instants_turned Aaf shape (map (body_of Am824 shape) cs)) ∙ (sym (ap instants two) ∙ instants_of Aaf shape (cuts_after Aaf shape nothing_given (presented_again there Am824 shape id batches))))
+
+hears_back : (shape : Shape) (id via : ℕ) (batches : List Presented) (there back_plan : ListenPlan) (one : List SentFrame) → gateway_frames Am824 (Some shape) id batches ≡ one → IsShape shape → id < 2 ^ 64 → via < 2 ^ 64 → AllByRecursion BeginsInTime batches
+    → Hears id there (gateway_records Am824 (Some shape) id batches) → ArePacketsSpread Am824 (Some shape) batches → HasDefaultRoom via back_plan → Hears via back_plan (map record_of (frames_made Aaf there via (gateway_records Am824 (Some shape) id batches)))
+hears_back shape id via batches there back_plan [] e is small via_small begins hears spread default =
+    subst (λ (fs : List SentFrame). Hears via back_plan (map record_of (frames_made Aaf there via (map record_of fs)))) (sym e) (has_room Aaf None via [] back_plan tt via_small tt tt default)
+hears_back shape id via batches there back_plan (x ∷ one) e is small via_small begins hears spread default =
+    let hs : List Presented = presented_again there Am824 shape id batches in
+    let made : frames_made Aaf there via (gateway_records Am824 (Some shape) id batches) ≡ gateway_frames Aaf (Some shape) via hs = ap (λ (o : Option Shape). gateway_frames Aaf o via hs) (shape_by Am824 shape id batches there x one e is small hears.stream) in
+    let again = subst AreSpread (same_instants shape id batches there is small begins hears) spread in
+    subst (λ (fs : List SentFrame). Hears via back_plan (map record_of fs)) (sym made) (has_room Aaf (Some shape) via hs back_plan is via_small (shown_in_time there (gateway_records Am824 (Some shape) id batches)) again default)
+
+pub comes_back_by_default : (shape : Option Shape) (id via : ℕ) (batches : List Presented) (there back_plan : ListenPlan) → IfSome shape IsShape → id < 2 ^ 64 → via < 2 ^ 64 → AllByRecursion BeginsInTime batches
+    → ArePacketsSpread Am824 shape batches → HasDefaultRoom id there → HasDefaultRoom via back_plan
+    → frames_made Am824 back_plan id (map record_of (frames_made Aaf there via (gateway_records Am824 shape id batches))) ≡ gateway_frames Am824 shape id batches
+comes_back_by_default None id via batches there back_plan is small via_small begins spread default default_back = refl
+comes_back_by_default (Some shape) id via batches there back_plan is small via_small begins spread default default_back =
+    let hears = has_room Am824 (Some shape) id batches there is small begins spread default in
+    comes_back (Some shape) id via batches there back_plan is small via_small begins hears
+    (hears_back shape id via batches there back_plan (gateway_frames Am824 (Some shape) id batches) refl is small via_small begins hears spread default_back)

@@ -107,7 +107,10 @@ pub fn captures_of_pieces_can_be_turned()
 /// AM824 of a gateway that is converted to PCM, under any stream id, and back to AM824 under its first id, each time with the
 /// shape that the scan finds, has the same bytes. The listeners have no clock, and their buffers are never full.
 pub fn am824_comes_back()
-    ensures { (shape : Option ShapeValue) (id via : ℕ) (batches : List Presented) (there back : ListenPlan) → IfSome shape IsShape → id < 2 ^ 64 → via < 2 ^ 64 → AllByRecursion BeginsInTime batches
+    ensures heard { (shape : Option ShapeValue) (id via : ℕ) (batches : List Presented) (there back : ListenPlan) → IfSome shape IsShape → id < 2 ^ 64 → via < 2 ^ 64 → AllByRecursion BeginsInTime batches
         → Hears id there (gateway_records Am824 shape id batches) → Hears via back (map record_of (frames_made Aaf there via (gateway_records Am824 shape id batches)))
+        → frames_made Am824 back id (map record_of (frames_made Aaf there via (gateway_records Am824 shape id batches))) ≡ gateway_frames Am824 shape id batches }
+    ensures by_default { (shape : Option ShapeValue) (id via : ℕ) (batches : List Presented) (there back : ListenPlan) → IfSome shape IsShape → id < 2 ^ 64 → via < 2 ^ 64 → AllByRecursion BeginsInTime batches
+        → ArePacketsSpread Am824 shape batches → HasDefaultRoom id there → HasDefaultRoom via back
         → frames_made Am824 back id (map record_of (frames_made Aaf there via (gateway_records Am824 shape id batches))) ≡ gateway_frames Am824 shape id batches }
 {}
