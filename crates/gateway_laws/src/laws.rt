@@ -105,7 +105,8 @@ pub fn captures_of_pieces_can_be_turned()
 {}
 
 /// AM824 of a gateway that is converted to PCM, under any stream id, and back to AM824 under its first id, each time with the
-/// shape that the scan finds, has the same bytes. The listeners have no clock, and their buffers are never full.
+/// shape that the scan finds, has the same bytes. The listeners have no clock, and their buffers are never full; default buffers
+/// never are if packets are presented at least 500 ns apart.
 pub fn am824_comes_back()
     ensures heard { (shape : Option ShapeValue) (id via : ℕ) (batches : List Presented) (there back : ListenPlan) → IfSome shape IsShape → id < 2 ^ 64 → via < 2 ^ 64 → AllByRecursion BeginsInTime batches
         → Hears id there (gateway_records Am824 shape id batches) → Hears via back (map record_of (frames_made Aaf there via (gateway_records Am824 shape id batches)))
