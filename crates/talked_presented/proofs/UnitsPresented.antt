@@ -116,7 +116,7 @@ instant_is kind part by p n x e is = (subst (λ (k : Kind). IsAtBy k by p.times 
 time_is : (kind : Kind) (part : ℕ → Part) (by : Bool) (p : PacketJournal) (n : ℕ) → kind ≡ H264 part → IsAtBy kind by p.times n 0 (pos (p.times.due n))
 time_is kind part by p n e = rw e (refl, refl)
 
--- When unit i is judged, which is packets `start` to n, the following holds.
+-- When unit i, which has packets `start` to n, is judged, the following holds.
 record IsNow (p : PacketJournal) (part : ℕ → Part) (plan : ListenPlan) (ends : List ℕ) (i start n : ℕ) (now : ℤ) : Type 0 where
   known : n < p.times.packets
   packets : AreUnit part start n

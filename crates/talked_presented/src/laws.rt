@@ -29,8 +29,9 @@ use packet_journal::laws::{carried_clock_packet_is_delivered, carried_packet_is_
 use talked_headline::laws::{talked_is_heard, talked_video_is_heard, whole_capture_is_heard};
 use talker::laws::{capture_delivers, capture_reads_back, journal_conforms, losses_are_delivered};
 
-/// Files that `talk` makes with its default lead, of each kind, meet the whole premise of the headline for listeners with the
-/// default options of `listen`, without a clock and with the talker's.
+/// Files that `talk` makes with its default lead meet the whole premise of the headline for listeners with the default options
+/// of `listen`: those of audio without a media clock, if each packet has a timestamp or is counted from one; those with a
+/// clock, if each packet stamps its first sample and there are no restarts, for listeners with that clock; and those of H.264.
 pub fn files_are_heard()
     ensures audio { (plan : TalkPlan) (input : List ℕ) → HasDefaultLead plan input → HearsTalker (pos 0) (journal plan input) (default_listener plan.id) (records_in (capture plan input)) }
     ensures clocked { (plan : TalkPlan) (crf : CrfPlan) (input : List ℕ) → HasDefaultClock plan crf input → HearsTalker (pos 0) (journal plan input) (clocked_listener plan.id crf.id) (records_in (capture plan input)) }
@@ -65,9 +66,10 @@ pub fn defaults_present_all()
     whole_capture_is_presented();
 }
 
-/// A listener with the talker's clock presents each packet of a whole capture from the second timestamp of the clock on, once and in
-/// order, if each packet stamps its first sample and there are no restarts. Nothing else is shown, but for flags of the packets
-/// before it, with the reason `noclock`.
+/// A listener with the talker's clock presents each packet of a whole capture from the second timestamp of the clock on, once and
+/// in order, if each packet stamps its first sample, there are no restarts, and the lead is at least 3 ns; the listener has no
+/// look-ahead, and room for what is sent during the lead. Nothing else is shown but flags of packets before that timestamp,
+/// with the reason `noclock`.
 pub fn clocked_capture_is_presented()
     ensures { (plan : TalkPlan) (crf : CrfPlan) (input : List ℕ) (listen : ListenPlan) → HearsClock plan crf input listen
         → ArePresentedFrom (journal plan input) (first_covered crf plan) (shown_of listen (whole_records (capture plan input))) }
@@ -78,8 +80,8 @@ pub fn clocked_capture_is_presented()
     carried_clock_packet_is_delivered();
 }
 
-/// If such a plan has the default lead of `talk`, a listener with its clock and else the default options of `listen` presents
-/// these packets.
+/// If such a plan has the default lead of `talk`, a listener with its clock and otherwise the default options of `listen`
+/// presents these packets.
 pub fn defaults_present_by_clock()
     ensures hears { (plan : TalkPlan) (crf : CrfPlan) (input : List ℕ) → HasDefaultClock plan crf input → HearsClock plan crf input (clocked_listener plan.id crf.id) }
     ensures presented { (plan : TalkPlan) (crf : CrfPlan) (input : List ℕ) → HasDefaultClock plan crf input
@@ -148,9 +150,9 @@ pub fn talked_copy_is_further()
     copies_anywhere_are_further();
 }
 
-/// A unit of an H.264 plan must be presented, wherever it is in a capture and whatever the capture loses, repeats or reorders, if all
-/// its packets are captured in their order, with none of the stream between them, no packet before it was captured after it is
-/// due, its last packet did not come before, and the buffer has room for it.
+/// A unit of an H.264 plan must be presented, wherever it is in a capture and whatever the capture loses, repeats or reorders,
+/// if all its packets are captured in order, with no other packet of the stream between them, no packet before it was captured
+/// after the unit is due, its last packet did not come before, and the buffer has room for it.
 pub fn talked_unit_anywhere_is_welcome()
     ensures { (plan : TalkPlan) (input front after : List ℕ) (from n : ℕ) (listen : ListenPlan) → UnitMustBePresented plan input listen front from n after
         → (place : ℕ) × ((made : MadeItem) × IsWelcome (journal plan input) listen (captured plan input (front ++ (range_with_len from (n - from) ++ n ∷ after))) place n made) }
