@@ -1,0 +1,33 @@
+-- What a run of `talk` with default words makes.
+use Rattle.std.proofs.Common.{◌≡◌, ◌≢◌, ℕ, ◌≤◌, false, List, length, Some, IsSome, refl, sym, ap, subst, ◌∙◌}
+use Rattle.avtp_base.specs.Faults.{Rose}
+use Rattle.avtp_base.specs.Files.{Files}
+use Rattle.sample_schedule.specs.declared.shown.Shown.{Shown}
+use Rattle.talk_plan.specs.Plan.{most_input}
+use Rattle.talker.specs.Frames.{capture}
+use Rattle.talked_presented.specs.Examples.{plain}
+use Rattle.avtp_words.specs.Grammar.{talk}
+use Rattle.avtp_words.specs.Word.{IsName}
+use Rattle.avtp_tool.specs.declared.status.Status.TheVariants as status
+use Rattle.avtp_tool.specs.Made.{MakesOutput}
+use Rattle.avtp_tool.specs.Talk.{TalkOutcome, TalkedOutcome, talk_made}
+use Rattle.run_laws.specs.Defaults.{talk_default, talk_words}
+use Rattle.run_laws.specs.Runs.{RanThrough}
+use Rattle.run_laws.proofs.Words.{talks}
+
+pub makes : (bytes input output : List ℕ) (files after : Files) (handed : List Shown → Type 0) (still : Type 0) → IsName input → IsName output → input ≢ output → files input ≡ Some bytes
+    → RanThrough (talk_words input output) handed still files after → (length bytes ≤ most_input) × (after output ≡ Some (capture (plain false) bytes))
+makes bytes input output files after handed still input_is output_is apart holds ran =
+    let report = (ran.promised (talk (talk_default input output)) (talks input output input_is output_is apart)).reports files ran.told (subst IsSome (sym ran.told_after) refl) in
+    let whole = report.whole (λ e. cc) (λ e. cc) in
+    let fault = Rose ran.shelf.reading_faults ran.shelf'.reading_faults in
+    let outcome : TalkOutcome (plain false) (Some bytes) fault report.reached report.yields.text =
+    subst (λ told. TalkOutcome (plain false) told fault report.reached report.yields.text) holds report.outcome.1 in
+    let done : TalkedOutcome (plain false) bytes fault status.Done report.yields.text = subst (λ ended. TalkedOutcome (plain false) bytes fault ended report.yields.text) (sym whole.0) outcome in
+    let made : report.made ≡ Some (capture (plain false) bytes) =
+    report.outcome.3 ∙ ap (λ told. talk_made (plain false) told report.reached) holds ∙ ap (talk_made (plain false) (Some bytes)) (sym whole.0) in
+    let put : MakesOutput (Some output) (Some (capture (plain false) bytes)) (Some files) (Some after) =
+    subst (λ it. MakesOutput (Some output) it (Some files) (Some after)) made
+    (subst (λ it. MakesOutput (Some output) report.made it (Some after)) ran.told
+    (subst (λ it. MakesOutput (Some output) report.made ran.shelf.files it) ran.told_after whole.4)) in
+    (done.0, put.0)

@@ -1,0 +1,54 @@
+//! Laws of the whole command. Each call only states its contract, and does nothing.
+
+ghost use Rattle.std.specs.Prelude.{◌≡◌, ◌≢◌, ℕ, List, Some, codes, false};
+ghost use Rattle.avtp_base.specs.Files.{Files};
+ghost use Rattle.talk_plan.specs.declared.plan.TalkPlan.{TalkPlan};
+ghost use Rattle.talker.specs.Frames.{capture};
+ghost use Rattle.talked_presented.specs.Examples.{plain};
+ghost use Rattle.talked_presented.specs.Whole.{HasDefaultLead, default_listener};
+ghost use Rattle.avtp_words.specs.Grammar.{IsCommandLine, listen, talk};
+ghost use Rattle.avtp_words.specs.Word.{IsId, IsName};
+ghost use Rattle.avtp_tool.specs.Listen.{plan_of};
+ghost use Rattle.avtp_tool.specs.Talk.{talk_plan};
+ghost use Rattle.avtp_tool.specs.Yield.{HandsOn};
+ghost use Rattle.run_laws.specs.Defaults.{listen_default, listen_words, talk_default, talk_words};
+ghost use Rattle.run_laws.specs.Runs.{GaveAll, RanThrough};
+
+use device_rack::Devices;
+use talked_presented::laws::{defaults_present_all, examples_are_so, files_are_heard};
+use talker::laws::capture_reads_back;
+
+/// A stream id of 16 hexadecimal digits and the name of a file alone are a command line of `listen`, and the names of two
+/// different files alone are one of `talk`. Each option then has its default, and what is asked for is the listener and the plan
+/// of which other laws say what is presented. The digits 0200000000010001 are the id of that plan.
+pub fn default_words_are_command_lines()
+    ensures listen { (word name : List ℕ) (id : ℕ) → IsId word id → IsName name → IsCommandLine (listen_words word name) (listen (listen_default id name)) }
+    ensures listener { (id : ℕ) (name : List ℕ) → plan_of (listen_default id name).listener ≡ default_listener id }
+    ensures talk { (input output : List ℕ) → IsName input → IsName output → input ≢ output → IsCommandLine (talk_words input output) (talk (talk_default input output)) }
+    ensures plan { (input output : List ℕ) → talk_plan (talk_default input output) ≡ plain false }
+    ensures id { IsId (codes "0200000000010001") (plain false).id }
+{}
+
+/// A run of `listen` with default words, over a shelf that holds under this name a capture of a plan with the default lead,
+/// gives the devices all of it, as the headline says. This follows from what `run` promises (`HasRun.reports.headline`).
+pub fn default_words_present_all<D: Devices>()
+    ensures { (plan : TalkPlan) (input word name : List ℕ) (files after : Files) (old new : D) → HasDefaultLead plan input → IsId word plan.id → IsName name
+        → files name ≡ Some (capture plan input) → RanThrough (listen_words word name) (HandsOn D.handed old new) (new ≡ old) files after → GaveAll plan input (HandsOn D.handed old new) }
+{
+    files_are_heard();
+    defaults_present_all();
+    capture_reads_back();
+}
+
+/// After `talk IN OUT` and then `listen 0200000000010001 OUT`, if both ended with `Done` and OUT was not changed in between, the
+/// devices got each packet that the plan makes of the bytes of IN, once, in order and at its instants, and nothing else.
+pub fn talk_and_listen_present_all<D: Devices>()
+    ensures made { (bytes input output : List ℕ) (files after : Files) (old new : D) → IsName input → IsName output → input ≢ output → files input ≡ Some bytes
+        → RanThrough (talk_words input output) (HandsOn D.handed old new) (new ≡ old) files after → HasDefaultLead (plain false) bytes × (after output ≡ Some (capture (plain false) bytes)) }
+    ensures given { (bytes input output : List ℕ) (files made kept after : Files) (a b old new : D) → IsName input → IsName output → input ≢ output → files input ≡ Some bytes
+        → RanThrough (talk_words input output) (HandsOn D.handed a b) (b ≡ a) files made → kept output ≡ made output
+        → RanThrough (listen_words (codes "0200000000010001") output) (HandsOn D.handed old new) (new ≡ old) kept after → GaveAll (plain false) bytes (HandsOn D.handed old new) }
+{
+    default_words_present_all::<D>();
+    examples_are_so();
+}
