@@ -1,3 +1,4 @@
 pub mod Words
 pub mod Listened
 pub mod Talked
+pub mod Sizes

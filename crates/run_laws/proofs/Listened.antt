@@ -1,8 +1,7 @@
 -- What a run of `listen` with default words gives.
-use Rattle.std.proofs.Common.{◌≡◌, ℕ, ◌^◌, ◌≤◌, [], ◌∷◌, pos, Bool, true, false, List, length, take, Option, None, Some, IsSome, inl, inr, refl, sym, ap, subst, ◌∙◌, append-nil, nat_le}
+use Rattle.std.proofs.Common.{◌≡◌, ◌≢◌, ℕ, ◌^◌, ◌≤◌, [], ◌∷◌, pos, Bool, true, false, List, length, take, Option, None, Some, IsSome, inl, inr, refl, sym, ap, subst, ◌∙◌, append-nil, nat_le}
 use Rattle.std.specs.Prelude.{◌⊎◌}
-use Rattle.std.specs.List.{range_with_len}
-use Rattle.std.proofs.lemmas.Bool.{cases_Bool, leb-true}
+use Rattle.std.proofs.lemmas.Bool.{cases_Bool, le-leb, leb-true}
 use Rattle.std.proofs.lemmas.List.{take_all}
 use Rattle.avtp_base.specs.Faults.{Rose}
 use Rattle.avtp_base.specs.Files.{Files}
@@ -12,8 +11,8 @@ use Rattle.capture_io.specs.declared.capture_reader.Format.TheVariants.{Classic}
 use Rattle.capture_io.specs.declared.end.End.{End}
 use Rattle.capture_io.specs.declared.end.End.TheVariants as end
 use Rattle.capture_io.specs.Ends.{at_limit, end_of}
-use Rattle.capture_io.specs.Formats.{certain_in, records_in}
-use Rattle.capture_io.proofs.Formats.{accepted_classic, is_classic, records_by}
+use Rattle.capture_io.specs.Formats.{certain_in, records_in, refusal_in}
+use Rattle.capture_io.proofs.Formats.{accepted_classic, is_classic, records_by, refusal_by}
 use Rattle.packet_journal.specs.Packets.{PacketJournal}
 use Rattle.sample_schedule.specs.declared.shown.Shown.{Shown}
 use Rattle.listener.specs.Headline.{KeepsHeadline}
@@ -37,7 +36,7 @@ use Rattle.avtp_tool.specs.Yield.{Yield, says}
 use Rattle.avtp_tool.proofs.Ended.{quiet_not}
 use Rattle.avtp_tool.proofs.GatewayRun.{by_end}
 use Rattle.run_laws.specs.Defaults.{listen_default, listen_words}
-use Rattle.run_laws.specs.Runs.{GaveAll, RanThrough}
+use Rattle.run_laws.specs.Runs.{GaveAll, Ran}
 use Rattle.run_laws.proofs.Words.{listens}
 
 -- ---- a run over one file
@@ -69,6 +68,10 @@ done_whole false end.ReadFault e = absurd cc
 done_whole true end.Limit e = absurd cc
 done_whole false end.Limit e = absurd cc
 
+end_whole : (limit : ℕ) (bytes : List ℕ) → length bytes ≤ limit → refusal_in bytes ≡ None → end_of limit bytes ≡ end.Whole
+unfolding end_of
+end_whole limit bytes short none = rw (le-leb (length bytes) limit short, none) refl
+
 within : (limit : ℕ) (bytes : List ℕ) → end_of limit bytes ≡ end.Whole → length bytes ≤ limit
 unfolding end_of
 within limit bytes is = elim (cases_Bool (nat_le (length bytes) limit)) [
@@ -98,13 +101,32 @@ kept asked name bytes fault here p none ends taken hears (inr yields) =
     subst (KeepsHeadline (pos 0) p (plan_of asked.listener) (records_in bytes)) items
     (subst (λ b. KeepsHeadline (pos 0) p (plan_of asked.listener) (records_in b) here.items) read keeps)
 
+-- ---- the run
+
+-- unless memory ran out or a write failed, a run over one capture ends as reading it ends
+ended_by : (id : ℕ) (word name bytes : List ℕ) (files after : Files) (handed : List Shown → Type 0) (still : Type 0) (failed : Bool) (ended : Status) → IsId word id → IsName name → files name ≡ Some bytes
+    → Ran (listen_words word name) handed still failed files after ended → ended ≢ status.Memory → ended ≢ status.WriteFault → ended ≡ device_status failed (status_of (end_of (2 ^ 40) bytes))
+ended_by id word name bytes files after handed still failed ended is named holds ran memory written =
+    let asked = listen_default id name in
+    let report = (ran.promised (listen asked) (listens word name id is named)).reports files ran.told (subst IsSome (sym ran.told_after) refl) in
+    (report.whole memory written).0 ∙ (report.complete ran.read).1
+    ∙ ap (device_status failed) (one_ended (one_status (listen_plan asked) files) name ∙ ap (file_status (listen_report asked name) (2 ^ 40)) holds)
+
+pub ends : (plan : TalkPlan) (input word name : List ℕ) (files after : Files) (handed : List Shown → Type 0) (still : Type 0) (ended : Status) → IsId word plan.id → IsName name
+    → first_refusal (capture plan input) ≡ None → length (capture plan input) ≤ 2 ^ 40 → files name ≡ Some (capture plan input)
+    → Ran (listen_words word name) handed still false files after ended → ended ≢ status.Memory → ended ≢ status.WriteFault → ended ≡ status.Done
+ends plan input word name files after handed still ended id named sound short holds ran memory written =
+    let bytes = capture plan input in
+    ended_by plan.id word name bytes files after handed still false ended id named holds ran memory written
+    ∙ ap (λ (how : End). device_status false (status_of how)) (end_whole (2 ^ 40) bytes short (refusal_by Classic bytes (is_classic bytes (accepted_classic bytes sound)) ∙ sound))
+
 -- ---- the devices
 
-pub gives_all : (plan : TalkPlan) (input word name : List ℕ) (files after : Files) (handed : List Shown → Type 0) (still : Type 0) → IsId word plan.id → IsName name
+pub gives_all : (plan : TalkPlan) (input packets word name : List ℕ) (files after : Files) (handed : List Shown → Type 0) (still : Type 0) (failed : Bool) → IsId word plan.id → IsName name
     → HearsTalker (pos 0) (journal plan input) (default_listener plan.id) (records_in (capture plan input)) → first_refusal (capture plan input) ≡ None
-    → ArePresented false (journal plan input) (range_with_len 0 (journal plan input).times.packets) (shown_of (default_listener plan.id) (whole_records (capture plan input)))
-    → files name ≡ Some (capture plan input) → RanThrough (listen_words word name) handed still files after → GaveAll plan input handed
-gives_all plan input word name files after handed still id named hears sound presented holds ran =
+    → ArePresented false (journal plan input) packets (shown_of (default_listener plan.id) (whole_records (capture plan input)))
+    → files name ≡ Some (capture plan input) → Ran (listen_words word name) handed still failed files after status.Done → GaveAll plan input packets handed
+gives_all plan input packets word name files after handed still failed id named hears sound presented holds ran =
     let asked = listen_default plan.id name in
     let bytes = capture plan input in
     let report = (ran.promised (listen asked) (listens word name plan.id id named)).reports files ran.told (subst IsSome (sym ran.told_after) refl) in
@@ -112,8 +134,7 @@ gives_all plan input word name files after handed still id named hears sound pre
     let whole = report.whole (λ e. cc) (λ e. cc) in
     let ends = one_status (listen_plan asked) files in
     let none = quiet_not ran.shelf.reading_faults ran.shelf'.reading_faults ran.read in
-    let how : end_of (2 ^ 40) bytes ≡ end.Whole = done_whole ran.failed (end_of (2 ^ 40) bytes)
-    (whole.0 ∙ complete.1 ∙ ap (device_status ran.failed) (one_ended ends name ∙ ap (file_status (listen_report asked name) (2 ^ 40)) holds)) in
+    let how = done_whole failed (end_of (2 ^ 40) bytes) (ended_by plan.id word name bytes files after handed still failed status.Done id named holds ran (λ e. cc) (λ e. cc)) in
     let taken : take (2 ^ 40) bytes ≡ bytes = take_all (2 ^ 40) bytes (within (2 ^ 40) bytes how) in
     let items : report.yields.items ≡ shown_of (default_listener plan.id) (records_in bytes) =
     ap (λ (y : Yield). y.items) complete.2 ∙ append-nil _ ∙ one_given ends (one_yield (listen_plan asked) files) name
@@ -123,6 +144,6 @@ gives_all plan input word name files after handed still id named hears sound pre
       items = shown_of (default_listener plan.id) (records_in bytes);
       given = subst handed items whole.2;
       headline = kept asked name bytes (Rose ran.shelf.reading_faults ran.shelf'.reading_faults) headline.here (journal plan input) none how taken hears headline.keeps;
-      all = subst (λ (records : List Record). ArePresented false (journal plan input) (range_with_len 0 (journal plan input).times.packets) (shown_of (default_listener plan.id) records))
+      all = subst (λ (records : List Record). ArePresented false (journal plan input) packets (shown_of (default_listener plan.id) records))
           (sym (records_by Classic bytes (is_classic bytes (accepted_classic bytes sound)))) presented;
     }

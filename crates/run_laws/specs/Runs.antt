@@ -1,4 +1,4 @@
--- Runs of the command that ended well, and what one of `listen` gave.
+-- Runs of the command, and what one of `listen` gave.
 use Rattle.std.specs.Prelude.{◌≡◌, ℕ, Bool, false, pos, List, Some}
 use Rattle.std.specs.List.{range_with_len}
 use Rattle.avtp_base.specs.Files.{Files}
@@ -11,27 +11,30 @@ use Rattle.talker.specs.Frames.{capture}
 use Rattle.talker.specs.Journal.{journal}
 use Rattle.talked_presented.specs.Whole.{ArePresented, default_listener}
 use Rattle.avtp_words.specs.Grammar.{IsCommandLine, Request}
-use Rattle.avtp_tool.specs.declared.status.Status.TheVariants as status
+use Rattle.avtp_tool.specs.declared.status.Status.{Status}
 use Rattle.avtp_tool.specs.HasRun.{HasRun, ReadsAll}
 
--- A run of these words ended with `Done`, and no fault of reading came. The shelf tells its files, which were `files` before the
--- run and are `files'` after it. All that is known of the run is what `run` promises of one request (`HasRun`), with the same
--- `handed` and `still`.
-pub record RanThrough (words : List (List ℕ)) (handed : List Shown → Type 0) (still : Type 0) (files files' : Files) : Type 0 where
-  pub failed : Bool
+-- A run of these words that ended so. All that is known of it is what `run` promises of one request (`HasRun`), with the same
+-- `handed`, `still` and `failed`. No fault of reading came, and the shelf tells its files, which were `files` before the run and
+-- are `files'` after it.
+pub record Ran (words : List (List ℕ)) (handed : List Shown → Type 0) (still : Type 0) (failed : Bool) (files files' : Files) (ended : Status) : Type 0 where
   pub shelf : ShelfState
   pub shelf' : ShelfState
   pub out : SinkState
   pub out' : SinkState
-  pub promised : (request : Request) → IsCommandLine words request → HasRun request handed still failed shelf shelf' out out' status.Done
+  pub promised : (request : Request) → IsCommandLine words request → HasRun request handed still failed shelf shelf' out out' ended
   pub told : shelf.files ≡ Some files
   pub told_after : shelf'.files ≡ Some files'
   pub read : ReadsAll shelf shelf'
 
--- The devices got what a listener shows of a capture of the plan: it keeps the headline, and is each packet once, in order, with
--- its bytes and at its instants, and nothing else.
-pub record GaveAll (plan : TalkPlan) (input : List ℕ) (handed : List Shown → Type 0) : Type 0 where
+-- The devices got what a listener shows of a capture of the plan: it keeps the headline, and presents exactly these packets, each
+-- once, in order, with its bytes and at its instants. Nothing else is shown.
+pub record GaveAll (plan : TalkPlan) (input packets : List ℕ) (handed : List Shown → Type 0) : Type 0 where
   pub items : List Shown
   pub given : handed items
   pub headline : KeepsHeadline (pos 0) (journal plan input) (default_listener plan.id) (records_in (capture plan input)) items
-  pub all : ArePresented false (journal plan input) (range_with_len 0 (journal plan input).times.packets) items
+  pub all : ArePresented false (journal plan input) packets items
+
+-- the numbers of all packets of the plan's stream, in order
+abbrev pub each_packet : TalkPlan → List ℕ → List ℕ
+each_packet plan input = range_with_len 0 (journal plan input).times.packets

@@ -1,21 +1,26 @@
 //! Laws of the whole command. Each call only states its contract, and does nothing.
 
-ghost use Rattle.std.specs.Prelude.{◌≡◌, ◌≢◌, ℕ, List, Some, codes, false};
+ghost use Rattle.std.specs.Prelude.{◌≡◌, ◌≢◌, ◌≤◌, ◌%◌, ℕ, Bool, List, Some, codes, false, length};
 ghost use Rattle.avtp_base.specs.Files.{Files};
 ghost use Rattle.talk_plan.specs.declared.plan.TalkPlan.{TalkPlan};
+ghost use Rattle.talk_plan.specs.Plan.{most_input};
 ghost use Rattle.talker.specs.Frames.{capture};
 ghost use Rattle.talked_presented.specs.Examples.{plain};
-ghost use Rattle.talked_presented.specs.Whole.{HasDefaultLead, default_listener};
+ghost use Rattle.talked_presented.specs.Whole.{HasDefaultLead, IsDefaultVideo, default_listener, unit_ends};
 ghost use Rattle.avtp_words.specs.Grammar.{IsCommandLine, listen, talk};
 ghost use Rattle.avtp_words.specs.Word.{IsId, IsName};
+ghost use Rattle.avtp_tool.specs.declared.status.Status.{Status};
+ghost use Rattle.avtp_tool.specs.declared.status.Status.TheVariants.{Done, Memory, WriteFault};
 ghost use Rattle.avtp_tool.specs.Listen.{plan_of};
 ghost use Rattle.avtp_tool.specs.Talk.{talk_plan};
 ghost use Rattle.avtp_tool.specs.Yield.{HandsOn};
 ghost use Rattle.run_laws.specs.Defaults.{listen_default, listen_words, talk_default, talk_words};
-ghost use Rattle.run_laws.specs.Runs.{GaveAll, RanThrough};
+ghost use Rattle.run_laws.specs.Runs.{GaveAll, Ran, each_packet};
 
 use device_rack::Devices;
-use talked_presented::laws::{defaults_present_all, examples_are_so, files_are_heard};
+use talked_presented::laws::{
+    defaults_present_all, defaults_present_all_units, examples_are_so, files_are_heard,
+};
 use talker::laws::capture_reads_back;
 
 /// A stream id of 16 hexadecimal digits and the name of a file alone are a command line of `listen`, and the names of two
@@ -30,24 +35,33 @@ pub fn default_words_are_command_lines()
 {}
 
 /// A run of `listen` with default words, over a shelf that holds under this name a capture of a plan with the default lead,
-/// gives the devices all of it, as the headline says. This follows from what `run` promises (`HasRun.reports.headline`).
+/// gives the devices all of it, as the headline says; of H.264 each unit. This follows from what `run` promises
+/// (`HasRun.reports.headline`). For audio it ends with `Done`, unless memory runs out, a write fails or a device fails.
 pub fn default_words_present_all<D: Devices>()
-    ensures { (plan : TalkPlan) (input word name : List ℕ) (files after : Files) (old new : D) → HasDefaultLead plan input → IsId word plan.id → IsName name
-        → files name ≡ Some (capture plan input) → RanThrough (listen_words word name) (HandsOn D.handed old new) (new ≡ old) files after → GaveAll plan input (HandsOn D.handed old new) }
+    ensures given { (plan : TalkPlan) (input word name : List ℕ) (files after : Files) (old new : D) (failed : Bool) → HasDefaultLead plan input → IsId word plan.id → IsName name
+        → files name ≡ Some (capture plan input) → Ran (listen_words word name) (HandsOn D.handed old new) (new ≡ old) failed files after Done → GaveAll plan input (each_packet plan input) (HandsOn D.handed old new) }
+    ensures units { (plan : TalkPlan) (input word name : List ℕ) (files after : Files) (old new : D) (failed : Bool) → IsDefaultVideo plan input → IsId word plan.id → IsName name
+        → files name ≡ Some (capture plan input) → Ran (listen_words word name) (HandsOn D.handed old new) (new ≡ old) failed files after Done → GaveAll plan input (unit_ends plan input) (HandsOn D.handed old new) }
+    ensures ends { (plan : TalkPlan) (input word name : List ℕ) (files after : Files) (old new : D) (ended : Status) → HasDefaultLead plan input → IsId word plan.id → IsName name
+        → files name ≡ Some (capture plan input) → Ran (listen_words word name) (HandsOn D.handed old new) (new ≡ old) false files after ended → ended ≢ Memory → ended ≢ WriteFault → ended ≡ Done }
 {
     files_are_heard();
     defaults_present_all();
+    defaults_present_all_units();
     capture_reads_back();
 }
 
 /// After `talk IN OUT` and then `listen 0200000000010001 OUT`, if both ended with `Done` and OUT was not changed in between, the
-/// devices got each packet that the plan makes of the bytes of IN, once, in order and at its instants, and nothing else.
+/// devices got each packet that the plan makes of the bytes of IN, once, in order and at its instants, and nothing else. If IN
+/// is whole sample frames, `talk` ends so, unless memory runs out or a write fails.
 pub fn talk_and_listen_present_all<D: Devices>()
-    ensures made { (bytes input output : List ℕ) (files after : Files) (old new : D) → IsName input → IsName output → input ≢ output → files input ≡ Some bytes
-        → RanThrough (talk_words input output) (HandsOn D.handed old new) (new ≡ old) files after → HasDefaultLead (plain false) bytes × (after output ≡ Some (capture (plain false) bytes)) }
-    ensures given { (bytes input output : List ℕ) (files made kept after : Files) (a b old new : D) → IsName input → IsName output → input ≢ output → files input ≡ Some bytes
-        → RanThrough (talk_words input output) (HandsOn D.handed a b) (b ≡ a) files made → kept output ≡ made output
-        → RanThrough (listen_words (codes "0200000000010001") output) (HandsOn D.handed old new) (new ≡ old) kept after → GaveAll (plain false) bytes (HandsOn D.handed old new) }
+    ensures made { (bytes input output : List ℕ) (files after : Files) (old new : D) (failed : Bool) → IsName input → IsName output → input ≢ output → files input ≡ Some bytes
+        → Ran (talk_words input output) (HandsOn D.handed old new) (new ≡ old) failed files after Done → HasDefaultLead (plain false) bytes × (after output ≡ Some (capture (plain false) bytes)) }
+    ensures ends { (bytes input output : List ℕ) (files after : Files) (old new : D) (failed : Bool) (ended : Status) → IsName input → IsName output → input ≢ output → files input ≡ Some bytes
+        → length bytes ≤ most_input → length bytes % 4 ≡ 0 → Ran (talk_words input output) (HandsOn D.handed old new) (new ≡ old) failed files after ended → ended ≢ Memory → ended ≢ WriteFault → ended ≡ Done }
+    ensures given { (bytes input output : List ℕ) (files made kept after : Files) (a b old new : D) (failed other : Bool) → IsName input → IsName output → input ≢ output → files input ≡ Some bytes
+        → Ran (talk_words input output) (HandsOn D.handed a b) (b ≡ a) failed files made Done → kept output ≡ made output
+        → Ran (listen_words (codes "0200000000010001") output) (HandsOn D.handed old new) (new ≡ old) other kept after Done → GaveAll (plain false) bytes (each_packet (plain false) bytes) (HandsOn D.handed old new) }
 {
     default_words_present_all::<D>();
     examples_are_so();
