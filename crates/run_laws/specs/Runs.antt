@@ -27,8 +27,8 @@ pub record Ran (words : List (List ℕ)) (handed : List Shown → Type 0) (still
   pub told_after : shelf'.files ≡ Some files'
   pub read : ReadsAll shelf shelf'
 
--- The devices got what a listener shows of a capture of the plan: it keeps the headline, and presents exactly these packets, each
--- once, in order, with its bytes and at its instants. Nothing else is shown.
+-- The devices got what a listener shows of a capture of the plan: it keeps the headline, and presents exactly these packets, or the
+-- units of H.264 that they end, each once, in order, with its bytes and at its instants. Nothing else is shown.
 pub record GaveAll (plan : TalkPlan) (input packets : List ℕ) (handed : List Shown → Type 0) : Type 0 where
   pub items : List Shown
   pub given : handed items
