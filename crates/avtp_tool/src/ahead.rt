@@ -10,8 +10,8 @@ use avtp_files::{Shelf, Sink};
 use avtp_text::Text;
 use capture_io::{End, Source};
 
-/// Reads on to the next record. If the record is not yet in what was read, the text that waits is written first, so whoever
-/// watches a capture grow sees each line as soon as its packet has come.
+/// Reads on to the next record. If it may have to be waited for, the text that waits is written first, so whoever watches a
+/// capture grow sees each line as soon as its packet has come.
 #[inline(always)]
 pub fn next_record<F: Shelf, S: Sink>(
     source: &mut Source,
@@ -25,8 +25,20 @@ pub fn next_record<F: Shelf, S: Sink>(
     if source.advance() {
         return Ok(None);
     }
-    write_waiting(text, out)?;
+    write_ahead(source, text, out)?;
     Ok(source.next(shelf))
+}
+
+/// Writes the text that waits, if the next record may have to be waited for.
+#[inline(always)]
+fn write_ahead<S: Sink>(source: &Source, text: &mut Text, out: &mut S) -> Result<(), Failed>
+    ensures { WritesWaiting (S.state out.old) (S.state out.new) text.old text.new result }
+{
+    if source.must_read() {
+        write_waiting(text, out)
+    } else {
+        Ok(())
+    }
 }
 
 /// Writes the text that waits.

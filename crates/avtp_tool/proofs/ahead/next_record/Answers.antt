@@ -13,18 +13,18 @@ returns-then-advance g c = record {
   sink = sink_still _ _;
 }
 
-pub returns-in_err-write_waiting : goal.returns-in_err-write_waiting
-returns-in_err-write_waiting g c = on_err (ReadsAhead _ _ _ _ _ _ _ _) c.from_residual.result c.from_residual.ensures.0 (λ e. record {
+pub returns-in_err-write_ahead : goal.returns-in_err-write_ahead
+returns-in_err-write_ahead g c = on_err (ReadsAhead _ _ _ _ _ _ _ _) c.from_residual.result c.from_residual.ensures.0 (λ e. record {
   gives = tt;
   cut = (refl, c.advance.ensures.slot);
-  kept = c.in_err-write_waiting.ensures.kept;
-  sink = sink_err c.in_err-write_waiting.ensures.sink;
+  kept = c.in_err-write_ahead.ensures.kept;
+  sink = sink_err c.in_err-write_ahead.ensures.sink;
 })
 
 pub returns : goal.returns
 returns g c = record {
   gives = c.advance.ensures.further c.if-advance.false _ _ _ _ c.next.ensures;
   cut = tt;
-  kept = c.in_ok-write_waiting.ensures.kept;
-  sink = sink_ok _ c.in_ok-write_waiting.ensures.sink;
+  kept = c.in_ok-write_ahead.ensures.kept;
+  sink = sink_ok _ c.in_ok-write_ahead.ensures.sink;
 }
