@@ -27,7 +27,8 @@ abbrev pub unlabelled : ℕ → List ℕ → List ℕ
 unlabelled zero quadlets = []
 unlabelled (suc n) quadlets = unlabelled n quadlets ++ take 3 (drop (4 * n + 1) quadlets)
 
--- how many bytes a value of 24 bits has that is presented to a gateway to this format; a quadlet of AM824 begins with a label
+-- how many bytes a value of 24 bits has in the batches that a gateway to this format converts; a quadlet of AM824 begins with a
+-- label
 abbrev pub value_in : To → ℕ
 value_in Am824 = 3
 value_in Aaf = 4

@@ -50,7 +50,7 @@ header_at subtype id n instant length = record {
   data_length = length;
 }
 
--- a packet of AM824 with these data blocks, as a talker sends it that is on no IEEE 1394 bus
+-- a packet of AM824 with these data blocks, as sent by a talker that is on no IEEE 1394 bus
 abbrev pub am824_packet : Shape → StreamHeader → Piece → List ℕ → Iec
 am824_packet shape header p blocks = record {
   header = header;
@@ -64,7 +64,7 @@ am824_packet shape header p blocks = record {
   reserved = false;
 }
 
--- a packet of PCM of 24 bits with these samples, as a talker sends it that stamps each packet
+-- a packet of PCM of 24 bits with these samples, as sent by a talker that stamps each packet
 abbrev pub aaf_packet : Shape → StreamHeader → Piece → List ℕ → AafPacket
 aaf_packet shape header p samples = record {
   header = header;

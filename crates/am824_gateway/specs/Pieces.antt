@@ -46,7 +46,7 @@ piece_count to shape batch first =
 
 -- ---- block counts
 
--- The block count of the first data block of an AM824 packet, by the block count and the number of blocks of the packet before
+-- The block count of the first data block of an AM824 packet, given the block count and the number of blocks of the packet before
 -- it: their sum, raised to a multiple of SYT_INTERVAL, modulo 256. So the timestamp always belongs to the packet's first block
 -- (IEC 61883-6), and the block count has a gap after a packet that does not end at a multiple.
 abbrev pub next_block : ℕ → ℕ → ℕ → ℕ

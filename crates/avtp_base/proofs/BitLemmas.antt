@@ -7,7 +7,7 @@ use Rattle.std.specs.Prelude.{bit_and}
 use Rattle.byteorder.specs.Endian.{big_from}
 use Rattle.avtp_base.specs.Octets.{AreBytes, bits, flag, is_set}
 
--- a number in a list whose first bytes were dropped is that number further on in the list
+-- a number in a list without its first bytes is the number that much further on in the whole list
 pub big_from-drop : (i n at : ℕ) (xs : List ℕ) → big_from i n (drop at xs) ≡ big_from (at + i) n xs
 big_from-drop i zero at xs = refl
 big_from-drop i (suc n) at xs =

@@ -42,7 +42,7 @@ number-split (suc s) m at xs =
     let rest = number-split s m (suc at) xs in
     rw (more, rest, place, power) (regroup (get_or xs at 0) (256 ^ s) (256 ^ m) (big_from (suc at) s xs) (big_from (suc at + s) m xs))
 
--- bits that lie in the first s bytes have one value there and in s + m bytes
+-- bits in the first s bytes have the same value there as in s + m bytes
 shifted : (s m k whole front rest : ℕ) → whole ≡ front * 256 ^ m + rest → rest < 256 ^ m → k ≤ 8 * s
     → front / 2 ^ (8 * s - k) ≡ whole / 2 ^ (8 * (s + m) - k)
 shifted s m k whole front rest e below within =
@@ -50,7 +50,7 @@ shifted s m k whole front rest e below within =
     let places : 8 * (s + m) - k ≡ 8 * m + (8 * s - k) = omega arith in
     rw (places, ← shr-shr whole (8 * m) (8 * s - k), high) refl
 
--- bits are cut out of the number of any bytes that hold them
+-- bits may be cut out of the number of any bytes that hold them
 pub bits-wide : (n at first width : ℕ) (xs : List ℕ) → AreBytesAt at n xs → first + width ≤ 8 * n
     → bits at first width xs ≡ big_from at n xs / 2 ^ (8 * n - (first + width)) % 2 ^ width
 unfolding bits

@@ -44,12 +44,12 @@ reserved_shown width value = record { width = width; shown = Some value; free = 
 
 -- ---- what a table says of bytes
 
--- a number is the value that a view shows of some bits; if it shows none, it may be any number
+-- the number is the value that the view shows of these bits; if the view shows none, any number will do
 abbrev pub Shows : {V : Type 0} → Option (V → ℕ) → V → ℕ → Type 0
 Shows None v n = ⊤
 Shows (Some value) v n = n ≡ value v
 
--- these bits, from bit `first` of byte `at` on, hold in the bytes what the view shows of them
+-- in the bytes, these bits, from bit `first` of byte `at` on, hold what the view shows of them
 abbrev pub SpellsBits : {V : Type 0} → ℕ → ℕ → List (Bits V) → V → List ℕ → Type 0
 SpellsBits at first [] v bytes = ⊤
 SpellsBits at first (b ∷ bs) v bytes =

@@ -1,9 +1,9 @@
-//! The errors of the outside and of memory.
+//! Failed calls to the outside, and missing memory.
 
 use std::alloc::{AllocError, AllocFailed};
 use thiserror::Error;
 
-/// A call of the outside failed. The object that was called counts it.
+/// A call to the outside failed. The object that was called counts it.
 #[derive(Clone, Copy, Debug, PartialEq, Eq, Error)]
 #[error("a call of the outside failed")]
 pub struct Failed;
@@ -19,7 +19,7 @@ pub enum OpenFault {
     /// The shelf shows its files, and none has the name.
     #[error("no such file")]
     Missing,
-    /// The outside failed, and the shelf counts it.
+    /// A call to the outside failed, and the shelf counts it.
     #[error("the file could not be opened")]
     Failed,
     /// Memory ran out.

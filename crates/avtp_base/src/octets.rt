@@ -1,4 +1,4 @@
-//! Numbers and bits of a packet, the highest first.
+//! Numbers and bits of a packet, the most significant first.
 
 ghost use Rattle.std.specs.Prelude.{◌≡◌, ◌+◌, ◌-◌, ◌≤◌, ◌<◌, ◌++◌, length};
 ghost use Rattle.avtp_base.specs.Octets.{bits, is_set};

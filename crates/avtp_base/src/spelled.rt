@@ -7,7 +7,7 @@ ghost use Rattle.std.specs.Prelude.{◌≡◌, length};
 pub trait Spelled {
     ghost use Rattle.std.specs.Prelude.{List, ℕ};
 
-    /// The bytes that it is written as.
+    /// Its encoded bytes.
     ghost spelling: { Self → List ℕ };
 
     /// The number of its bytes.

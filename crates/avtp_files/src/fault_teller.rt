@@ -1,10 +1,10 @@
-//! Faults of the system, told on standard error.
+//! System faults, reported on standard error.
 
 use std::alloc::Alloc;
 use std::io::{self, Eprint};
 
-/// Writes to standard error the name of the program, the file on which a system call failed, and the reason. Writes nothing if
-/// it has no name of a program.
+/// Writes to standard error the name of the program, the file on which a system call failed, and the reason. Writes nothing if it
+/// was given no program name.
 #[derive(Clone, Copy, Drop)]
 pub struct FaultTeller<R> {
     rt: R,

@@ -48,8 +48,8 @@ abbrev pub header_refusal : List ℕ → Option Refusal
 header_refusal bytes =
     or_else (first_short header_layout (length bytes)) (first_row (version_row bytes ∷ []))
 
--- why bytes do not begin with a stream header of this subtype: a field is cut off, the subtype is another, or the
--- version is not 0
+-- why bytes do not begin with a stream header of this subtype: a field is cut off, the subtype is not this one, or the version is
+-- not 0
 abbrev pub kind_refusal : ℕ → List ℕ → Option Refusal
 kind_refusal subtype bytes =
     or_else (first_short header_layout (length bytes))

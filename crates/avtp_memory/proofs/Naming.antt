@@ -162,7 +162,7 @@ pub capacity_none : (entries : List (String Global × Vec ℕ)) (name : List ℕ
 unfolding size_of_found
 capacity_none entries name e = ap size_of_found (find_none (has_name name) entries e)
 
--- a fact that always holds holds at an error, too
+-- what always holds also holds at an error
 pub on_err : {T E : Type 0} (r : Result T E) (P : Type 0) → P → OnErr r P
 on_err (Ok x) P h = tt
 on_err (Err e) P h = h

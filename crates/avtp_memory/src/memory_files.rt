@@ -91,7 +91,7 @@ impl MemoryFiles {
         Ok(slot)
     }
 
-    /// Moves bytes from the front of what is left: as many as are left, at most `most`, and no more than fit the buffer.
+    /// Moves bytes from the front of what is left into the buffer: as many as are left and fit, but at most `most`.
     pub fn read(&mut self, slot: Slot, most: usize, buf: &mut [u8]) -> usize
         requires live { IsSome (slots_in self.old slot.0) }
         requires some { 0 < most }

@@ -329,7 +329,7 @@ format_ends format front c n bytes records result ends h = record {
   first = ends.refusal bytes records h.stands.0 ∙ sym (refusal_by format bytes h.stands.2);
 }
 
--- what a reader with these fields returns at the end, the reader that contracts see returns
+-- at the end, the reader that contracts see returns what a reader with these fields returns
 pub ends_as : (f g : Option Format) (front : List ℕ) (c : classic.Reading) (n : reading.Reading) (r : CaptureReading) (bytes : List ℕ) (records : List Record) (x : Option Refusal) → f ≡ g → record { format = f; front = front; classic = c; ng = n } ≡ r
     → (HasRead (record { format = g; front = front; classic = c; ng = n }) bytes records → EndsHere (record { format = g; front = front; classic = c; ng = n }) bytes records x) → HasRead r bytes records → EndsHere r bytes records x
 ends_as f g front c n r bytes records x e is ends =

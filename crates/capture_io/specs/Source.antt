@@ -83,7 +83,7 @@ pub record GivesNext (before after : ShelfState) (old new : Sourcing) (result : 
   pub reads : ReadsSlot before after (slot_of old) (slot_of new)
 
 -- The record that was held was released. If the next one is complete in the bytes that were read, it is held now, and nothing
--- more was read. If not, what reading the next record does from here, it does from the state before, too.
+-- more was read. If not, reading the next record does from here what it does from the state before.
 pub record Advances (old new : Sourcing) (at_hand : Bool) : Type 0 where
   pub given : at_hand ≡ true → (shelf : ShelfState) → IsSome (shelf.slots (slot_of old)) → GivesNext shelf shelf old new None
   pub further : at_hand ≡ false → (before after : ShelfState) (next : Sourcing) (result : Option End) → GivesNext before after new next result → GivesNext before after old next result

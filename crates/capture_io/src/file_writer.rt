@@ -32,8 +32,8 @@ impl FileWriter {
     /// Makes a file, or empties it, to write it through a buffer in which nothing waits. The buffer's memory was reserved
     /// before, so if memory runs out the file is unchanged.
     ///
-    /// At `Failed` the writing count rose; `Memory` means that the shelf had no memory. After both the file is unchanged. Never
-    /// returns `Missing`.
+    /// At `Failed` the writing count rose; `Memory` means that the shelf had no memory. After either, the file is unchanged.
+    /// Never returns `Missing`.
     pub fn create<F: Shelf>(buffer: Buffer, shelf: &mut F, name: &str) -> Result<Self, OpenFault>
         requires { buffer ≡ [] }
         ensures { CreatesFile (F.state shelf.old) (F.state shelf.new) name.now result }

@@ -316,7 +316,7 @@ given-all [] (suc n) e = refl
 given-all (x ∷ list) zero e = absurd (cc)
 given-all (x ∷ list) (suc n) e = ap (λ (z : List Difference). x ∷ z) (given-all list n e)
 
--- ---- where a capture cannot be read on
+-- ---- if a capture cannot be read on
 
 -- nothing of a rest is known if an open side has no batch in it
 open-none : (ended : Bool) (l : List Sided) (s : Which) → ended ≡ false → batches_of s l ≡ [] → is_settled ended s l ≡ false

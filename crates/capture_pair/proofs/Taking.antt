@@ -72,7 +72,7 @@ takes-b records others then given old new w e p = record {
   matches = more-b (out old.a records) (out old.b others) (out new then) p.shown_a p.shown_b given old.matching e.longer (lacks-open old.matching.ended_b old.matching.next_b (wants-b old.matching w)) p.matches;
 }
 
--- a pair stands for the records for which its sides stand
+-- a pair was given the records that its sides were given
 pub stands-as : (records others : List Record) (list other : List Shown) (given : ℕ) (a b : ListenState) (m : MatchingState) → Pairs (ShowsRecords a (OfRecords records)) (ShowsRecords b (OfRecords others)) list other given m → StandsFor records others given (record { a = a; b = b; matching = m })
 stands-as records others list other given a b m p = record {
   shown_a = p.shown_a;
@@ -84,7 +84,7 @@ stands-as records others list other given a b m p = record {
   filled_b = λ w. p.filled_b w ∙ ap length p.shows_b.1;
 }
 
--- the sides stand for the records for which their pair stands
+-- the sides were given the records that their pair was given
 pub sides-as : (records others : List Record) (given : ℕ) (pair : PairState) → StandsFor records others given pair → Pairs (ShowsRecords pair.a (OfRecords records)) (ShowsRecords pair.b (OfRecords others)) (out pair.a records) (out pair.b others) given pair.matching
 sides-as records others given pair p = record {
   shown_a = p.shown_a;

@@ -26,8 +26,8 @@ use std::marker::Model;
 /// Two listeners with one plan, fed the bytes of two captures of a stream, and the differences of what they present. The bytes
 /// of each capture are fed in its order, and only as far as `wants` asks for them.
 ///
-/// It gives the differences that a `RecordPair` gives for the records of both captures. Items that a listener flags are
-/// dropped, and end nothing. Each capture has at most 2^61 bytes.
+/// It gives the differences that a `RecordPair` gives for the records of both captures. Items that a listener flags are dropped,
+/// and do not end a side. Each capture has at most 2^61 bytes.
 #[derive(Drop)]
 pub struct Pair {
     a: ByteSource,

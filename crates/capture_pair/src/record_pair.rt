@@ -24,8 +24,8 @@ use std::marker::Model;
 /// Two listeners with one plan, given the records of two captures of a stream, and the differences of what they present. The
 /// records of each capture are given in its order, and only as far as `wants` asks for them.
 ///
-/// A difference is given as soon as all batches are known that come before it in the merged list of what both present. Items
-/// that a listener flags are dropped, and end nothing. Memory is reserved when the pair is made; later each packet's samples,
+/// A difference is given as soon as all batches are known that come before it in the merged list of what both present. Items that
+/// a listener flags are dropped, and do not end a side. Memory is reserved when the pair is made; later each packet's samples,
 /// and each whole unit, are copied once.
 #[derive(Drop)]
 pub struct RecordPair {

@@ -13,7 +13,7 @@ use Rattle.clock_track.specs.Rows.{IsLatest, across, clock_spot, inside, joined_
 use Rattle.clock_track.proofs.Latest.{last_is}
 use Rattle.clock_track.proofs.Pairs.{joins_not}
 
--- ---- all of a list that was made of another, one by one
+-- ---- facts about all items of a list that was made from another
 
 All-front : {X : Type 0} (P : X → Type 0) (xs ys : List X) → All P (xs ++ ys) → All P xs
 All-front {X} P xs ys all = subst (λ (l : List X). All P l) (take-append_seam xs ys) (All-take P (length xs) (xs ++ ys) all)

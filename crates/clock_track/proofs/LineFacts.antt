@@ -101,7 +101,7 @@ most_den p rate is fits =
 pub spaced : (i down rate step : ℕ) → 8 * step ≤ 9 * (i * 1000000000 * down) → 8 * (rate * step) ≤ 9000000000 * (i * rate * down)
 spaced i down rate step h = let times : rate * (8 * step) ≤ rate * (9 * (i * 1000000000 * down)) = mul-le-mul_left rate h in omega arith
 
--- if the clock's frequency is the stream's rate
+-- the greatest spacing, if the clock's frequency is the stream's rate
 pub spaced_own : (i down rate d : ℕ) → 1 ≤ down → 8 * (d * (rate * down)) ≤ 9 * (i * 1000000000 * down) → 8 * (rate * d) ≤ 9000000000 * i
 spaced_own i down rate d some h = at_most down (8 * (rate * d)) (9000000000 * i) some (omega arith)
 
@@ -150,7 +150,7 @@ event_to z d i some h =
     (λ g. g)
     (λ g. let m = times_more (pos i) q (2 * d) (omega (arith, ints)) in absurd (omega (arith, ints)))
 
--- what the nearest event is found from, and where it lies
+-- the number of the nearest event is from 0 to below the interval
 pub record IsEvent (p : Pair) (instant : ℤ) : Type 0 where
   pub from : pos 0 ≤ℤ nearest_event p instant
   pub to : nearest_event p instant <ℤ pos p.interval

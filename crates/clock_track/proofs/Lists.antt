@@ -24,7 +24,7 @@ last_by : {X : Type 0} (f : X → Option Pair) (test : Pair → Bool) (xs : List
 last_by f test xs x None e = rw e (ap (λ (l : List Pair). find_last test l) (append-nil (filter_map f xs)))
 last_by f test xs x (Some p) e = rw e (kept_last test (filter_map f xs) p (test p) refl)
 
--- with one item more, the last pair is the one that it gives, if that passes
+-- with one more item, the last pair that passes is the one that this item gives, if that passes
 pub last-more : {X : Type 0} (f : X → Option Pair) (test : Pair → Bool) (xs : List X) (x : X)
     → find_last test (filter_map f (xs ++ x ∷ [])) ≡ option_or (kept test (f x)) (find_last test (filter_map f xs))
 last-more f test xs x = ap (λ (l : List Pair). find_last test l) (filter_map-append f xs (x ∷ [])) ∙ last_by f test xs x (f x) refl
@@ -107,7 +107,7 @@ take-next [] k row e = absurd cc
 take-next (x ∷ xs) zero row e = let same : x ≡ row = cc in rw same refl
 take-next (x ∷ xs) (suc k) row e = ap (λ (l : List ClockRow). x ∷ l) (take-next xs k row e)
 
--- the first packets, and the one after them
+-- the first `left` packets are those before the last of them, and that one
 take-more : (rows : List ClockRow) (left : ℕ) (row : ClockRow) → 0 < left → slice_get rows (left - 1) ≡ Some row → take left rows ≡ take (left - 1) rows ++ row ∷ []
 take-more rows left row some e =
     let next : left ≡ suc (left - 1) = omega arith in
@@ -224,7 +224,7 @@ found-in P test (x ∷ xs) all = cases (find_last test xs) (test x) refl (found-
     cases None false e h = tt
     cases (Some p) b e h = h
 
--- ---- all of a list that was made of another
+-- ---- facts about all items of a list that was made from another
 
 pub all-made : {X : Type 0} (P : X → Type 0) (Q : Pair → Type 0) (f : X → Option Pair) (xs : List X) → ((x : X) → P x → IfSome (f x) Q) → All P xs → All Q (filter_map f xs)
 all-made P Q f [] each all = All-nil Q

@@ -11,7 +11,7 @@ by_difference : (a b : ℕ) (z : ℤ) → z ≡ pos b -ℤ pos a → at_least_0 
 by_difference a b (pos n) e = omega (arith, ints)
 by_difference a b (negsuc n) e = omega (arith, ints)
 
--- of two points that are not before 0
+-- the period of two points that are not before 0
 pub period-natural : (a b : ℕ) → at_least_0 (pos b -ℤ pos a) ≡ b - a
 period-natural a b = by_difference a b (pos b -ℤ pos a) refl
 

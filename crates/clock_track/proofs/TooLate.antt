@@ -46,11 +46,11 @@ across_by shift row before rate instant none = cases (seems_next row before) (na
     cases true false d = refl
     cases false b d = refl
 
--- a pair whose later point is too late
+-- a pair whose later point is too late does not cover the instant
 pub late-none : (shift : ℤ) (row before : ClockRow) (rate : ℕ) (instant : ℤ) → IsAfter (pair_of shift row (timestamp row 0) (timestamp row 0)) rate instant → kept (test rate instant) (across shift row before) ≡ None
 late-none shift row before rate instant after = across_by shift row before rate instant (λ first. joined_none shift row first (timestamp row 0) rate instant after)
 
--- nothing is found if the later point is too late
+-- nothing is found if no item gives a pair that passes
 pub none-found : (f : ClockRow → Option Pair) (test : Pair → Bool) (xs : List ClockRow) → ((x : ClockRow) → kept test (f x) ≡ None) → find_last test (filter_map f xs) ≡ None
 none-found f test [] none = refl
 none-found f test (x ∷ xs) none = cases (f x) (none x) (none-found f test xs none)

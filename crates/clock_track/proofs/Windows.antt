@@ -30,7 +30,7 @@ window-by rows start few (inr e) =
 rest-whole : (rows : List ClockRow) (start : ℕ) → take (length rows - start) (drop start rows) ≡ drop start rows
 rest-whole rows start = let n = length-drop start rows in take_all (length rows - start) (drop start rows) (omega arith)
 
--- the rows from a place on, if these are all, or 64 that give points
+-- the rows from a place on are the window if they are all rows, or if 64 of them give points
 pub recent-window : (rows : List ClockRow) (start : ℕ) → length (used (drop start rows)) ≤ 64 → (start ≡ 0) ⊎ (length (used (drop start rows)) ≡ 64)
     → used (take (length rows - start) (drop start rows)) ≡ window rows
 recent-window rows start few end = ap used (rest-whole rows start) ∙ window-by rows start few end

@@ -48,7 +48,7 @@ pub record IsShift (shift : ℤ) : Type 0 where
 
 -- ---- a line that a clock answers
 
--- The limits of the line, and of the number of a sample on it, that a clock answers for a stream of this rate and an instant.
+-- The limits of the line that a clock answers for a stream of this rate and an instant, and of the sample's number on it.
 pub record IsClockLine (rate : ℕ) (instant : ℤ) (spot : Spot) : Type 0 where
   pub some_num : 1 ≤ spot.line.num
   pub num : spot.line.num ≤ 2 ^ 60

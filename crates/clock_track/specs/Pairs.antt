@@ -58,7 +58,7 @@ step_num p = period p * p.up
 abbrev pub step_den : Pair → ℕ → ℕ
 step_den p rate = p.interval * rate * p.down
 
--- how far an instant is after half a sample before the later point, in nanoseconds, times 2 * step_den p rate
+-- the time from half a sample before the later point to an instant, in nanoseconds, times 2 * step_den p rate
 abbrev pub reach : Pair → ℕ → ℤ → ℤ
 reach p rate instant = (instant -ℤ p.later) *ℤ pos (2 * step_den p rate) +ℤ pos (step_num p)
 
@@ -84,8 +84,9 @@ event_line p = record { base = p.later; num = period p; den = p.interval }
 abbrev pub nearest_event : Pair → ℤ → ℤ
 nearest_event p instant = floor_of ((instant -ℤ p.later) *ℤ pos (2 * p.interval) +ℤ pos (period p)) (2 * period p)
 
--- The line of a sample that is stamped with an instant, and its number on it, by a pair: if the clock's frequency is the
--- stream's rate, it is the nearest event; otherwise samples are counted from the instant, in the pair's spacing.
+-- By a pair, the line of a sample that is stamped with an instant, and the sample's number on that line. If the clock's frequency
+-- is the stream's rate, the sample is at the nearest event. Otherwise samples are counted from the instant, in the pair's
+-- spacing.
 abbrev pub spot_by : Pair → ℕ → ℤ → Spot
 spot_by p rate instant =
     if p.up == rate * p.down

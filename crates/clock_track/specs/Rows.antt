@@ -29,14 +29,14 @@ pair_of shift row first second = record {
   down = pull_down row.pull;
 }
 
--- the pair of two timestamps of a packet's clock, if both are below 2^62 and it is joined
+-- two timestamps of the clock that a packet describes, as a pair, if both are below 2^62 and the pair is joined
 abbrev pub joined_by : ℤ → ClockRow → ℕ → ℕ → Option Pair
 joined_by shift row first second =
     if nat_lt first (2 ^ 62) then
     if nat_lt second (2 ^ 62) then
     if is_joined (pair_of shift row first second) then Some (pair_of shift row first second) else None else None else None
 
--- the joined pair of timestamps i and i + 1 of one packet, if they are one
+-- the joined pair of timestamps i and i + 1 of one packet, if they are joined
 abbrev pub inside : ℤ → ClockRow → ℕ → Option Pair
 inside shift row i = joined_by shift row (timestamp row i) (timestamp row (i + 1))
 
@@ -48,7 +48,7 @@ seems_next row before =
     if row.base_frequency == before.base_frequency then
     if row.pull == before.pull then row.interval == before.interval else false else false else false else false
 
--- the joined pair of the last timestamp of a packet and the first of the next, if they are one
+-- the joined pair of the last timestamp of a packet and the first of the next, if they are joined
 abbrev pub across : ℤ → ClockRow → ClockRow → Option Pair
 across shift row before =
     if seems_next row before then
@@ -95,7 +95,7 @@ abbrev pub IsLatest : ℕ → ℤ → List Pair → Option Pair → Type 0
 IsLatest rate instant pairs None = All (λ pair. ¬ Covers pair rate instant) pairs
 IsLatest rate instant pairs (Some pair) = IsLastCovering rate instant pairs pair
 
--- The line of a sample that is stamped with an instant, and its number on it, by a clock's packets so far; `None` if no pair
--- covers the instant.
+-- The line of a sample that is stamped with an instant, and the sample's number on that line, by a clock's packets so far; `None`
+-- if no pair covers the instant.
 abbrev pub clock_spot : List ClockRow → ℤ → ℤ → ℕ → Option Spot
 clock_spot rows shift instant rate = option_map (λ pair. spot_by pair rate instant) (latest shift instant rate (window rows))

@@ -174,9 +174,9 @@ impl Clock {
         }
     }
 
-    /// The line of a sample that is stamped with an instant, in nanoseconds of gPTP, and its number on it, for a stream of a
-    /// rate in Hz: the answer of `line_over` for all packets that were noted. It is `NoClock` exactly if no pair covers the
-    /// instant. The rate is at least 1. Allocates nothing.
+    /// The line of a sample that is stamped with an instant, in nanoseconds of gPTP, and the sample's number on that line, for a
+    /// stream of a rate in Hz: the answer of `line_over` for all packets that were noted. It is `NoClock` exactly if no pair
+    /// covers the instant. The rate is at least 1. Allocates nothing.
     pub fn line_for(&self, instant: i64, rate: u32) -> ClockAnswer
         requires { 1 ≤ rate }
         ensures value { (rows : List ClockRowValue) → StandsFor self.now rows → answered result ≡ clock_spot rows self.now.shift instant rate }

@@ -31,7 +31,7 @@ impl Rows for Listed<'_> {
     }
 }
 
-/// The rows from the first of the last 64 that give points.
+/// The rows from the first of the last 64 that give points to the end.
 fn recent(rows: &[ClockRow]) -> &[ClockRow]
     requires { All IsNotable rows.now }
     ensures window { used result.now ≡ window rows.now }
@@ -48,7 +48,7 @@ fn recent(rows: &[ClockRow]) -> &[ClockRow]
     &rows[start..]
 }
 
-/// The line of an instant by the packets that are kept, whatever keeps them.
+/// The line of an instant from the packets that are kept, whatever keeps them.
 pub fn line_among<R: Rows>(rows: &R, query: &Query) -> ClockAnswer
     requires rows { All IsNotable (R.rows rows.now) }
     requires shift { IsShift query.now.shift }
@@ -62,9 +62,9 @@ pub fn line_among<R: Rows>(rows: &R, query: &Query) -> ClockAnswer
     }
 }
 
-/// The line of a sample that is stamped with an instant, in nanoseconds of gPTP, and its number on it, by a media clock, for a
-/// stream of a rate in Hz (IEEE 1722-2016, 10). The clock is that of the last 64 rows that give points; `shift` nanoseconds, at
-/// most a second either way, are added to each of its timestamps.
+/// The line of a sample that is stamped with an instant, in nanoseconds of gPTP, and the sample's number on that line, by a media
+/// clock, for a stream of a rate in Hz (IEEE 1722-2016, 10). The clock is that of the last 64 rows that give points; `shift`
+/// nanoseconds, at most a second either way, are added to each of its timestamps.
 ///
 /// Two timestamps below 2^62 are a pair if they are adjacent in a packet, or are the last of one packet and the first of
 /// another that has the next number with the same restart bit, frequency and interval; and if the time between them is within

@@ -105,7 +105,8 @@ impl Pair {
         0 <= reach && reach < doubled(self.period(), den)
     }
 
-    /// Whether an instant is before all that the later point covers in a stream of this rate, whatever the earlier point.
+    /// Whether an instant is before all that a pair with this later point covers in a stream of this rate, whatever its earlier
+    /// point.
     pub fn is_after(&self, rate: u32, instant: i64) -> bool
         requires { IsSmall self.now }
         ensures { IsTrue result ↔ IsAfter self.now rate instant }
@@ -123,13 +124,13 @@ impl Pair {
     {
         let period = self.period();
         let behind = scaled(instant, self.later, period, u64::from(self.interval));
-        // It is never negative, because the pair covers the instant, so rounding down is rounding towards zero.
+        // The number is never negative, because the pair covers the instant, so rounding down is rounding towards zero.
         behind.div_euclid(i128::from(2 * period)) as u64
     }
 
-    /// The line of a sample that is stamped with an instant covered by the pair, and its number on it, in a stream of this
-    /// rate. If the clock's frequency is the rate, it is the nearest event; otherwise samples are counted from the instant, in
-    /// the pair's spacing.
+    /// The line of a sample that is stamped with an instant covered by the pair, and the sample's number on that line, in a
+    /// stream of this rate. If the clock's frequency is the rate, the sample is at the nearest event; otherwise samples are
+    /// counted from the instant, in the pair's spacing.
     pub fn answer(&self, rate: u32, instant: i64) -> ClockAnswer
         requires rate { 1 ≤ rate }
         requires covering { IsCovering rate instant self.now }

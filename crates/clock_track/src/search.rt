@@ -19,7 +19,7 @@ use avtp_base::octets::u64_at;
 /// Timestamps from here on are not points.
 const POINTS_END: u64 = 1 << 62;
 
-/// What is looked for: the instant that it covers, for a stream of this rate in Hz; and what is added to the clock's
+/// What is looked for: a pair that covers this instant, for a stream of this rate in Hz. `shift` is added to the clock's
 /// timestamps.
 #[derive(Clone, Copy)]
 pub struct Query {
@@ -190,7 +190,8 @@ fn latest_across<R: Rows>(rows: &R, row: &Points<'_>, query: &Query) -> Option<P
     None
 }
 
-/// The last pair that covers the instant, of those whose later point the packet at a place has, if it gives points.
+/// The last pair that covers the instant and whose later point is in the packet at this place; none if the packet gives no
+/// points.
 fn latest_at<R: Rows>(rows: &R, place: usize, query: &Query) -> Option<Pair>
     requires rows { All IsNotable (R.rows rows.now) }
     requires place { place < length (R.rows rows.now) }

@@ -47,7 +47,7 @@ first_there hay needle from within (Some k) found = (
   occurs_there hay needle from k within found.1,
 )
 
--- a needle is first found there, too, in the slice that the code searches
+-- a needle that is first found here in the slice that the code searches is first found there in all bytes
 pub found_there : (hay needle : List ℕ) (from : ℕ) → from ≤ length hay → (r s : Option ℕ) → r ≡ s
     → FindsNeedle (take (length hay - from) (drop from hay)) needle 0 r → IsFirst (OccursAt hay needle) from (length hay + 1) (option_map (λ k. from + k) s)
 found_there hay needle from within r s e found =

@@ -89,7 +89,7 @@ equal_stamps : (ts : List ℤ) (g : Fragment) (t : Option ℤ) → g.instant ≡
 equal_stamps ts g None e = rw (e, append_none ts, agree_none (first_stamp ts), and-true (all_equal ts)) refl
 equal_stamps ts g (Some t) e = rw e (equal_more ts t)
 
--- a packet continues a stretch: it continues the unit of the last packet, and has no other instant
+-- a packet continues a stretch: it continues the unit of the last packet, and has no different instant
 abbrev pub continues : Fragment → List Fragment → Fragment → Bool
 continues f rest g = follows (last_of f rest) g && agree (first_stamp (stamps (f ∷ rest))) g.instant
 
@@ -134,7 +134,7 @@ rest_none f (g ∷ rest) e =
     let g_goes : goes_on g.part ≡ true = follows_goes_on f g (and_left (follows f g) (are_linked g rest) e) in
     rw (not_stretch g rest (goes_not_begins g.part g_goes)) (rest_none g rest (and_right (follows f g) (are_linked g rest) e))
 
--- the stretch that a packet is alone; empty if it begins no unit
+-- the stretch that one packet makes alone; empty if it begins no unit
 abbrev pub alone : Fragment → List Fragment
 alone g = if begins g.part then g ∷ [] else []
 

@@ -105,7 +105,7 @@ comes_in_order {X} R test gives high apart (suc n) low e =
 
 -- ---- the unit after a start code
 
--- a place at which a unit ends by the test is one by the definition
+-- a place where the test says that a unit ends is one where a unit ends by the definition
 ends_so : (bytes : List ℕ) (at : ℕ) → (is_end bytes at ≡ true) ⊎ (at ≡ length bytes) → IsEnd bytes at
 ends_so bytes at (inl t) = elim (or_cases (occurs_at bytes start_code at) (occurs_at bytes three_zeros at) t) [
   | inl code ↦ inl (OccursAt-true bytes start_code at code)

@@ -110,18 +110,18 @@ fragment_headers =
     reserved 1 ∷
     holds 5 (λ v. type_of v.nal) ∷ []) ∷ []
 
--- the headers of the NAL unit in a packet, by what the packet carries of it
+-- the headers of the NAL unit in a packet, given what the packet carries of it
 abbrev pub headers_of : NalPart → Layout Cvf
 headers_of Single = single_headers
 headers_of First = fragment_headers
 headers_of Middle = fragment_headers
 headers_of Last = fragment_headers
 
--- the table of an H.264 packet, by what the packet carries of its NAL unit
+-- the table of an H.264 packet, given what the packet carries of its NAL unit
 abbrev pub layout_of : NalPart → Layout Cvf
 layout_of part = cvf_layout (headers_of part)
 
--- the size in bytes of all headers of a packet, by what it carries of its NAL unit
+-- the size in bytes of all headers of a packet, given what it carries of its NAL unit
 abbrev pub header_size : NalPart → ℕ
 header_size Single = 29
 header_size First = 30
@@ -186,7 +186,7 @@ fragment_of true end = First
 fragment_of false true = Last
 fragment_of false false = Middle
 
--- what a packet carries of its NAL unit, by its type and its FU header
+-- what a packet carries of its NAL unit, given its type and its FU header
 abbrev pub part_of : List ℕ → NalPart
 part_of bytes = if is_fragment bytes then fragment_of (is_set 29 0 bytes) (is_set 29 1 bytes) else Single
 

@@ -144,14 +144,14 @@ held events = waiting (last_stretch events)
 abbrev pub is_passed : List Fragment → Bool
 is_passed stretch = not (is_within stretch) && is_within (before_last stretch)
 
--- what becomes of the last packet of this stretch, or of a packet that is in no stretch, by what is known when it comes
+-- what becomes of the last packet of this stretch, or of a packet that is in no stretch, as far as is known when it comes
 abbrev pub piece_of : List Fragment → Piece
 piece_of [] = variant.Lost Broken
 piece_of (first ∷ rest) =
     if is_within (first ∷ rest) then (if is_complete (first ∷ rest) then variant.Whole else variant.Held)
     else if is_passed (first ∷ rest) then variant.Lost Long else variant.Lost Broken
 
--- what becomes of the last packet of these events, by what is known when it comes
+-- what becomes of the last packet of these events, as far as is known when it comes
 abbrev pub piece : List Event → Piece
 piece events = piece_of (last_stretch events)
 

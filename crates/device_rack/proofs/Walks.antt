@@ -54,14 +54,14 @@ pub both_counts : {X : Type 0} (test : X → Bool) (xs : List X) → count_by te
 both_counts test xs =
     omega (arith, length-filter_both test (λ x. not (test x)) (λ x. refl) xs, length-filter test xs, length-filter (λ x. not (test x)) xs)
 
--- whether one turned, as a number
+-- whether an element was turned, as a number
 pub turned_counts : (old new turned : Bool) → turned ≡ (old && not new) → (old ≡ false → new ≡ false) → cond (not new) 1 0 ≡ cond (not old) 1 0 + from_bool turned
 turned_counts true true turned is stays = rw is refl
 turned_counts true false turned is stays = rw is refl
 turned_counts false true turned is stays = absurd (let h = stays refl in cc)
 turned_counts false false turned is stays = rw is refl
 
--- no more were turned than were passed, and one was not passed yet
+-- at most as many elements were turned as were passed
 pub HasWalked-bound : {X : Type 0} (R : X → X → Type 0) (test : X → Bool) (old new : List X) (i turned : ℕ) → HasWalked R test old new i turned → turned ≤ i
 HasWalked-bound R test old new i turned walked =
     omega (arith, count_by-le-length test (take i new), length-take i new, walked.count)

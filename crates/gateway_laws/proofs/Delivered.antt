@@ -141,6 +141,6 @@ is_schedule to shape id cs plan is small all hears = schedule_by id plan (map re
 pub no_entries : (id : ℕ) → entries (deliveries id None []) ≡ packet_entries []
 no_entries id = ap (map made_entry) (items_other [] (All-nil IsOther))
 
--- that of no records
+-- the schedule of no records
 pub empty_schedule : (id : ℕ) (plan : ListenPlan) → Hears id plan [] → IsSchedule plan [] (packet_entries [])
 empty_schedule id plan hears = schedule_by id plan [] [] hears (no_entries id)

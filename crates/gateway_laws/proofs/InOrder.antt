@@ -121,7 +121,7 @@ judged clock plan entries i b earlier is same copy =
     let decides = ap (λ (r : _). verdict plan (now_at entries i) earlier i r) is.batch_is ∙ decide plan (now_at entries i) earlier i b late copy in
     subst (λ (l : List Accepted). verdict plan (now_at entries i) l i (timed clock plan (prefix_of plan entries i) is.item) ≡ (if is_full plan (standing (now_at entries i) earlier) (length b.bytes) then Err Full else Ok (record { place = i; instant = first_instant b; batch = b }))) (sym same) decides
 
--- if nothing is flagged since the buffer is full, there is room
+-- if nothing is flagged because the buffer is full, there is room
 has_room : (clock : Clock) (plan : SchedulePlan) (entries : List Entry) (i : ℕ) (b : Presented) (earlier : List Accepted) → IsTimedAt clock plan entries i b → AllByRecursion IsNotFull (shown clock plan entries) → accepted clock plan entries i ≡ earlier
     → list_any (is_copy (first_instant b) b.seq) earlier ≡ false → is_full plan (standing (now_at entries i) earlier) (length b.bytes) ≡ false
 has_room clock plan entries i b earlier is room same copy =

@@ -305,14 +305,14 @@ comes_with_shape shape id via batches there back_plan is small via_small begins 
 none_again : (id : ℕ) (plan : ListenPlan) → Hears id plan [] → presented_of (shown_of plan []) ≡ []
 none_again id plan hears = (let schedule = empty_schedule id plan hears in schedule.batches ∙ stamped_presented clock_spot (schedule_plan plan) [] [] schedule.without tt tt schedule.room)
 
--- records that are there have a shape
+-- the records of a gateway's frames have the gateway's shape, if there are any
 shape_by : (to : To) (shape : Shape) (id : ℕ) (batches : List Presented) (plan : ListenPlan) (f : SentFrame) (fs : List SentFrame) → gateway_frames to (Some shape) id batches ≡ f ∷ fs → IsShape shape → id < 2 ^ 64 → plan.stream ≡ id
     → shape_in plan.stream (gateway_records to (Some shape) id batches) ≡ Some shape
 shape_by to shape id batches plan f fs e is small stream =
     let some : 1 ≤ length (gateway_records to (Some shape) id batches) = rw e (omega arith) in
     ap (λ (n : ℕ). shape_in n (gateway_records to (Some shape) id batches)) stream ∙ shape_found to shape id batches is small some
 
--- with the shape that is found
+-- AM824 comes back with the shape that the scan finds
 comes_found : (shape : Shape) (id via : ℕ) (batches : List Presented) (there back_plan : ListenPlan) (one two : List SentFrame) → gateway_frames Am824 (Some shape) id batches ≡ one
     → gateway_frames Aaf (Some shape) via (presented_again there Am824 shape id batches) ≡ two → IsShape shape → id < 2 ^ 64 → via < 2 ^ 64 → AllByRecursion BeginsInTime batches
     → Hears id there (gateway_records Am824 (Some shape) id batches) → Hears via back_plan (map record_of (frames_made Aaf there via (gateway_records Am824 (Some shape) id batches)))

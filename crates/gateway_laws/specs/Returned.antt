@@ -12,7 +12,7 @@ use Rattle.am824_gateway.specs.declared.scan.To.TheVariants.{Aaf, Am824}
 use Rattle.am824_gateway.specs.Packets.{gateway_frames}
 use Rattle.am824_gateway.specs.Scan.{shape_in}
 
--- the format that one of this format is turned into
+-- the format to which this one is converted
 abbrev pub other : To → To
 other Am824 = Aaf
 other Aaf = Am824

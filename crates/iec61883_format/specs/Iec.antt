@@ -59,7 +59,7 @@ audio_format = 0x10
 abbrev pub no_data : ℕ
 no_data = 255
 
--- how many quadlets a data block has, by the byte DBS: 256 does not fit a byte, so 0 means 256 (IEC 61883-1)
+-- the number of quadlets in a data block, from the byte DBS: 256 does not fit a byte, so 0 means 256 (IEC 61883-1)
 abbrev pub dbs_of : ℕ → ℕ
 dbs_of byte = if byte == 0 then 256 else byte
 
@@ -161,11 +161,11 @@ second_quadlet_rows bytes =
     row Fmt 28 (not (bits 28 2 6 bytes == audio_format)) ∷
     row Fdf 29 (nat_lt 6 (bits 29 0 8 bytes) && not (bits 29 0 8 bytes == no_data)) ∷ []
 
--- how many bytes all data blocks of a packet have together, by its stated length and its FDF
+-- how many bytes all data blocks of a packet have together, given its stated length and its FDF
 abbrev pub stated_data : List ℕ → ℕ
 stated_data bytes = data_size (bits 29 0 8 bytes) (bits 20 0 16 bytes - 8)
 
--- how many bytes each data block of a packet has, by its DBS
+-- how many bytes each data block of a packet has, given its DBS
 abbrev pub stated_block : List ℕ → ℕ
 stated_block bytes = block_size (dbs_of (bits 25 0 8 bytes))
 

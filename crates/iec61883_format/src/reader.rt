@@ -14,7 +14,7 @@ use avtp_header::{exceeds, read_header_of, subtype};
 /// The FDF of a no-data packet.
 const NO_DATA: u8 = 255;
 
-/// How many quadlets a data block has, by the byte DBS.
+/// The number of quadlets in a data block, from the byte DBS.
 fn dbs_of(byte: u8) -> u16
     ensures exact { result ≡ quadlets_of byte }
     ensures some { 0 < result }

@@ -69,8 +69,8 @@ lost_holds (x ∷ xs) why e = by (is_within (x ∷ xs)) (is_complete (x ∷ xs))
     by true false p e = absurd cc
     by false c p e = refl
 
--- the number of fragments that a packet gives up, the number in its unit, and the number that wait then, by what becomes of the
--- packet
+-- How many fragments a packet gives up (g), how many are in its unit (s), and how many wait after it (w), if h waited before,
+-- given what becomes of the packet.
 abbrev Adds : Piece → ℕ → ℕ → ℕ → ℕ → Type 0
 Adds Whole h g s w = (g + (s - 1) ≡ h) × (w ≡ 0)
 Adds Held h g s w = g + w ≡ h + 1
@@ -168,7 +168,7 @@ keeps_cut p before d own e same =
     let nothing = ap (count_by p) (none_last (in_stream before ++ d ∷ [])) in
     omega (arith, up_tally p before d own, up, none, nothing, same)
 
--- as many of the last packets pass a test, if the numbers of these packets are equal
+-- if n and m are equal, as many of the last n as of the last m pass a test
 ones : (p : Delivery → Bool) (n m : ℕ) (xs : List Delivery) → n ≡ m → count_by p (last_ones n xs) ≡ count_by p (last_ones m xs)
 ones p n m xs e = ap (λ (k : ℕ). count_by p (last_ones k xs)) e
 
@@ -382,7 +382,7 @@ items_other ds all =
     let none : left_at_end ds ≡ [] = rw (none_held ds all) (ap (map (flagged BrokenUnit)) (none_last (in_stream ds))) in
     rw none (append-nil (items_so_far ds) ∙ so_far_other ds all)
 
--- ---- where an item stands that has a delivery
+-- ---- the place of the item that has a delivery
 
 pub one_in : (p : Delivery → Bool) (ms : List MadeItem) (i : ℕ) (m : MadeItem) → slice_get ms i ≡ Some m → 1 ≤ count_by p (sources m) → 1 ≤ tally p ms
 one_in p [] i m e some = absurd cc

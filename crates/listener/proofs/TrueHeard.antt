@@ -92,7 +92,7 @@ from_stamp j n far (Some stamp) h = h
 eight : (n : ℕ) → n % 256 % 8 ≡ n % 8
 eight n = omega arith
 
--- a packet's sequence number gives the distance to its head as its number does
+-- a packet's sequence number gives the same distance to its head as its full number
 pub same_distance : (rule : HeadRule) (n count : ℕ) → distance rule (n % 256) count ≡ distance rule n count
 same_distance Own n count = refl
 same_distance Eight n count = rw (eight n) refl

@@ -135,7 +135,7 @@ audio_packet false p n m x heard is here there seq a b =
     let sound = audio p heard is in
     due_once p.times n m sound here there (one_due (p.times.due n) (p.times.due m) x (nominal_due p.times n x heard sound here a) (nominal_due p.times m x heard sound there b))
 
--- packets of one access unit are at most 255, so their sequence numbers tell them apart
+-- an access unit has at most 255 packets, so their sequence numbers tell them apart
 few_apart : (n m : ℕ) → n % 256 ≡ m % 256 → n < m + 255 → m < n + 255 → n ≡ m
 few_apart n m e low high = omega arith
 

@@ -26,8 +26,8 @@ use Rattle.listener.specs.Units.{event_of, events, flaw_of, in_stream, last_ones
 use Rattle.packet_journal.specs.Packets.{audio_sample_type}
 
 -- A packet of AAF (IEEE 1722-2016, 7). Its timestamp counts if it is valid. In sparse mode a packet without a timestamp is
--- counted from the last packet before it whose sequence number is a multiple of 8. The rate code for a rate that only the user
--- knows gives no rate.
+-- counted from the last packet before it whose sequence number is a multiple of 8. The code of a user-specified rate gives no
+-- rate.
 abbrev pub samples_of : Delivery → Aaf → Item
 samples_of d v = OfPacket (record {
   frame = d.frame;
@@ -148,7 +148,7 @@ flagged reason d = record {
   last = d;
 }
 
--- the reason with which fragments are flagged, by why they were given up
+-- the reason with which fragments are flagged, for each cause to give them up
 abbrev pub lost_for : LostFor → Reason
 lost_for Broken = BrokenUnit
 lost_for Long = LongUnit

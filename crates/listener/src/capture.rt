@@ -111,7 +111,7 @@ fn hear(alloc: Global, listener: &mut Listener, bytes: &[u8]) -> Result<Heard, N
 /// presented once, in order, at the talker's own nanoseconds, so any two listeners with one clock agree; every other packet
 /// that came is flagged with its one reason. A unit of H.264 that is presented is one of the talker's units, whole.
 ///
-/// The capture has at most 2^62 bytes. If there is no memory, `NoMemory` comes and nothing is shown.
+/// The capture has at most 2^62 bytes. If memory runs out, returns `NoMemory` and shows nothing.
 pub fn whole(alloc: Global, plan: &ListenPlan, bytes: &[u8]) -> Result<Heard, NoMemory>
     requires plan { IsPlan (schedule_plan plan.now) }
     requires bounded { length bytes.now ≤ 2 ^ 62 }

@@ -140,7 +140,8 @@ pub record IsMore (Q : ℕ → Type 0) (by : Bool) (p : PacketJournal) (t : ℤ)
   pub some : IsSomeOf Q by p a
   pub counts : t ≤ℤ a.instant → count < next
 
--- A delivery takes what is accepted from xs to ys, and a count of what may wait further: nothing more is accepted, or one packet is.
+-- A delivery makes ys of the accepted items xs, and `next` of the count of those that may still wait: nothing more is accepted,
+-- or one packet is.
 pub record IsStep (Q : ℕ → Type 0) (by : Bool) (p : PacketJournal) (t : ℤ) (count next : ℕ) (xs ys : List Accepted) : Type 0 where
   pub grows : count ≤ next
   pub is : (ys ≡ xs) ⊎ IsMore Q by p t count next xs ys

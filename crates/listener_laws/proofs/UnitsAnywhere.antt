@@ -141,7 +141,7 @@ unit_more shift p plan records part Q t count next front back before d h kind w 
 abbrev pub given_to : ListenPlan → List Record → List Delivery → List Accepted
 given_to plan records before = accepted_before plan records (length (items_so_far before))
 
--- the items of a capture, those of a delivery apart
+-- the items of a capture: those of the deliveries before a delivery, its own, and the others
 split_items : (before : List Delivery) (d : Delivery) (rest : List Delivery) → items_of (before ++ d ∷ rest) ≡ items_so_far before ++ (given_by before d ++ (given_after (before ++ d ∷ []) rest ++ left_at_end (before ++ d ∷ rest)))
 split_items before d rest =
     let left = left_at_end (before ++ d ∷ rest) in

@@ -72,9 +72,10 @@ pub fn copies_anywhere_are_further()
         → ComesInTime p plan records place n d → IsFurther p plan records place n (made_of_one d) }
 {}
 
-/// A unit of H.264 must be presented, wherever it is in a capture and whatever the capture loses, repeats or reorders, if one copy of
-/// each of its packets came, in order and with none of the stream between them: if nothing up to the last was captured after the
-/// unit is due, its last packet did not come before, and the buffer has room for it. It is made of just these copies.
+/// A unit of H.264 must be presented, wherever it is in a capture and whatever the capture loses, repeats or reorders, if: one
+/// copy of each of its packets came, in order, with no other packet of the stream between them; nothing up to the last was
+/// captured after the unit is due; its last packet did not come before; and the buffer has room for it. It is made of just these
+/// copies.
 pub fn units_anywhere_are_welcome()
     ensures { (shift : ℤ) (p : PacketJournal) (plan : ListenPlan) (records : List Record) (part : ℕ → Part) (from n : ℕ) (before : List Delivery) (last : Delivery) → HearsTalker shift p plan records → p.times.kind ≡ H264 part
         → UnitMustBePresented p plan records part from n before last → IsWelcome p plan records (unit_place before last) n (unit_by before last) }

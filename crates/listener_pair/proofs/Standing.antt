@@ -1,4 +1,4 @@
--- A matching stands for what it was given.
+-- The state of a matching follows from what it was given.
 use Rattle.std.proofs.Common.{◌≡◌, ℕ, suc, ◌+◌, ◌^◌, ◌<◌, Bool, true, false, cond, inl, inr, List, [], ◌∷◌, ◌++◌, length, Option, Some, None, refl, sym, ap, ◌∙◌, subst, arith, append-nil, append_assoc, length-append}
 use Rattle.std.specs.Prelude.{is_some, option_map, slice_get, IfSome}
 use Rattle.std.specs.List.{find}

@@ -43,7 +43,7 @@ stepped s b old new place counts pair same enters is_place is_counts =
       counts = is_counts ∙ ap (counted s pair) (ap (λ (m : MatchingState). m.counts) same ∙ counts-same s old);
     }
 
--- A next batch entered: it made this pair or none, and what is told is that.
+-- A next batch entered and made this pair or none, and the difference of the pair is what the code returns.
 pub record Came (s : Which) (old new : MatchingState) (entered : Entered) : Type 0 where
   pub batch : Presented
   pub next : next_of s old ≡ Some batch

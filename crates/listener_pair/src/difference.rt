@@ -1,4 +1,4 @@
-//! How what two listeners present differs.
+//! How the batches that two listeners present differ.
 
 /// One of two listeners.
 #[derive(Clone, Copy, Debug, PartialEq, Eq)]

@@ -11,7 +11,7 @@ pub struct Placed {
     pub batch: Timed,
 }
 
-/// What came of a batch that entered: whether it was paired, and the difference of the pair, if that differs.
+/// What became of a batch that entered: whether it was paired, and the difference of the pair, if that differs.
 #[derive(Clone, Copy)]
 pub struct Entered {
     pub paired: bool,

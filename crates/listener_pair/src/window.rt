@@ -16,7 +16,7 @@ use std::collections::VecDeque;
 /// A batch is paired only with one of this many directly before it in merged order.
 pub const WINDOW: usize = 512;
 
-/// Where the first one is of those that wait that a batch of a side may be paired with.
+/// The place of the first waiting batch that a batch of a side may be paired with.
 fn find_partner(waiting: &VecDeque<Placed>, side: Which, x: &Timed) -> Option<usize>
     ensures found { IfSome result (λ i. find (takes_by side x.now) waiting.now.items ≡ slice_get waiting.now.items i) }
     ensures left { IfSome result (λ i. without_first (takes_by side x.now) waiting.now.items ≡ remove waiting.now.items i) }
@@ -30,7 +30,7 @@ fn find_partner(waiting: &VecDeque<Placed>, side: Which, x: &Timed) -> Option<us
     None
 }
 
-/// Takes the first of those that wait that a batch of a side may be paired with.
+/// Takes the first waiting batch that a batch of a side may be paired with.
 fn take_partner(waiting: &mut VecDeque<Placed>, side: Which, x: &Timed) -> Option<Placed>
     ensures found { result ≡ find (takes_by side x.now) waiting.old.items }
     ensures left { waiting.new.items ≡ without_first (takes_by side x.now) waiting.old.items }
@@ -42,7 +42,7 @@ fn take_partner(waiting: &mut VecDeque<Placed>, side: Which, x: &Timed) -> Optio
     }
 }
 
-/// Drops the first one if it is not among the 512 batches before a place.
+/// Drops the first waiting batch if it is not among the 512 batches before a place.
 fn drop_passed(waiting: &mut VecDeque<Placed>, place: u64)
     ensures left { waiting.new.items ≡ without_passed place waiting.old.items }
     ensures capacity { deque_capacity waiting.new ≡ deque_capacity waiting.old }
@@ -57,7 +57,7 @@ fn drop_passed(waiting: &mut VecDeque<Placed>, place: u64)
 }
 
 /// Puts the next batch of a side after those that wait. At most 511 others of the last 512 batches wait, so there is room. If
-/// there were none, those that wait would be dropped.
+/// there were no room, the waiting batches would be dropped.
 #[inline(always)]
 fn keep(waiting: &mut VecDeque<Placed>, side: Which, place: u64, next: &mut Option<Timed>)
     requires { 512 ≤ deque_capacity waiting.old }
@@ -73,8 +73,8 @@ fn keep(waiting: &mut VecDeque<Placed>, side: Which, place: u64, next: &mut Opti
     }
 }
 
-/// Takes the next batch of a side: it is paired with the first one that waits on the other side and that it may be paired with,
-/// or it waits. Those that are then not among the last 512 are dropped.
+/// Takes the next batch of a side: it is paired with the first waiting batch of the other side that it may be paired with, or it
+/// waits. Waiting batches that are then not among the last 512 are dropped.
 #[inline(always)]
 pub fn enter(
     side: Which,

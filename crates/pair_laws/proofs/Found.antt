@@ -489,7 +489,7 @@ pub captures-paired : (shift : ℤ) (p : PacketJournal) (plan other : ListenPlan
     → slice_get (presented_of (shown_of plan records)) i ≡ Some a → slice_get (presented_of (shown_of other others)) k ≡ Some b → IsOfPacket (by_clock plan) p n a → IsOfPacket (by_clock plan) p n b → Any (IsPairOf a b) (pairs (merged (presented_of (shown_of plan records)) (presented_of (shown_of other others))))
 captures-paired shift p plan other records others h g e n i k a b there_a there_b oa ob = (captures-found shift p plan other records others h g e n i k a b there_a there_b oa ob).pair
 
--- no batch is without a partner that is of a packet which both listeners present
+-- each batch of a packet that both listeners present has a partner
 pub captures-leave-none : (shift : ℤ) (p : PacketJournal) (plan other : ListenPlan) (records others : List Record) → HearsTalker shift p plan records → HearsTalker shift p other others → by_clock other ≡ by_clock plan → (n i k : ℕ) (a b : Presented)
     → slice_get (presented_of (shown_of plan records)) i ≡ Some a → slice_get (presented_of (shown_of other others)) k ≡ Some b → IsOfPacket (by_clock plan) p n a → IsOfPacket (by_clock plan) p n b → AllByRecursion (IsOfAnother (by_clock plan) p n) (unpaired (merged (presented_of (shown_of plan records)) (presented_of (shown_of other others))))
 captures-leave-none shift p plan other records others h g e n i k a b there_a there_b oa ob =

@@ -25,10 +25,10 @@ pub fn a_capture_beside_itself_never_differs()
     ensures presented { (plan : ListenPlan) (records : List Record) → AllByRecursion (λ x. x.seq < 256) (presented_of (shown_of plan records)) → IsPresentation (presented_of (shown_of plan records)) }
 {}
 
-/// Captures of one talker that keeps the rules never differ, whatever each lost, repeated or reordered of its packets and its
-/// clock's, and wherever these restart. Each pair is of one packet or unit of the talker, no pair differs, and two batches of
-/// one packet or unit are a pair. So the pairs are exactly the packets and units that both present. Both listeners use the
-/// clock, or neither does; buffers, look-ahead and lead may differ.
+/// Captures of one talker that keeps the rules never differ, whatever each lost, repeated or reordered of the talker's packets
+/// and of its clock's, and wherever these restart. Each pair is of one packet or unit of the talker, no pair differs, and two
+/// batches of one packet or unit are a pair. So the pairs are exactly the packets and units that both present. Both listeners use
+/// the clock, or neither does; buffers, look-ahead and lead may differ.
 pub fn captures_of_one_talker_never_differ()
     ensures differ { (shift : ℤ) (p : PacketJournal) (plan other : ListenPlan) (records others : List Record) → HearsTalker shift p plan records → HearsTalker shift p other others → by_clock other ≡ by_clock plan
         → differences (merged (presented_of (shown_of plan records)) (presented_of (shown_of other others))) ≡ [] }
@@ -70,8 +70,8 @@ pub fn what_a_fault_leaves_is_known()
         → known_by pair records others ≡ merged (presented_of (shown_of plan records)) (presented_of (shown_of plan others)) }
 {}
 
-/// What is known of two captures of one talker never differs, however far each was read: neither of what is due so far, nor of
-/// all that is shown.
+/// What is known of two captures of one talker never differs, however far each was read, whether it is what is due so far or all
+/// that is shown.
 pub fn what_is_known_of_one_talker_never_differs()
     ensures pair { (shift : ℤ) (p : PacketJournal) (plan : ListenPlan) (records others : List Record) (pair : PairState) → HearsTalker shift p plan records → HearsTalker shift p plan others → HavePlan plan pair → differences (known_by pair records others) ≡ [] }
     ensures due_a { (shift : ℤ) (p : PacketJournal) (plan : ListenPlan) (records others : List Record) (ended_a ended_b : Bool) → HearsTalker shift p plan records → HearsTalker shift p plan others

@@ -21,7 +21,7 @@ number_stays Big offset size bytes more h =
     let room : size ≤ length (drop offset bytes) = rw length-drop (omega arith) in
     rw drop-append-le (big_from-append size (drop offset bytes) more room)
 
--- a refusal is because bytes are missing
+-- the field is refused because bytes are missing
 abbrev pub is_short : Option Refusal → Bool
 is_short None = false
 is_short (Some refusal) = refusal.short

@@ -75,7 +75,7 @@ record_of style bytes = record {
   bytes = drop 16 bytes;
 }
 
--- the size in bytes of the record at the front of the bytes, by its header, which is counted too
+-- the size in bytes of the record at the front of the bytes, with its header, as the header gives it
 abbrev pub record_size : Style → List ℕ → ℕ
 record_size style bytes = 16 + number_at style.order 8 4 bytes
 

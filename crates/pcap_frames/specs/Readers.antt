@@ -7,8 +7,8 @@ use Rattle.pcap_frames.specs.declared.style.RecordView.{RecordView}
 use Rattle.pcap_frames.specs.Capture.{Record}
 use Rattle.pcap_frames.specs.Layout.{IsRecordTime}
 
--- What the bytes of a capture mean in one layout: the whole records before the first refusal, the first refusal, and the first
--- refusal if it stays whatever bytes follow.
+-- What the bytes of a capture mean in one layout: the whole records before the first refusal; the first refusal of the bytes as
+-- they are; and the first refusal that no later bytes can change.
 pub record Meaning : Type 0 where
   pub records : List ℕ → List Record
   pub refusal : List ℕ → Option Refusal

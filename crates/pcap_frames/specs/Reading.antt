@@ -103,8 +103,8 @@ pub record IsNext (r : Reading) (bytes : List ℕ) : Type 0 where
   pub reading : IsReading r.refusal r.style r.start bytes
   pub whole : IsSome (held (with_part r bytes))
 
--- The reader skipped a record of these bytes, which was borrowed: after what it had read before, it has now read these bytes,
--- and released their record, and it holds none.
+-- The reader skipped a borrowed record of these bytes: after what it had read before, it has now read these bytes, and released
+-- their record, and it holds none.
 pub record Passes (old : Reading) (bytes : List ℕ) (new : Reading) : Type 0 where
   pub read : (before : List ℕ) (records : List Record) → HasRead old before records → HasRead new (before ++ bytes) (records ++ option_to_list (held (with_part old bytes)))
   pub counted : taken new ≡ taken old + length bytes

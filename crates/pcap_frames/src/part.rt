@@ -1,4 +1,4 @@
-//! What has come of a header or a record whose bytes are in several pieces.
+//! The bytes so far of a header or a record that is cut across pieces.
 
 ghost use Rattle.std.specs.Prelude.{◌≡◌, ◌+◌, ◌-◌, ◌≤◌, ◌++◌, length, take, min, vec_capacity};
 

@@ -45,7 +45,7 @@ head_keeps kind.Interface order bytes more room h = omega (arith, length-append 
 head_keeps kind.Packet order bytes more room h = packet_keeps order bytes more room h
 head_keeps kind.Other order bytes more room h = omega (arith, length-append bytes more)
 
--- if no more bytes of a block are added than are needed, no more have come than are needed
+-- if at most the bytes that are needed of a block are added, at most the needed bytes have come
 pub block_keeps : (order : Option Order) (bytes more : List ℕ) → length bytes < block_need order bytes → length more ≤ block_need order bytes - length bytes → length (bytes ++ more) ≤ block_need order (bytes ++ more)
 block_keeps order bytes more h room = elim (cases_lt (length bytes) 8) [
   | inl short ↦ omega (arith, need_short order bytes short, need_eight order (bytes ++ more), length-append bytes more)
@@ -78,7 +78,7 @@ option_short : (order : Order) (bytes : List ℕ) → length bytes < 4 → optio
 unfolding option_need
 option_short order bytes h = grind (arith, nat_tests)
 
--- if no more bytes of an option are added than are needed, no more have come than are needed
+-- if at most the bytes that are needed of an option are added, at most the needed bytes have come
 pub option_keeps : (order : Order) (bytes more : List ℕ) → length bytes < option_need order bytes → length more ≤ option_need order bytes - length bytes → length (bytes ++ more) ≤ option_need order (bytes ++ more)
 option_keeps order bytes more h room = elim (cases_lt (length bytes) 4) [
   | inl short ↦ omega (arith, option_short order bytes short, need_of_four order (bytes ++ more), length-append bytes more)

@@ -126,7 +126,7 @@ size_of_any order bytes =
 abbrev pub size_of_option : Order → ℕ → List ℕ → ℕ
 size_of_option order left bytes = if nat_eq (option_code order bytes) 0 then 4 + (left - 4) else 4 + padded (option_length order bytes)
 
--- how many bytes come before the next place, by whether a block, an option or a trailer comes here
+-- how many bytes come before the next place, depending on whether a block, an option or a trailer comes here
 abbrev pub size_by : Stage → Place → List ℕ → ℕ
 size_by stage.Block p bytes = size_of_any p.order bytes
 size_by stage.Option p bytes = size_of_option (order_or_little p.order) p.left bytes
@@ -192,7 +192,7 @@ after_trailer p = record {
   packet = None;
 }
 
--- the next place, by whether a block, an option or a trailer comes here
+-- the next place, depending on whether a block, an option or a trailer comes here
 abbrev pub next_by : Stage → Place → List ℕ → Place
 next_by stage.Block p bytes = after_any p bytes
 next_by stage.Option p bytes =
@@ -215,7 +215,7 @@ pub record Ending : Type 0 where
   pub refusal : Refusal
   pub cut : Bool
 
--- an ending because bytes are missing, by this field
+-- an ending because bytes of this field are missing
 abbrev pub short_at : Field → ℕ → Ending
 short_at field at = record { refusal = record { field = field; at = at; short = true }; cut = true }
 
@@ -260,7 +260,7 @@ and_then packet rest = record { records = option_to_list packet ++ rest.records;
 abbrev pub cut_short : Place → List ℕ → Contents
 cut_short p bytes = if ends_at p.stage p.order p.start (length bytes) then ends None else ends (Some (cut_by p.stage p bytes))
 
--- no packets and this refusal, or the rest if there is no refusal
+-- if a field is refused, no packets and this refusal; otherwise the rest
 abbrev pub refused_or : Option Refusal → Contents → Contents
 refused_or (Some refusal) rest = ends (Some (record { refusal = refusal; cut = false }))
 refused_or None rest = rest

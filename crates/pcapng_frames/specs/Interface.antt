@@ -11,7 +11,7 @@ microseconds = record { resolution = 6; offset = pos 0 }
 abbrev pub is_resolution : ℕ → Bool
 is_resolution resolution = if nat_lt resolution 128 then nat_le resolution 18 else nat_le resolution 191
 
--- how many units of a timestamp a second has, by the resolution
+-- how many units of a timestamp make a second, at this resolution
 abbrev pub units : ℕ → ℕ
 units resolution = if nat_lt resolution 128 then 10 ^ resolution else 2 ^ (resolution - 128)
 

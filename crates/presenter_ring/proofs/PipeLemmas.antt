@@ -64,7 +64,7 @@ module _ {R P : Type 0} (gave : R → R → List Shown → Type 0) (left : R →
     steps = λ more. omega (arith, stepped, ap length shown.receives, length-append (popped_by a) shown.presented);
   }
 
-  -- the item in hand, if a slot was known to be free: there is none
+  -- if a slot was known to be free, no item is in hand
   not_past : (a b : Pipe) → IsStill a b → 0 < known_free_of a → hand_of b.front ≡ []
   not_past a b still free =
       let stuck = still.stuck in
@@ -169,7 +169,7 @@ module _ {R P : Type 0} (gave : R → R → List Shown → Type 0) (left : R →
     works = omega (arith, x.works, y.works, length-append x.presented y.presented);
   }
 
-  -- If the presented items and those that wait were all that was given before a round, they are after it.
+  -- If the presented items and those that wait were all that was given before a round, they are all of it after the round, too.
   pub runs_on : (r r' : R) (p p' : P) (a b : Pipe) (shown taken : List Shown) → (m : HasMoved gave left handed r r' p p' a b)
       → shown ++ waiting_in a ≡ taken → (shown ++ m.presented) ++ waiting_in b ≡ taken ++ m.given
   runs_on r r' p p' a b shown taken m h =

@@ -9,7 +9,7 @@ pub enum Side {
     Pop,
 }
 
-/// Is called after each push and each pop. The steps of each side are numbered from 1.
+/// Called after each push and each pop. The steps of each side are numbered from 1.
 pub trait Gate: Sync {
     fn step(&self, side: Side, number: u64);
 }

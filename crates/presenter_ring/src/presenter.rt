@@ -22,7 +22,7 @@ pub trait Presenter: Send {
         ensures handed { (begun : Self) (items : List ShownValue) → handed begun self.old items → handed begun self.new (items ++ shown ∷ []) }
         ensures counted { IsCounted (faults self.old) (faults self.new) result };
 
-    /// Is called when nothing more is at hand to present, for now: what a presenter keeps back is best shown here. Returns
+    /// Called when there is nothing more to present for now. A presenter that keeps output back should show it here. Returns
     /// `Failed` only if the count rose.
     fn pause(&mut self) -> Result<(), Failed>
         ensures handed { (begun : Self) (items : List ShownValue) → handed begun self.old items → handed begun self.new items }

@@ -125,7 +125,7 @@ is-item : (e : Entry) (item : Item) → pending_of e ≡ PendingItem item → e 
 is-item (OfItem other) item e = cc
 is-item (OfClock arrival row) item e = absurd cc
 
--- ---- what a judge stands for
+-- ---- what the state of a judge means
 
 -- what waited before the entry that is being judged
 abbrev before_of : Clock → List Entry → JudgeState → List Accepted

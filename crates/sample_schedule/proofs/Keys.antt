@@ -1,4 +1,4 @@
--- Keys and the batches that they stand for.
+-- Keys, and the batches that they are of.
 use Rattle.std.proofs.Common.{◌≡◌, ◌≢◌, ℕ, suc, ◌+◌, ◌-◌, ◌||◌, Bool, true, false, cond, ℤ, List, [], ◌∷◌, Option, Some, None, length, refl, ap, sym, ◌∙◌, subst, arith}
 use Rattle.std.specs.Prelude.{int_lt, slice_get}
 use Rattle.std.specs.List.{AllByRecursion, cons_option, list_any}
@@ -37,7 +37,7 @@ held-put s (x ∷ xs) k a p e i =
     (λ h. rw (lt_false k.instant x.instant h) (held-cons s x (put_key xs k) b p.0.there ∙ ap (λ (l : List Accepted). b ∷ l) (held-put s xs k a p.1 e i)
     ∙ sym (ap (λ (l : List Accepted). put_behind l a) first ∙ ap (λ (c : Bool). cond c (a ∷ b ∷ held s xs) (b ∷ put_behind (held s xs) a)) (lt_false a.instant b.instant (omega (arith, ints))))))
 
--- a key of an instant and a number stands for such a batch
+-- a key with an instant and a sequence number is that of a batch with them
 pub held-copies : (t : ℤ) (seq : ℕ) (s : Slab Accepted) (ks : List Key) → AllByRecursion (IsKey s) ks → list_any (is_key t seq) ks ≡ list_any (is_copy t seq) (held s ks)
 held-copies t seq s [] p = refl
 held-copies t seq s (x ∷ xs) p =

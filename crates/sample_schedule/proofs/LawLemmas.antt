@@ -180,7 +180,7 @@ pub all-after : (P : Accepted → Type 0) (xs ys : List Accepted) → AllByRecur
 all-after P [] ys p q = q
 all-after P (x ∷ xs) ys p q = (p.0, all-after P xs ys p.1 q)
 
--- a place after all that passed
+-- an item that is not earlier than those that passed is put after all of them
 behind-all : (ps ws : List Accepted) (a : Accepted) → AllByRecursion (λ p. p.instant ≤ℤ a.instant) ps → put_behind (ps ++ ws) a ≡ ps ++ put_behind ws a
 behind-all [] ws a h = refl
 behind-all (p ∷ ps) ws a h = rw (lt_false a.instant p.instant h.0) (ap (λ (l : List Accepted). p ∷ l) (behind-all ps ws a h.1))

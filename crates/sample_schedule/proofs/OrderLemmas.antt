@@ -24,7 +24,7 @@ all-put_behind P (b ∷ bs) a p q = elim (int_lt a.instant b.instant) as (λ v. 
   | false ↦ (p.0, all-put_behind P bs a p.1 q)
 ]
 
--- ---- what has passed and what has not, of a list by first instant
+-- ---- the items of a list by first instant that have passed, and those that have not
 
 due_of-put_behind : (t : ℤ) (ys : List Accepted) (x : Accepted) → due_of t (put_behind ys x) ≡ cond (int_lt x.instant t) (put_behind (due_of t ys) x) (due_of t ys)
 due_of-put_behind t [] x = by_lt_z x.instant t (λ h. rw (lt_true _ _ h) refl) (λ h. rw (lt_false _ _ h) refl)
@@ -71,7 +71,7 @@ left_of-fold t ys (x ∷ xs) =
     (λ h. rw (left_of-fold t (put_behind ys x) xs, left_of-put_behind t ys x, le_false t x.instant h) refl)
     (λ h. rw (left_of-fold t (put_behind ys x) xs, left_of-put_behind t ys x, le_true t x.instant h) refl)
 
--- what has passed since an earlier instant
+-- the items that have passed since an earlier instant
 passed-standing : (from to : ℤ) (xs : List Accepted) → passed to (standing from xs) ≡ between from to xs
 passed-standing from to [] = refl
 passed-standing from to (x ∷ xs) =
@@ -164,7 +164,7 @@ any-standing p now asks (x ∷ xs) =
       ] refl
     ] refl
 
--- the sum of any number over them
+-- a sum over accepted items, after one more was put in its place among them
 pub sum-put_behind : (f : Accepted → ℕ) (n : ℕ) (ys : List Accepted) (x : Accepted) → fold (λ t a. t + f a) n (put_behind ys x) ≡ fold (λ t a. t + f a) (n + f x) ys
 sum-put_behind f n [] x = refl
 sum-put_behind f n (b ∷ bs) x = elim (int_lt x.instant b.instant) as (λ v. fold (λ t a. t + f a) n (cond v (x ∷ b ∷ bs) (b ∷ put_behind bs x)) ≡ fold (λ t a. t + f a) (n + f x) (b ∷ bs)) [

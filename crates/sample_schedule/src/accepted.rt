@@ -35,7 +35,7 @@ impl Accepted {
             bytes,
         } = batch;
         // Copied field by field, so that the fields go through registers. A batch that is copied whole is read in other pieces
-        // than it was written in, and the processor waits for the writes each time, a fifth of a packet's time.
+        // than it was written in. The processor waits for these writes each time, for a fifth of the time that a packet takes.
         Shown::Present(Batch {
             frame,
             seq,

@@ -7,7 +7,7 @@ ghost use Rattle.sample_schedule.specs.Instants.{IsInstantOf, IsRestOf};
 
 use crate::batch::Batch;
 
-/// The instant of sample `j` of a batch: the whole nanoseconds, and the remainder in parts of one by the line's `den`. The next
+/// The instant of sample `j` of a batch: the whole nanoseconds, and the remainder in units of 1 / `den` of the line. The next
 /// sample's instant needs only an addition, and no division.
 #[derive(Clone, Copy)]
 pub struct Instant {

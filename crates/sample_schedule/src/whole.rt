@@ -51,12 +51,12 @@ pub fn give_all(judge: &mut Judge, list: &mut Vec<Shown>) -> Result<(), NoMemory
 /// are left after the last entry are presented then, by first instant and then by place in the list.
 ///
 /// An item is judged once `look` later entries are known or the list has ended, so a packet without a timestamp may be counted
-/// from one that was captured after it: from the last of the last `look + 16` usable ones that fits.
+/// from one that was captured after it: from the last usable timestamp that fits, of the last `look + 16`.
 ///
-/// If the plan has a clock, samples are on its lines, by those of its packets that are known when the item is judged; if it has
-/// none, packets of a clock count only by their arrival.
+/// If the plan has a clock, samples are on its lines, as given by the clock packets that are known when the item is judged; if it
+/// has none, packets of a clock count only by their arrival.
 ///
-/// If there is no memory, `NoMemory` comes and nothing is shown.
+/// If there is no memory, returns `NoMemory` and shows nothing.
 pub fn schedule(
     alloc: Global,
     plan: &SchedulePlan,

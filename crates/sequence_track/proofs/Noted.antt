@@ -24,7 +24,7 @@ streams-more : (notes : List Seen) (seen : Seen) → streams (notes ++ seen ∷ 
 unfolding streams
 streams-more notes seen = map-append stream_of notes (seen ∷ [])
 
--- an item that passes a test among the first ones passes it among all
+-- if one of the first items passes a test, one of all items does
 any-take : (test : StreamKey → Bool) (n : ℕ) (xs : List StreamKey) → list_any test (take n xs) ≡ true → list_any test xs ≡ true
 any-take test n xs e =
     ap (λ (l : List StreamKey). list_any test l) (sym (take-append-drop n xs)) ∙ list_any-append test (take n xs) (drop n xs) ∙ or_left _ _ e

@@ -17,7 +17,7 @@ pub with_all_append : (counts : SoakCounts) (xs ys : List Shown) → with_all co
 with_all_append counts [] ys = refl
 with_all_append counts (x ∷ xs) ys = with_all_append (with_shown counts x) xs ys
 
--- ---- as many as there are
+-- ---- as many items are counted as there are
 
 abbrev counted : Bool → ℕ
 counted b = cond b 1 0

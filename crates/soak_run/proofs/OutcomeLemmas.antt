@@ -91,7 +91,7 @@ unfolding verdict
 verdict_so plan now earlier place (Ok batch) so = decided_so _ _ _ place batch
 verdict_so plan now earlier place (Err reason) so = subst IsCountedReason (sym so) tt
 
--- ---- so each item is shown for one of the counted reasons
+-- ---- each item is shown for one of the counted reasons
 
 flag_so : (i : ℕ) (item : Item) (r : Result Accepted Reason) → ErrsSo r → AllByRecursion IsCountedGiven (flag_by i (Some (OfItem item)) (Some r))
 flag_so i item (Ok a) so = tt
@@ -151,7 +151,7 @@ pub shown_so : (clock : Clock) (plan : SchedulePlan) (es : List Entry) → plan.
 unfolding AreSound
 shown_so clock plan es none each = all_shown (given clock plan es) (given_so clock plan es none each)
 
--- ---- and is counted
+-- ---- each item is counted
 
 count_first : (p : Shown → Bool) (x : Shown) (xs : List Shown) → count_by p (x ∷ xs) ≡ counted (p x) + count_by p xs
 count_first p x xs = sum_by-cons (λ (y : Shown). counted (p y)) x xs

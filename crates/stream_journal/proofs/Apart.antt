@@ -97,7 +97,7 @@ due_before j is k instant known e =
     before_stamp (j.due k) instant (stamped_index (rule_of j.kind k)) j.rate (let some = is.rate_from in omega arith)
     (is.first_instants k (record { instant = pos instant; first = neg_ℤ (pos (stamped_index (rule_of j.kind k))) }) known (head_by j k instant e))
 
--- ---- law 2
+-- ---- the stamp of another packet is far away
 
 pub apart : (j : Journal) → IsAudio j → (n k instant : ℕ) (far : Distance) → n < j.packets → k < j.packets → j.stamp k ≡ Some instant
     → distance (rule_of j.kind n) n j.count ≡ Some far → (k + far.packets) % 256 ≡ n % 256 → k + far.packets ≢ n

@@ -117,7 +117,7 @@ swapped z a b =
     let h : a * (up y + down z * b) ≡ a * (down y + up z * b) = ap (λ (n : ℕ). a * n) f in
     omega (arith, ints)
 
--- a distance that is less than this many steps and one nanosecond
+-- a distance of less than this many steps and one nanosecond is less than 9 packets' time
 close_by : (z : ℤ) (rate count num den : ℕ) → 1 ≤ den → 1 ≤ rate → rate ≤ count * 1000000000 → 8 * (rate * num) ≤ 9000000000 * den
     → (z *ℤ pos den) <ℤ pos (7 * count * num + den) → (z *ℤ pos (8 * rate)) <ℤ pos (72 * (count * 1000000000))
 close_by z rate count num den some some_rate slow spacing h =
@@ -146,7 +146,7 @@ difference_times x y d =
     let f : d * (up z + down x + up y) ≡ d * (down z + up x + down y) = ap (λ (n : ℕ). d * n) e in
     omega (arith, ints)
 
--- two samples of a line, `first` numbers apart; the first is at the instant
+-- samples at most k numbers apart on a line are less than k steps and one nanosecond apart; the first is at the instant
 apart_by : (line : Line) (from first instant at : ℤ) (k : ℕ) → 1 ≤ line.den → neg_ℤ (pos k) ≤ℤ first → first ≤ℤ pos k
     → instant_at line from ≡ instant → instant_at line (from +ℤ first) ≡ at
     → (((at -ℤ instant) *ℤ pos line.den) <ℤ pos (k * line.num + line.den)) × ((neg_ℤ (at -ℤ instant) *ℤ pos line.den) <ℤ pos (k * line.num + line.den))

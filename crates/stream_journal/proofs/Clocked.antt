@@ -117,7 +117,7 @@ one_pair base n instant p q r s x y =
 floor_is : (z q : ℤ) (d : ℕ) → 0 < d → (q *ℤ pos d) ≤ℤ z → z <ℤ ((q +ℤ pos 1) *ℤ pos d) → floor_of z d ≡ q
 floor_is z q d some from to = floor_only z (floor_of z d) q d (floor_below z d some) (floor_above z d some) from to
 
--- each packet's timestamp is 6 events from that of the one before
+-- a timestamp that is k packets after the later point is at an event, because a packet is 6 events long
 on_line_by : (instant later d k : ℕ) → d ≡ 2000000 → instant ≡ later + k * 125000
     → instant_at (record { base = pos later; num = d; den = 96 }) (floor_of ((pos instant -ℤ pos later) *ℤ pos 192 +ℤ pos d) (2 * d)) ≡ pos instant
 on_line_by instant later d k e f =

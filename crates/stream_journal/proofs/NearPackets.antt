@@ -39,7 +39,7 @@ not_further x y = of_difference (x -ℤ y) (y -ℤ x) (omega (arith, ints))
     of_difference (pos k) w e = omega (arith, ints)
     of_difference (negsuc k) w e = omega (arith, ints)
 
--- packets 192 packets' time apart have no first instants that are 72 or less apart
+-- packets that are due 192 packets' time apart do not have first instants at most 72 packets' time apart
 too_near : (rate w : ℕ) (x y : ℤ) (a b : ℕ) → IsNearDue rate w x (pos a) → IsNearDue rate w y (pos b) → unsigned_abs (x -ℤ y) * rate ≤ 72 * w → 4 * (a * rate) + 768 * w ≤ 4 * (b * rate) → ⊥
 too_near rate w x y a b c d near h =
     let k : ℕ = unsigned_abs (x -ℤ y) in
@@ -95,12 +95,12 @@ exactly rate w x due some e =
 nominal_near : (j : Journal) → IsAudio j → (n : ℕ) (x : ℤ) → n < j.packets → IsAtNominal j n 0 x → IsNearDue j.rate (j.count * 1000000000) x (pos (j.due n))
 nominal_near j is n x known a = exactly j.rate (j.count * 1000000000) x (pos (j.due n)) (let some = is.some in omega arith) (a.at ∙ sym (is.first_instants n a.head known a.is_head))
 
--- a packet of audio's first sample is at this instant
+-- the first sample of a packet of audio is at this instant
 abbrev AtAudio : Bool → Journal → ℕ → ℤ → Type 0
 AtAudio true j n x = IsAtByClock j n 0 x
 AtAudio false j n x = IsAtNominal j n 0 x
 
--- by the clock, and without
+-- near packets are one, by the clock and without
 by_both : (by_clock : Bool) (j : Journal) → IsAudio j → IsClock j.clock → AgreesWithClock j → (n m : ℕ) (x y : ℤ) → n < j.packets → m < j.packets → n % 256 ≡ m % 256
     → AtAudio by_clock j n x → AtAudio by_clock j m y → IsNear j 72 x y → n ≡ m
 by_both true j is clock agrees n m x y known there seq a b near = one_packet j is n m x y known there seq (clock_near j is clock agrees n x known a) (clock_near j is clock agrees m y there b) near

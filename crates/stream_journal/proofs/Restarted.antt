@@ -9,7 +9,7 @@ use Rattle.stream_journal.specs.Conforming.{Conforms, HoldsEight, IsApart, IsAud
 use Rattle.stream_journal.specs.Examples.{restarted, restarted_due}
 use Rattle.stream_journal.proofs.Worked.{no_clock-is, no_clock-agrees}
 
--- ---- a fact of each number below one
+-- ---- a fact about each number below a limit
 
 abbrev pub Each : (ℕ → Type 0) → ℕ → Type 0
 Each P zero = Unit {0}

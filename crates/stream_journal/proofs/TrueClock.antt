@@ -14,7 +14,7 @@ use Rattle.clock_track.proofs.LineFacts.{product}
 pub period_at : (c : ClockJournal) (p q : Place) → period (pair_at c p q) ≡ point c q - point c p
 period_at c p q = period-natural (point c p) (point c q)
 
--- the nominal time of the interval and the frequency, above the line
+-- the numerator of the nominal time of the interval; `up_of` is its denominator
 abbrev time_of : ClockJournal → ℕ
 time_of c = c.interval * 1000000000 * pull_down c.pull
 
@@ -72,7 +72,7 @@ inside c is m i (suc k) known within =
     }) in
     rw e (omega arith)
 
--- from a point of a packet to its last one, or from its first one
+-- a later point of a packet is not before an earlier one
 to_last : (c : ClockJournal) → IsClock c → (m i l : ℕ) → m < c.packets → i ≤ l → l < length (c.points m) → point c (at_place m i) ≤ point c (at_place m l)
 to_last c is m i l known from within =
     let e : i + (l - i) ≡ l = omega arith in
@@ -105,11 +105,11 @@ span c is m l (suc k) known last =
 
 -- ---- what seems to be next is next
 
--- an earlier packet, or the same one
+-- the points of an earlier packet, or of the same one, are not joined
 not_joined_back : (p q up time : ℕ) → 1 ≤ time → q ≤ p → 7 * time ≤ 8 * ((q - p) * up) → ⊥
 not_joined_back p q up time some h least = let none : q - p ≡ 0 = omega arith in let least = rw none at least in omega arith
 
--- a packet two or more numbers later
+-- points that are two or more packets apart are not joined
 not_joined_far : (p q up time k : ℕ) → 1 ≤ time → 1 ≤ k → 4 * (p * up) + 3 * suc k * time ≤ 4 * (q * up) → 8 * ((q - p) * up) ≤ 9 * time → ⊥
 not_joined_far p q up time k some more far most = elim (cases_lt p q) [
   | inl below ↦

@@ -17,12 +17,12 @@ use Rattle.stream_journal.specs.Delivered.{Copy, IsAudioKind}
 use Rattle.stream_journal.specs.Heads.{IsCountedFrom, IsHeadOf, IsOther, IsStampOf, IsTrue, IsUnstamped, behind, wanted}
 use Rattle.stream_journal.proofs.Apart.{apart, back_of}
 
--- ---- law 3
+-- ---- the stamp of another packet is refused
 
 difference : (x y : ℕ) → unsigned_abs (pos x -ℤ pos y) ≡ (x - y) + (y - x)
 difference x y = omega (arith, ints)
 
--- the arithmetic of the law; d is how far x and p are apart
+-- the arithmetic of the refusal; d is how far x and p are apart
 refused_by : (x p due r w d : ℕ) → due * r < x * r + 128 * w → x * r < due * r + 128 * w → p ≤ x + d → x ≤ p + d
     → (due * r + 189 * w < p * r) ⊎ (p * r + 189 * w < due * r) → 60 * w < d * r
 refused_by x p due r w d from to above below (inl h) =

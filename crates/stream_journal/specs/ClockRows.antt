@@ -22,7 +22,7 @@ pub record IsRowOf (c : ClockJournal) (shift : ℤ) (m : ℕ) (row : ClockRow) :
 abbrev pub IsTrueRow : ClockJournal → ℤ → ClockRow → Type 0
 IsTrueRow c shift row = row.usable ≡ true → (m : ℕ) × IsRowOf c shift m row
 
--- the pair is one of adjacent points of the clock that are joined
+-- the pair is of two adjacent points of the clock that are joined
 pub record IsTruePair (c : ClockJournal) (pair : Pair) : Type 0 where
   pub earlier : Place
   pub later : Place

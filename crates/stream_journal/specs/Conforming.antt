@@ -19,13 +19,13 @@ HoldsEight packets mr =
 
 -- ---- audio
 
--- Which packets are stamped: all, every eighth, or those that have the block whose count is a multiple of the interval.
+-- Which packets are stamped: all, every eighth, or those that have a block whose count is a multiple of the interval.
 abbrev pub is_stamped : HeadRule → ℕ → ℕ → Bool
 is_stamped Own n count = true
 is_stamped Eight n count = n % 8 == 0
 is_stamped (Blocks dbc interval) n count = nat_lt (stamped_index (Blocks dbc interval)) count
 
--- Block counts continue from packet to packet, from any first one, and the interval is one of the standard's (IEC 61883-6).
+-- Block counts continue from packet to packet, from any first count, and the interval is one of the standard's (IEC 61883-6).
 pub record BlocksGoOn (interval : ℕ) (dbc : ℕ → ℕ) (count packets : ℕ) : Type 0 where
   pub standard : (interval ≡ 8) ⊎ ((interval ≡ 16) ⊎ (interval ≡ 32))
   pub first : dbc 0 < 256

@@ -24,9 +24,9 @@ pub data Part : Type 0 where
 pub data Kind : Type 0 where
   DenseAaf : Kind
   SparseAaf : Kind
-  -- IEC 61883-6 of an interval (SYT_INTERVAL), with the block count of each packet's first block, modulo 256
+  -- IEC 61883-6, with the SYT interval and the block count of each packet's first block, modulo 256
   Am824 : ℕ → (ℕ → ℕ) → Kind
-  -- with the part of a unit that each packet carries
+  -- H.264, with the part of a unit that each packet carries
   H264 : (ℕ → Part) → Kind
 
 -- A talker's stream. An audio stream has one nominal rate in Hz and one count of sample frames or data blocks in each

@@ -18,8 +18,8 @@ use Rattle.stream_journal.specs.Journal.{Journal, head_of, rule_of}
 abbrev pub stamps_in : Journal → List ℕ → List Stamp
 stamps_in j came = filter_map (λ n. option_map (stamp_at j n) (j.stamp n)) came
 
--- A copy of a packet without a timestamp can be counted: the packet that it is counted from came with its timestamp, which is
--- among the last `room` that came, there is no restart between the two, and the copy is expected at most 60 packets' time from
+-- A copy of a packet without a timestamp can be counted if: the packet that it is counted from came with a timestamp, which is
+-- among the last `room` that came; there is no restart between the two; and the copy is expected at most 60 packets' time from
 -- its first instant.
 pub record IsCounted (j : Journal) (lead room : ℕ) (c : Copy) (came : List ℕ) : Type 0 where
   pub none : j.stamp c.number ≡ None
@@ -46,8 +46,8 @@ pub record IsCoveredBy (c : ClockJournal) (shift : ℤ) (rate : ℕ) (came : Lis
   pub later_came : Contains (last_of 64 came) later.packet
   pub covers : Covers (pair_at c earlier later) rate instant
 
--- A listener knows where the samples of a copy of an audio packet are if these packets of the stream and of the clock came. The
--- packet has a timestamp, or the packet that it is counted from is among the last 16 + `look` that came; and if the listener
+-- A listener to which these packets of the stream and of the clock came knows where the samples of a copy of an audio packet are.
+-- The packet has a timestamp, or the packet that it is counted from is among the last 16 + `look` that came; and if the listener
 -- has the clock, two of its points cover that timestamp.
 pub record IsKnown (by_clock : Bool) (j : Journal) (shift : ℤ) (lead look : ℕ) (c : Copy) (came clock_came : List ℕ) : Type 0 where
   pub timed : IsTimed j lead (look + 16) c came

@@ -40,8 +40,8 @@ pub fn other_stamps_are_far()
     ensures instants { (j : Journal) (n k instant : ℕ) (far : Distance) → IsAudio j → n < j.packets → k < j.packets → j.stamp k ≡ Some instant → distance (rule_of j.kind n) n j.count ≡ Some far → IsOther n k far → AreApart j 189 (j.due n) (behind j instant far.samples) }
 {}
 
-/// A listener that has a copy of a packet without a timestamp refuses every stamp with the right sequence number but of the
-/// wrong packet: the copy comes too far from the instant that would be counted from it.
+/// A listener that has a copy of a packet without a timestamp refuses every stamp that has the right sequence number but is of
+/// the wrong packet: the copy comes too far from the instant that would be counted from it.
 pub fn other_stamps_are_refused()
     ensures candidate { (j : Journal) (lead : ℕ) (c : Copy) (far : Distance) (k : ℕ) (stamp : Stamp) (is : IsStampOf j k stamp) → candidate (wanted j lead c far) stamp ≡ pos (behind j is.instant far.samples) }
     ensures refused { (j : Journal) (lead : ℕ) (c : Copy) (far : Distance) (k : ℕ) (stamp : Stamp) → IsAudio j → IsUnstamped j lead c far → IsStampOf j k stamp → IsOther c.number k far → is_near (wanted j lead c far) stamp ≡ false }
@@ -62,7 +62,7 @@ pub fn samples_have_one_instant()
 {}
 
 /// A pair of points that a listener joins over copies of the clock's packets is a joined pair of the whole list of points.
-/// Sequence numbers alone would not tell packets that are 256 apart; the time between their points does.
+/// Sequence numbers alone do not distinguish packets that are 256 apart; the time between their points does.
 pub fn joined_pairs_are_true()
     ensures { (c : ClockJournal) (p q : Place) → IsClock c → SeemsJoined c p q → IsJoinedAt c p q }
 {}

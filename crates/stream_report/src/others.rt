@@ -92,7 +92,7 @@ const CONTROL_PORT: u16 = 17221;
 /// The protocol number of UDP in IP.
 const UDP: u8 = 17;
 
-/// What a frame is that has no AVTP packet directly after its header.
+/// What a frame is if no AVTP packet follows directly after its header.
 pub fn other_frame(frame: &FrameView<'_>) -> Other {
     match frame.ethertype {
         SERVICE_TAG | OLD_SERVICE_TAG | CUSTOMER_TAG => Other::TwoTags,

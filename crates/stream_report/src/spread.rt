@@ -57,8 +57,8 @@ fn place_of(value: i64) -> usize
     }
 }
 
-/// Widens counts, the first of which is that of the bucket at `first`, if they do not reach a place. Returns the place of the first
-/// one then.
+/// Makes counts that begin with the bucket at `first` reach the bucket at `place`, if they do not yet. Returns the place of the
+/// bucket with which they begin now.
 fn reach(counts: &mut Vec<u32>, first: usize, place: usize) -> Result<usize, NoMemory>
     requires { place < 2 * side }
     ensures { IfOk result (Widens first counts.old.items place counts.new.items) }
@@ -69,8 +69,8 @@ fn reach(counts: &mut Vec<u32>, first: usize, place: usize) -> Result<usize, NoM
     widen(counts, first, place)
 }
 
-/// Widens counts, the first of which is that of the bucket at `first`, until they reach a place. Returns the place of the first
-/// one then.
+/// Widens counts that begin with the bucket at `first` until they reach the bucket at `place`. Returns the place of the bucket
+/// with which they begin now.
 #[inline(never)]
 fn widen(counts: &mut Vec<u32>, first: usize, place: usize) -> Result<usize, NoMemory>
     requires { place < 2 * side }

@@ -62,7 +62,7 @@ pub record IsKindOf (plan : TalkPlan) (kind : Kind) : Type 0 where
 
 -- ---- the head of a packet
 
--- The head is near the nominal instant of an event of the packet's run, so far before the packet that it is not at 0.
+-- The head is near the nominal instant of an event of the packet's run, and the packet is not due before instant 0.
 pub record IsCounted (plan : TalkPlan) (n : ℕ) (head : Head) : Type 0 where
   pub event : ℕ
   pub stamp : ℕ
@@ -224,7 +224,7 @@ record IsNearby (x : ℤ) (first : ℕ) : Type 0 where
   from : due ≤ first
   to : first ≤ due + 1
 
--- this many samples before a stamp
+-- the instant that is this many samples before a stamp
 at_before : (due stamp index rate : ℕ) → IsBefore rate due stamp index → IsAt (nominal_line (pos stamp) rate) (neg_ℤ (pos index) +ℤ pos 0) (pos due)
 at_before due stamp index rate is =
     let z : ℤ = pos due -ℤ pos stamp in
@@ -234,7 +234,7 @@ at_before due stamp index rate is =
     let to = is.to in
     record { not_after = omega (arith, ints); last = omega (arith, ints) }
 
--- c nanoseconds before the stamp of event e, which are `rate * c`, rounded up
+-- event e0 is c nanoseconds before the stamp of event e, or a nanosecond less; c is the time of i events, rounded up
 before_event : (start q f c e e0 i rate : ℕ) → 1 ≤ start → e0 + i ≡ e → 0 < rate → q * rate ≤ e * 1000000000 → e * 1000000000 < q * rate + rate
     → f * rate ≤ e0 * 1000000000 → e0 * 1000000000 < f * rate + rate → i * 1000000000 ≤ c * rate → c * rate < i * 1000000000 + rate
     → (c ≤ start + q) × (start + q ≤ start + f + c) × (start + f + c ≤ start + q + 1)
@@ -259,7 +259,7 @@ before_event start q f c e e0 i rate some sum some_rate under over least most fr
       | inr h ↦ omega arith
     ]
 
--- an instant, and one that is b events later
+-- a sample that is counted b events forward from a nominal instant is near its own
 forward : (start e b e0 rate : ℕ) → 0 < rate → e + b ≡ e0
     → IsNearby (instant_at (nominal_line (pos (start + nominal_offset rate e)) rate) (pos b +ℤ pos 0)) (start + nominal_offset rate e0)
 forward start e b e0 rate some sum =
@@ -267,7 +267,7 @@ forward start e b e0 rate some sum =
     let none : b + 0 ≡ b = omega arith in
     record { due = start + nominal_offset rate e + nominal_offset rate b; same = rw none refl; from = omega (arith, is.from); to = omega (arith, is.to) }
 
--- an instant, and one that is i events earlier
+-- a sample that is counted i events back from a nominal instant is near its own
 backward : (start e i e0 rate : ℕ) → 1 ≤ start → 0 < rate → e0 + i ≡ e
     → IsNearby (instant_at (nominal_line (pos (start + nominal_offset rate e)) rate) (neg_ℤ (pos i) +ℤ pos 0)) (start + nominal_offset rate e0)
 backward start e i e0 rate some some_rate sum =
@@ -341,7 +341,7 @@ head_nearby kind plan packets n head p counted =
     rw counted.instant (nearly plan.crf start counted.event (event_of plan n 0) plan.rate counted.stamp head.first (omega arith) some counted.first
     counted.near counted.room)
 
--- ---- so a packet is due near it, and at its head's first sample
+-- ---- a packet is due near its first instant, and at the first sample after its head
 
 pub record IsDueNear (kind : Kind) (plan : TalkPlan) (packets n : ℕ) : Type 0 where
   pub from : due_in (nominal_times kind plan packets) n ≤ first_instant plan n + late_by plan.crf

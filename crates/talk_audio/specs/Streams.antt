@@ -88,7 +88,7 @@ pub record IsSentOf (stream : AudioStream) (n : ℕ) (arrival : ℤ) : Type 0 wh
   pub audio : IsAudio stream
   pub sent : IsSentAt stream.plan n arrival
 
--- packet n of a stream and its input, which is not too long
+-- The stream is one of audio, the input is not too long, and packet n is one of those that the input fills.
 pub record IsPacketOfInput (stream : AudioStream) (input : List ℕ) (n : ℕ) : Type 0 where
   pub audio : IsAudio stream
   pub limit : length input ≤ most_input

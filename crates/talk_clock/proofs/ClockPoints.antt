@@ -26,7 +26,7 @@ use Rattle.talk_plan.proofs.TimingLemmas.{sum_of}
 
 -- ---- runs of points, and of packets
 
--- the points of a run, and the clock's packets
+-- the points of a run, and the clock packets of a run
 abbrev pub points_per : CrfPlan → ℕ → ℕ → Option ℕ → Option ℕ
 points_per crf rate count None = None
 points_per crf rate count (Some packets) = Some (packets * count / spacing_of crf rate)

@@ -38,7 +38,7 @@ run_points crf plan packets = packets * plan.count / spacing_of crf plan.rate
 abbrev pub clock_packets : CrfPlan → TalkPlan → ℕ → ℕ
 clock_packets crf plan packets = div_ceil (points_for crf plan packets) crf.points
 
--- the number of the first point of clock packet m, of all points
+-- the number, among all points, of the first point of clock packet m
 abbrev pub first_point : CrfPlan → ℕ → ℕ
 first_point crf m = m * crf.points
 

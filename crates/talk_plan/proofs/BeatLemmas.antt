@@ -103,7 +103,7 @@ renewed b start m next is far =
 
 -- ---- the instant with which an event is stamped
 
--- r events after point k + 1: this many nanoseconds
+-- how many nanoseconds after point k + 1 its r-th event is stamped
 abbrev pub part_of : Beat → ℕ → ℕ → ℕ → ℕ
 part_of b start k r = r * (point_at b start (suc k) - point_at b start k) / b.spacing
 
@@ -164,7 +164,7 @@ pub record IsStamped (b : Beat) (start e instant : ℕ) : Type 0 where
   pub under : instant * b.rate ≤ start * b.rate + e * 1000000000 + b.rate
   pub over : start * b.rate + e * 1000000000 < instant * b.rate + 3 * b.rate
 
--- r events after point k + 1
+-- what is known of the time of r events after point k + 1
 pub record IsPart (b : Beat) (start k r p : ℕ) : Type 0 where
   pub under : part_of b start k r * b.spacing ≤ r * p
   pub over : r * p < part_of b start k r * b.spacing + b.spacing
@@ -230,14 +230,15 @@ within_so instant later den num p from to =
     let g = rw e at to in
     record { from = omega (arith, ints, f); to = omega (arith, ints, g) }
 
--- divided by the clock's frequency
+-- both sides of a bound, divided by the clock's frequency
 lower_by : (up w x y p : ℕ) → 1 ≤ up → x * (2 * (w * up)) ≤ y * (2 * (w * up)) + p * up → x * (2 * w) ≤ y * (2 * w) + p
 lower_by up w x y p some h = at_most up (x * (2 * w)) (y * (2 * w) + p) some (omega arith)
 
 upper_by : (up w x y p : ℕ) → y * (2 * (w * up)) + p * up < x * (2 * (w * up)) + 2 * (p * (w * up)) → y * (2 * w) + p < x * (2 * w) + 2 * (p * w)
 upper_by up w x y p h = less up (y * (2 * w) + p) (x * (2 * w) + 2 * (p * w)) (omega arith)
 
--- of point t, which is `place` events after the start
+-- if a pair that ends with point t covers an instant near event e, point t is not after event e; it is `place` events after the
+-- start
 not_sooner : (w rate s t instant p e place : ℕ) → 1 ≤ w → rate ≤ 192000 → instant * rate ≤ s + e * 1000000000 + rate → s + place * 1000000000 < t * rate + rate
     → p * rate ≤ w * 1000000000 + rate → t * (2 * w) ≤ instant * (2 * w) + p → place ≤ e
 not_sooner w rate s t instant p e place some slow under at long covers = elim (cases_lt e place) [

@@ -72,7 +72,7 @@ is_beat plan crf p e =
 
 -- ---- timestamps lie near nominal instants
 
--- at most this many nanoseconds after or before them: none without a clock
+-- how far a timestamp may be after its nominal instant, or before it, in nanoseconds: not at all without a clock
 abbrev pub late_by : Option CrfPlan → ℕ
 late_by None = 0
 late_by (Some crf) = 1

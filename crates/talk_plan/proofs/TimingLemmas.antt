@@ -11,7 +11,7 @@ use Rattle.talk_plan.proofs.RunLemmas.{in_run, later_run}
 
 -- ---- offsets
 
--- the instant that is rounded down
+-- a nominal offset is its exact value, rounded down
 pub record IsOffset (rate k : ℕ) : Type 0 where
   pub under : nominal_offset rate k * rate ≤ k * 1000000000
   pub over : k * 1000000000 < nominal_offset rate k * rate + rate
@@ -88,7 +88,7 @@ apart_by : (s j x y k z w a b c d n count rate : ℕ) → a + b ≡ n → c + d 
     → 4 * ((s + j + x + y) * rate) + 3 * (count * 1000000000) + 16 * rate ≤ 4 * ((s + k + z + w) * rate)
 apart_by s j x y k z w a b c d n count rate e f jumps wide under also over and = omega arith
 
--- two first instants are 3/4 of a packet's time apart, and 4 nanoseconds
+-- first instants are at least 3/4 of a packet's time and 4 nanoseconds apart
 pub apart : (plan : TalkPlan) (n : ℕ) → IsAudioPlan plan
     → 4 * (first_instant plan n * plan.rate) + 3 * (plan.count * 1000000000) + 16 * plan.rate ≤ 4 * (first_instant plan (suc n) * plan.rate)
 unfolding nominal_instant

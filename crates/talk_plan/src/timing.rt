@@ -59,9 +59,9 @@ impl TalkPlan {
         self.run(n) * u64::from(self.jump)
     }
 
-    /// How long a number of sample frames take, in nanoseconds. At multiples of 48 kHz one takes a whole number of thirds of a
-    /// nanosecond: a division by 3 becomes a multiplication, while one by a number that is unknown beforehand takes ten times
-    /// as long.
+    /// How long a number of sample frames take, in nanoseconds. At multiples of 48 kHz a sample frame takes a whole number of
+    /// thirds of a nanosecond. The compiler makes a division by 3 a multiplication; a division by a number that it does not know
+    /// takes ten times as long.
     #[tactic(auto, using(crate::proofs::RateLemmas::rate_from, crate::proofs::TimingLemmas::short_offset))]
     fn offset(&self, frames: u64) -> u64
         requires plan { IsAudioPlan self.now }
@@ -156,8 +156,8 @@ impl TalkPlan {
         }
     }
 
-    /// The instant in the timestamp of the first sample frame of packet `n`, which is sent at this arrival, in nanoseconds of
-    /// gPTP.
+    /// The instant that the timestamp of packet `n` has if it belongs to the packet's first sample frame, in nanoseconds of gPTP.
+    /// The packet is sent at this arrival.
     #[tactic(auto, using(crate::proofs::TimingLemmas::lead_within))]
     pub fn first_stamped_instant(&self, n: u64, arrival: i64) -> u64
         requires { IsSentAt self.now n arrival }

@@ -143,7 +143,7 @@ chunks rest a (suc n) =
     ∙ ap (λ (xs : List ℕ). take (n * 1398) xs) (sym (drop_more (a * 1398) 1398 rest)))
     ∙ take_more 1398 (n * 1398) here ∙ ap (λ (k : ℕ). take k here) (sym all)
 
--- if there is more than one, each is a fragment
+-- if a unit has more than one packet, each of them carries a fragment
 not_single : (packets k : ℕ) (rest : List ℕ) → (packets == 1) ≡ false → body_by (part_by packets k) k rest ≡ take 1398 (drop (k * 1398) rest)
 unfolding part_by
 not_single packets k rest more = by (packets == 1) (k == 0) (k + 1 == packets) more

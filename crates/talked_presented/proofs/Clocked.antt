@@ -143,7 +143,7 @@ sent_by_then plan crf input m n c sent =
 
 -- ---- which packets of the clock came by the time of a packet
 
--- just the packets of the clock came that have a point up to the packet's first sample
+-- exactly the packets of the clock came that have a point up to the packet's first sample
 came_upto : (plan : TalkPlan) (crf : CrfPlan) (input : List ℕ) (os : List Origin) (i n s : ℕ) → IsClocked plan crf (journal plan input).times → ((m : ℕ) → (stream_of plan input).clock_arrival m ≡ clock_arrival crf plan m) → IsOverStamp plan crf (journal plan input).times n s
     → n * plan.count / spacing_of crf plan.rate ≡ suc s → (q : IsPlaced (stream_of plan input) 0 0 os i n) → (suc s / crf.points < q.clocks) × (q.clocks ≤ suc s / crf.points + 1)
 came_upto plan crf input os i n s c sent over at q =

@@ -135,7 +135,7 @@ front (suc size) a (suc count) =
     holds_by zero lt known rest = omega arith
     holds_by (suc k) lt known rest = let less = rest.holds k (omega arith) (omega arith) in omega arith
 
--- ---- so it is known
+-- ---- a packet whose stamp is kept is known
 
 not_both : (b : Bool) → b ≡ false → b ≡ true → ⊥
 not_both b e f = cc

@@ -245,7 +245,7 @@ last_in count m lt near =
     let last : last_of 64 (range_with_len 0 count) ≡ range_with_len (0 + (count - 64)) (count - (count - 64)) = ap (λ (k : ℕ). drop (k - 64) (range_with_len 0 count)) (length-range_with_len 0 count) ∙ drop_range 0 count (count - 64) in
     subst (λ (l : List ℕ). Contains l m) (sym last) (in_range (0 + (count - 64)) (count - (count - 64)) m (omega arith) (omega arith))
 
--- if just the packets of the clock came that have a point up to the timestamp, the two points around it came
+-- if exactly the packets of the clock came that have a point up to the timestamp, the two points around it came
 pub covered_here : (plan : TalkPlan) (crf : CrfPlan) (j : Journal) (n s count : ℕ) → IsOverStamp plan crf j n s → 1 ≤ crf.points → suc s / crf.points < count → count ≤ suc s / crf.points + 1 → IsCoveredBy j.clock (pos 0) j.rate (range_with_len 0 count) (pos (stamp_at plan crf n))
 covered_here plan crf j n s count over some low high =
     let here = div-add-mod' s crf.points in

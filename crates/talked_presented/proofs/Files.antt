@@ -1,4 +1,4 @@
--- A file of what `talk` makes is a classic capture of its records.
+-- A file that `talk` makes is a classic capture of its records.
 use Rattle.std.proofs.Common.{◌≡◌, ℕ, pos, List, None, sym, subst}
 use Rattle.pcap_frames.specs.Capture.{first_refusal, whole_records}
 use Rattle.packet_journal.specs.Packets.{PacketJournal}

@@ -65,7 +65,7 @@ close_by Am824 plan input lead n e audio_kind expects none =
     expects (few_blocks (interval_of plan.rate) _ plan.count (interval_is plan.rate) (not_below _ plan.count (none_false _ _ (rw e at none))))
 close_by (H264 last_stamp) plan input lead n e audio_kind expects none = absurd audio_kind
 
--- ---- so each copy is expected
+-- ---- each copy is expected
 
 expected_by : (arrival first due plan_lead lead rate count r c : ℕ) → r ≡ rate → c ≡ count → arrival + plan_lead ≡ first → due ≤ first + 1 → first ≤ due + 3 → 3 * rate ≤ count * 1000000000
     → plan_lead * rate ≤ lead * rate + 59 * (count * 1000000000) → lead * rate ≤ plan_lead * rate + 59 * (count * 1000000000)
@@ -84,7 +84,7 @@ expected plan input lead n p close =
     (due_after plan input n p) (due_before plan input n p) (omega (arith, range.most, p.some_count)) close.from close.to in
     record { from = both.0; to = both.1 }
 
--- ---- so each is known
+-- ---- each copy is known
 
 pub one_arrival : (a b : ℕ) (z : ℤ) → z ≡ pos a → z ≡ pos b → b ≡ a
 one_arrival a b z e f = omega (arith, ints)

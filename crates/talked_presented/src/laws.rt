@@ -55,9 +55,9 @@ pub fn whole_capture_is_presented()
     carried_clock_packet_is_delivered();
 }
 
-/// An audio plan with the default lead of `talk`, without a clock, and, if it is sparse AAF or AM824, without restarts: a
-/// listener with the default options of `listen` presents all of it, at any rate, with any number of channels and of sample
-/// frames in a packet.
+/// A listener with the default options of `listen` presents all of an audio plan with the default lead of `talk`, without a
+/// clock, and without restarts if it is sparse AAF or AM824: at any rate, with any number of channels and of sample frames in a
+/// packet.
 pub fn defaults_present_all()
     ensures hears { (plan : TalkPlan) (input : List ℕ) → HasDefaultLead plan input → HearsAll plan input (default_listener plan.id) }
     ensures presented { (plan : TalkPlan) (input : List ℕ) → HasDefaultLead plan input

@@ -41,7 +41,7 @@ use Rattle.talk_video.proofs.VideoRules.{sent_are}
 pub stream_is : (s : AudioStream) (input : List ℕ) → IsAudio s → stream_of s.plan input ≡ stream_in (audio_of s) s.plan input
 stream_is s input is = rw (audio_found s is) refl
 
--- ---- so its stream keeps what streams keep
+-- ---- the stream of a plan keeps what streams keep
 
 stream_keeps : (s : AudioStream) (input : List ℕ) → IsAudio s → length input ≤ most_input → IsStream s.plan (stream_of s.plan input)
 stream_keeps s input is limit = rw (stream_is s input is) (audio_stream s.plan (audio_of s) (headers_of s) input is.plan (format_of s is) limit)

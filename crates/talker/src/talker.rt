@@ -74,10 +74,10 @@ impl<'a> Talker<'a> {
     /// time from one timestamp to the next, 1 to 65,535 events of the clock, is that of a whole number of sample frames, and
     /// with restarts a run of the stream is a multiple of 8 packets of the clock.
     ///
-    /// `Frames` comes exactly if an audio input is not whole sample frames. For H.264, `StartCode` comes exactly if the input
-    /// has no start code; else `NalType` if a NAL unit has a type other than 1 to 23; else `Packets` if an access unit needs
-    /// more than 255 packets. `Arrival` comes exactly if none of these holds and a packet would arrive 2^32 seconds after 0 or
-    /// later, which no such plan does. `Memory` comes if there is no memory.
+    /// `Frames` comes exactly if an audio input is not whole sample frames. For H.264, `StartCode` comes exactly if the input has
+    /// no start code; else `NalType` if a NAL unit has a type other than 1 to 23; else `Packets` if an access unit needs more
+    /// than 255 packets. `Arrival` comes exactly if none of these holds and a packet would arrive 2^32 seconds after 0 or later,
+    /// which none does with such a plan. `Memory` comes if memory runs out.
     pub fn begin(alloc: Global, plan: TalkPlan, input: &'a [u8]) -> Result<Self, TalkFault>
         requires plan { IsPlan plan }
         requires limit { length input.now ≤ most_input }

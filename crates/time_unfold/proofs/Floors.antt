@@ -25,7 +25,7 @@ times_more x y d below =
     let e : d * (up x + down y) ≤ d * (up y + down x) = mul-le-mul_left d h in
     omega (arith, ints)
 
--- a product with one more
+-- a product whose first factor grows by one
 pub one_more : (q : ℤ) (d : ℕ) → (q +ℤ pos 1) *ℤ pos d ≡ q *ℤ pos d +ℤ pos d
 one_more q d =
     let e : up (q +ℤ pos 1) + down q ≡ down (q +ℤ pos 1) + up q + 1 = omega (arith, ints) in
@@ -63,7 +63,7 @@ rest_only z q r d some e natural below =
     let times : int_div_euclid z (pos d) *ℤ pos d ≡ q *ℤ pos d = ap (λ (n : ℤ). n *ℤ pos d) same in
     omega (arith, ints)
 
--- two numbers with one remainder that are less than the divisor apart are one
+-- two numbers that have the same remainder, and are less than the divisor apart, are equal
 pub same_rest : (x y : ℤ) (d : ℕ) → 0 < d → int_rem_euclid x (pos d) ≡ int_rem_euclid y (pos d) → x <ℤ (y +ℤ pos d) → y <ℤ (x +ℤ pos d) → x ≡ y
 same_rest x y d some e above below =
     let p = int_div_euclid x (pos d) in

@@ -5,7 +5,7 @@ use Rattle.std.specs.Int.{int_div_euclid, int_rem_euclid}
 use Rattle.time_unfold.proofs.Floors.{euclid, rest_below, rest_natural, rest_only, same_rest, neg_times}
 use Rattle.time_unfold.specs.Time.{Unfolds, unfolded}
 
--- the number counted from the beginning of a circle has the remainder that it was counted from
+-- t - first, reduced modulo d and added to `first`, leaves the remainder t
 around : (t : ℕ) (first : ℤ) (d : ℕ) → 0 < d → t < d → int_rem_euclid (first +ℤ int_rem_euclid (pos t -ℤ first) (pos d)) (pos d) ≡ pos t
 around t first d some small =
     let q = int_div_euclid (pos t -ℤ first) (pos d) in

@@ -4,7 +4,7 @@ use Rattle.time_unfold.specs.declared.stamp.Stamp.{Stamp}
 use Rattle.time_unfold.specs.declared.stamp.Want.{Want}
 use Rattle.time_unfold.specs.Lines.{instant_at, nominal_line}
 
--- two block counts are equal, or there is none on either side
+-- two block counts are equal, or both are absent
 abbrev pub same_block : Option ℕ → Option ℕ → Bool
 same_block None None = true
 same_block None (Some block) = false

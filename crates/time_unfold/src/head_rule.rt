@@ -33,7 +33,7 @@ pub struct Head {
     pub first: i64,
 }
 
-/// How far back the stamped sample is that a packet is counted from.
+/// How far before a packet the stamped sample is that the packet is counted from.
 #[derive(Clone, Copy, Debug, PartialEq, Eq)]
 pub struct Distance {
     /// The number of packets.

@@ -41,7 +41,7 @@ IsReady slots source = IsSome (slots (slot_of source)) × (held_in source ≡ No
 abbrev pub holding : Sourcing → ℕ → Sourcing
 holding source size = record source { pieces = record source.pieces { waiting = drop size source.pieces.waiting }; reader = with_part source.reader (take size source.pieces.waiting) }
 
--- The reading has not ended, and the first bytes that wait, this many, are the next record.
+-- The reading has not ended, and the first `size` bytes that wait are the next record.
 pub record LiesAhead (source : Sourcing) (size : ℕ) : Type 0 where
   pub going : source.ended ≡ None
   pub within : size ≤ length source.pieces.waiting

@@ -13,7 +13,7 @@ pub record IsReader (r : Reading) (capacity : ℕ) : Type 0 where
   pub bounded : taken r ≤ 2 ^ 62
   pub reading : IsReading r.refusal r.style r.start r.part
 
--- A reader takes bytes of a piece: it is not refused, and knows this style, or none before the end of the file header.
+-- A reader takes bytes of a piece: it is not refused, and knows this style; before the end of the file header, it knows none.
 pub record IsBefore (style : Option Style) (r : Reading) (piece : List ℕ) : Type 0 where
   pub accepted : r.refusal ≡ None
   pub styled : r.style ≡ style

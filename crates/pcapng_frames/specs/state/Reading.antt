@@ -18,7 +18,8 @@ use Rattle.pcapng_frames.specs.Blocks.{kind_at, order_or_little, refusal_here, e
 use Rattle.pcapng_frames.specs.Reading.{Reading, rest_of, passed_by, taken, taken_by}
 use Rattle.pcapng_frames.specs.state.Fields.{AllResolved}
 
--- What is still to come from the old reader after these bytes is still to come from the new one.
+-- What is still to come from the old reader if these bytes and then more follow is still to come from the new one if only those
+-- more follow.
 pub record Takes (old : Reading) (bytes : List ℕ) (new : Reading) : Type 0 where
   pub same : (more : List ℕ) → rest_of old (bytes ++ more) ≡ rest_of new more
 

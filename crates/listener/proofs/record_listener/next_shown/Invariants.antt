@@ -6,7 +6,7 @@ use Rattle.listener.specs.Gathering.{HasUnits, left}
 use Rattle.listener.specs.Listening.{Judges}
 use Rattle.listener.proofs.record_listener.next_shown.Given as goal
 
--- the judge still stands for the entries, after some waiting items were judged or it was closed
+-- the state of the judge is still that after the entries; some waiting items were judged, or it was closed
 abbrev pub invariant-loop-next : goal.invariant-loop-next
 invariant-loop-next l =
     record {

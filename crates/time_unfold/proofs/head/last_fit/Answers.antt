@@ -1,4 +1,4 @@
--- The last of what is left decides, or is left out of the search.
+-- The last stamp that is left fits and is the result, or is left out of the search.
 use Rattle.std.proofs.Common.{◌≡◌, true, false, All, List, [], sym, ap, ◌∙◌, subst}
 use Rattle.std.proofs.lemmas.List.{nil_from_length}
 use Rattle.time_unfold.specs.declared.stamp.Stamp.{Stamp}

@@ -3,7 +3,7 @@ use Rattle.time_unfold.specs.Limits.{IsStamp}
 use Rattle.time_unfold.specs.Stamps.{find_last, fits}
 use Rattle.time_unfold.proofs.head.last_fit.Given as goal
 
--- what is left holds the stamp that is looked for
+-- the stamps that are left hold the one that is looked for
 abbrev pub invariant-loop-last : goal.invariant-loop-last
 invariant-loop-last l = record {
   stamps : All IsStamp l.rest;

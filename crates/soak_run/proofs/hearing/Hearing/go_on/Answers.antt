@@ -59,7 +59,7 @@ returns-in_ok-deliver-clause-left c =
 pub returns-in_ok-deliver-clause-on : goal.returns-in_ok-deliver-clause-on
 returns-in_ok-deliver-clause-on c = steps_on c.args.self.now.stage c.args.self.now.deliveries.now c.args.self.now.given c.requires.giving c.if-self.true
 
--- ---- none was, for want of memory
+-- ---- no delivery was given, because memory ran out
 
 pub returns-in_err-deliver-clause-shows : goal.returns-in_err-deliver-clause-shows
 returns-in_err-deliver-clause-shows c begun items h =
