@@ -36,7 +36,7 @@ class Definition:
 
 
 def said_by(lines):
-    """The comment that stands directly above a definition, without an empty line or a heading between them."""
+    """The comment directly above a definition, without an empty line or a heading between them."""
     above = []
     for line in reversed(lines):
         if not line or line.startswith("-- ----"):
@@ -100,7 +100,7 @@ def modules():
 
 
 def definition_of(every, base, name):
-    """The definition that a module's path and a name stand for, if it is one of this repository."""
+    """The definition that a module's path and a name mean, if it is one of this repository."""
     found = re.match(r"Rattle\.(\w+)\.specs\.(.*)$", base)
     module = every.get(found.groups()) if found else None
     if module is None:

@@ -5,17 +5,18 @@
 //! - `capture OUT COUNT ng`: these packets as a pcapng capture, in nanoseconds.
 //! - `capture OUT COUNT STREAMS`: packets of STREAMS streams in turn, each with sequence numbers of its own and one
 //!   packet in 125 us.
-//! - `capture OUT COUNT STREAMS faulty`: the same with faults. Of 64 packets, some 4 are lost, 4 come twice, in 8 the restart
-//!   bit turns, and one each has a reserved bit set, no timestamp, or a stream id that is not valid.
+//! - `capture OUT COUNT STREAMS faulty`: the same with faults. Of 64 packets, about 4 are lost, 4 come twice, 8 toggle the
+//!   restart bit, and one each has a reserved bit set, no timestamp, or a stream id that is not valid.
 //! - `capture OUT COUNT lost SEED`: COUNT packets of which one in 100 is lost. Which ones depends on the seed.
-//! - `capture OUT COUNT burst ORDER SIDE`: COUNT packets in bursts of 256, as one of two captures, `a` or `b`, whose matching has
-//!   to search: `one` has one sequence number, out of reach of each other; in `strange` none is in both; in `falling` and `middle`
-//!   a burst is at one instant, and B has the last of those that wait first, or the one in their middle.
+//! - `capture OUT COUNT burst ORDER SIDE`: COUNT packets in bursts of 256, as capture `a` or `b` of two whose matching has to
+//!   search. In `one` all packets have one sequence number, and those of A are out of reach of those of B. In `strange` no packet
+//!   is in both captures. In `falling` and `middle` a burst is due at one instant, and the next packet of B is the last of A's
+//!   that wait, or the middle one.
 //! - `capture OUT COUNT damaged IN`: the packets of the classic capture IN in turn. Half of them are damaged, and one in 16 comes
 //!   twice.
-//! - `capture OUT COUNT STYLE`: packets in `le-ns`, `le-us`, `be-ns` or `be-us`. Half of them are damaged, of every 2,048 the
-//!   latter 1,024 are sparse, which leaves one timestamp in eight, and one in 16 comes twice. Then come a frame of the
-//!   greatest length and a record that is cut off.
+//! - `capture OUT COUNT STYLE`: packets in `le-ns`, `le-us`, `be-ns` or `be-us`. Half of them are damaged, and one in 16 comes
+//!   twice. The last 1,024 of every 2,048 are sparse, with one timestamp in eight. Then come a frame of the greatest length and a
+//!   record that is cut off.
 
 #[path = "../yardsticks/packets.rs"]
 mod packets;
@@ -28,14 +29,14 @@ use std::env;
 use std::fs::File;
 use std::io::{self, BufWriter, Error, Write};
 
-/// Where `sv`, `mr`, two reserved bits and `tv` stand in the frame.
+/// Where `sv`, `mr`, two reserved bits and `tv` are in the frame.
 const FLAGS: usize = 19;
 const SV: u8 = 0x80;
 const MR: u8 = 0x08;
 const RESERVED: u8 = 0x06;
 const TV: u8 = 0x01;
 
-/// Where `sp` stands in the frame.
+/// Where `sp` is in the frame.
 const SP: usize = 40;
 
 /// Packets that `packet_at` makes, half of them damaged, and one in 16 twice.
@@ -57,7 +58,7 @@ fn put_damaged_packets(
     Ok(())
 }
 
-/// The packet of a stream of which the latter half of each 2,048 packets is sparse.
+/// Packet n of a stream in which the last 1,024 of every 2,048 packets are sparse.
 fn half_sparse_packet(n: u64) -> Vec<u8> {
     let mut frame = packet(n).to_vec();
     if n % 2048 < 1024 {
@@ -89,12 +90,12 @@ fn damage(frame: &mut Vec<u8>, noise: &mut u64) {
     }
 }
 
-/// The arrival of the packet with this number of all, of so many streams in turn. Each of them sends one in 125 us.
+/// The arrival of packet n, counted over streams that take turns. Each of them sends a packet every 125 us.
 fn arrival_of(n: u64, streams: u64) -> u64 {
     1_000_000_000 + n * 125_000 / streams
 }
 
-/// The packet with this number of all, of one of so many streams.
+/// Packet n, counted over streams that take turns.
 fn paced_packet(n: u64, streams: u64) -> [u8; 66] {
     let mut frame = packet_of(n, streams);
     let due = arrival_of(n, streams) + 2_000_000;
@@ -102,7 +103,7 @@ fn paced_packet(n: u64, streams: u64) -> [u8; 66] {
     frame
 }
 
-/// Packets of so many streams in turn, with faults.
+/// Packets of this many streams in turn, with faults.
 fn put_faulty_packets(capture: &mut Capture<impl Write>, count: u64, streams: u64) -> io::Result<()> {
     let mut restarts = vec![0; streams as usize];
     let mut noise = 1;
@@ -152,7 +153,7 @@ fn put_lossy_packets(capture: &mut Capture<impl Write>, count: u64, seed: u64) -
 /// The packets of a burst.
 const BURST: u64 = 256;
 
-/// The number that packet k of a burst of B has, which is that of the one in the middle of those of A that still wait.
+/// The number of packet k of a burst of B: that of the middle one of A's packets that still wait.
 fn middle(k: u64) -> u64 {
     let half = BURST / 2;
     if k % 2 == 0 { half - k / 2 - 1 } else { half + k / 2 }
@@ -171,7 +172,7 @@ fn packet_in_burst(order: &str, is_b: bool, k: u64) -> io::Result<(u64, u64)> {
     })
 }
 
-/// Packets in bursts, which arrive at 3 ms before they are due.
+/// Packets in bursts. They arrive 3 ms before they are due.
 fn put_bursts(capture: &mut Capture<impl Write>, count: u64, order: &str, is_b: bool) -> io::Result<()> {
     let time = if order == "one" { 16_200_000 } else { 1_000_000 };
     for n in 0..count {

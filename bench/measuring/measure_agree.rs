@@ -1,5 +1,6 @@
-//! `measure_agree ROUNDS AVTP YARDSTICK PACKETS STREAM A B`: runs `avtp agree` in turn with its yardstick, to nothing, on captures of
-//! that many packets that each lost one in 100. Prints rows of the best of ROUNDS runs: by the wall clock, and by processor time.
+//! `measure_agree ROUNDS AVTP YARDSTICK PACKETS STREAM A B`: runs `avtp agree` in turn with its yardstick, to nothing, on
+//! captures of PACKETS packets, each of which lost one in 100. Prints rows of the best of ROUNDS runs: by the wall clock, and by
+//! processor time.
 
 mod row;
 mod runner;

@@ -1,5 +1,5 @@
-//! `measure_check AVTP YARDSTICK REPORT PACKETS [STREAMS CAPTURE] ..`: runs `avtp check`, its yardstick and `avtp-report` in turn,
-//! to nothing, on captures of that many packets and streams, which have no findings. Prints a row of `check` beside its
+//! `measure_check AVTP YARDSTICK REPORT PACKETS [STREAMS CAPTURE] ..`: runs `avtp check`, its yardstick and `avtp-report` in
+//! turn, to nothing, on captures of this many packets and streams, which have no findings. Prints a row of `check` beside its
 //! yardstick and of the report beside `check`, for their best runs.
 
 mod row;

@@ -1,6 +1,6 @@
 //! `measure_listen ROUNDS AVTP TWO ONE PACKETS TEXT STREAM CAPTURE`: runs `avtp listen` with rings of 64 and of 256 items in turn
-//! with its yardsticks, TWO of two threads that are joined in rounds and ONE of one thread. They print to nothing, and to the
-//! file TEXT too if it is not empty. Prints rows of `listen` beside each yardstick, for the best of ROUNDS runs.
+//! with its yardsticks, TWO of two threads that are joined in rounds and ONE of one thread. They print to nothing and, if TEXT is
+//! not empty, also to that file. Prints rows of `listen` beside each yardstick, for the best of ROUNDS runs.
 
 mod row;
 mod runner;
@@ -24,7 +24,7 @@ struct Asked<'a> {
 }
 
 impl Asked<'_> {
-    /// The program with each ring and its yardstick of two threads, and last the one of one thread.
+    /// The program and its yardstick of two threads, with each ring, and then the yardstick of one thread.
     fn runners(&self, output: Option<&str>) -> Vec<Runner> {
         let to = if output.is_some() {
             "a file"

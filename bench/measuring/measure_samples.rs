@@ -1,5 +1,5 @@
-//! `measure_samples MEASURED YARDSTICK`: runs `measured samples` and its yardstick in turn, and prints a row of the best runs. Both
-//! print as many bytes.
+//! `measure_samples MEASURED YARDSTICK`: runs `measured samples` and its yardstick in turn, and prints a row of the best runs.
+//! Both print equally many bytes.
 
 mod row;
 mod timed;

@@ -13,7 +13,7 @@ const USAGE: &str = "measure_show AVTP YARDSTICK PACKETS TEXT TSHARK CAPTURE";
 
 const ROUNDS: usize = 20;
 
-/// What tshark knows of the fields that `avtp show` prints.
+/// The fields that `avtp show` prints, as far as tshark has them.
 const TSHARK_FIELDS: [&str; 14] = [
     "frame.number",
     "frame.time_epoch",

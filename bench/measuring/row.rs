@@ -46,7 +46,7 @@ fn rounded(number: f64) -> u64 {
     ((number / scale).round() * scale) as u64
 }
 
-/// A number with a comma between each three digits.
+/// A number with a comma before each group of three digits.
 fn grouped(number: u64) -> String {
     let digits = number.to_string();
     let mut text = String::new();

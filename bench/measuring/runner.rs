@@ -12,7 +12,7 @@ struct Usage {
     /// In seconds and microseconds.
     user: [i64; 2],
     system: [i64; 2],
-    /// In KiB, and never less than what the program held that started it: some 2 MiB here.
+    /// In KiB, and at least what the program that started it held: about 2 MiB here.
     largest_resident: i64,
     rest: [i64; 13],
 }
@@ -69,7 +69,7 @@ impl Runner {
         let child = command.spawn()?;
         let mut status = 0;
         let mut usage = Usage::default();
-        // Sound, as the child is ours and is waited for nowhere else.
+        // Sound, because the child is ours, and nothing else waits for it.
         let waited = unsafe { wait4(child.id() as i32, &mut status, 0, &mut usage) };
         let seconds = start.elapsed().as_secs_f64();
         if waited < 0 || status != 0 {

@@ -1,5 +1,5 @@
-//! A library to preload, for `bench/trials/refused`: the call of malloc, calloc or realloc whose number AVTP_REFUSE has finds no memory,
-//! and one byte is written to file descriptor 9 then.
+//! A library to preload, for `bench/trials/refused`: the call of malloc, calloc or realloc whose number is in AVTP_REFUSE finds
+//! no memory, and then a byte is written to file descriptor 9.
 use std::ffi::{c_char, c_int, c_ulong, c_void};
 use std::ptr::null_mut;
 use std::sync::atomic::{AtomicU64, Ordering::SeqCst};

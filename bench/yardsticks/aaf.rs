@@ -5,12 +5,12 @@ use crate::pcap::{Refusal, cut_off, u16_at};
 /// The bytes of the stream header.
 pub const HEADER: usize = 24;
 
-/// The sample rates by `nsr`; 0 is the user's.
+/// The sample rates by `nsr`; 0 is user-specified.
 pub const RATES: [u32; 11] = [
     0, 8000, 16000, 32000, 44100, 48000, 88200, 96000, 176400, 192000, 24000,
 ];
 
-/// Refuses a stream header that is cut off or has another version than 0.
+/// Refuses a stream header that is cut off or has a version other than 0.
 #[inline(always)]
 pub fn check_header(pdu: &[u8]) -> Result<(), Refusal> {
     if pdu.len() < HEADER {

@@ -1,5 +1,6 @@
-//! The yardstick of `bench/run` for `agree`: `agree STREAM A B` prints what `avtp agree STREAM A B` prints of classic captures, byte for
-//! byte, as tightly as an unverified program may, in one thread. It has no options, and its files can be read.
+//! The yardstick of `bench/run` for `agree`: `agree STREAM A B` prints what `avtp agree STREAM A B` prints of classic captures,
+//! byte for byte, written as tightly as an unverified program can be, in one thread. It has no options, and expects files that
+//! can be read.
 
 #![allow(dead_code)] // The modules are used in part.
 
@@ -22,10 +23,10 @@ use std::io;
 use std::process::ExitCode;
 use text::{Line, Text};
 
-/// A batch is paired with one that is at most so many places before it in merged order.
+/// A batch is paired with one that is at most this many places before it in merged order.
 const WINDOW: u64 = 512;
 
-/// Two batches of one packet are apart by at most so many times the time of A's.
+/// Two batches of one packet are apart by at most this many times the time of A's.
 const REACH: u64 = 64;
 
 /// One of two captures, with its next batch and those that wait for a partner, each with its place in merged order.
@@ -103,7 +104,7 @@ fn fits(a: &Batch, b: &Batch) -> bool {
     a.seq == b.seq && (a.instant == b.instant || u128::from(a.instant.abs_diff(b.instant)) * u128::from(rate(a)) <= reach())
 }
 
-/// Prints how two batches of A and B differ, if they do. Answers whether.
+/// Prints how two batches of A and B differ, if they do. Returns whether they do.
 #[inline(always)]
 fn compare(text: &mut Text, a: &Batch, b: &Batch) -> io::Result<bool> {
     let is_same = a.instant == b.instant && a.rest == b.rest && a.nsr == b.nsr && a.size == b.size && a.bytes == b.bytes;
@@ -172,7 +173,7 @@ fn step<const IS_A: bool>(own: &mut Side, other: &mut Side, place: u64, found: &
     Ok(())
 }
 
-/// Ends the text as both readings ended, and answers the status.
+/// Ends the text according to how both readings ended, and returns the status.
 fn print_end(text: &mut Text, a: Side, b: Side, found: Found) -> io::Result<ExitCode> {
     let only = [a.batches - found.matched, b.batches - found.matched];
     let refusals: Vec<Refusal> = [a, b].into_iter().filter_map(|side| side.receiver.end().err()).collect();

@@ -1,5 +1,5 @@
-//! What of the packets of a stream is presented, at which instants, and why the rest is not, as tightly as an unverified program
-//! may: the batches that wait for their instants are kept in their order.
+//! Which packets of a stream are presented, at which instants, and why the others are not, written as tightly as an unverified
+//! program can be: the batches that wait for their instants are kept in their order.
 
 use crate::aaf::HEADER;
 use crate::pcap::u16_at;
@@ -13,7 +13,7 @@ const ROOM: usize = 67_108_864;
 /// How long before its instant a packet is expected, in nanoseconds.
 const LEAD: i64 = 2_000_000;
 
-/// How many stamps are looked through for that of a packet without one, and how far from it they may be, in packets.
+/// How many stamps are searched for a packet without one, and how far from it they may be, in packets.
 const STAMPS: usize = 16;
 const REACH: u64 = 60;
 
@@ -66,7 +66,7 @@ impl Batches {
         }
     }
 
-    /// Goes on to this instant, where it is later.
+    /// Moves the time on to this instant, if it is later.
     #[inline(always)]
     pub fn go_on(&mut self, now: i64) {
         self.now = self.now.max(now);
@@ -88,7 +88,7 @@ impl Batches {
         self.spare.push(bytes);
     }
 
-    /// Keeps the samples of the packet until their instant, or tells why not.
+    /// Keeps the samples of the packet until their instant, or returns why not.
     #[inline(always)]
     pub fn judge(&mut self, frame: u64, arrival: i64, pdu: &[u8]) -> Result<(), Reason> {
         let (_, size, rate) = read_packet(pdu).map_err(|refusal| Reason("malformed ", refusal.0))?;
@@ -134,7 +134,7 @@ impl Batches {
         Ok(())
     }
 
-    /// Notes the stamp of a packet, and tells its instant.
+    /// Notes the stamp of a packet, and returns its instant.
     #[inline(always)]
     fn note(&mut self, arrival: i64, rate: u32, pdu: &[u8]) -> i64 {
         let instant = unfold(u32::from_be_bytes(pdu[12..16].try_into().unwrap()), arrival);
@@ -171,8 +171,8 @@ impl Batches {
         Some((head.instant + back, (parts % u64::from(rate)) as u32))
     }
 
-    /// Where a batch with this instant waits: behind those that are not later. One that has passed is late, and one that
-    /// waits there already is a copy.
+    /// Where a batch with this instant waits: after those that are not later. It is late if its instant has passed, and a copy if
+    /// an equal one waits already.
     #[inline(always)]
     fn place_of(&self, instant: i64, seq: u8) -> Result<usize, Reason> {
         if instant < self.now {

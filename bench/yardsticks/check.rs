@@ -1,6 +1,7 @@
 //! The yardstick of `bench/run` for `check`: `check FILE..` prints what `avtp check FILE..` prints of classic captures, byte for
-//! byte, as tightly as an unverified program may. Packets are looked at where they were read, their streams stand in a flat
-//! table, and what breaks no rule costs no call. It has no options, and its files can be read.
+//! byte, written as tightly as an unverified program can be. It examines packets in the buffer that they were read into, keeps
+//! their streams in a flat table, and makes no call for a packet that breaks no rule. It has no options, and expects files that
+//! can be read.
 
 mod aaf;
 mod formats;
@@ -22,7 +23,7 @@ use tracker::{Order, Tracker};
 struct Own {
     /// A reserved bit is set.
     reserved: bool,
-    /// It has a timestamp that its format does not want, or lacks one that it wants.
+    /// It has a timestamp that it must not have, or lacks one that it must have.
     stamp: bool,
 }
 
@@ -30,7 +31,7 @@ fn u64_at(bytes: &[u8], at: usize) -> u64 {
     u64::from_be_bytes(bytes[at..at + 8].try_into().unwrap())
 }
 
-/// Whether a packet of samples is stamped where it must not be, or is not where it must be.
+/// Whether a packet of samples has a timestamp that it must not have, or lacks one that it must have.
 #[inline(always)]
 fn is_off(pdu: &[u8], samples: bool, must_stamp: bool) -> bool {
     samples && (pdu[1] & 1 != 0) != must_stamp
@@ -70,7 +71,7 @@ fn check_h264(pdu: &[u8]) -> Result<Own, Refusal> {
     })
 }
 
-/// What a packet of another subtype than that of AAF breaks by itself, if its format is known.
+/// What a packet of a subtype other than AAF breaks by itself, if its format is known.
 #[inline(never)]
 fn another(pdu: &[u8]) -> Result<Option<Own>, Refusal> {
     match pdu.first() {
@@ -98,7 +99,7 @@ fn print_malformed(text: &mut Text, number: u64, refusal: Refusal, start: usize)
     Ok(1)
 }
 
-/// A line for each finding in a packet. Answers how many they are.
+/// Adds a line for each finding in a packet. Returns how many there are.
 #[cold]
 #[inline(never)]
 fn print_findings(text: &mut Text, number: u64, id: u64, own: Own, order: Order) -> io::Result<u64> {
@@ -131,7 +132,7 @@ fn print_findings(text: &mut Text, number: u64, id: u64, own: Own, order: Order)
     Ok(findings)
 }
 
-/// Checks a packet of AVTP that begins at `start` in its frame. Answers how many findings were printed.
+/// Checks a packet of AVTP that begins at `start` in its frame. Returns how many findings were printed.
 #[inline(always)]
 fn check_packet(text: &mut Text, tracker: &mut Tracker, number: u64, pdu: &[u8], start: usize) -> io::Result<u64> {
     let checked = if pdu.first() == Some(&2) { check_aaf(pdu).map(Some) } else { another(pdu) };
@@ -154,7 +155,7 @@ fn check_packet(text: &mut Text, tracker: &mut Tracker, number: u64, pdu: &[u8],
     Ok(0)
 }
 
-/// Checks a capture. Answers the status.
+/// Checks a capture. Returns the status.
 fn check(text: &mut Text, path: &str) -> io::Result<u8> {
     let file = File::open(path)?;
     let mut line = text.line(Line::ROOM + path.len())?;

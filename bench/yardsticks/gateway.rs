@@ -1,6 +1,6 @@
-//! The yardstick of `bench/run` for `gateway`: `gateway am824|aaf STREAM IN OUT` prints and makes what `avtp gateway --to ..` does
-//! of a classic capture, as tightly as an unverified program may. It reads IN twice: it looks for what cannot be turned, and then
-//! listens. It has no other options.
+//! The yardstick of `bench/run` for `gateway`: `gateway am824|aaf STREAM IN OUT` prints and writes what `avtp gateway --to ..`
+//! prints and writes for a classic capture, written as tightly as an unverified program can be. It reads IN twice: it looks for
+//! what cannot be converted, and then listens. It has no other options.
 
 mod aaf;
 #[allow(dead_code)] // It reads audio alone.
@@ -23,7 +23,7 @@ use stream::packet_of_stream;
 use turned::{Gateway, Shape, To, fault_of};
 use waiting::{Audio, Waiting};
 
-/// The fault of the first packet that cannot be turned, with the number of its record; or the shape of the stream.
+/// The fault of the first packet that cannot be converted, with the number of its record; or the shape of the stream.
 fn scan(to: To, stream: [u8; 8], input: &str) -> io::Result<Result<Option<Shape>, (&'static str, u64)>> {
     let mut shape = None;
     let mut fault = None;

@@ -1,4 +1,5 @@
-//! The items of a stream's packets, by the design of `listener`, without contracts: for its yardstick and that of `listen`.
+//! The items of a stream's packets, made as `listener` makes them, without contracts, for the yardsticks of `listener` and
+//! `listen`.
 
 use crate::aaf::HEADER;
 use crate::pcap::u16_at;

@@ -1,5 +1,4 @@
-//! Two calls at once, one of them in a new thread of the C library, which is made with fewer calls of the system than one of
-//! Rust's.
+//! Two calls at once, one of them in a new thread of the C library, which takes fewer system calls to make than one of Rust's.
 
 use std::ffi::{c_int, c_ulong, c_void};
 use std::ptr::{null, null_mut};
@@ -37,7 +36,7 @@ impl<F: FnOnce() -> A, A> Call<F, A> {
 struct Thread(c_ulong);
 
 impl Thread {
-    /// A thread that makes the call, where one can be made. Sound where the call outlives it, and is looked at by no other.
+    /// A thread that makes the call, if a thread can be made. Sound if the call outlives it, and nothing else looks at the call.
     unsafe fn start<F: FnOnce() -> A + Send, A: Send>(call: *mut Call<F, A>) -> Option<Self> {
         let mut thread = 0;
         let refused =
@@ -48,12 +47,12 @@ impl Thread {
 
 impl Drop for Thread {
     fn drop(&mut self) {
-        // Sound, as it was made and is waited for nowhere else.
+        // Sound, because the thread was made, and nothing else waits for it.
         unsafe { pthread_join(self.0, null_mut()) };
     }
 }
 
-/// Calls `f` in a new thread, or last where none can be made, and `g` in this one.
+/// Calls `f` in a new thread and `g` in this one. If no thread can be made, calls `f` after `g`.
 pub fn join<F: FnOnce() -> A + Send, A: Send, B>(f: F, g: impl FnOnce() -> B) -> (A, B) {
     let mut call = Call {
         function: Some(f),

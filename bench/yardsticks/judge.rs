@@ -28,7 +28,7 @@ struct Stream {
     clock: bool,
 }
 
-/// A number of 16 bits for each of 16 bits, all different, without order.
+/// A permutation of the 16-bit numbers without apparent order.
 fn scrambled(n: u32) -> u32 {
     let first = (n * 40_503) % 65_536;
     let second = ((first ^ (first >> 8)) * 46_387) % 65_536;
@@ -41,7 +41,7 @@ impl Stream {
         if self.waiting > 4_096 { 1_000 } else { 125_000 }
     }
 
-    /// The place of item n among `waiting` that come one after the other, by their instants.
+    /// The place of item n, by instant, among the `waiting` items of its group.
     fn place(&self, n: u32) -> u32 {
         let i = n % self.waiting;
         match self.order {
@@ -58,7 +58,7 @@ impl Stream {
         1_000_000_000 + u64::from(n) * u64::from(self.step())
     }
 
-    /// As many items as wait at once have their instants while the next ones come.
+    /// The items of each group are due while those of the next group come.
     fn instant(&self, n: u32) -> u64 {
         let first = (n / self.waiting + 1) * self.waiting;
         self.arrival(first + self.place(n)) - 1

@@ -1,5 +1,6 @@
-//! The receiver's side of the yardstick for `listen` that has its design, without contracts: it reads the capture once, looks at
-//! each record where it was read, copies the samples of a packet of the stream once, and judges the packets by `schedule`.
+//! The receiver's side of the yardstick for `listen` that has its design, without contracts: it reads the capture once, examines
+//! each record in the buffer that it was read into, copies the samples of a packet of the stream once, and judges the packets by
+//! `schedule`.
 
 use crate::items::item_of;
 use crate::pcap::{Records, Refusal};
@@ -23,7 +24,7 @@ pub struct Receiver {
     judge: Judge,
     counts: Counts,
     has_ended: bool,
-    /// With which the reading ended, if with one.
+    /// The refusal with which the reading ended, if there was one.
     refusal: Option<Refusal>,
 }
 

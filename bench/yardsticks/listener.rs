@@ -1,7 +1,7 @@
 //! The yardstick of `bench/run` for a listener: `listener STREAMS PACKETS` makes the capture that `measured listener` makes of
-//! these words, and listens to its first stream by the same design, without contracts. It reads records in pieces, looks at
-//! each where it was read, copies the samples of a packet of the stream once, and judges it. It prints how many packets are
-//! presented, and in how many nanoseconds, once the capture was made.
+//! these words, and listens to its first stream by the same design, without contracts. It reads records in pieces, examines each
+//! in the buffer that it was read into, copies the samples of a packet of the stream once, and judges it. It prints how many
+//! packets are presented, and in how many nanoseconds, once the capture was made.
 
 mod aaf;
 mod items;

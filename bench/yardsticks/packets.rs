@@ -11,7 +11,7 @@ const FRAME: [u8; 66] = [
     0xfa,
 ];
 
-/// Where the sequence number, the end of the stream id and the timestamp stand in the frame.
+/// Where the sequence number, the end of the stream id and the timestamp are in the frame.
 pub const SEQUENCE_NUM: usize = 20;
 const STREAM_ID_END: usize = 30;
 pub const TIMESTAMP: usize = 30;
@@ -49,7 +49,7 @@ impl<W: Write> Capture<W> {
         self.record_at(1_000_000_000 + n * 125_000, frame)
     }
 
-    /// A record that arrives at so many nanoseconds.
+    /// A record that arrives at this time, in nanoseconds.
     pub fn record_at(&mut self, arrival: u64, frame: &[u8]) -> io::Result<()> {
         let fraction = arrival % 1_000_000_000 / self.unit;
         let len = frame.len() as u32;
@@ -66,7 +66,7 @@ pub fn packet(n: u64) -> [u8; 66] {
     frame
 }
 
-/// The packet with this number of all, of one of so many streams.
+/// Packet n, counted over streams that take turns.
 pub fn packet_of(n: u64, streams: u64) -> [u8; 66] {
     let mut frame = packet(n);
     frame[SEQUENCE_NUM] = (n / streams) as u8;

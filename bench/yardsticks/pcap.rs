@@ -1,4 +1,5 @@
-//! The records of a classic capture, looked at where they were read, and the Ethernet frames in them. Each yardstick uses a part.
+//! The records of a classic capture, in the buffer that they were read into, and the Ethernet frames in them. Each yardstick uses
+//! a part.
 #![allow(dead_code)]
 
 use std::io::{self, Read};
@@ -11,7 +12,7 @@ const PIECE: usize = 65_536;
 /// A field that is refused, its offset, and whether it is cut off.
 pub struct Refusal(pub &'static str, pub usize, pub bool);
 
-/// The field that holds the first missing byte of `len`, by the ends of the fields.
+/// The field that holds the first byte after `len` bytes, given where each field ends.
 pub fn cut_off(fields: &[(usize, &'static str)], len: usize, start: usize) -> Option<Refusal> {
     let mut at = 0;
     for &(end, field) in fields {
@@ -103,7 +104,7 @@ fn read_style(header: &[u8]) -> Result<Style, Refusal> {
     Ok(style)
 }
 
-/// The length of the record's frame, where the record stands whole in the bytes.
+/// The length of the record's frame, if the record is complete in the bytes.
 #[inline(always)]
 fn whole_record(style: Style, bytes: &[u8], start: usize) -> Result<usize, Refusal> {
     if bytes.len() >= 12 {
@@ -155,7 +156,7 @@ impl<R: Read> Input<R> {
         &self.buffer[self.used..self.len]
     }
 
-    /// Reads a piece behind what is not used. Answers whether one came.
+    /// Reads a piece after the unused bytes. Returns whether one came.
     fn read(&mut self) -> io::Result<bool> {
         self.buffer.copy_within(self.used..self.len, 0);
         self.len -= self.used;
@@ -180,7 +181,7 @@ impl<R: Read> Input<R> {
 pub struct Records<R: Read> {
     input: Input<R>,
     style: Style,
-    /// Where what is not used begins in the capture.
+    /// The offset in the capture at which the unused bytes begin.
     start: usize,
     frames: u64,
     arrival: u64,
@@ -199,7 +200,7 @@ impl<R: Read> Records<R> {
         }
     }
 
-    /// Goes on to the next record. Answers whether there is one, or the capture's first refusal.
+    /// Moves on to the next record. Returns whether there is one, or the capture's first refusal.
     #[inline(always)]
     pub fn advance(&mut self) -> io::Result<Result<bool, Refusal>> {
         if self.start == 0 {
@@ -249,9 +250,9 @@ impl<R: Read> Records<R> {
     }
 }
 
-/// Gives each whole record of the capture to `take`: its number, from 1, its arrival in nanoseconds, and its frame. Answers
-/// the number of records, or the capture's first refusal. Unlike `Records` it keeps nothing of a record, so that all of it
-/// stands in registers until a piece is used up.
+/// Gives each whole record of the capture to `take`: its number, from 1, its arrival in nanoseconds, and its frame. Returns the
+/// number of records, or the capture's first refusal. Unlike `Records` it keeps nothing of a record, so all of it stays in
+/// registers until a piece is used up.
 #[inline(always)]
 pub fn read_records(
     source: impl Read,

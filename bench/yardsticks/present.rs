@@ -1,5 +1,5 @@
-//! The presenter's side of the yardsticks for `listen`: the lines of what is shown, each written where the text waits, without
-//! a check of its bounds.
+//! The presenter's side of the yardsticks for `listen`: the lines of what is shown, each written directly after the waiting text,
+//! without bounds checks.
 
 use crate::pcap::Refusal;
 use crate::text::{Line, Text, two_digits};
@@ -15,7 +15,7 @@ pub struct Counts {
     pub flagged: u64,
 }
 
-/// From one sample to the next: the whole nanoseconds, and `part / of` of one that is left over.
+/// The step from one sample to the next: whole nanoseconds, and `part / of` of a nanosecond.
 #[derive(Clone, Copy)]
 pub struct Step {
     pub whole: i64,
@@ -38,7 +38,7 @@ pub struct Samples<'a> {
 pub struct Presenter<W: Write = io::Stdout> {
     /// How the line before began.
     due: Due,
-    /// What stands in each line of a batch between the instant and the number of the sample.
+    /// What each line of a batch has between the instant and the number of the sample.
     place: Short,
     text: Text<W>,
 }
@@ -64,7 +64,7 @@ impl<W: Write> Presenter<W> {
         }
     }
 
-    /// Writes all that waits, and answers the writer.
+    /// Writes all that waits, and returns the writer.
     #[allow(dead_code)] // Only the text of samples by itself asks for it.
     pub fn flushed(&mut self) -> io::Result<&W> {
         self.text.flush()?;
@@ -118,7 +118,7 @@ impl<W: Write> Presenter<W> {
         Ok(())
     }
 
-    /// Ends the text as the reading ended, and answers the status of that.
+    /// Ends the text according to how the reading ended, and returns its status.
     pub fn end(mut self, end: Result<Counts, Refusal>) -> io::Result<ExitCode> {
         let status = if end.is_ok() { 0 } else { 3 };
         let mut line = self.text.line(Line::ROOM)?;
@@ -137,7 +137,7 @@ impl<W: Write> Presenter<W> {
     }
 }
 
-/// A text of at most `Short::ROOM` bytes that stands in many lines.
+/// A text of at most `Short::ROOM` bytes that many lines have.
 struct Short(Vec<u8>);
 
 impl Short {
@@ -154,7 +154,7 @@ impl Short {
     }
 }
 
-/// How the lines of samples begin whose instants have the same digits but for the last eight.
+/// The beginning of the lines of samples whose instants differ only in the last eight digits.
 struct Due {
     text: Short,
     /// The first of these instants, and none before the first line.
@@ -191,7 +191,8 @@ impl Due {
 }
 
 impl Line<'_> {
-    /// Adds a short text. As many bytes as it may have are moved, which is faster than to move as many as it has.
+    /// Adds a short text. It always moves the most bytes that a short text can have, which is faster than to move only those that
+    /// it has.
     #[inline(always)]
     fn short(&mut self, Short(text): &Short) {
         unsafe {

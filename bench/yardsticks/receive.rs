@@ -1,5 +1,5 @@
-//! The receiver's side of the tight yardstick for `listen`: it reads the capture once, looks at each record where it was read, and
-//! gives what is shown of the stream item by item.
+//! The receiver's side of the tight yardstick for `listen`: it reads the capture once, examines each record in the buffer that it
+//! was read into, and gives what is shown of the stream item by item.
 
 use crate::aaf::RATES;
 use crate::batches::{Batch, Batches, Reason, SECOND};
@@ -61,7 +61,7 @@ pub struct Receiver {
     batches: Batches,
     counts: Counts,
     has_ended: bool,
-    /// With which the reading ended, if with one.
+    /// The refusal with which the reading ended, if there was one.
     refusal: Option<Refusal>,
 }
 
@@ -78,7 +78,7 @@ impl Receiver {
         }
     }
 
-    /// The next item, or none once all was given. It is a call of its own, which is faster than to have it in the loop over it.
+    /// The next item, or none once all was given. A call of its own is faster than the same code in the caller's loop.
     #[inline(never)]
     pub fn next(&mut self) -> io::Result<Option<Shown>> {
         loop {
@@ -140,7 +140,7 @@ impl Receiver {
         self.refusal = refusal;
     }
 
-    /// Judges the packet of the record, which begins there in its frame, and gives its flag where it gets one.
+    /// Judges the packet of the record, which begins at this offset in its frame, and returns its flag, if it gets one.
     #[inline(always)]
     fn judge(&mut self, start: usize) -> Option<Shown> {
         let frame = self.records.number();

@@ -4,7 +4,7 @@ use std::cell::UnsafeCell;
 use std::mem::swap;
 use std::sync::atomic::{AtomicUsize, Ordering};
 
-/// A ring for one thread that pushes and one that pops. Both exchange: what a slot held before comes back, so that items can
+/// A ring for one thread that pushes and one that pops. Both exchange items: what a slot held before is returned, so that it can
 /// be used again.
 pub struct Ring<T> {
     capacity: usize,
@@ -14,11 +14,11 @@ pub struct Ring<T> {
     popped: Count,
 }
 
-/// A count that one of the threads writes and the other reads, on a line of the cache of its own.
+/// A count that one thread writes and the other reads, on a cache line of its own.
 #[repr(align(64))]
 struct Count(AtomicUsize);
 
-// Sound, as a slot is written by the one thread before it counts as pushed, and by the other before it counts as popped.
+// Sound, because one thread writes a slot before it counts as pushed, and the other before it counts as popped.
 unsafe impl<T: Send> Sync for Ring<T> {}
 
 impl<T: Default> Ring<T> {

@@ -1,6 +1,6 @@
 //! The yardstick of `bench/run` for the rounds of a ring: `rounds CAPACITY ITEMS` hands items from one thread to another, as
-//! `measured rounds` does, without contracts. In each round two threads are joined: one pushes items while it finds a free
-//! slot, at most as many as the ring holds, and the other takes as many at most.
+//! `measured rounds` does, without contracts. In each round two threads are joined: one pushes items while it finds a free slot,
+//! at most as many as the ring holds, and the other takes at most as many.
 
 mod join;
 mod ring;

@@ -1,5 +1,5 @@
-//! What of a list of items is presented, and why the rest is not, by the design of `sample_schedule`, without contracts: for the
-//! yardsticks of `bench/run` for a judge and for a listener, of which each uses a part.
+//! Which of a list of items are presented, and why the others are not, with the design of `sample_schedule` but without
+//! contracts. The yardsticks of `bench/run` for a judge and for a listener each use a part.
 #![allow(dead_code)]
 
 use std::collections::VecDeque;
@@ -8,7 +8,7 @@ use std::hint::black_box;
 const STAMPS: usize = 16;
 const WINDOW: usize = 64;
 
-/// The keys of a block are fewer than twice as many.
+/// A block has fewer than twice as many keys.
 const HALF: usize = 256;
 
 const SECOND: u64 = 1_000_000_000;

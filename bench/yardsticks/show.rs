@@ -1,6 +1,6 @@
-//! The yardstick of `bench/run` for `show`: `show FILE` prints what `avtp show FILE` prints of a classic capture, byte for
-//! byte, as tightly as an unverified program may. Frames are looked at where they were read, and a line is written where
-//! the text waits, without a check of its bounds. It has no options.
+//! The yardstick of `bench/run` for `show`: `show FILE` prints what `avtp show FILE` prints of a classic capture, byte for byte,
+//! written as tightly as an unverified program can be. It examines frames in the buffer that they were read into, and writes each
+//! line directly after the waiting text, without bounds checks. It has no options.
 
 mod aaf;
 mod formats;
@@ -97,7 +97,7 @@ fn show_crf(line: &mut Line, pdu: &[u8]) -> Result<(), Refusal> {
     Ok(())
 }
 
-/// The line of a packet that is refused. It takes the line and gives it back, so that that of an accepted packet may stand in
+/// The line of a packet that is refused. It takes the line and returns it, so that the line of an accepted packet can stay in
 /// registers.
 #[cold]
 #[inline(never)]
@@ -107,7 +107,7 @@ fn refused<'a>(mut line: Line<'a>, refusal: Refusal, start: usize) -> Line<'a> {
     line
 }
 
-/// The line of a packet of another subtype than that of AAF.
+/// The line of a packet of a subtype other than AAF.
 #[cold]
 #[inline(never)]
 fn another<'a>(mut line: Line<'a>, pdu: &[u8], start: usize) -> Line<'a> {
@@ -127,7 +127,7 @@ fn another<'a>(mut line: Line<'a>, pdu: &[u8], start: usize) -> Line<'a> {
     }
 }
 
-/// The line of a frame of another EtherType than that of AVTP.
+/// The line of a frame of an EtherType other than AVTP's.
 #[cold]
 #[inline(never)]
 fn passed<'a>(mut line: Line<'a>, ethertype: u16, len: usize) -> Line<'a> {

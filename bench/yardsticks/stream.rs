@@ -3,7 +3,7 @@
 use crate::aaf::{check_header, read_aaf};
 use crate::pcap::{Refusal, read_frame};
 
-/// The packet in a frame, where it is of the stream.
+/// The packet in a frame, if it belongs to the stream.
 #[inline(always)]
 pub fn packet_of_stream(frame: &[u8], stream: [u8; 8]) -> Option<&[u8]> {
     let (0x22f0, start) = read_frame(frame).ok()? else {
@@ -14,8 +14,8 @@ pub fn packet_of_stream(frame: &[u8], stream: [u8; 8]) -> Option<&[u8]> {
     is_wanted.then_some(pdu)
 }
 
-/// The name of the sample format, the bytes of a sample of all channels, and the rate, or the refusal of a packet. The captures
-/// that are measured have none but packets of AAF, whose subtype may be damaged.
+/// The name of the sample format, the bytes of a sample of all channels, and the rate, or the refusal of a packet. The measured
+/// captures have only AAF packets, some of whose subtypes are damaged.
 #[inline(always)]
 pub fn read_packet(pdu: &[u8]) -> Result<(&'static str, u32, u32), Refusal> {
     match pdu[0] {
@@ -24,8 +24,7 @@ pub fn read_packet(pdu: &[u8]) -> Result<(&'static str, u32, u32), Refusal> {
     }
 }
 
-/// Why a packet of AAF is refused whose subtype became another: it has another tag than those of IEC 61883, and another format
-/// than those of H.264.
+/// Why an AAF packet with a damaged subtype is refused: its tag is not that of IEC 61883, or its format is not that of H.264.
 #[cold]
 fn refusal_of_another(subtype: u8, pdu: &[u8]) -> Refusal {
     let (field, at) = if subtype == 0 {

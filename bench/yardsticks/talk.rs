@@ -1,7 +1,8 @@
-//! The yardstick of `bench/run` for `talk`: `talk IN OUT` makes the capture that `avtp talk IN OUT` makes, as tightly as an
-//! unverified program may. It reads the samples whole. A record is spelled once; where it stands among the bytes that wait, the
-//! samples, the sequence number and the times are put into it, which go on from packet to packet without a division. It has no
-//! options: the samples are 16-bit stereo at 48 kHz, and each packet has six sample frames.
+//! The yardstick of `bench/run` for `talk`: `talk IN OUT` makes the capture that `avtp talk IN OUT` makes, written as tightly as
+//! an unverified program can be. It reads all samples at once, and encodes one record. For each packet it copies this record
+//! after the waiting bytes, and writes the samples, the sequence number and the times into the copy. The times go on from packet
+//! to packet without a division. It has no options: the samples are 16-bit stereo at 48 kHz, and each packet has six sample
+//! frames.
 
 #[allow(dead_code)] // It makes packets of one stream alone.
 mod packets;
@@ -14,7 +15,7 @@ use std::io::{self, Error, Write};
 /// The bytes that wait for the file.
 const ROOM: usize = 65_536;
 
-/// The header of a record, and where the samples stand in the frame.
+/// The header of a record, and where the samples are in the frame.
 const HEADER: usize = 16;
 const SAMPLES: usize = 42;
 const SAMPLES_LEN: usize = 24;
@@ -62,7 +63,7 @@ fn put(record: &mut [u8; RECORD], seq: u8, times: &Times, samples: &[u8; SAMPLES
     record[HEADER + SAMPLES..].copy_from_slice(samples);
 }
 
-/// Writes a record for each packet's samples, and answers how many these are.
+/// Writes a record for each packet's samples, and returns how many packets there are.
 fn write_records(out: &mut File, samples: &[u8]) -> io::Result<u64> {
     let (packets, []) = samples.as_chunks::<SAMPLES_LEN>() else {
         return Err(Error::other("the samples fill no whole packets"));

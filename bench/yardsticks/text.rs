@@ -1,9 +1,9 @@
-//! Text on its way to standard output or to another writer. What waits is written line by line without a check of its bounds.
+//! Text on its way to standard output or to another writer. Lines are added to what waits without bounds checks.
 
 use crate::pcap::Refusal;
 use std::io::{self, Write};
 
-/// Text that waits for a writer, which is standard output where nothing else is said.
+/// Text that waits for a writer, which is standard output unless another is given.
 pub struct Text<W: Write = io::Stdout> {
     waiting: Vec<u8>,
     pub out: W,
@@ -25,7 +25,7 @@ impl<W: Write> Text<W> {
         Ok(())
     }
 
-    /// A new line behind the text, with at most so much room. What waits is written first where the line might not fit.
+    /// A new line after the text, with at most this much room. What waits is written first if the line might not fit.
     #[inline(always)]
     pub fn line(&mut self, room: usize) -> io::Result<Line<'_>> {
         if self.waiting.len() + room > Self::ROOM {
@@ -35,8 +35,7 @@ impl<W: Write> Text<W> {
     }
 }
 
-/// A line that is being written behind the text that waits. Its calls are sound while it fits in the room that the text
-/// has left.
+/// A line that is being written after the text that waits. Its calls are sound while it fits in the room that the text has left.
 pub struct Line<'a> {
     waiting: &'a mut Vec<u8>,
     pub at: *mut u8,

@@ -11,7 +11,7 @@ const _: () = assert!(SLOTS == 2 * MOST);
 /// The subtype of an unused slot: none that is checked.
 const UNUSED: u8 = 0xff;
 
-/// The restart bit keeps its value for at least so many packets.
+/// The restart bit keeps its value for at least this many packets.
 const LEAST_HOLD: u8 = 8;
 
 /// What is kept of a stream.
@@ -21,7 +21,8 @@ struct Stream {
     subtype: u8,
     seq: u8,
     mr: bool,
-    /// For how many packets the restart bit has kept its value, up to `LEAST_HOLD`, where it stays if it never changed.
+    /// For how many packets the restart bit has kept its value, up to `LEAST_HOLD`; the count stays there if the bit never
+    /// changed.
     held: u8,
 }
 
@@ -29,9 +30,9 @@ struct Stream {
 #[derive(Clone, Copy)]
 pub struct Order {
     pub untracked: bool,
-    /// From the last sequence number, modulo 256. 1 breaks nothing.
+    /// The distance from the last sequence number, modulo 256. A distance of 1 breaks no rule.
     pub step: u8,
-    /// For how many packets the restart bit kept its value. `LEAST_HOLD` breaks nothing.
+    /// For how many packets the restart bit kept its value. `LEAST_HOLD` breaks no rule.
     hold: u8,
 }
 
@@ -81,7 +82,7 @@ impl Tracker {
         self.tracked
     }
 
-    /// Notes a packet, and answers what it breaks.
+    /// Notes a packet, and returns what it breaks.
     #[inline(always)]
     pub fn note(&mut self, subtype: u8, id: u64, seq: u8, mr: bool) -> Order {
         let mut at = slot_of(subtype, id);
@@ -136,7 +137,7 @@ impl Stream {
     }
 }
 
-/// The slot of a stream, if no other has it: the upper bits of a product, which all bits of both numbers reach.
+/// The slot of a stream, if no other has it: the upper bits of a product, which depend on all bits of both numbers.
 #[inline(always)]
 fn slot_of(subtype: u8, id: u64) -> usize {
     let key = id ^ u64::from(subtype) << 56;

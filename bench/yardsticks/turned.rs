@@ -1,4 +1,4 @@
-//! Batches are turned into packets of the other format, for the yardstick of `gateway`.
+//! Converts batches to packets of the other format, for the yardstick of `gateway`.
 
 use crate::waiting::{Audio, Batch, FDF_RATES, interval_of, offset};
 use std::fmt::Write as _;
@@ -32,7 +32,7 @@ fn are_linear(quadlets: &[u8]) -> bool {
     quadlets.iter().step_by(4).all(|label| *label == 0x40)
 }
 
-/// Why a packet of the stream cannot be turned, if it cannot.
+/// Why a packet of the stream cannot be converted, if it cannot.
 pub fn fault_of(to: To, shape: &mut Option<Shape>, pdu: &[u8]) -> Option<&'static str> {
     if pdu[0] == 3 {
         return Some("kind");
@@ -128,7 +128,7 @@ impl Gateway {
         }
     }
 
-    /// Turns a batch into packets, or tells why it is skipped.
+    /// Converts a batch to packets, or returns why it is skipped.
     pub fn put(&mut self, batch: &Batch, text: &mut String) -> io::Result<()> {
         self.batches += 1;
         if let Err(reason) = self.cut(batch) {
@@ -238,7 +238,7 @@ impl Gateway {
         Ok(())
     }
 
-    /// Writes what waits. The numbers of batches, packets and skipped batches.
+    /// Writes what waits, and returns the numbers of batches, packets and skipped batches.
     pub fn end(mut self) -> io::Result<(u64, u64, u64)> {
         self.out.write_all(&self.waiting)?;
         Ok((self.batches, self.packets, self.skipped))
