@@ -63,8 +63,8 @@ pub fn write_chart<W: Write>(
     )
 }
 
-/// A scale for most values: from the 1st percentile to the 99th, with a quarter of that range below and above, but not below 0
-/// for values that are not. Values outside are drawn at the edge.
+/// A scale for most values: from the 1st percentile to the 99th, with a quarter of that range below and above, but not below 0 if
+/// no value is. Values outside are drawn at the edge.
 fn scale_of(spread: &Spread) -> Option<Scale> {
     let low = spread.percentile(1)?;
     let high = spread.percentile(99)?;
@@ -96,7 +96,7 @@ fn right(since: u64, duration: u64) -> u64 {
     part_of(WIDTH, since, duration)
 }
 
-/// The length that is to a whole length as a part is to all; the whole one if the part is greater than all, and 0 of nothing.
+/// `part / all` of a whole length: at most all of it, and 0 if `all` is 0.
 fn part_of(length: u64, part: u64, all: u64) -> u64 {
     let product = u128::from(part).saturating_mul(u128::from(length));
     let scaled = product.checked_div(u128::from(all)).unwrap_or(0);

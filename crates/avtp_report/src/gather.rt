@@ -23,7 +23,8 @@ pub struct Report {
     places: HashMap<StreamKey, usize>,
     /// The place of the last packet's stream.
     last: usize,
-    /// For each stream, the place of the one whose packet came after it when that was looked up last: streams mostly take turns.
+    /// For each stream, the place of the stream whose packet followed its last one. It is tried first, because streams mostly
+    /// take turns.
     followers: Vec<usize>,
     /// The streams, in the order in which they were first seen.
     pub streams: Vec<Stream>,

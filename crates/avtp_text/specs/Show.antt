@@ -55,7 +55,7 @@ header_text h =
     ++ codes " tu " ++ flag_text h.tu
     ++ codes " mr " ++ flag_text h.mr
 
--- the text of an AAF packet; the rate is 0 if only the user knows it
+-- the text of an AAF packet; the rate is 0 if it is user-specified
 unfoldable pub aaf_content : Aaf → List ℕ
 aaf_content v =
     codes "aaf " ++ header_text v.header

@@ -156,9 +156,9 @@ impl KeptLine {
     }
 }
 
-/// The line of a sample. Contracts see it as the packet whose samples it is for. If another sample's line differs only in the
-/// instant's last eight digits, the sample's number and its bytes, only these are overwritten, in a copy. The line is built
-/// anew when the number gains a digit or other digits of the instant change.
+/// The line of a sample. Contracts see it as the packet whose samples it is for. If the line of the next sample differs from the
+/// last one only in the last eight digits of the instant, the sample's number and its bytes, only these are written, over a copy
+/// of the last line. The line is built anew when the number gains a digit or other digits of the instant change.
 #[derive(Drop)]
 pub struct SampleLine {
     line: KeptLine,

@@ -199,7 +199,7 @@ impl Text {
         self.print(out, line.as_slice())
     }
 
-    /// Prints the fields of an AAF packet. The rate is in Hz, and 0 if only the user knows it.
+    /// Prints the fields of an AAF packet. The rate is in Hz, and 0 if it is user-specified.
     pub fn frame_aaf<S: Sink>(
         &mut self,
         out: &mut S,

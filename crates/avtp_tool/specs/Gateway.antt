@@ -138,8 +138,8 @@ pub record CanTurn (asked : Turning) (bytes : List ℕ) : Type 0 where
   pub whole : end_of asked.listener.limit bytes ≡ end.Whole
   pub none : fault_in asked (records_of asked bytes) ≡ None
 
--- IN can be turned, and its stream has this shape. It was read again, to its end or to a fault of reading, and a listener presents
--- these batches of what was read.
+-- IN can be converted, and its stream has this shape. It was read again, to its end or to a fault of reading, and a listener
+-- presents these batches of what was read.
 pub record HearsInput (asked : Turning) (files : Files) (fault : Type 0) (shape : Option Shape) (batches : List Presented) (how : End) : Type 0 where
   pub bytes : List ℕ
   pub prefix : List ℕ
@@ -167,9 +167,9 @@ pub data GatewayOutcome (asked : Turning) (files : Files) (fault : Type 0) (came
       → ended ≡ turned_status (length (skips_in asked shape batches)) how → text ≡ turned_text asked shape batches how → made ≡ Some (turned_capture asked shape batches)
       → GatewayOutcome asked files fault came ended text made
 
--- What a capture keeps that `gateway` makes of IN. It is whole. A listener presents exactly the samples of the batches that are
--- presented of IN and not skipped, in order, with the same values at the same instants. `check` prints no finding of it. With
--- status 0 no batch is skipped.
+-- What the capture that `gateway` makes keeps of IN. It is whole. A listener presents in it exactly the samples of the batches
+-- that are presented of IN and not skipped, in order, with the same values at the same instants. `check` prints no finding of it.
+-- With status 0 no batch is skipped.
 pub record KeepsInput (asked : Turning) (files : Files) (fault : Type 0) (ended : Status) (capture : List ℕ) : Type 0 where
   pub shape : Option Shape
   pub batches : List Presented

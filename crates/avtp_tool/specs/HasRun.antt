@@ -61,14 +61,14 @@ pub record Reports (request : Request) (files : Files) (failed : Bool) (handed :
   -- If no fault of reading came, this is the whole report on these files.
   pub complete : ReadsAll shelf shelf' →
       (came ≡ came_for request files) × (reached ≡ status_for request files failed) × (yields ≡ yield_for request files failed) × (made ≡ made_for request files)
-  -- What `listen` yields of each file that it came to: as far as that was read and is a talker's that keeps the rules, it is as the
-  -- headline says, for each file with a journal of its own.
+  -- What `listen` yields of each file that it came to is as the headline says, as far as the file was read and is of a talker
+  -- that keeps the rules. Each file may have its own journal.
   pub headline : (asked : Listening) (earlier later : List (List ℕ)) (name bytes : List ℕ) → request ≡ listen asked → came ≡ earlier ++ name ∷ later →
       files name ≡ Some bytes → HasHeadline asked files (Rose shelf.reading_faults shelf'.reading_faults) earlier name bytes yields
   -- What `agree` prints of two captures of a talker that keeps the rules.
   pub agreement : ReadsAll shelf shelf' → (asked : Agreeing) (x y : List ℕ) (shift : ℤ) (p : PacketJournal) →
       ComparesTalker request files asked x y shift p → HasAgreement asked p x y yields.text
-  -- What a capture keeps that `gateway` makes.
+  -- What the capture that `gateway` makes keeps.
   pub kept : (asked : Turning) (capture : List ℕ) → request ≡ gateway asked → made ≡ Some capture →
       KeepsInput asked files (Rose shelf.reading_faults shelf'.reading_faults) reached capture
 
@@ -106,7 +106,7 @@ pub record HasRun (request : Request) (handed : List Shown → Type 0) (still : 
   pub files : KeepsFilesBut (output_of request) shelf.files shelf'.files
   -- each file that was opened is closed
   pub slots : KeepsSlotsFor (output_of request) shelf'.files shelf.slots shelf'.slots
-  -- the names of the words were asked for, in their order, and no other; if everything was done, all of them
+  -- only names that the words give were asked for, in their order; all of them if everything was done
   pub names : AsksFor (names_of request) shelf shelf' (is_through ended ≡ true)
   pub devices : TellsFailed request failed ended
   -- only `listen` touches the devices
@@ -114,8 +114,8 @@ pub record HasRun (request : Request) (handed : List Shown → Type 0) (still : 
   pub causes : HasCauses request shelf shelf' out out' ended
   pub not_words : ended ≢ status.Words
 
--- What a run did whose words are not a command line: it prints the position of the first word that is not accepted there, and
--- does nothing else. `still` says that the shelf and the devices are unchanged.
+-- A run whose words are not a command line printed the position of the first word that is not accepted there, and did nothing
+-- else. `still` says that the shelf and the devices are unchanged.
 pub record RefusesWords (position : ℕ) (still : Type 0) (out out' : SinkState) (ended : Status) : Type 0 where
   pub whole : ended ≢ status.Memory → ended ≢ status.WriteFault → (ended ≡ status.Words) × Appends out.held out'.held (words_line position)
   pub written : AppendsPrefix out.held out'.held (words_line position)

@@ -73,8 +73,8 @@ is_cut_short (end.Refused refusal) = false
 is_cut_short end.ReadFault = true
 is_cut_short end.Limit = true
 
--- What a capture yields that was opened: the lines of what is shown of the records that were read, which goes to the devices. As
--- far as these records are a talker's that keeps the rules, it is as the headline says.
+-- What an opened capture yields: the lines of what is shown of the records that were read, which the devices get, too. As far as
+-- these records are of a talker that keeps the rules, it is as the headline says.
 pub record YieldsHeadline (asked : Listening) (name bytes : List ℕ) (fault : Type 0) (yields : Yield) : Type 0 where
   -- how the reading ended, and the bytes before that place
   pub how : End
@@ -89,8 +89,8 @@ pub record YieldsHeadline (asked : Listening) (name bytes : List ℕ) (fault : T
   pub whole : (shift : ℤ) (p : PacketJournal) → is_cut_short how ≡ false → HearsTalker shift p (plan_of asked.listener) (records_in read) →
       KeepsHeadline shift p (plan_of asked.listener) (records_in read) yields.items
 
--- What a run yields of a file that it came to after these others: what they yield, which were all read to their ends, and then a
--- fault if the file could not be opened, or else what is as the headline says.
+-- What a run yields, in three parts: what the earlier files yield, all of which were read to their ends; what this file yields,
+-- which is a fault if it could not be opened and otherwise as the headline says; and the rest.
 pub record HasHeadline (asked : Listening) (files : Files) (fault : Type 0) (earlier : List (List ℕ)) (name bytes : List ℕ) (yields : Yield) : Type 0 where
   pub before : Yield
   pub done : Status

@@ -150,7 +150,8 @@ same_first rows g h xs ys g_is h_is e = go (row_named rows h.name) g.value h.val
           let values : value ≡ other = cc in
           (same_setting g h names (v_is ∙ ap Some values ∙ sym w_is), cc)
 
--- Options followed by an option's name begin options and names in one way: with those options, and then that one.
+-- The options `hs` begin with the options `gs`. The next of them has this word as its name; its value, the options after it and
+-- the names are the rest.
 pub record Next (rows : List Row) (gs hs : List Setting) (word : List ℕ) (rest names : List (List ℕ)) : Type 0 where
   pub setting : Setting
   pub more : List Setting

@@ -14,9 +14,9 @@ use crate::operand::{STREAM_OPERANDS, StreamAndTwo, operands_at, stream_and_two}
 pub struct Agree<'a> {
     /// The stream, and the listener to it in either capture.
     pub listener: ListenerOptions,
-    /// The name of one capture.
+    /// The name of the first capture.
     pub a: &'a str,
-    /// The name of the other.
+    /// The name of the second capture.
     pub b: &'a str,
 }
 

@@ -62,7 +62,7 @@ const SOAK_OPERANDS: [Operand; 1] = [Operand::Packets];
 
 /// The command that the words ask for.
 pub fn parse(words: &[String]) -> Result<Command<'_>, Offence>
-    // The words are a command line, and ask for that.
+    // The words are a command line that asks for the result.
     ensures found { IfOk result (λ command. IsCommandLine (texts words.now) (request_of command)) }
 
     // Each command line is read as the command that it asks for, so it asks for only one.

@@ -47,7 +47,7 @@ pub fn file_after<'a>(options: &'a [String], name: &str) -> Option<DeviceFile<'a
     })
 }
 
-/// What silence is made of, by the options of `listen`; zeros by default.
+/// What silence is made of, given the options of `listen`; zeros by default.
 fn silence_after(options: &[String]) -> Silence
     ensures { IsReadSilence (value_after (codes "--silence") (texts options.now)) result }
 {

@@ -18,7 +18,7 @@ const ROWS: &str = "\
 1000 frame | 1000 frame => a -a b -b matched 1 only 0 0 differ 0
 1000 frame | 1000 frame 65=fb => a -a b -b 1 1 seq 0 Bytes { sample: 5 }, matched 1 only 0 0 differ 1
 1000 frame | 1000 frame 20=01 => a -a b -b matched 0 only 1 1 differ 0
-// Another stream's packet, and a late one, which ends nothing.
+// Another stream's packet, and a late one, which does not end its side.
 1000 frame 29=09 | 1000 frame => a -a b -b matched 0 only 0 1 differ 0
 1003 frame, 1010 frame 20=01 30=3c51e500 | 1010 frame 20=01 30=3c51e500 => a a -a b -b matched 1 only 0 0 differ 0
 // A packet is due once a later one comes, so the difference is known before the end of B.

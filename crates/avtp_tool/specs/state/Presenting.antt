@@ -12,7 +12,7 @@ use Rattle.presenter_ring.specs.declared.receiver.Pull.{Pull}
 use Rattle.presenter_ring.specs.Pipes.{ended_with, given_to, waiting_in}
 use Rattle.avtp_base.specs.States.{SinkState}
 
--- how many failures a presenter has counted that stops at the first
+-- how many failures a presenter that stops at the first has counted
 abbrev pub failures : Result Unit Failed → ℕ
 failures (Ok x) = 0
 failures (Err e) = 1
