@@ -9,9 +9,9 @@
 //!   restart bit, and one each has a reserved bit set, no timestamp, or a stream id that is not valid.
 //! - `capture OUT COUNT lost SEED`: COUNT packets of which one in 100 is lost. Which ones depends on the seed.
 //! - `capture OUT COUNT burst ORDER SIDE`: COUNT packets in bursts of 256, as capture `a` or `b` of two whose matching has to
-//!   search. In `one` all packets have one sequence number, and those of A are out of reach of those of B. In `strange` no packet
-//!   is in both captures. In `falling` and `middle` a burst is due at one instant, and the next packet of B is the last of A's
-//!   that wait, or the middle one.
+//!   search. In `one` all packets have the same sequence number, and those of A are out of reach of those of B. In `strange` no
+//!   packet is in both captures. In `falling` and `middle` a burst is due at one instant, and the next packet of B is the last of
+//!   A's that wait, or the middle one.
 //! - `capture OUT COUNT damaged IN`: the packets of the classic capture IN in turn. Half of them are damaged, and one in 16 comes
 //!   twice.
 //! - `capture OUT COUNT STYLE`: packets in `le-ns`, `le-us`, `be-ns` or `be-us`. Half of them are damaged, and one in 16 comes

@@ -1,5 +1,5 @@
 //! `measure_agree ROUNDS AVTP YARDSTICK PACKETS STREAM A B`: runs `avtp agree` in turn with its yardstick, to nothing, on
-//! captures of PACKETS packets, each of which lost one in 100. Prints rows of the best of ROUNDS runs: by the wall clock, and by
+//! captures of PACKETS packets, of which one in 100 is lost. Prints rows of the best of ROUNDS runs: by the wall clock, and by
 //! processor time.
 
 mod row;

@@ -1,5 +1,5 @@
-//! `measure_listener MEASURED YARDSTICK PACKETS`: runs `measured listener` and its yardstick in turn, on captures of that many packets
-//! of one stream, and of a hundred of which one is wanted, and prints a row of each, for the best runs.
+//! `measure_listener MEASURED YARDSTICK PACKETS`: runs `measured listener` and its yardstick in turn, on captures of PACKETS
+//! packets: of one stream, and of a hundred streams of which it hears one. Prints a row for each, for the best runs.
 
 mod row;
 mod timed;

@@ -1,6 +1,6 @@
 //! The yardstick of `bench/run` for `agree`: `agree STREAM A B` prints what `avtp agree STREAM A B` prints of classic captures,
-//! byte for byte, written as tightly as an unverified program can be, in one thread. It has no options, and expects files that
-//! can be read.
+//! byte for byte. It is written as tightly as an unverified program can be, in one thread. It has no options, and expects files
+//! that can be read.
 
 #![allow(dead_code)] // The modules are used in part.
 
@@ -26,7 +26,7 @@ use text::{Line, Text};
 /// A batch is paired with one that is at most this many places before it in merged order.
 const WINDOW: u64 = 512;
 
-/// Two batches of one packet are apart by at most this many times the time of A's.
+/// Two batches of the same packet are apart by at most this many times the time of A's.
 const REACH: u64 = 64;
 
 /// One of two captures, with its next batch and those that wait for a partner, each with its place in merged order.
@@ -97,7 +97,7 @@ fn instant(batch: &Batch, j: usize) -> i64 {
     batch.instant + ((u64::from(batch.rest) + j as u64 * SECOND) / rate(batch)) as i64
 }
 
-/// Whether a batch of A and one of B may be of one packet.
+/// Whether a batch of A and one of B may be of the same packet.
 #[inline(always)]
 fn fits(a: &Batch, b: &Batch) -> bool {
     let reach = || u128::from(REACH * count(a) as u64) * u128::from(SECOND);

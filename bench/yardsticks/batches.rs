@@ -1,5 +1,5 @@
-//! Which packets of a stream are presented, at which instants, and why the others are not, written as tightly as an unverified
-//! program can be: the batches that wait for their instants are kept in their order.
+//! Finds which packets of a stream are presented, at which instants, and why the others are not, as tightly as an unverified
+//! program can: the batches that wait are kept in the order of their instants.
 
 use crate::aaf::HEADER;
 use crate::pcap::u16_at;

@@ -1,7 +1,7 @@
 //! The yardstick of `bench/run` for `check`: `check FILE..` prints what `avtp check FILE..` prints of classic captures, byte for
-//! byte, written as tightly as an unverified program can be. It examines packets in the buffer that they were read into, keeps
-//! their streams in a flat table, and makes no call for a packet that breaks no rule. It has no options, and expects files that
-//! can be read.
+//! byte. It is written as tightly as an unverified program can be. It examines packets in the buffer that they were read into,
+//! keeps their streams in a flat table, and makes no call for a packet that breaks no rule. It has no options, and expects files
+//! that can be read.
 
 mod aaf;
 mod formats;

@@ -1,6 +1,6 @@
 //! The yardstick of `bench/run` for `gateway`: `gateway am824|aaf STREAM IN OUT` prints and writes what `avtp gateway --to ..`
-//! prints and writes for a classic capture, written as tightly as an unverified program can be. It reads IN twice: it looks for
-//! what cannot be converted, and then listens. It has no other options.
+//! prints and writes for a classic capture. It is written as tightly as an unverified program can be. It reads IN twice: it looks
+//! for what cannot be converted, and then listens. It has no other options.
 
 mod aaf;
 #[allow(dead_code)] // It reads audio alone.

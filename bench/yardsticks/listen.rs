@@ -1,5 +1,5 @@
 //! The yardstick of `bench/run` for `listen`: `listen STREAM FILE` prints what `avtp listen STREAM FILE` prints of a classic
-//! capture, byte for byte, written as tightly as an unverified program can be, in one thread. It has no options.
+//! capture, byte for byte. It is written as tightly as an unverified program can be, in one thread. It has no options.
 
 mod aaf;
 mod batches;

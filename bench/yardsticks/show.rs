@@ -1,6 +1,6 @@
-//! The yardstick of `bench/run` for `show`: `show FILE` prints what `avtp show FILE` prints of a classic capture, byte for byte,
-//! written as tightly as an unverified program can be. It examines frames in the buffer that they were read into, and writes each
-//! line directly after the waiting text, without bounds checks. It has no options.
+//! The yardstick of `bench/run` for `show`: `show FILE` prints what `avtp show FILE` prints of a classic capture, byte for byte.
+//! It is written as tightly as an unverified program can be. It examines frames in the buffer that they were read into, and
+//! writes each line directly after the waiting text, without bounds checks. It has no options.
 
 mod aaf;
 mod formats;

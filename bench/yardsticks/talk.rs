@@ -1,8 +1,8 @@
-//! The yardstick of `bench/run` for `talk`: `talk IN OUT` makes the capture that `avtp talk IN OUT` makes, written as tightly as
-//! an unverified program can be. It reads all samples at once, and encodes one record. For each packet it copies this record
-//! after the waiting bytes, and writes the samples, the sequence number and the times into the copy. The times go on from packet
-//! to packet without a division. It has no options: the samples are 16-bit stereo at 48 kHz, and each packet has six sample
-//! frames.
+//! The yardstick of `bench/run` for `talk`: `talk IN OUT` makes the capture that `avtp talk IN OUT` makes. It is written as
+//! tightly as an unverified program can be. It reads all samples at once, and encodes one record. For each packet it copies this
+//! record after the waiting bytes, and writes the samples, the sequence number and the times into the copy. The times go on from
+//! packet to packet without a division. It has no options: the samples are 16-bit stereo at 48 kHz, and each packet has six
+//! sample frames.
 
 #[allow(dead_code)] // It makes packets of one stream alone.
 mod packets;
