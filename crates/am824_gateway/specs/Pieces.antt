@@ -113,7 +113,7 @@ has_labels Am824 bytes = true
 has_labels Aaf bytes = are_linear bytes
 
 -- A batch consists of samples of this shape: it is no unit of H.264, has one value of 24 bits for each channel of each sample,
--- and has no other label than that of linear audio of 24 bits.
+-- and has no label other than that of linear audio of 24 bits.
 abbrev pub has_shape : To → Shape → Presented → Bool
 has_shape to shape batch =
     not (is_unit batch)
@@ -133,8 +133,8 @@ skip_by to shape given batch =
     else if list_any (is_late batch) (pieces_of to shape batch given.block) then Some Range
     else None
 
--- Why a batch is skipped, if it is: the stream has no shape or the batch another one; the batch does not begin after the last
--- sample that was given out; or one of its pieces would arrive too late for a capture.
+-- Why a batch is skipped, if it is: the stream has no shape, or the batch has another one; the batch does not begin after the
+-- last sample that was given out; or one of its pieces would arrive too late for a capture.
 abbrev pub skip_of : To → Option Shape → Given → Presented → Option Skip
 skip_of to None given batch = Some ShapeOff
 skip_of to (Some shape) given batch = skip_by to shape given batch

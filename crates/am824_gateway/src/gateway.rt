@@ -165,10 +165,9 @@ impl Gateway {
     /// Cuts the next batch that is presented into pieces, and returns their number. Fewer than 2^44 batches may have been given
     /// out before. A skipped batch changes nothing. It allocates nothing.
     ///
-    /// A batch is skipped for the first of these reasons that holds: `ShapeOff`: there is no shape, the batch is a unit of
-    /// H.264, it does not have one value of 24 bits for each channel of each sample, or a value has another label than 0x40.
-    /// `Overlap`: it does not begin after the last sample that was given out. `Range`: a packet would arrive at 2^32 seconds or
-    /// later.
+    /// A batch is skipped for the first of these reasons that holds: `ShapeOff`: there is no shape, the batch is a unit of H.264,
+    /// it does not have one value of 24 bits for each channel of each sample, or a value has a label other than 0x40. `Overlap`:
+    /// it does not begin after the last sample that was given out. `Range`: a packet would arrive at 2^32 seconds or later.
     pub fn put(&mut self, batch: Batch) -> Result<u32, Skip>
         requires few { self.old.given.batches < 2 ^ 44 }
         ensures given { OnOk result (self.new ≡ given_out self.old.shape self.old batch) }

@@ -25,8 +25,7 @@ pub record Part (V : Type 0) : Type 0 where
 abbrev pub Layout : Type 0 → Type 0
 Layout V = List (Part V)
 
--- the part of a table that has these bits from byte `at` on, and this field to refuse a packet that ends before their
--- end
+-- the part of a table that has these bits from byte `at` on; this field refuses a packet that ends before their end
 abbrev pub part : {V : Type 0} → Field → ℕ → List (Bits V) → Part V
 part field at bits = record { field = field; at = at; bits = bits }
 

@@ -28,8 +28,8 @@ pub record OpensInSlot (before after : ShelfState) (name : List ℕ) (result : R
   pub writing : after.writing_faults ≡ before.writing_faults
   pub asked : Asks (name ∷ []) before after
 
--- The file with this name is empty now, and open for writing in a slot that was free. Every other slot keeps its file, and if
--- that has another name, what is left to read of it. Or the file was not made, and every file and slot is unchanged; at
+-- The file with this name is empty now, and open for writing in a slot that was free. Every other slot keeps its file; what is
+-- left to read of a file with another name is unchanged. Or the file was not made, and every file and slot is unchanged; at
 -- `Failed` the count of writing faults rose. `Missing` is never returned. The name was asked for.
 pub record MakesInSlot (before after : ShelfState) (name : List ℕ) (result : Result Slot OpenFault) : Type 0 where
   pub made : IfOk result (λ slot. IsMade before.files (after.slots slot.0) name)
@@ -56,8 +56,8 @@ pub record ReadsBytes (before after : ShelfState) (k : ℕ) (result : Result ℕ
   pub asked : AsksNothing before after
 
 -- A prefix of the piece, of at least one byte and as long as the result says, was appended to the file that is open for writing
--- in slot k, which stays open. Every slot keeps its file, and if that has another name, what is left to read of it. Or nothing
--- changed, except that a fault of writing was counted.
+-- in slot k, which stays open. Every slot keeps its file; what is left to read of a file with another name is unchanged. Or
+-- nothing changed, except that a fault of writing was counted.
 pub record WritesBytes (before after : ShelfState) (k : ℕ) (piece : List ℕ) (result : Result ℕ Failed) : Type 0 where
   pub some : IfOk result (λ n. 0 < n)
   pub within : IfOk result (λ n. n ≤ length piece)

@@ -41,7 +41,7 @@ KeepsPiece old new name piece =
 
 -- ---- what a call does beyond what it does on every shelf
 
--- what is kept is unchanged, and so are whether that is all that was written, and the room of files that are made
+-- the kept bytes, whether they are all that was written, and the room of files that are made are unchanged
 pub record KeepsKept (old new : QuietShelf) : Type 0 where
   pub kept : KeepsFiles (Some (kept_files old)) (Some (kept_files new))
   pub all : keeps_all new ≡ keeps_all old

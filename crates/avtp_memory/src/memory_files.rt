@@ -29,7 +29,7 @@ impl MemoryFiles {
     ghost use Rattle.avtp_memory.specs.NamedFiles.{bytes_under};
 
     /// These files, each under its name, none of them open; a file that is made gets memory for `room` bytes. If two files have
-    /// one name, the first counts.
+    /// the same name, the first counts.
     pub fn over(alloc: Global, files: Vec<(String, Vec<u8>)>, room: usize) -> Self
         ensures files { files_in result ≡ bytes_under files.items }
         ensures closed { (k : ℕ) → slots_in result k ≡ None }

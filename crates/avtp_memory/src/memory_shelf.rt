@@ -27,8 +27,8 @@ impl MemoryShelf {
     ghost use Rattle.avtp_memory.specs.NamedFiles.{bytes_under};
     ghost use Rattle.avtp_memory.specs.MemoryShelf.{files_of, slots_of, asked_of, calls, failing_calls, most, reading_count, writing_count};
 
-    /// A shelf of these files, each under its name, whose calls with these numbers fail. If two files have one name, the first
-    /// counts.
+    /// A shelf of these files, each under its name, whose calls with these numbers fail. If two files have the same name, the
+    /// first counts.
     pub fn over(alloc: Global, files: Vec<(String, Vec<u8>)>, fails: Vec<u64>) -> Self
         ensures files { files_of result ≡ bytes_under files.items }
         ensures closed { (k : ℕ) → slots_of result k ≡ None }

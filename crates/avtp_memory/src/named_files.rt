@@ -8,7 +8,7 @@ use crate::room::{empty_with_room, keep_within};
 use avtp_base::NoMemory;
 use std::alloc::Global;
 
-/// Names with their bytes. If two entries have one name, the first counts.
+/// Names with their bytes. If two entries have the same name, the first counts.
 #[derive(Debug, Drop)]
 pub struct NamedFiles {
     pub entries: Vec<(String, Vec<u8>)>,

@@ -20,8 +20,8 @@ impl QuietShelf {
     ghost use Rattle.avtp_memory.specs.NamedFiles.{bytes_under};
     ghost use Rattle.avtp_memory.specs.QuietShelf.{kept_files, keeps_all, room_of, slots_of, asked_of};
 
-    /// A shelf of these files, each under its name, with room for `room` bytes in each file that is made. If two files have one
-    /// name, the first counts.
+    /// A shelf of these files, each under its name, with room for `room` bytes in each file that is made. If two files have the
+    /// same name, the first counts.
     pub fn over(alloc: Global, files: Vec<(String, Vec<u8>)>, room: usize) -> Self
         ensures files { kept_files result ≡ bytes_under files.items }
         ensures all { IsTrue (keeps_all result) }

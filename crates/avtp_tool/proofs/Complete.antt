@@ -195,7 +195,7 @@ opened asked name bytes fault ended yields outcome =
       whole = λ shift p all hears. subst (KeepsHeadline shift p plan records) (sym (items ∙ all_shown plan records outcome.how all)) (headline shift p plan records hears);
     }
 
--- What files in order yield is what these yield, and then one with this name, and then those after it.
+-- Files in order yield what the earlier ones yield, then what the one with this name yields, and then what those after it yield.
 record IsAmong (one : List ℕ → Status → Yield → Type 0) (earlier : List (List ℕ)) (name : List ℕ) (yields : Yield) : Type 0 where
   before : Yield
   done : Status

@@ -146,7 +146,7 @@ agree_report asked (Some x) (Some y) = compared_text asked x y
 -- ---- two captures of a talker that keeps the rules
 
 -- What `agree` prints of two captures of a talker that keeps the rules, whatever each lost: no difference. Each pair is of one
--- packet or unit, and two batches of one packet or unit are a pair.
+-- packet or unit, and two batches of the same packet or unit are a pair.
 pub record HasAgreement (asked : Agreeing) (p : PacketJournal) (x y : List ℕ) (text : List ℕ) : Type 0 where
   pub printed : text ≡ last_lines asked.listener.limit (counts_of (merged_in asked x y)) (end_of asked.listener.limit x) (end_of asked.listener.limit y)
   pub none : (counts_of (merged_in asked x y)).differ ≡ 0

@@ -25,8 +25,8 @@ KeepsFilesBut (Some name) None (Some new) = ⊥
 KeepsFilesBut (Some name) (Some old) None = ⊤
 KeepsFilesBut (Some name) (Some old) (Some new) = (other : List ℕ) → other ≢ name → new other ≡ old other
 
--- Every slot is live or free as it was, with its file. If the files are known, what is left to read there is unchanged, too,
--- except in slots that are open on the file that is written, if there is one: that is emptied and written.
+-- Every slot is live or free as it was, with its file. If the files are known, what is left to read in a slot is unchanged, too,
+-- unless the slot's file is the one that is written.
 abbrev pub KeepsSlotsFor : Option (List ℕ) → Option Files → Slots → Slots → Type 0
 KeepsSlotsFor None files old new = KeepsSlots old new
 KeepsSlotsFor (Some name) files old new = KeepsSlotsBut files old new name

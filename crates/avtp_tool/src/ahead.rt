@@ -10,8 +10,8 @@ use avtp_files::{Shelf, Sink};
 use avtp_text::Text;
 use capture_io::{End, Source};
 
-/// Reads on to the next record. If it may have to be waited for, the text that waits is written first, so whoever watches a
-/// capture grow sees each line as soon as its packet has come.
+/// Reads on to the next record. If the command may have to wait for it, the text that waits is written first, so whoever watches
+/// a growing capture sees each line as soon as its packet has come.
 #[inline(always)]
 pub fn next_record<F: Shelf, S: Sink>(
     source: &mut Source,

@@ -176,8 +176,8 @@ pub fn unmade(fault: OpenFault) -> Status
 /// Makes a file, or empties it, and writes the capture of all frames of a talker. All memory is allocated before the file is
 /// made. If it cannot be made or written, nothing is printed, because the line of `talk` says what was made.
 ///
-/// `Failed` comes only if the writing count rose; the file then is unchanged, or has a prefix of the capture. `Memory` leaves
-/// it unchanged, and `Missing` never comes.
+/// Returns `Failed` only if the writing count rose; the file then is unchanged, or has a prefix of the capture. `Memory` leaves
+/// it unchanged, and `Missing` is never returned.
 fn make_capture<F: Shelf>(
     alloc: Global,
     shelf: &mut F,

@@ -80,7 +80,7 @@ words_before rows words place o = sym (take-map string_bytes place words) ∙ ap
 pub here : (rows : List Row) (words : List (List ℕ)) (place : ℕ) (o : AreOptionsTo rows words place) (word : List ℕ) → slice_get words place ≡ Some word → (more : List (List ℕ)) × (o.rest ≡ word ∷ more)
 here rows words place o word e = at (flat_map words_of o.settings) o.rest word (sym (ap (λ ws. slice_get ws (length (flat_map words_of o.settings))) o.split) ∙ sym (ap (slice_get words) o.here) ∙ e)
 
--- Options and names that begin with these options and a word that begins as an option continue with that option.
+-- If options and names begin with these options, followed by a word that begins as an option, that word's option is the next one.
 pub record Follows (rows : List Row) (gs : List Setting) (word : List ℕ) (after : List (List ℕ)) : Type 0 where
   pub setting : Setting
   pub tail : List (List ℕ)

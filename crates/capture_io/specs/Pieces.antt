@@ -9,8 +9,8 @@ pub record Piecing : Type 0 where
   pub left : ℕ
   pub over : Bool
 
--- the bytes of the file that follow those that wait: what the slot has left to read; or, once a read has shown that there are
--- more than may be read, at least one byte
+-- the bytes of the file after the waiting ones: what the slot has left to read; or, once a read has shown that there are more
+-- than may be read, at least one byte
 abbrev pub IsAhead : Bool → Option (List ℕ) → ℕ → List ℕ → Type 0
 IsAhead false remains left rest = remains ≡ Some rest
 IsAhead true remains left rest = (left ≡ 0) × (0 < length rest)

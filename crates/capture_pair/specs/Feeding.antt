@@ -1,4 +1,4 @@
--- Two listeners with one plan, each of which is fed the bytes of a capture, and the differences of what they present.
+-- Two listeners with the same plan, each of which is fed the bytes of a capture, and the differences of what they present.
 use Rattle.std.specs.Prelude.{◌≡◌, ℕ, ◌+◌, ◌^◌, ◌≤◌, List, length, Option}
 use Rattle.listener.specs.declared.plan.ListenPlan.{ListenPlan}
 use Rattle.listener.specs.Feeding.{Feeding, Keeps as KeepsFed, StandsFor as IsFed, is_ended, out, work}

@@ -1,4 +1,4 @@
--- Two listeners with one plan, each of which is given the records of a capture, and the differences of what they present.
+-- Two listeners with the same plan, each of which is given the records of a capture, and the differences of what they present.
 use Rattle.std.specs.Prelude.{◌≡◌, ℕ, ◌+◌, ◌≤◌, Bool, true, List, [], length, take, Option, Some}
 use Rattle.pcap_frames.specs.Capture.{Record}
 use Rattle.sample_schedule.specs.Batches.{Presented}

@@ -23,8 +23,8 @@ use listener_pair::{Difference, Matching, PairCounts, Which};
 use std::alloc::Global;
 use std::marker::Model;
 
-/// Two listeners with one plan, fed the bytes of two captures of a stream, and the differences of what they present. The bytes
-/// of each capture are fed in its order, and only as far as `wants` asks for them.
+/// Two listeners with the same plan, fed the bytes of two captures of a stream, and the differences of what they present. The
+/// bytes of each capture are fed in its order, and only as far as `wants` asks for them.
 ///
 /// It gives the differences that a `RecordPair` gives for the records of both captures. Items that a listener flags are dropped,
 /// and do not end a side. Each capture has at most 2^61 bytes.
@@ -76,9 +76,9 @@ impl Pair {
     /// Takes bytes of the capture that is wanted, up to the end of one record or of the piece, and returns how many. At most
     /// 2^62 bytes of each capture may be taken.
     ///
-    /// Without a fault, `Ok(0)` comes exactly if the piece is empty. `Refused` is the capture's first refusal, and comes as soon as
-    /// the bytes so far show it; what was accepted stays, and `end` then ends that side. `Memory` comes if there is no memory for
-    /// the samples of a record; every later `feed` and `end` of that side returns `Memory`.
+    /// Without a fault, returns `Ok(0)` exactly if the piece is empty. `Refused` is the capture's first refusal, and is returned
+    /// as soon as the bytes so far show it; what was accepted stays, and `end` then ends that side. `Memory` is returned if there
+    /// is no memory for the samples of a record; every later `feed` and `end` of that side returns `Memory`.
     pub fn feed(&mut self, alloc: Global, which: Which, piece: &[u8]) -> Result<usize, ListenFault>
         requires wanted { wanted_by self.old ≡ Some which }
         requires bounded { taken (fed_of which self.old).reader + length piece.now ≤ 2 ^ 62 }
@@ -115,9 +115,8 @@ impl Pair {
         answer
     }
 
-    /// The next difference in the known part of the merged list of what both listeners present. `None` comes exactly if that
-    /// part has no further difference. For what was given so far, only finitely many differences can be given. Allocates
-    /// nothing.
+    /// The next difference in the known part of the merged list of what both listeners present. Returns `None` exactly if that
+    /// part has no further difference. For what was given so far, only finitely many differences can be given. Allocates nothing.
     pub fn next_difference(&mut self) -> Option<Difference>
         ensures given { (bytes others : List ℕ) (given : ℕ) → AreShort bytes others → StandsFor bytes others given self.old → result ≡ slice_get (differences (known_by self.old bytes others)) given }
         ensures stands { (bytes others : List ℕ) (given : ℕ) → AreShort bytes others → StandsFor bytes others given self.old → StandsFor bytes others (given + length (option_to_list result)) self.new }

@@ -21,7 +21,7 @@ use pcap_frames::RecordView;
 use std::alloc::Global;
 use std::marker::Model;
 
-/// Two listeners with one plan, given the records of two captures of a stream, and the differences of what they present. The
+/// Two listeners with the same plan, given the records of two captures of a stream, and the differences of what they present. The
 /// records of each capture are given in its order, and only as far as `wants` asks for them.
 ///
 /// A difference is given as soon as all batches are known that come before it in the merged list of what both present. Items that
@@ -77,7 +77,7 @@ impl RecordPair {
     }
 
     /// Takes the next record of the capture that is wanted. Fewer than 2^61 records of that capture may have been taken. The
-    /// record's time is from 0 to 2^62 ns. `NoMemory` comes if there is no memory for the packet's samples or the unit; the
+    /// record's time is from 0 to 2^62 ns. Returns `NoMemory` if there is no memory for the packet's samples or the unit; the
     /// pair is then unchanged.
     pub fn take_record(
         &mut self,
@@ -108,9 +108,8 @@ impl RecordPair {
         fill_both(&mut self.a, &mut self.b, &mut self.matching);
     }
 
-    /// The next difference in the known part of the merged list of what both listeners present. `None` comes exactly if that
-    /// part has no further difference. For what was given so far, only finitely many differences can be given. Allocates
-    /// nothing.
+    /// The next difference in the known part of the merged list of what both listeners present. Returns `None` exactly if that
+    /// part has no further difference. For what was given so far, only finitely many differences can be given. Allocates nothing.
     pub fn next_difference(&mut self) -> Option<Difference>
         ensures given { (records others : List Record) (given : ℕ) → StandsFor records others given self.old → result ≡ slice_get (differences (known_by self.old records others)) given }
         ensures stands { (records others : List Record) (given : ℕ) → StandsFor records others given self.old → StandsFor records others (given + length (option_to_list result)) self.new }

@@ -83,7 +83,7 @@ pub fn fill_both<S: Source>(a: &mut S, b: &mut S, matching: &mut Matching)
     fill(b, matching, Which::B);
 }
 
-/// The next difference in the known part of what both listeners present. `None` comes exactly if that part has no further
+/// The next difference in the known part of what both listeners present. Returns `None` exactly if that part has no further
 /// difference.
 pub fn next_difference<S: Source>(
     a: &mut S,

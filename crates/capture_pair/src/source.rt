@@ -26,7 +26,7 @@ pub trait Source {
     /// The most items that the listener can still show.
     ghost work: { Self → ℕ };
 
-    /// The next item that is shown of what was taken so far. `None` comes exactly if all of that was shown.
+    /// The next item that is shown of what was taken so far. Returns `None` exactly if all of that was shown.
     fn next_out(&mut self) -> Option<Shown>
         ensures given { (taken : Taken) (list : List ShownValue) (n : ℕ) → shows self.old taken list n → result ≡ slice_get list n }
         ensures shows { (taken : Taken) (list : List ShownValue) (n : ℕ) → shows self.old taken list n → shows self.new taken list (n + length (option_to_list result)) }

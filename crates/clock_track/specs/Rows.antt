@@ -58,8 +58,8 @@ across shift row before =
 
 -- ---- all pairs
 
--- the joined pairs whose later point this packet has, in the order of the later points; pairs with one later point are in the
--- order of the earlier
+-- the joined pairs whose later point this packet has, in the order of the later points; pairs with the same later point are in
+-- the order of the earlier ones
 abbrev pub pairs_at : ℤ → List ClockRow → ClockRow → List Pair
 pairs_at shift rows row =
     filter_map (across shift row) rows ++ filter_map (inside shift row) (range_with_len 0 (timestamps row - 1))

@@ -10,7 +10,7 @@ pub record IsCovering (rate : ℕ) (instant : ℤ) (pair : Pair) : Type 0 where
   pub joined : IsJoined pair
   pub covers : Covers pair rate instant
 
--- A pair comes after the instant: half a sample before its later point is after the instant, even with a period of twice the
--- nominal time, more than any joined pair has.
+-- A pair comes after the instant: the instant is more than half a sample before its later point, even at a period of twice the
+-- nominal time, which is more than any joined pair has.
 abbrev pub IsAfter : Pair → ℕ → ℤ → Type 0
 IsAfter p rate instant = ((instant -ℤ p.later) *ℤ pos (2 * step_den p rate) +ℤ pos (2 * nominal p)) <ℤ pos 0

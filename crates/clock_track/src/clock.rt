@@ -160,9 +160,9 @@ impl Clock {
         Ok(Clock { shift, rows, spare })
     }
 
-    /// Notes a packet of the clock, and drops the oldest of 64. A packet that gives no points is ignored. In any other the
-    /// timestamps are whole and at most 8,191, the pull is at most 5, the base frequency 1 to 2^29 - 1, and the interval at
-    /// least 1. Allocates nothing.
+    /// Notes a packet of the clock, and drops the oldest of 64. A packet that gives no points is ignored. In any other packet
+    /// there are at most 8,191 timestamps, all whole, the pull is at most 5, the base frequency 1 to 2^29 - 1, and the interval
+    /// at least 1. Allocates nothing.
     pub fn note(&mut self, points: &Points<'_>)
         requires { IsNotable (row_of points.now) }
         ensures noted { (rows : List ClockRowValue) → StandsFor self.old rows → StandsFor self.new (rows ++ row_of points.now ∷ []) }

@@ -66,11 +66,11 @@ pub fn line_among<R: Rows>(rows: &R, query: &Query) -> ClockAnswer
 /// clock, for a stream of a rate in Hz (IEEE 1722-2016, 10). The clock is that of the last 64 rows that give points; `shift`
 /// nanoseconds, at most a second either way, are added to each of its timestamps.
 ///
-/// Two timestamps below 2^62 are a pair if they are adjacent in a packet, or are the last of one packet and the first of
-/// another that has the next number with the same restart bit, frequency and interval; and if the time between them is within
-/// 1/8 of the nominal time of the interval. A pair covers the instants from half a sample before its later point to half a
-/// sample before one more period. The last pair that covers the instant counts: the one whose later point comes last, and among
-/// those with one later point the one whose earlier point comes last. The answer is `NoClock` exactly if there is none.
+/// Two timestamps below 2^62 are a pair if they are adjacent in a packet, or are the last of one packet and the first of another
+/// that has the next number with the same restart bit, frequency and interval; and if the time between them is within 1/8 of the
+/// nominal time of the interval. A pair covers the instants from half a sample before its later point to half a sample before one
+/// more period. The last pair that covers the instant counts: the one whose later point comes last, and among pairs with the same
+/// later point, the one whose earlier point comes last. The answer is `NoClock` exactly if there is none.
 ///
 /// If the clock's frequency is the rate, the sample is the nearest event of the clock, on the line of its events; otherwise
 /// samples are counted from the instant, in the pair's spacing.

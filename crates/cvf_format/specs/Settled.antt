@@ -18,8 +18,8 @@ settled_as Whole fragment stretch = stretch
 settled_as Held fragment stretch = []
 settled_as (Lost why) fragment stretch = fragment ∷ []
 
--- the packets that an event settles after the events before it: those that it gives up, followed by those that it settles
--- itself
+-- the packets that an event settles, given the events before it: those that it gives up, and then those that its own packet
+-- settles
 abbrev pub settled_by : List Event → Event → List Fragment
 settled_by before cut = given_up (before ++ cut ∷ [])
 settled_by before (packet fragment) =

@@ -19,8 +19,8 @@ const MOST_FRAGMENTS: usize = 4_096;
 
 /// Puts NAL units together from the packets of a stream, in the order in which they came.
 ///
-/// A unit is one packet, or a first fragment and those after it, up to a last one. Each carries the same first byte of the
-/// unit, and has the next sequence number. All that are stamped must have one presentation time.
+/// A unit is one packet, or a first fragment and those after it, up to a last one. Each carries the same first byte of the unit,
+/// and has the next sequence number. All that are stamped must have the same presentation time.
 ///
 /// What becomes of a packet depends on the longest stretch of packets that ends with it. The assembler keeps only that stretch.
 #[derive(Drop)]

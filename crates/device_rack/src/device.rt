@@ -23,7 +23,7 @@ pub trait Device: Drop {
 
     /// Takes an item.
     ///
-    /// `Failed` comes only if the count of faults rose, and then the item was not taken.
+    /// Returns `Failed` only if the count of faults rose, and then the item was not taken.
     fn take(&mut self, shown: &Shown) -> Result<(), Failed>
         ensures took { OnOk result ((items : List ShownValue) → took self.old items → took self.new (items ++ shown.now ∷ [])) }
         ensures refused { OnErr result ((items : List ShownValue) → took self.old items → took self.new items) }

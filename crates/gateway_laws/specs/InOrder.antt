@@ -12,7 +12,7 @@ use Rattle.sample_schedule.specs.Batches.{Presented}
 use Rattle.sample_schedule.specs.Schedule.{now_at, prefix_of, shown}
 use Rattle.sample_schedule.specs.Verdicts.{Clock, first_instant, timed}
 
--- an item is presented, or flagged for another reason than a full buffer
+-- an item is presented, or flagged for a reason other than a full buffer
 abbrev pub IsNotFull : Shown → Type 0
 IsNotFull (Present batch) = Unit {0}
 IsNotFull (Flag frame seq reason) = reason ≢ Full

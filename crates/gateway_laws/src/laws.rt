@@ -35,7 +35,7 @@ ghost use Rattle.listener.specs.Laws.{presented_of};
 ghost use Rattle.pcap_frames.specs.Capture.{Record};
 ghost use Rattle.gateway_laws.specs.Stamped.{AreStamped, all_counted, packet_entries};
 
-/// If all items of a schedule have instants, arrive no later than these, and come in the order of their instants, all are
+/// If all items of a schedule have instants, arrive no later than their instants, and come in the order of these, all are
 /// presented, in that order, unless the buffer is full for one of them.
 pub fn items_in_order_are_presented()
     ensures { (clock : Clock) (plan : SchedulePlan) (entries : List Entry) (batches : List Presented) → AreInOrder clock plan entries batches → map (λ (a : Accepted). a.batch) (presented (given clock plan entries)) ≡ batches }

@@ -123,7 +123,7 @@ lent_nothing size piece next some within quiet = (
   none_due None none due = absurd cc
   none_due (Some x) none due = absurd cc
 
--- the record that was read was given to its listener, and what that shows next is due
+-- the record that was read was given to the listener, and what the listener shows next is due
 pub stands_fed : (bytes : List ℕ) (given : ℕ) (reader : Reading) (mid new : ListenState) (x : Option Shown) (b : Bool) → HasHeard bytes given reader mid → held reader ≡ None
     → ((records : List Record) (given : ℕ) → RecordsStandFor records given mid → x ≡ slice_get (out_of mid records) given)
     → ((records : List Record) (given : ℕ) → RecordsStandFor records given mid → RecordsStandFor records (given + length (option_to_list x)) new)

@@ -88,7 +88,7 @@ out_open l records e = rw e refl
 pub out_ended : (l : ListenState) (records : List Record) → is_closed l ≡ true → out l records ≡ shown_of l.plan records
 out_ended l records e = rw e refl
 
--- two listeners of one plan show equal lists, if both are closed or neither is
+-- two listeners with the same plan show equal lists, if both are closed or neither is
 pub out_same : (old new : ListenState) (records : List Record) → new.plan ≡ old.plan → is_closed new ≡ is_closed old → out new records ≡ out old records
 out_same old new records plan closed =
     ap (λ (p : ListenPlan). if is_closed new then shown_of p records else due_of p records) plan

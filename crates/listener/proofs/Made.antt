@@ -150,7 +150,7 @@ waiting_more before d e =
     ap (λ (es : List Event). last_ones (length (held es)) (in_stream (before ++ d ∷ []))) (events_more before d e)
     ∙ ap (last_ones (length (held (events_to before d)))) (stream_more before d e)
 
--- the packets in the items after a delivery, and those that wait, are the packets that waited before, and the delivery
+-- the packets in the new items, and those that still wait, are the packets that waited before, and the delivery
 Keeps : (Delivery → Bool) → List Delivery → Delivery → List MadeItem → Type 0
 Keeps p before d own = tally p (given_up_by before d ++ own) + count_by p (last_ones (length (held (events_to before d))) (in_stream before ++ d ∷ [])) ≡ count_by p (waiting before) + count_by p (d ∷ [])
 
@@ -399,7 +399,7 @@ two_in p (x ∷ ms) zero (suc k) m n e f lt some others =
     omega (arith, tally-cons p x ms, here, some, rest)
 two_in p (x ∷ ms) (suc i) (suc k) m n e f lt some others = let rest = two_in p ms i k m n e f (omega arith) some others in omega (arith, tally-cons p x ms, rest)
 
--- two items that have a delivery which passes the test are at one place, if only one delivery passes it
+-- two items that each have a delivery that passes the test are at the same place, if only one delivery passes it
 pub same_place : (p : Delivery → Bool) (ms : List MadeItem) (i k : ℕ) (m n : MadeItem) → tally p ms ≤ 1 → slice_get ms i ≡ Some m → slice_get ms k ≡ Some n → 1 ≤ count_by p (sources m) → 1 ≤ count_by p (sources n) → i ≡ k
 same_place p ms i k m n few e f some others = elim (cases_lt i k) [
   | inl before ↦ let two = two_in p ms i k m n e f before some others in absurd (omega arith)

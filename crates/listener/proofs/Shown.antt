@@ -250,7 +250,7 @@ frames_few n ds rises = omega (arith, all_made (of_frame n) ds, one_frame n ds r
 itself : (n : ℕ) → (n == n) ≡ true
 itself n = eq-eqb n n refl
 
--- items with one frame are at one place
+-- items with the same frame are at the same place
 same_item_at : (ds : List Delivery) (i k : ℕ) (m n : MadeItem) → Rising ds → slice_get (items_of ds) i ≡ Some m → slice_get (items_of ds) k ≡ Some n → m.last.frame ≡ n.last.frame → i ≡ k
 same_item_at ds i k m n rises e f same =
     same_place (of_frame n.last.frame) (items_of ds) i k m n (frames_few n.last.frame ds rises) e f

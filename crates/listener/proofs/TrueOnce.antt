@@ -118,7 +118,7 @@ nominal_due j n instant heard is known at =
 pub one_due : (a b : ℕ) (z : ℤ) → z ≡ pos a → z ≡ pos b → a ≡ b
 one_due a b z e f = omega (arith, ints)
 
--- packets that are due at one instant are one packet
+-- packets that are due at the same instant are the same packet
 due_once : (j : Journal) (n m : ℕ) → IsAudio j → n < j.packets → m < j.packets → j.due n ≡ j.due m → n ≡ m
 due_once j n m is here there same = elim (cases_lt n m) [
   | inl before ↦ let later = rising j is n m before there in absurd (omega arith)
@@ -128,7 +128,7 @@ due_once j n m is here there same = elim (cases_lt n m) [
   ]
 ]
 
--- audio packets with one sequence number and one first instant are one packet, with a clock or without
+-- audio packets with the same sequence number and the same first instant are the same packet, with a clock or without
 audio_packet : (by : Bool) (p : PacketJournal) (n m : ℕ) (x : ℤ) → IsAudioKind p.times.kind → Conforms p.times → n < p.times.packets → m < p.times.packets → n % 256 ≡ m % 256 → IsAt by p.times n 0 x → IsAt by p.times m 0 x → n ≡ m
 audio_packet true p n m x heard is here there seq a b = told_apart p.times n m x is heard here there seq a b
 audio_packet false p n m x heard is here there seq a b =

@@ -167,7 +167,7 @@ inside_ends part (inl e) (inr f) = absurd (let g = sym e ∙ f in cc)
 inside_ends part (inr e) (inl f) = absurd (let g = sym e ∙ f in cc)
 inside_ends part (inr e) (inr f) = absurd (let g = sym e ∙ f in cc)
 
--- all packets of a unit are due at one instant
+-- all packets of a unit are due at the same instant
 same_due : (j : Journal) (part : ℕ → Part) (from k left : ℕ) → IsVideo j part → AreUnit part from (k + left) → from ≤ k → k + left < j.packets → j.due k ≡ j.due (k + left)
 same_due j part from k zero is unit low known = let same : k ≡ k + zero = omega arith in ap j.due same
 same_due j part from k (suc left) is unit low known =

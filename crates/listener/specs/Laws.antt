@@ -81,7 +81,7 @@ AreOther by p a b = (n : ℕ) → IsOfPacket by p n a → ¬ IsOfPacket by p n b
 abbrev pub ComesBefore : Presented → Presented → Type 0
 ComesBefore a b = (sample_instant a 0 <ℤ sample_instant b 0) ⊎ ((sample_instant a 0 ≡ sample_instant b 0) × (a.frame < b.frame))
 
--- Two batches have the same samples: equal bytes, and each sample at one instant.
+-- Two batches have the same samples: equal bytes, and each sample at the same instant.
 pub record AreSame (a b : Presented) : Type 0 where
   pub count : a.count ≡ b.count
   pub bytes : a.bytes ≡ b.bytes

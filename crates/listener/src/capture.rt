@@ -107,9 +107,9 @@ fn hear(alloc: Global, listener: &mut Listener, bytes: &[u8]) -> Result<Heard, N
 /// as nanoseconds of gPTP. The plan must be within the limits that `ListenPlan` names.
 ///
 /// Whatever the capture loses, repeats or reorders of the packets of a talker that keeps the rules and of its clock, what is
-/// shown keeps the headline: each packet that came in time, found room and has a known timestamp or clock reference is
-/// presented once, in order, at the talker's own nanoseconds, so any two listeners with one clock agree; every other packet
-/// that came is flagged with its one reason. A unit of H.264 that is presented is one of the talker's units, whole.
+/// shown keeps the headline: each packet that came in time, found room and has a known timestamp or clock reference is presented
+/// once, in order, at the talker's own nanoseconds, so any two listeners with the same clock agree; every other packet that came
+/// is flagged with its one reason. A unit of H.264 that is presented is one of the talker's units, whole.
 ///
 /// The capture has at most 2^62 bytes. If memory runs out, returns `NoMemory` and shows nothing.
 pub fn whole(alloc: Global, plan: &ListenPlan, bytes: &[u8]) -> Result<Heard, NoMemory>

@@ -114,14 +114,14 @@ pub fn first_instants_never_fall()
 {}
 
 /// Any two listeners agree if both have the talker's clock, or neither does. Two captures may each lose, repeat and reorder a
-/// talker's packets in its own way, and the listeners may have other buffers, look further ahead and expect packets earlier or
-/// later: for each packet that both present, they present the same bytes, and each sample at one nanosecond.
+/// talker's packets in its own way, and the listeners may have different buffers, look further ahead and expect packets earlier
+/// or later: for each packet that both present, they present the same bytes, and each sample at the same nanosecond.
 pub fn listeners_agree()
     ensures { (shift : ℤ) (p : PacketJournal) (plan other : ListenPlan) (records others : List Record) → HearsTalker shift p plan records → HearsTalker shift p other others → by_clock other ≡ by_clock plan → All (λ a. All (Agree (by_clock plan) p a) (presented_of (shown_of other others))) (presented_of (shown_of plan records)) }
 {}
 
-/// A copy of a packet is presented if it is known (its timestamp, and with a clock two CRF timestamps that cover that), came in
-/// time, found room, and no copy of the packet was accepted before, however many other packets are late, lost or untimed. What
+/// A copy of a packet is presented if its timestamp is known (and with a clock, two CRF timestamps that cover it), it came in
+/// time, it found room, and no copy of the packet was accepted before, however many other packets are late, lost or untimed. What
 /// is presented has the number of its frame.
 pub fn known_and_in_time_is_presented()
     ensures { (shift : ℤ) (p : PacketJournal) (plan : ListenPlan) (records : List Record) (place n : ℕ) (made : MadeItem) → HearsTalker shift p plan records → IsWelcome p plan records place n made → Any (IsPresentedOf (by_clock plan) p n made) (presented_of (shown_of plan records)) }

@@ -85,10 +85,10 @@ impl Listener {
     /// Takes bytes up to the end of one record or of the piece, and returns how many. At most 2^62 bytes may be taken, and the
     /// listener must not have been ended.
     ///
-    /// Without a fault, `Ok(0)` comes exactly if the piece is empty or something is due. `Refused` is the capture's first
-    /// refusal and comes as soon as the bytes so far show it; what was accepted stays, and may be ended. `Memory` comes if
-    /// there is no memory for the samples of the record that was read; the record makes no item then, and every later `feed`
-    /// and `end` returns `Memory`.
+    /// Without a fault, returns `Ok(0)` exactly if the piece is empty or something is due. `Refused` is the capture's first
+    /// refusal, and is returned as soon as the bytes so far show it; what was accepted stays, and may be ended. `Memory` is
+    /// returned if there is no memory for the samples of the record that was read; the record makes no item then, and every later
+    /// `feed` and `end` returns `Memory`.
     pub fn feed(&mut self, alloc: Global, piece: &[u8]) -> Result<usize, ListenFault>
         requires open { is_ended self.old ≡ false }
         requires bounded { taken self.old.reader + length piece.now ≤ 2 ^ 62 }
@@ -143,7 +143,7 @@ impl Listener {
         }
     }
 
-    /// The next item that is shown of the bytes so far: before `end` only of what is due, after it of all. `None` comes exactly
+    /// The next item that is shown of the bytes so far: before `end` only of what is due, after it of all. Returns `None` exactly
     /// if all of that was given. Of a talker that keeps the rules, what is given is as the headline says
     /// (`listener_laws::bytes_are_given_truly`). Allocates nothing.
     pub fn next_out(&mut self) -> Option<Shown>

@@ -91,7 +91,7 @@ impl RecordListener {
     /// Takes the next record. All that is due of the earlier records must have been given, fewer than 2^62 records taken, and
     /// the listener not closed. The record's time is from 0 to 2^62 ns.
     ///
-    /// A record that belongs neither to the stream nor to its clock is counted and skipped. `NoMemory` comes if there is no
+    /// A record that belongs neither to the stream nor to its clock is counted and skipped. Returns `NoMemory` if there is no
     /// memory for the packet's samples or the unit; the listener is then unchanged.
     pub fn take_record(&mut self, alloc: Global, held: &RecordView<'_>) -> Result<(), NoMemory>
         requires open { is_closed self.old ≡ false }
@@ -118,7 +118,7 @@ impl RecordListener {
         }
     }
 
-    /// The next item that is shown of the records so far: before `close` only of what is due, after it of all. `None` comes
+    /// The next item that is shown of the records so far: before `close` only of what is due, after it of all. Returns `None`
     /// exactly if all of that was shown. Of a talker that keeps the rules, what is given is as the headline says
     /// (`listener_laws::records_are_given_truly`). Allocates nothing.
     #[inline(always)]

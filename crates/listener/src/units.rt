@@ -210,8 +210,8 @@ impl Units {
         self.next()
     }
 
-    /// Adds a packet, which begins a unit, continues one, or is lost. Memory for a unit that the packet may complete is
-    /// allocated first. If there is none, `NoMemory` comes and nothing changes.
+    /// Adds a packet, which begins a unit, continues one, or is lost. Memory for a unit that the packet may complete is allocated
+    /// first. If there is none, returns `NoMemory`, and nothing changes.
     fn push(
         &mut self,
         alloc: Global,
@@ -238,7 +238,7 @@ impl Units {
     /// Takes the next delivery of the stream, after all items of the earlier ones were taken. Returns the first item that it
     /// gives, if any; the others, which only H.264 has, are queued.
     ///
-    /// `NoMemory` comes if there is no memory for a packet's samples or for a unit; then nothing changes.
+    /// Returns `NoMemory` if there is no memory for a packet's samples or for a unit; then nothing changes.
     #[inline(always)]
     pub fn take_delivery(
         &mut self,

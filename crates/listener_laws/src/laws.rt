@@ -58,8 +58,8 @@ pub fn bytes_are_given_truly()
     records_are_given_truly();
 }
 
-/// Anywhere in a capture, whatever it loses, repeats or reorders, and for listeners with the talker's clock or without, a copy
-/// of an audio packet must be presented if the packets that came time it, nothing up to it was captured after its first
+/// Anywhere in a capture, whatever it loses, repeats or reorders, and for listeners with the talker's clock or without, a copy of
+/// an audio packet must be presented if it can be timed by the packets that came, nothing up to it was captured after its first
 /// instant, no copy of it came before, and the buffer has room for it.
 pub fn copies_anywhere_are_welcome()
     ensures { (shift : ℤ) (p : PacketJournal) (plan : ListenPlan) (records : List Record) (place n : ℕ) (d : Delivery) → HearsTalker shift p plan records → IsAudioKind p.times.kind → MustBePresented p plan records place n d → IsWelcome p plan records place n (made_of_one d) }

@@ -10,7 +10,7 @@ use Rattle.sample_schedule.specs.Verdicts.{first_instant, same_instant}
 use Rattle.listener_pair.specs.Pairs.{within_reach}
 use Rattle.listener_pair.specs.state.Reach.{reach_of}
 
--- a distance times a denominator is at most a number exactly if the distance is at most the quotient
+-- d times the denominator is at most p exactly if d is at most the quotient of p and the denominator
 by-quotient : (d den p : ℕ) → d ≤ 2 ^ 64 - 1 → 1 ≤ den → nat_le (d * den) p ≡ nat_le d (min (p / den) (2 ^ 64 - 1))
 by-quotient d den p low some = let both = le-div_iff_mul-le {k = den} {x = d} {y = p} some in grind (arith, nat_tests)
 

@@ -20,13 +20,13 @@ abbrev pub put_before : Sided → List Sided → List Sided
 put_before x [] = x ∷ []
 put_before x (y ∷ ys) = if int_lt (first_instant y.batch) (first_instant x.batch) then y ∷ put_before x ys else x ∷ y ∷ ys
 
--- batches ordered by first instant, and at one instant in the order of the list
+-- batches ordered by first instant, and at the same instant in the order of the list
 unfoldable pub by_instant : List Sided → List Sided
 by_instant [] = []
 by_instant (x ∷ rest) = put_before x (by_instant rest)
 
--- The merged list of what A and B present: by first instant; at one instant A's batches before B's; otherwise in the order of
--- each list.
+-- The merged list of what A and B present: by first instant; at the same instant A's batches before B's; otherwise in the order
+-- of each list.
 unfoldable pub merged : List Presented → List Presented → List Sided
 merged xs ys = by_instant (all_of A xs ++ all_of B ys)
 
@@ -48,8 +48,8 @@ is_side B B = true
 abbrev pub is_settled : Bool → Which → List Sided → Bool
 is_settled ended side list = ended || list_any (λ x. is_side side x.side) list
 
--- The known part of a merged list, given which sides have ended: each batch for which every side that has not ended has a batch
--- at its place or after it. However the two sides go on, the known part stays the beginning of the merged list.
+-- The known part of a merged list, given which sides have ended. A batch is known if each side that has not ended has presented
+-- this batch or a later one. However the two sides go on, the known part stays the beginning of the merged list.
 unfoldable pub known : Bool → Bool → List Sided → List Sided
 known ended_a ended_b [] = []
 known ended_a ended_b (x ∷ rest) =

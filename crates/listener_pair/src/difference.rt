@@ -7,7 +7,7 @@ pub enum Which {
     B,
 }
 
-/// How two batches of one packet differ.
+/// How two batches of the same packet differ.
 #[derive(Clone, Copy, Debug, PartialEq, Eq)]
 pub enum Way {
     /// The numbers of their samples.

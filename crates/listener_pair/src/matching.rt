@@ -106,7 +106,7 @@ impl Matching {
         }
     }
 
-    /// The next difference in the known part of the merged list. `None` comes exactly if that part has no further difference.
+    /// The next difference in the known part of the merged list. Returns `None` exactly if that part has no further difference.
     /// Each difference uses up the next batch of a side. Allocates nothing.
     pub fn next_difference(&mut self) -> Option<Difference>
         ensures given { (xs ys : List Presented) (given : ℕ) → StandsFor xs ys given self.old → result ≡ slice_get (differences (known_of self.old xs ys)) given }

@@ -6,7 +6,7 @@ ghost use Rattle.listener_pair.specs.state.Reach.{reach_of as reach};
 use sample_schedule::Batch;
 use std::marker::Model;
 
-/// Two batches of one packet may be apart by this many times the time of one.
+/// Two batches of the same packet may be apart by this many times the time of one.
 const REACH: u64 = 64;
 
 /// A batch, the instant of its first sample, and how far a batch of the other side may be from it. Both are computed once.

@@ -16,7 +16,7 @@ pub enum Order {
     Random,
     /// The earliest instant, the latest, the second, the last but one, and so on.
     Middle,
-    /// All packets have one instant.
+    /// All packets have the same instant.
     Equal,
 }
 

@@ -3,7 +3,7 @@ use Rattle.std.specs.Prelude.{◌≡◌, ℕ, ◌<◌, ◌≤◌}
 use Rattle.stream_journal.specs.Journal.{Journal, Part}
 use Rattle.packet_journal.specs.Units.{AreUnit}
 
--- Packet n is one of the packets that carry one unit; the talker sent all of them, and they are due at one instant.
+-- Packet n is one of the packets that carry one unit; the talker sent all of them, and they are due at the same instant.
 pub record IsInUnit (j : Journal) (part : ℕ → Part) (n : ℕ) : Type 0 where
   pub from : ℕ
   pub to : ℕ

@@ -62,7 +62,7 @@ same-none : (s : Which) (x y : Presented) → AreSame x y → AreSame y x → di
 same-none A x y s t = ap (option_map (differ_in x y)) (same-way x y s)
 same-none B x y s t = ap (option_map (differ_in y x)) (same-way y x t)
 
--- ---- batches within reach are one packet
+-- ---- batches within reach are the same packet
 
 le-is : (x y : ℕ) → nat_le x y ≡ true → x ≤ y
 le-is x y h = grind (arith, nat_tests)
@@ -84,7 +84,7 @@ paced u den count num rate some near pace =
 instant-is : (x y : ℤ) → same_instant x y ≡ true → x ≡ y
 instant-is x y e = grind (arith, ints)
 
--- two batches within reach have one first instant, or neither is a unit and they are near
+-- two batches within reach have the same first instant, or neither is a unit and they are near
 reach-cases : (a b : Presented) → within_reach a b ≡ true → (first_instant a ≡ first_instant b) ⊎ ((is_unit a ≡ false) × (are_near a b ≡ true))
 unfolding within_reach
 reach-cases a b h = at (is_unit a) (is_unit b) refl h

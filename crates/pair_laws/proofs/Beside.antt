@@ -53,7 +53,7 @@ unfolding fits
 fits-itself A x = ap (λ v. v && within_reach x x) (eqb-same x.seq) ∙ within-itself x
 fits-itself B x = ap (λ v. v && within_reach x x) (eqb-same x.seq) ∙ within-itself x
 
--- ---- at most 256 batches have one first instant
+-- ---- at most 256 batches have the same first instant
 
 -- all batches of a list have this first instant
 abbrev pub AllAt : ℤ → List Presented → Type 0
@@ -97,7 +97,7 @@ told-left : (xs ys : List Presented) → AreAllTold (xs ++ ys) → AreAllTold xs
 told-left [] ys h = tt
 told-left (x ∷ xs) ys h = (all-left (AreTold x) xs ys h.0, told-left xs ys h.1)
 
--- a part of what is presented, all at one instant, has at most 256 batches
+-- a part of what is presented, all at the same instant, has at most 256 batches
 pub part-few : (t : ℤ) (front part back : List Presented) → AllAt t part → IsPresentation (front ++ (part ++ back)) → length part ≤ 256
 part-few t front part back all p =
     few-at t part all (told-left part back (told-right front (part ++ back) p.told))
@@ -122,7 +122,7 @@ is-at-more done x u h = record {
   side = h.side;
 }
 
--- what is between two batches with one first instant has that first instant, too
+-- what is between two batches with the same first instant has that first instant, too
 pub between-at : (x : Sided) (back : List Sided) (y : Sided) (rest : List Sided) (t : ℤ) → first_instant x.batch ≡ t → first_instant y.batch ≡ t → AllByRecursion (MayPrecede x) back → AllByRecursion (λ b. MayPrecede b y) back → AllByRecursion (λ b. first_instant b.batch ≡ t) back
 between-at x [] y rest t ex ey after before = tt
 between-at x (b ∷ back) y rest t ex ey after before = (same (first_instant x.batch) (first_instant b.batch) (first_instant y.batch) ex ey after.0.instants before.0.instants, between-at x back y rest t ex ey after.1 before.1)

@@ -1,4 +1,4 @@
--- Two batches of one packet or unit are paired.
+-- Two batches of the same packet or unit are paired.
 use Rattle.std.proofs.Common.{◌≡◌, ◌≢◌, ℕ, zero, suc, ◌+◌, ◌*◌, ◌%◌, ◌<◌, ◌≤◌, Bool, true, false, cond, ◌&&◌, ◌||◌, not, ◌⊎◌, inl, inr, ℤ, ◌-ℤ◌, List, [], ◌∷◌, ◌++◌, length, Option, Some, None, refl, sym, ap, ◌∙◌, subst, arith, append_assoc, length-append}
 use Rattle.std.specs.Prelude.{◌==◌, Any, nat_le, slice_get, slice_index_or, unsigned_abs}
 use Rattle.std.specs.List.{AllByRecursion, find}
@@ -31,7 +31,7 @@ use Rattle.capture_pair.proofs.Joined.{merges}
 use Rattle.pair_laws.proofs.Paces.{presented-of-talker}
 use Rattle.pair_laws.proofs.Told.{shown-told}
 
--- ---- batches of one packet may be a pair
+-- ---- batches of the same packet may be a pair
 
 many : (n : ℕ) → (n == 1) ≡ true → n ≡ 1
 many n e = grind arith
@@ -380,7 +380,7 @@ both-else by p n (x ∷ l) a b = at x.side x.batch a b (λ c d. both-else by p n
     at A c a b ih = (a.0, ih a.1 b)
     at B c a b ih = (b.0, ih a b.1)
 
--- between two batches with one first instant there are at most 511 batches
+-- between two batches with the same first instant there are at most 511 batches
 few-between : (front back rest : List Sided) (head y : Sided) (xs ys : List Presented) → IsSorted (front ++ head ∷ (back ++ y ∷ rest)) → first_instant head.batch ≡ first_instant y.batch → batches_of A (front ++ head ∷ (back ++ y ∷ rest)) ≡ xs → batches_of B (front ++ head ∷ (back ++ y ∷ rest)) ≡ ys
     → IsPresentation xs → IsPresentation ys → length (head ∷ back) ≤ 512
 few-between front back rest head y xs ys s same ea eb px py =
@@ -467,7 +467,7 @@ found-at by p n xs ys a b list x1 x2 y1 y2 is g sorted ea eb ex ey = at (locate 
         (sa.whole ∙ ap (λ (l : List Sided). l ++ of_side A a ∷ sa.rest) sb.whole ∙ append_assoc sb.front (of_side B b ∷ sb.rest) (of_side A a ∷ sa.rest)) ex ey sb.ahead
         (sym (batches-append A sb.front (of_side B b ∷ sb.rest)) ∙ ap (batches_of A) (sym sb.whole) ∙ sa.ahead) (ap (λ (l : List Presented). l ++ batches_of B sa.rest) sb.behind ∙ sym h.then) sa.behind refl
 
--- two batches of one packet, which two listeners present, are a pair, and no batch of the packet waits
+-- two batches of the same packet, which two listeners present, are a pair, and no batch of the packet waits
 captures-found : (shift : ℤ) (p : PacketJournal) (plan other : ListenPlan) (records others : List Record) → HearsTalker shift p plan records → HearsTalker shift p other others → by_clock other ≡ by_clock plan → (n i k : ℕ) (a b : Presented)
     → slice_get (presented_of (shown_of plan records)) i ≡ Some a → slice_get (presented_of (shown_of other others)) k ≡ Some b → IsOfPacket (by_clock plan) p n a → IsOfPacket (by_clock plan) p n b → AreFound (by_clock plan) p n a b (merged (presented_of (shown_of plan records)) (presented_of (shown_of other others)))
 captures-found shift p plan other records others h g e n i k a b there_a there_b oa ob =

@@ -1,4 +1,4 @@
--- Batches that one listener presents at one first instant have different sequence numbers.
+-- Batches that a listener presents at the same first instant have different sequence numbers.
 use Rattle.std.proofs.Common.{◌≡◌, ◌<◌, List, [], ◌∷◌, map, sym, ◌∙◌, subst}
 use Rattle.std.specs.List.{AllByRecursion}
 use Rattle.clock_track.specs.Rows.{clock_spot}

@@ -20,13 +20,13 @@ KeepsPace SparseAaf rate batch = HasPace rate batch
 KeepsPace (Am824 interval dbc) rate batch = HasPace rate batch
 KeepsPace (H264 part) rate batch = is_unit batch ≡ true
 
--- A batch is one packet or unit of the journal, by the clock or without, and keeps the talker's pace, as all batches do that a
+-- A batch is one packet or unit of the journal, by the clock or without, and keeps the talker's pace, as do all batches that a
 -- listener presents of the talker.
 pub record IsPresentedOfTalker (by : Bool) (p : PacketJournal) (batch : Presented) : Type 0 where
   pub is : IsOfJournal by p batch
   pub pace : KeepsPace p.times.kind p.times.rate batch
 
--- Both batches of a pair are one packet or unit of the journal.
+-- Both batches of a pair are the same packet or unit of the journal.
 pub record IsOneOf (by : Bool) (p : PacketJournal) (pair : Paired) : Type 0 where
   pub number : ℕ
   pub earlier : IsOfPacket by p number pair.earlier.batch

@@ -27,8 +27,8 @@ pub fn a_capture_beside_itself_never_differs()
 
 /// Captures of one talker that keeps the rules never differ, whatever each lost, repeated or reordered of the talker's packets
 /// and of its clock's, and wherever these restart. Each pair is of one packet or unit of the talker, no pair differs, and two
-/// batches of one packet or unit are a pair. So the pairs are exactly the packets and units that both present. Both listeners use
-/// the clock, or neither does; buffers, look-ahead and lead may differ.
+/// batches of the same packet or unit are a pair. So the pairs are exactly the packets and units that both present. Both
+/// listeners use the clock, or neither does; buffers, look-ahead and lead may differ.
 pub fn captures_of_one_talker_never_differ()
     ensures differ { (shift : ℤ) (p : PacketJournal) (plan other : ListenPlan) (records others : List Record) → HearsTalker shift p plan records → HearsTalker shift p other others → by_clock other ≡ by_clock plan
         → differences (merged (presented_of (shown_of plan records)) (presented_of (shown_of other others))) ≡ [] }

@@ -19,7 +19,7 @@ file_fits : (style : Style) (bytes : List ℕ) → length bytes ≡ 24 → style
 unfolding file_refusal style_at
 file_fits style bytes size magic version network = grind (arith, nat_tests)
 
--- two ways to split one list, with fronts of one length, have equal parts
+-- two ways to split the same list, with fronts of the same length, have equal parts
 same_front : (p q p' q' : List ℕ) → p ++ q ≡ p' ++ q' → length p ≡ length p' → p ≡ p'
 same_front p q p' q' e l = sym (take_at p q (length p) refl) ∙ (ap (take (length p)) e ∙ take_at p' q' (length p) (sym l))
 

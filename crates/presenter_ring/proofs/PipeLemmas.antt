@@ -13,7 +13,7 @@ use Rattle.presenter_ring.specs.state.Backs.{HasPresented}
 use Rattle.presenter_ring.specs.Pipes.{ring_of, waiting_in, ended_with, known_free_of, pushed_by, popped_by, work, HasMoved, IsDrained, IsRound}
 use Rattle.presenter_ring.specs.state.Pipes.{IsStill, HasStepped, KeepsRing}
 
--- what was popped and what is in the ring are what was in it and what was pushed
+-- the popped items and those in the ring now are those that were in it, and the pushed ones
 in_ring : (received known popped known' sent pushed : List Shown) → received ++ known ≡ sent → (received ++ popped) ++ known' ≡ sent ++ pushed → known ++ pushed ≡ popped ++ known'
 in_ring received known popped known' sent pushed old new =
     append_cancel_left received (known ++ pushed) (popped ++ known')

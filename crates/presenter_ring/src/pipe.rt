@@ -171,10 +171,9 @@ impl Pipe {
             && self.back.consumer.cached_slots() == 0
     }
 
-    /// Runs one round. The receiver's side pulls items and pushes them while it finds a free slot, at most as many as
-    /// the ring has room for, and keeps the one that finds no slot in hand. The presenter's side pops and presents at
-    /// most as many, until one fails. Each side takes its turn in a thread of its own. The gate is called after each
-    /// push and each pop.
+    /// Runs one round. The receiver's side pulls items and pushes them while it finds a free slot, at most as many as the ring
+    /// has room for, and keeps in hand the one that finds no slot. The presenter's side pops and presents at most as many, until
+    /// one fails. Each side takes its turn in a thread of its own. The gate is called after each push and each pop.
     ///
     /// If `ended` is `None`, the receiver must not have ended. All items together must be at most 2^62.
     pub fn round<T: Threads + Sync, R: Receiver, P: Presenter, G: Gate>(

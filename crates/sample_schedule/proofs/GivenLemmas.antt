@@ -61,7 +61,7 @@ given-on clock entries list old new h st keeps =
 
 -- ---- the whole list
 
--- Between two entries, the judge was given the first of them, and all that it shows of them is in the list.
+-- Between two entries: the judge was given the first of all entries, and the list has all that it shows of these.
 pub record Between (plan : SchedulePlan) (all left : List Entry) (list : List Shown) (judge : JudgeState) : Type 0 where
   pub same : judge.plan ≡ plan
   pub opened : judge.closed ≡ false

@@ -50,7 +50,7 @@ presented (Flags place item reason ∷ rest) = presented rest
 abbrev pub IsBefore : Accepted → Accepted → Type 0
 IsBefore a b = (a.instant <ℤ b.instant) ⊎ ((a.instant ≡ b.instant) × (a.place < b.place))
 
--- two accepted items are not copies of one packet: at equal first instants their sequence numbers differ
+-- two accepted items are not copies of the same packet: at equal first instants their sequence numbers differ
 abbrev pub IsNoCopy : Accepted → Accepted → Type 0
 IsNoCopy a b = a.instant ≡ b.instant → a.batch.seq ≢ b.batch.seq
 

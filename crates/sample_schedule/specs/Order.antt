@@ -15,7 +15,7 @@ abbrev pub put_behind : List Accepted → Accepted → List Accepted
 put_behind [] a = a ∷ []
 put_behind (b ∷ bs) a = if int_lt a.instant b.instant then a ∷ b ∷ bs else b ∷ put_behind bs a
 
--- accepted items by first instant, and at one instant in the order in which they were accepted
+-- accepted items by first instant, and at the same instant in the order in which they were accepted
 unfoldable pub by_instant : List Accepted → List Accepted
 by_instant accepted = fold put_behind [] accepted
 

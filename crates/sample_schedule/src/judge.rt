@@ -272,8 +272,8 @@ impl Judge {
         }
     }
 
-    /// The next item that is shown of the entries so far: before `close` only of those that are judged, after it of all. `None`
-    /// comes exactly if all of that was given. Allocates nothing.
+    /// The next item that is shown of the entries so far: before `close` only of those that are judged, after it of all. Returns
+    /// `None` exactly if all of that was given. Allocates nothing.
     pub fn next_out(&mut self) -> Option<Shown>
         ensures given { (clock : Clock) (entries : List EntryValue) (given : ℕ) → StandsFor clock entries given self.old → result ≡ slice_get (out clock self.old entries) given }
         ensures stands { (clock : Clock) (entries : List EntryValue) (given : ℕ) → StandsFor clock entries given self.old → StandsFor clock entries (given + length (option_to_list result)) self.new }

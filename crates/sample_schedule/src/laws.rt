@@ -46,7 +46,7 @@ pub fn presented_in_order()
     ensures { (clock : Clock) (plan : SchedulePlan) (entries : List Entry) → Pairwise IsBefore (presented (given clock plan entries)) }
 {}
 
-/// No two presented batches have both one first instant and one sequence number: a copy of an accepted packet is never
+/// No two presented batches have both the same first instant and the same sequence number: a copy of an accepted packet is never
 /// presented.
 pub fn copies_are_not_presented()
     ensures { (clock : Clock) (plan : SchedulePlan) (entries : List Entry) → Pairwise IsNoCopy (presented (given clock plan entries)) }

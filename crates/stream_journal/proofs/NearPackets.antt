@@ -1,4 +1,4 @@
--- Packets with one sequence number whose first instants are near are one packet.
+-- Packets with the same sequence number whose first instants are near are the same packet.
 use Rattle.std.proofs.Common.{◌≡◌, inl, inr, ℕ, ◌+◌, ◌-◌, ◌*◌, ◌%◌, ◌<◌, ◌≤◌, Bool, true, false, ℤ, pos, negsuc, neg_ℤ, ◌-ℤ◌, ◌*ℤ◌, ◌≤ℤ◌, ◌<ℤ◌, refl, sym, ap, ◌∙◌, subst, arith}
 use Rattle.std.specs.Prelude.{unsigned_abs}
 use Rattle.std.proofs.Math.Nat.{mul-le-mul_left}
@@ -100,7 +100,7 @@ abbrev AtAudio : Bool → Journal → ℕ → ℤ → Type 0
 AtAudio true j n x = IsAtByClock j n 0 x
 AtAudio false j n x = IsAtNominal j n 0 x
 
--- near packets are one, by the clock and without
+-- packets whose first instants are near are the same packet, by the clock and without
 by_both : (by_clock : Bool) (j : Journal) → IsAudio j → IsClock j.clock → AgreesWithClock j → (n m : ℕ) (x y : ℤ) → n < j.packets → m < j.packets → n % 256 ≡ m % 256
     → AtAudio by_clock j n x → AtAudio by_clock j m y → IsNear j 72 x y → n ≡ m
 by_both true j is clock agrees n m x y known there seq a b near = one_packet j is n m x y known there seq (clock_near j is clock agrees n x known a) (clock_near j is clock agrees m y there b) near

@@ -73,7 +73,7 @@ StampsUnits j part =
     ⊎ ((n : ℕ) → n < j.packets → (is_some (j.stamp n) ≡ true) ↔ Ends (part n))
 
 -- A stream of H.264. The packets of one access unit share one instant, and different access units have different instants:
--- packets due at one instant are of one access unit.
+-- packets due at the same instant are of the same access unit.
 pub record IsVideo (j : Journal) (part : ℕ → Part) : Type 0 where
   pub stamps : StampsUnits j part
   pub one_instant : (n instant : ℕ) → n < j.packets → j.stamp n ≡ Some instant → instant ≡ j.due n

@@ -42,8 +42,8 @@ IsFragment SparseAaf n = ⊥
 IsFragment (Am824 interval dbc) n = ⊥
 IsFragment (H264 part) n = (part n ≡ First) ⊎ ((part n ≡ Middle) ⊎ (part n ≡ Last))
 
--- Two fragments of H.264, not both stamped, are of packets at most 254 apart. Two that are stamped with one instant are of one
--- access unit, which has at most 255 packets, so they need no rule.
+-- Two fragments of H.264, not both stamped, are of packets at most 254 apart. Two that are stamped with the same instant are of
+-- the same access unit, which has at most 255 packets, so they need no rule.
 abbrev pub IsNear : Journal → ℕ → ℕ → Type 0
 IsNear j n m =
     IsFragment j.kind n → IsFragment j.kind m → ((j.stamp n ≡ None) ⊎ (j.stamp m ≡ None)) →

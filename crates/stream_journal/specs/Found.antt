@@ -13,7 +13,7 @@ pub record IsExpected (j : Journal) (lead : ℕ) (c : Copy) : Type 0 where
   pub from : j.due c.number * j.rate ≤ (c.arrival + lead) * j.rate + 60 * (j.count * 1000000000)
   pub to : (c.arrival + lead) * j.rate ≤ j.due c.number * j.rate + 60 * (j.count * 1000000000)
 
--- There is no restart between packets k and n: all packets from k to n have one restart bit.
+-- There is no restart between packets k and n: all packets from k to n have the same restart bit.
 abbrev pub HasNoRestart : Journal → ℕ → ℕ → Type 0
 HasNoRestart j k n = (i : ℕ) → k ≤ i → i ≤ n → j.mr i ≡ j.mr n
 

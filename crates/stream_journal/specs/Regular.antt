@@ -33,6 +33,6 @@ pub record IsRegularClock (c : ClockJournal) : Type 0 where
 -- the journal keeps these rules, too
 pub record IsRegular (j : Journal) : Type 0 where
   pub instants : AreInstants j
-  -- packets that are due at one instant, as those of an access unit of H.264, are adjacent
+  -- packets that are due at the same instant, as those of an access unit of H.264, are adjacent
   pub together : (n k m : ℕ) → n ≤ k → k ≤ m → m < j.packets → j.due n ≡ j.due m → j.due k ≡ j.due n
   pub clock : IsRegularClock j.clock

@@ -47,9 +47,9 @@ pub fn other_stamps_are_refused()
     ensures refused { (j : Journal) (lead : ℕ) (c : Copy) (far : Distance) (k : ℕ) (stamp : Stamp) → IsAudio j → IsUnstamped j lead c far → IsStampOf j k stamp → IsOther c.number k far → is_near (wanted j lead c far) stamp ≡ false }
 {}
 
-/// For a copy of a packet without a timestamp, a listener finds only the stamp of the packet that it is counted from, with no
-/// restart between the two, whatever stamps of the talker it has. So it finds the head that the packet has in the journal, and
-/// nothing for a packet that has none there.
+/// For a copy of a packet without a timestamp, a listener finds no other stamp than that of the packet that the copy is counted
+/// from, with no restart between the two, whatever stamps of the talker the listener has. So it finds the head that the packet
+/// has in the journal, and nothing for a packet that has none there.
 pub fn heads_are_true()
     ensures stamp { (j : Journal) (lead room : ℕ) (c : Copy) (far : Distance) (stamps : List Stamp) → IsAudio j → IsUnstamped j lead c far → All (IsTrue j) stamps → IfSome (found room (wanted j lead c far) stamps) (IsHeadOf j c.number far) }
     ensures head { (j : Journal) (lead room : ℕ) (c : Copy) (far : Distance) (stamps : List Stamp) → IsAudio j → IsUnstamped j lead c far → All (IsTrue j) stamps → IfSome (found room (wanted j lead c far) stamps) (IsCountedFrom j c.number far) }
@@ -77,14 +77,14 @@ pub fn clock_lines_are_true()
     ensures sample { (j : Journal) (n k : ℕ) (head : Head) (spot : Spot) → head_of j n ≡ Some head → IsSpotAt j head.instant spot → IsAtByClock j n k (instant_at spot.line ((spot.from +ℤ head.first) +ℤ pos k)) }
 {}
 
-/// With the clock, audio packets whose sequence numbers and first instants are equal are one packet: 256 packets take far
+/// With the clock, audio packets whose sequence numbers and first instants are equal are the same packet: 256 packets take far
 /// longer than the clock can add to the time at which a packet is due.
 pub fn packets_by_clock_are_told_apart()
     ensures { (j : Journal) (n m : ℕ) (x : ℤ) → Conforms j → IsAudioKind j.kind → n < j.packets → m < j.packets → n % 256 ≡ m % 256 → IsAt true j n 0 x → IsAt true j m 0 x → n ≡ m }
 {}
 
-/// Audio packets whose sequence numbers are equal and whose first instants, by the clock or without, are at most 72 packets'
-/// time apart are one packet: other packets are 256 numbers and so 192 packets' time apart, and the clock adds less than 18
+/// Audio packets whose sequence numbers are equal and whose first instants, by the clock or without, are at most 72 packets' time
+/// apart are the same packet: other packets are 256 numbers and so 192 packets' time apart, and the clock adds less than 18
 /// packets' time to the time at which a packet is due.
 pub fn near_packets_are_one()
     ensures { (j : Journal) (by_clock : Bool) (n m : ℕ) (x y : ℤ) → Conforms j → IsAudioKind j.kind → n < j.packets → m < j.packets → n % 256 ≡ m % 256 → IsAt by_clock j n 0 x → IsAt by_clock j m 0 y → IsNear j 72 x y → n ≡ m }
@@ -97,8 +97,8 @@ pub fn heads_are_found()
     ensures { (j : Journal) (lead room : ℕ) (c : Copy) (far : Distance) (stamps : List Stamp) (stamp : Stamp) → IsAudio j → HoldsEight j.packets j.mr → IsUnstamped j lead c far → All (IsTrue j) stamps → (found room (wanted j lead c far) stamps ≡ Some stamp) ↔ (IsExpected j lead c × IsAtHand j room c.number far stamps stamp) }
 {}
 
-/// If the packets of two adjacent points of one run that cover a packet's timestamp are among the last 64 of the clock that
-/// came, a listener finds a line for the timestamp, and it is the line of these two points.
+/// If the packets of two adjacent points of one run that cover a packet's timestamp are among the last 64 packets of the clock
+/// that came, a listener finds a line for the timestamp, and it is the line of these two points.
 pub fn lines_are_found()
     ensures some { (c : ClockJournal) (shift instant : ℤ) (rate : ℕ) (rows : List ClockRow) (p q : Place) → IsClock c → ArePointsAtHand c shift rows p q → Covers (pair_at c p q) rate instant → clock_spot rows shift instant rate ≢ None }
     ensures found { (j : Journal) (shift : ℤ) (rows : List ClockRow) (n : ℕ) (head : Head) (p q : Place) → IsClock j.clock → AgreesWithClock j → All (IsTrueRow j.clock shift) rows → n < j.packets → head_of j n ≡ Some head → ArePointsAtHand j.clock shift rows p q → Covers (pair_at j.clock p q) j.rate head.instant

@@ -375,7 +375,7 @@ pub run_of_place : (plan : TalkPlan) (crf : CrfPlan) (packets : ℕ) (a : Place)
 run_of_place plan crf packets a p e is = run_of_packet plan.restart crf plan.rate plan.count a.packet a.at (whole_runs plan crf p e)
     (known crf plan packets a is).within
 
--- two adjacent points with one restart bit are in one run, and others are not
+-- two adjacent points are in the same run exactly if they have the same restart bit
 pub one_run : (plan : TalkPlan) (crf : CrfPlan) (packets : ℕ) (a b : Place) → IsAudioPlan plan → plan.crf ≡ Some crf
     → Follows (clock_times crf plan packets) a b → InOneRun (clock_times crf plan packets) a b
     → IsBeside plan crf (number crf a)

@@ -66,7 +66,7 @@ later_run r jump n ok = elim (next_run r jump n ok) [ inl e ↦ omega arith | in
 one_bit : (a b : ℕ) → a ≤ b → b ≤ suc a → (a % 2 == 1) ≡ (b % 2 == 1) → a ≡ b
 one_bit a b least most e = grind (arith, nat_tests)
 
--- packets at most 7 apart are of one run if they have one restart bit
+-- packets at most 7 apart are of the same run if they have the same restart bit
 pub one_run : (r : Option ℕ) (jump m d n : ℕ) → Restarts r jump → d ≤ 7 → m + d ≡ n → (run_by r m % 2 == 1) ≡ (run_by r n % 2 == 1) → run_by r m ≡ run_by r n
 one_run None jump m d n ok few place e = refl
 one_run (Some packets) jump m d n ok few place e =

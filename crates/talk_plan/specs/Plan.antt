@@ -60,8 +60,8 @@ HasRate (Aaf format sparse) rate = IsSome (rate_code rate)
 HasRate Am824 rate = IsSome (fdf_of rate)
 HasRate (H264 last_stamp) rate = ⊥
 
--- A packet of AM824 has data blocks of at most 256 quadlets, which fit an Ethernet frame, and at least an eighth of SYT_INTERVAL
--- as many, so that a block is stamped in every 8 packets.
+-- A packet of AM824 has data blocks of at most 256 quadlets, which fit an Ethernet frame. It has at least an eighth of
+-- SYT_INTERVAL of them, so that a block is stamped in every 8 packets.
 pub record FitsBlocks (plan : TalkPlan) : Type 0 where
   pub quadlets : plan.channels ≤ 256
   pub some : interval_of plan.rate ≤ 8 * plan.count

@@ -72,7 +72,7 @@ instant_rises plan a b p h = elim (cases_lt a b) [
   | inr not ↦ let same : a ≡ b = omega arith in rw same (omega arith)
 ]
 
--- one instant is that of one access unit
+-- access units with the same instant are the same access unit
 pub one_access : (plan : TalkPlan) (a b : ℕ) → IsVideoPlan plan → access_instant plan a ≡ access_instant plan b → a ≡ b
 one_access plan a b p e = elim (cases_lt a b) [
   | inl less ↦ let later = instant_later plan a b p less in absurd (omega arith)

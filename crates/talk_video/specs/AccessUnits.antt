@@ -1,6 +1,6 @@
--- The NAL units of a byte stream, and which of them are of one access unit (ITU-T H.264, 7.4.1.2). The first two bytes of a
--- unit alone tell whether it begins a new access unit; this is a choice of this project. A unit is a range of the stream's
--- bytes, as in `nal_units`; units are counted from 0.
+-- The NAL units of a byte stream, and which of them are of the same access unit (ITU-T H.264, 7.4.1.2). The first two bytes of a
+-- unit alone tell whether it begins a new access unit; this is a choice of this project. A unit is a range of the stream's bytes,
+-- as in `nal_units`; units are counted from 0.
 use Rattle.std.specs.Prelude.{◌≡◌, ℕ, zero, suc, ◌+◌, ◌≤◌, ◌==◌, Bool, true, false, not, ◌&&◌, ◌||◌, nat_le, nat_lt, List, get_or}
 use Rattle.avtp_base.specs.Octets.{bits, flag, is_set}
 use Rattle.cvf_format.specs.Cvf.{type_of}

@@ -1,4 +1,4 @@
-//! The NAL units of a byte stream, and which of them are of one access unit.
+//! The NAL units of a byte stream, and which of them are of the same access unit.
 
 ghost use Rattle.std.specs.Prelude.{◌≡◌, ◌<◌, ◌≤◌, false, length, IfOk, IfErr, MatchOption, OnOk};
 ghost use Rattle.cvf_format.specs.AnnexB.{nal_units};

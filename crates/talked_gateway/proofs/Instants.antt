@@ -78,7 +78,7 @@ some_by x rate slow over = elim (cases_lt x 1000) [
 some_offset : (rate : ℕ) → 0 < rate → rate ≤ 192000 → 1000 ≤ nominal_offset rate 1
 some_offset rate some slow = let over = (is_offset rate 1 some).over in some_by (nominal_offset rate 1) rate slow (omega (arith, over))
 
--- x and y are times of parts of n events; z and w are times of parts of m events, which are at least the n, `last` and one more
+-- x and y are at most the time n; z and w are the time m, rounded down; m is at least n, `last` and `one` together
 after_by : (s j x y k z w n m most last one front : ℕ) → x + y ≤ n → m ≤ z + w + 1 → j ≤ k → n + last ≤ front → front + one ≤ most → most ≤ m → 1000 ≤ one → s + j + x + y + last + 999 ≤ s + k + z + w
 after_by s j x y k z w n m most last one front under over jumps step next more least = omega (arith, under, over, jumps, step, next, more, least)
 

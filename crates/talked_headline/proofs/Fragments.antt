@@ -89,7 +89,7 @@ pub first_before : (part : ℕ → Part) (from n : ℕ) → AreUnit part from n 
 first_before part from n (inl a) = let same = a.0 in omega arith
 first_before part from n (inr a) = let some = a.some in omega arith
 
--- the packets of a unit are due at one instant
+-- the packets of a unit are due at the same instant
 pub one_due : (plan : TalkPlan) (input : List ℕ) (last_stamp : Bool) (from n k : ℕ) → plan.kind ≡ H264 last_stamp → AreUnit (part_sent input) from n → from ≤ k → k ≤ n → (journal plan input).times.due k ≡ (journal plan input).times.due from
 one_due plan input last_stamp from n k e unit low high =
     due_is plan input last_stamp k e ∙ (ap (λ (u : ℕ). access_instant plan (access_unit input (sent_units input) u)) (same_unit input from n k unit low high) ∙ sym (due_is plan input last_stamp from e))

@@ -70,14 +70,14 @@ impl<'a> Talker<'a> {
     /// and data blocks in a packet that have at most 1468 bytes and are at least an eighth of SYT_INTERVAL. H.264 has a rate of
     /// 1 to 240 and neither restarts nor a clock; its channels and its count are not read.
     ///
-    /// A media clock has a base frequency of 1 to 200,000,000 Hz, a pull of 0 to 5, and 1 to 180 timestamps in a packet. The
-    /// time from one timestamp to the next, 1 to 65,535 events of the clock, is that of a whole number of sample frames, and
-    /// with restarts a run of the stream is a multiple of 8 packets of the clock.
+    /// A media clock has a base frequency of 1 to 200,000,000 Hz, a pull of 0 to 5, and 1 to 180 timestamps in a packet. The time
+    /// from one timestamp to the next, 1 to 65,535 events of the clock, is that of a whole number of sample frames, and with
+    /// restarts a run of the stream takes as long as a multiple of 8 packets of the clock.
     ///
-    /// `Frames` comes exactly if an audio input is not whole sample frames. For H.264, `StartCode` comes exactly if the input has
-    /// no start code; else `NalType` if a NAL unit has a type other than 1 to 23; else `Packets` if an access unit needs more
-    /// than 255 packets. `Arrival` comes exactly if none of these holds and a packet would arrive 2^32 seconds after 0 or later,
-    /// which none does with such a plan. `Memory` comes if memory runs out.
+    /// Returns `Frames` exactly if an audio input is not whole sample frames. For H.264, returns `StartCode` exactly if the input
+    /// has no start code; else `NalType` if a NAL unit has a type other than 1 to 23; else `Packets` if an access unit needs more
+    /// than 255 packets. Returns `Arrival` exactly if none of these holds and a packet would arrive 2^32 seconds after 0 or
+    /// later, which none does with such a plan. Returns `Memory` if memory runs out.
     pub fn begin(alloc: Global, plan: TalkPlan, input: &'a [u8]) -> Result<Self, TalkFault>
         requires plan { IsPlan plan }
         requires limit { length input.now ≤ most_input }
@@ -163,7 +163,7 @@ impl<'a> Talker<'a> {
         }
     }
 
-    /// The next frame to send, in the order of sending: by arrival, those of the clock first. `None` comes exactly if all
+    /// The next frame to send, in the order of sending: by arrival, those of the clock first. Returns `None` exactly if all
     /// frames were given.
     #[inline(always)]
     pub fn turn(&self) -> Option<Turn>
@@ -203,7 +203,7 @@ impl<'a> Talker<'a> {
         }
     }
 
-    /// The next of all frames, in the order of sending: by arrival, those of the clock first. `None` comes exactly if all
+    /// The next of all frames, in the order of sending: by arrival, those of the clock first. Returns `None` exactly if all
     /// frames were given. Allocates nothing.
     #[inline(always)]
     pub fn next(&mut self) -> Option<Sent<'_>>

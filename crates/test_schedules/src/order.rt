@@ -6,8 +6,8 @@ use avtp_base::NoMemory;
 use std::alloc::Global;
 use vectors_avtp::Draws;
 
-/// Unit n, captured 10 ns after the one before and due up to 20,000 ns later. No two have both one instant and one sequence
-/// number.
+/// Unit n, captured 10 ns after the one before and due up to 20,000 ns later. No two have both the same instant and the same
+/// sequence number.
 fn drawn(draws: &mut Draws, n: u16) -> (u32, Captured) {
     let arrival = 10 * u32::from(n);
     let instant = arrival + 100 * draws.below(200) + u32::from(n / 256);

@@ -1,5 +1,5 @@
--- Kept for proofs: what the code's own parts hold and do. No clause of a public call rests on it.
--- How far apart two batches of one packet may be.
+-- Kept for proofs: what the code's own parts hold and do. No clause of a public call rests on it. How far apart two batches of
+-- the same packet may be.
 use Rattle.std.specs.Prelude.{ℕ, ◌*◌, ◌/◌, ◌-◌, ◌^◌, min, if◌then◌else◌}
 use Rattle.sample_schedule.specs.Batches.{Presented, is_unit}
 

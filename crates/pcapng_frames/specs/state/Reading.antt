@@ -45,7 +45,7 @@ need_by stage.Block order part = block_need order part
 need_by stage.Option order part = option_need (order_or_little order) part
 need_by stage.Trailer order part = 4
 
--- How far a reader is in a block, by how many bytes are to be skipped, how many bytes of options are left, and the block's
+-- How far a reader is in a block, given how many bytes are to be skipped, how many bytes of options are left, and the block's
 -- total length: nothing is skipped before a block, and within a block these bytes and the trailer fit the total length.
 abbrev pub IsAhead : Stage → ℕ → ℕ → ℕ → Type 0
 IsAhead stage.Block skip left total = skip ≡ 0

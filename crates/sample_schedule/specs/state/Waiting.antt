@@ -21,7 +21,7 @@ pub record IsKey (batches : Slab Accepted) (key : Key) : Type 0 where
   pub instant : batch.instant ≡ key.instant
   pub seq : batch.batch.seq ≡ key.seq
 
--- no two keys have one slot
+-- no two keys have the same slot
 abbrev pub HaveOwnSlots : List Key → Type 0
 HaveOwnSlots [] = ⊤
 HaveOwnSlots (key ∷ rest) = AllByRecursion (λ other. other.slot ≢ key.slot) rest × HaveOwnSlots rest
