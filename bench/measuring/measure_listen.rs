@@ -1,6 +1,6 @@
 //! `measure_listen ROUNDS AVTP TWO ONE PACKETS TEXT STREAM CAPTURE`: runs `avtp listen` with rings of 64 and of 256 items in turn
 //! with its yardsticks, TWO of two threads that are joined in rounds and ONE of one thread. They print to nothing and, if TEXT is
-//! not empty, also to that file. Prints rows of `listen` beside each yardstick, for the best of ROUNDS runs.
+//! not empty, also to that file. Prints rows of `listen` compared with each yardstick, for the best of ROUNDS runs.
 
 mod row;
 mod runner;
@@ -60,7 +60,8 @@ impl Asked<'_> {
     }
 }
 
-/// Rows of `listen` to one sink: with each ring beside the yardstick of two threads, and then of one. `more` ends each name.
+/// Rows of `listen` to one sink: with each ring, compared with the yardstick of two threads and then with that of one. `more`
+/// ends each name.
 fn print_rows(runners: &[Runner], packets: f64, more: &str) {
     let [pairs @ .., one] = runners else { return };
     for pair in pairs.chunks_exact(2) {

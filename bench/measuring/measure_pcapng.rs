@@ -1,5 +1,5 @@
-//! `measure_pcapng AVTP PACKETS CLASSIC PCAPNG`: runs `avtp show` in turn, to nothing, on captures of the same packets, one classic
-//! and one pcapng. Prints a row of the second beside the first, for the best runs.
+//! `measure_pcapng AVTP PACKETS CLASSIC PCAPNG`: runs `avtp show` in turn, to nothing, on captures of the same packets, one
+//! classic and one pcapng. Prints a row of the second compared with the first, for the best runs.
 
 mod row;
 mod runner;

@@ -1,6 +1,6 @@
-//! `measure_talk AVTP YARDSTICK COPY SAMPLES CAPTURE OTHER PACKETS`: runs `avtp talk`, which makes CAPTURE of the file SAMPLES, in turn
-//! with its yardstick, which makes OTHER of it, and with a plain copy of the capture to OTHER. Prints rows of the best runs:
-//! by the wall clock, by processor time, and beside the copy.
+//! `measure_talk AVTP YARDSTICK COPY SAMPLES CAPTURE OTHER PACKETS`: runs `avtp talk`, which makes CAPTURE of the file SAMPLES,
+//! in turn with its yardstick, which makes OTHER of it, and with a plain copy of the capture to OTHER. Prints rows of the best
+//! runs: by the wall clock, by processor time, and compared with the copy.
 
 mod row;
 mod runner;

@@ -1,5 +1,5 @@
-//! A row of the table of results: what was measured, the seconds it took, how many things a second, the throughput beside that
-//! of a yardstick, and the largest resident memory in KiB.
+//! A row of the table of results: what was measured, the seconds it took, how many things a second, the throughput compared with
+//! that of a yardstick, and the largest resident memory in KiB.
 
 /// What `bench/run` writes above the rows.
 #[allow(dead_code)] // Printed by one of the programs.

@@ -1,4 +1,4 @@
-//! The packets of the formats beside AAF: IEC 61883-6, H.264 in CVF, and CRF.
+//! The packets of the formats other than AAF: IEC 61883-6, H.264 in CVF, and CRF.
 
 use crate::aaf::{HEADER, check_header};
 use crate::pcap::{Refusal, cut_off, u16_at};

@@ -1,2 +1,2 @@
--- Kept for proofs alone: no clause of a public call rests on what lies here.
+-- Kept for proofs alone: no clause of a public call rests on anything here.
 pub mod FileShelf

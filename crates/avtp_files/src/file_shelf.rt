@@ -26,7 +26,7 @@ pub struct RealFile<F> {
     made: bool,
 }
 
-/// Real files, by their paths. The shelf does not show their contents. If the system tells what its files hold, a read or a
+/// Real files, by their paths. The shelf does not show their contents. If the system shows what its files hold, a read or a
 /// write moves exactly the bytes that it reports. A missing file counts as a fault.
 ///
 /// A file that was opened for reading is never made or emptied, under any path, and neither is standard output if it is a file:
@@ -59,7 +59,7 @@ impl<'a, R: Files + Eprint + Alloc> FileShelf<'a, R> {
         }
     }
 
-    /// Makes this shelf also tell each fault on standard error, after the name of the program.
+    /// Makes this shelf also report each fault on standard error, after the name of the program.
     pub fn telling(self, program: &'static str) -> Self
         ensures live { result.live ≡ self.entry.live }
         ensures reading { result.reading_faults ≡ self.entry.reading_faults }

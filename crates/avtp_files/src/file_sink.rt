@@ -13,7 +13,7 @@ use std::fs;
 use std::io::{self, Eprint};
 use std::rt::Files;
 
-/// A real file. Contracts do not see what it holds. If the system tells that, a write adds exactly the bytes that it reports.
+/// A real file. Contracts do not see what it holds. If the system shows that, a write adds exactly the bytes that it reports.
 ///
 /// A file at one of the paths in `apart` is never made or emptied, under any path, and neither is standard output if it is a
 /// file: `write` returns `Failed`, and the file is unchanged.
@@ -43,7 +43,7 @@ impl<R: Files + Eprint + Alloc> FileSink<R> {
         }
     }
 
-    /// Makes this sink also tell each fault on standard error, after the name of the program.
+    /// Makes this sink also report each fault on standard error, after the name of the program.
     pub fn telling(self, program: &'static str) -> Self
         ensures { result.faults ≡ self.faults }
     {

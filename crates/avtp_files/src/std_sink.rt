@@ -6,7 +6,7 @@ use crate::sink::Sink;
 use avtp_base::Failed;
 use std::io::Write;
 
-/// Standard output, or another writer of the system. Contracts do not see what it holds. If the writer tells that, a write adds
+/// Standard output, or another writer of the system. Contracts do not see what it holds. If the writer shows that, a write adds
 /// exactly the bytes that it reports.
 #[derive(Drop)]
 pub struct StdSink<W> {

@@ -6,8 +6,8 @@ use avtp_base::{Failed, OpenFault};
 use avtp_files::{Shelf, Slot};
 use std::alloc::Global;
 
-/// Keeps as much of each written file as fits its room, and takes the rest without keeping it. It tells its files only while
-/// everything that was written fits; after that it never tells them again.
+/// Keeps as much of each written file as fits its room, and takes the rest without keeping it. It shows its files only while
+/// everything that was written fits; after that it never shows them again.
 #[derive(Debug, Drop)]
 pub struct QuietShelf {
     held: MemoryFiles,
@@ -64,7 +64,7 @@ impl Shelf for QuietShelf {
 
     ghost told = { λ shelf k told live. told_of_live shelf.held k live };
 
-    /// Never fails. A shelf that no longer tells its files cannot say that one is missing, and returns `Memory`.
+    /// Never fails. A shelf that no longer shows its files cannot say that one is missing, and returns `Memory`.
     fn open_file(&mut self, name: &str) -> Result<Slot, OpenFault> {
         self.asked.note(name);
         match self.held.open(name) {

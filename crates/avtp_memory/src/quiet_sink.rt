@@ -7,7 +7,7 @@ use avtp_base::{Failed, NoMemory};
 use avtp_files::Sink;
 use std::alloc::Global;
 
-/// Keeps as much as fits its room, and takes the rest without keeping it. It tells what it holds only while all of it fits.
+/// Keeps as much as fits its room, and takes the rest without keeping it. It shows what it holds only while all of it fits.
 #[derive(Debug, Drop)]
 pub struct QuietSink {
     bytes: Vec<u8>,

@@ -1,4 +1,4 @@
--- A fact about the arguments of a program is a fact about those that its system tells.
+-- A fact about the arguments of a program is a fact about those that its system shows.
 use Rattle.std.proofs.Common.{◌≡◌, ℕ, List, Option, Some, None, subst, refl}
 use Rattle.std.specs.Prelude.{IfSome, IsSome}
 use Rattle.avtp_base.specs.States.{SinkState}

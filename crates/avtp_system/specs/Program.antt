@@ -1,4 +1,4 @@
--- What a program does with the arguments that its system tells.
+-- What a program does with the arguments that its system shows.
 use Rattle.std.specs.Prelude.{◌≡◌, ◌⊎◌, ℕ, ⊤, true, false, nat_lt, List, [], Option, None, Some}
 use Rattle.avtp_base.specs.States.{ShelfState, SinkState}
 use Rattle.device_rack.specs.OutputFiles.{AreOutput, failures_of, raw_outlet, units_outlet}

@@ -10,15 +10,15 @@ use avtp_tool::Status;
 pub trait System<S> {
     ghost use Rattle.std.specs.Prelude.{ℕ, List, Option};
 
-    /// The arguments after the program's name, if the system tells them.
+    /// The arguments after the program's name, if the system shows them.
     ghost told: { Self → Option (List (List ℕ)) };
 
-    /// The path of a file, if the system tells its arguments.
+    /// The path of a file, if the system shows its arguments.
     ghost path: { Self → S → List ℕ };
 
     /// The arguments after the program's name.
     ///
-    /// A system that tells its arguments fails only if memory runs out. Any other system returns `Words` if an argument is not
+    /// A system that shows its arguments fails only if memory runs out. Any other system returns `Words` if an argument is not
     /// text.
     fn words(&self) -> Result<Vec<String>, Status>
         ensures said { IfOk result (λ words. IfSome (told self.now) (λ said. texts words.items ≡ said)) }

@@ -140,7 +140,7 @@ struct KeptLine {
 }
 
 impl KeptLine {
-    /// Overwrites the numbers in the line with another packet's, and returns whether these have as many digits.
+    /// Overwrites the numbers in the line with another packet's, and returns whether these have equally many digits.
     #[tactic(auto, using(crate::proofs::Digits::digits_of_u64))]
     fn turn_to(&mut self, frame: u64, seq: u8) -> bool
         ensures { IsTrue result → (packet : SamplePacket) → KnowsGaps self.old packet → KnowsGaps self.new (seen_as frame seq packet.size) }

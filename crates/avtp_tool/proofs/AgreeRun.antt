@@ -67,7 +67,7 @@ missing_b : (asked : Agreeing) (a : Option (List ℕ)) → (agree_ended asked a 
 missing_b asked None = (refl, refl)
 missing_b asked (Some x) = (refl, refl)
 
--- what a run comes to, given what a shelf tells of both files
+-- what a run comes to, given what a shelf shows of both files
 abbrev pub ComesTo : Agreeing → List (List ℕ) → Status → List ℕ → Option (List ℕ) → Option (List ℕ) → Type 0
 ComesTo asked came ended text a b = (came ≡ agree_came asked a) × (ended ≡ agree_ended asked a b) × (text ≡ agree_report asked a b)
 

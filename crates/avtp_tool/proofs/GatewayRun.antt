@@ -58,7 +58,7 @@ gateway_here asked files fault = at (files asked.input) refl where
 
 -- ---- any other outcome needs a fault of reading
 
--- what a run comes to, given what a shelf tells of IN
+-- what a run comes to, given what a shelf shows of IN
 abbrev pub TurnsOut : Turning → List (List ℕ) → Status → List ℕ → Option (List ℕ) → Option (List ℕ) → Type 0
 TurnsOut asked came ended text made told = (came ≡ gateway_came asked told) × (ended ≡ gateway_ended asked told) × (text ≡ gateway_report asked told) × (made ≡ gateway_made asked told)
 

@@ -106,7 +106,7 @@ capture_first records n =
           ∙ ap (λ (b : List ℕ). header ++ b) (sym (flat_map-append one (take n records) (drop n records)) ∙ ap (flat_map one) (take-append-drop n records))),
     )
 
--- its file was made, written and closed: each slot is as it was, but for what is left to read of the file
+-- its file was made, written and closed: each slot is as it was, except for what is left to read of the file
 pub slots_closed : {s t u v : ShelfState} {w w' : Writing} {name : List ℕ} {result : Result Unit Failed} (records : List Record) → BeginsCapture s t name (Ok w) → KeepsOtherFiles t.slots u.slots (name_in t.slots w.slot) → w'.slot ≡ w.slot
     → HoldsCapture s.files u w' name records → ClosesCapture u v w' result → KeepsSlotsBut s.files s.slots v.slots name
 slots_closed {s} {t} {u} {v} {w} {w'} {name} records begins others slot holds closes = record { same = same; left = left } where
@@ -138,7 +138,7 @@ prefix_further rest split p = record { prefix = p.prefix; rest = p.rest ++ rest;
 pub whole_prefix : (f g : Option Files) (name bytes : List ℕ) → PutsFile f g name bytes → PutsPrefix f g name bytes
 whole_prefix f g name bytes put = record { prefix = bytes; rest = []; split = sym (append-nil bytes); put = put }
 
--- ---- runs that make a file, or do not come to it
+-- ---- runs that make a file, or do not reach it
 
 -- the file was made, and the run failed or ended with `Done`
 pub makes_whole : {f g : Option Files} {name bytes : List ℕ} (result : Result Status Failed) → PutsFile f g name bytes → IfOk result (λ s. s ≡ status.Done) → Makes name bytes f g result
@@ -151,14 +151,14 @@ makes_part open_fault.Memory part = record { done = λ e. absurd cc; part = part
 makes_part open_fault.Missing part = record { done = λ e. absurd cc; part = part; untouched = λ done write. absurd (write refl) }
 makes_part open_fault.Failed part = record { done = λ e. absurd cc; part = part; untouched = λ done write. absurd (write refl) }
 
--- the run did not come to the file
+-- the run did not reach the file
 pub makes_none : {name bytes : List ℕ} (f : Option Files) (result : Result Status Failed) → (result ≡ Ok status.Done → ⊥) → Makes name bytes f f result
 makes_none {name} {bytes} f result never = record { done = λ e. absurd (never e); part = inl (KeepsFiles-refl f); untouched = kept result } where
   kept : (r : Result Status Failed) → IfOk r (λ s. s ≢ status.Done → s ≢ status.WriteFault → s ≢ status.Memory → KeepsFiles f f)
   kept (Ok s) = λ done write memory. KeepsFiles-refl f
   kept (Err e) = tt
 
--- the files were unchanged before the run came to the file
+-- the files were unchanged before the run reached the file
 pub makes_after : {a b c : Option Files} {name bytes : List ℕ} {result : Result Status Failed} → KeepsFiles a b → Makes name bytes b c result → Makes name bytes a c result
 makes_after {a} {b} {c} {name} {bytes} {result} keeps m = record {
   done = λ e. KeepsFiles-puts a b c name bytes keeps (m.done e);
@@ -171,7 +171,7 @@ makes_after {a} {b} {c} {name} {bytes} {result} keeps m = record {
 
 -- ---- all else that a run leaves
 
--- a run that did not come to the file wrote nothing
+-- a run that did not reach the file wrote nothing
 pub writes_none : {s : ShelfState} (name : List ℕ) (result : Result Status Failed) → (IsDone result → ⊥) → (result ≡ Ok status.WriteFault → ⊥) → WritesOnly s s name result
 writes_none {s} name result not_done not_failed = record {
   files = files_still (Some name) s.files;
@@ -188,7 +188,7 @@ writes_none {s} name result not_done not_failed = record {
   ] refl
   never (Err e) other = tt
 
--- a run came to the file, and changed nothing else
+-- a run reached the file, and changed nothing else
 pub writes_made : {s t : ShelfState} {bytes : List ℕ} (name : List ℕ) (made : Result Unit OpenFault) (result : Result Status Failed) → MakesFile s t name bytes made
     → KeepsFilesBut (Some name) s.files t.files → CountsWriting (Some name) s.writing_faults t.writing_faults result → (IsDone result → IsOk made) → IfOk result (λ e. (e ≡ status.Memory) ⊎ ((e ≡ status.WriteFault) ⊎ (e ≡ status.Done))) → WritesOnly s t name result
 writes_made {s = s} {t} name made result makes files writing done ends = record {

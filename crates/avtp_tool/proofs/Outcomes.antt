@@ -125,8 +125,7 @@ tells_weaker weaker t = record { ended = t.ended; yields = t.yields; outcome = w
 
 -- ---- a file that could not be opened
 
--- why a file of this name was not opened, other than for want of memory: the count of reading faults rose, or the file is
--- missing
+-- why a file of this name was not opened, if not because memory ran out: the count of reading faults rose, or the file is missing
 abbrev pub Unopened : ℕ → ℕ → Option Files → List ℕ → Type 0
 Unopened before after files name = Rose before after ⊎ IsMissing files name
 
@@ -174,7 +173,7 @@ counts_fault (Err e) before after files name falls cause is = record { never_fal
 pub ok_same : (x : Result Status Failed) (s r : Status) → x ≡ Ok s → x ≡ Ok r → s ≡ r
 ok_same x s r first second = cc
 
--- a run that was cut short for want of memory
+-- a run that was cut short because memory ran out
 pub counts_memory : {before after : ℕ} {names : List (List ℕ)} {files : Option Files} (result : Result Status Failed) → before ≤ after → result ≡ Ok status.Memory → CountsReading names files before after result
 counts_memory (Ok s) falls is = record {
   never_falls = falls;

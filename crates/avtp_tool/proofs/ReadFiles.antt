@@ -77,7 +77,7 @@ pub record IsReadTo (plan : ReadPlan) (handed : List Shown → Type 0) (all : Fi
   pub order : InOrder (one_outcome plan all (Rose before after)) names names ended yields
   pub gives : Gives handed old now yields
 
--- The first files of a plan were read to their ends, as far as the shelf tells its files, and the run so far left all else
+-- The first files of a plan were read to their ends, as far as the shelf shows its files, and the run so far left all else
 -- unchanged.
 pub record ReadsTo (plan : ReadPlan) (handed : List Shown → Type 0) (names : List (List ℕ)) (ended : Status) (s t : ShelfState) (old now : Option (List ℕ)) : Type 0 where
   pub done : is_done ended ≡ true

@@ -45,7 +45,7 @@ use Rattle.avtp_tool.proofs.Talked.{read_counted, talks_unopened, tells_caused, 
 abbrev pub CameAs : Talking → Result Status Failed → ShelfState → ShelfState → Type 0
 CameAs asked result a b = IfOk result (λ s. s ≢ status.Memory → s ≢ status.WriteFault → Asks (talk_came asked s) a b)
 
--- what `talk` makes, given what a shelf tells of its input and the run's status
+-- what `talk` makes, given what a shelf shows of its input and the run's status
 made_by : (P : Option (List ℕ) → Type 0) (plan : TalkPlan) (told : Option (List ℕ)) (ended : Status) → (told ≡ None → ended ≢ status.Done) → (ended ≢ status.Done → P None)
     → ((bytes : List ℕ) → told ≡ Some bytes → ended ≡ status.Done → P (Some (capture plan bytes))) → P (talk_made plan told ended)
 made_by P plan None ended never none some = none (never refl)
@@ -157,7 +157,7 @@ quiet_by : (halt : Stop) (result : Result Status Failed) (before after : ℕ) �
 quiet_by halt (Ok s) before after counts quiet = λ fault memory write. still_by halt before after counts (quiet fault memory write)
 quiet_by halt (Err e) before after counts quiet = tt
 
--- what was read of the input, if the shelf tells its files
+-- what was read of the input, if the shelf shows its files
 abbrev pub IsInput : Option Files → List ℕ → Contents → Type 0
 IsInput files name contents = (all : Files) → files ≡ Some all → (bytes : List ℕ) × (all name ≡ Some bytes) × IsContents most_input bytes contents.stop contents.bytes.items
 

@@ -96,7 +96,7 @@ module _ (asked : Turning) (shape : Option Shape) (files : Option Files) (s : Sh
     counted = sym (ap (λ (l : List Presented). length l) (none_presented asked));
   }
 
--- a file whose bytes the shelf tells is not missing
+-- a file whose bytes the shelf shows is not missing
 missing_not : (files : Option Files) (all : Files) (name bytes : List ℕ) → files ≡ Some all → all name ≡ Some bytes → IsMissing files name → ⊥
 missing_not None all name bytes told has missing = missing
 missing_not (Some f) all name bytes told has missing = (let same : f ≡ all = cc in let none : all name ≡ None = ap (λ (g : Files). g name) (sym same) ∙ missing in let t : None ≡ Some bytes = sym none ∙ has in cc)

@@ -61,7 +61,7 @@ pub record Reports (request : Request) (files : Files) (failed : Bool) (handed :
   -- If no fault of reading came, this is the whole report on these files.
   pub complete : ReadsAll shelf shelf' →
       (came ≡ came_for request files) × (reached ≡ status_for request files failed) × (yields ≡ yield_for request files failed) × (made ≡ made_for request files)
-  -- What `listen` yields of each file that it came to is as the headline says, as far as the file was read and is of a talker
+  -- What `listen` yields of each file that it reached is as the headline says, as far as the file was read and is of a talker
   -- that keeps the rules. Each file may have its own journal.
   pub headline : (asked : Listening) (earlier later : List (List ℕ)) (name bytes : List ℕ) → request ≡ listen asked → came ≡ earlier ++ name ∷ later →
       files name ≡ Some bytes → HasHeadline asked files (Rose shelf.reading_faults shelf'.reading_faults) earlier name bytes yields
@@ -98,7 +98,7 @@ pub record HasCauses (request : Request) (shelf shelf' : ShelfState) (out out' :
 -- unchanged, and `failed` whether a device failed.
 pub record HasRun (request : Request) (handed : List Shown → Type 0) (still : Type 0) (failed : Bool) (shelf shelf' : ShelfState)
     (out out' : SinkState) (ended : Status) : Type 0 where
-  -- what is printed and given to devices, if the shelf tells its files before and after the run
+  -- what is printed and given to devices, if the shelf shows its files before and after the run
   pub reports : (files : Files) → shelf.files ≡ Some files → IsSome shelf'.files → Reports request files failed handed shelf shelf' out out' ended
   -- the sink keeps what it held
   pub grows : Grows out.held out'.held

@@ -17,7 +17,7 @@ MakesPart None made old new = KeepsFiles old new
 MakesPart (Some name) None old new = KeepsFiles old new
 MakesPart (Some name) (Some bytes) old new = MakesPrefix old new name bytes
 
--- all files that a shelf tells are unchanged, except for the one that is written, if any
+-- all files that a shelf shows are unchanged, except for the one that is written, if any
 abbrev pub KeepsFilesBut : Option (List ℕ) → Option Files → Option Files → Type 0
 KeepsFilesBut None old new = KeepsFiles old new
 KeepsFilesBut (Some name) None None = ⊤

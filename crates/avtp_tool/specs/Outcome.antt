@@ -19,7 +19,7 @@ Only ended yields e y = (e ≡ ended) × (y ≡ yields)
 
 -- ---- reading faults, and names
 
--- the shelf tells that one of these files is missing
+-- the shelf shows that one of these files is missing
 pub record IsOneMissing (names : List (List ℕ)) (files : Option Files) : Type 0 where
   pub name : List ℕ
   pub one : Contains names name

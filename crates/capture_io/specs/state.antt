@@ -1,4 +1,4 @@
--- Kept for proofs alone: no clause of a public call rests on what lies here.
+-- Kept for proofs alone: no clause of a public call rests on anything here.
 pub mod Contents
 pub mod Pieces
 pub mod Reader

@@ -388,7 +388,7 @@ shown-is : (plan : ListenPlan) (records : List Record) (l : ListenState) → l.p
     → presented_by l records ≡ presented_of (shown_of plan records)
 shown-is plan records l is closed = ap presented_of (out_ended l records closed) ∙ ap (λ (p : ListenPlan). presented_of (shown_of p records)) is
 
--- a pair that wants more of A knows what is due of A, which may continue, beside all that is shown of B
+-- a pair that wants more of A knows what is due of A, which may continue, and all that is shown of B
 pub fault-a : (plan : ListenPlan) (records others more : List Record) (given : ℕ) (pair : PairState)
     → StandsFor records others given pair → HavePlan plan pair → EndsAreClosed pair → wanted_by pair ≡ Some A
     → is_closed pair.a ≡ false → (is_closed pair.b ≡ true → more ≡ [])
@@ -416,7 +416,7 @@ fault-a plan records others more given pair s plans ends w opened none =
     (is_closed pair.a) (is_closed pair.b) m s.matches (further-now records others pair ends) w (s.filled_a w) refl opened
     ∙ sym (known-done-a list other s.shown_a s.shown_b given xs ys false true m s.matches f w (s.filled_a w) refl refl)
 
--- a pair that wants more of B knows all that is shown of A, beside what is due of B, which may continue
+-- a pair that wants more of B knows all that is shown of A, and what is due of B, which may continue
 pub fault-b : (plan : ListenPlan) (records others more : List Record) (given : ℕ) (pair : PairState)
     → StandsFor records others given pair → HavePlan plan pair → EndsAreClosed pair → wanted_by pair ≡ Some B
     → is_closed pair.b ≡ false → (is_closed pair.a ≡ true → more ≡ [])

@@ -41,7 +41,7 @@ more-b list other longer n k given m first opened h = record {
   ended_b = λ t. let e = sym opened ∙ t in absurd (cc);
 }
 
--- A listener continued: it has shown as many items, and what it shows begins with what it showed.
+-- A listener continued: it has shown equally many items, and what it shows begins with what it showed.
 pub record Extends (records then : List Record) (old new : ListenState) : Type 0 where
   pub stands : (n : ℕ) → IsGiven records n old → IsGiven then n new
   pub longer : IsPrefix (out old records) (out new then)

@@ -20,7 +20,7 @@ rows-noted xs kept =
 all-one : {X : Type 0} (P : X → Type 0) (xs : List X) (x : X) → All P xs → P x → All P (xs ++ x ∷ [])
 all-one P xs x all is = All-append P xs (x ∷ []) all (All-cons P x [] is (All-nil P))
 
--- the packets that are kept, but for the oldest of 64, and one more
+-- the packets that are kept, without the oldest of 64, and one more
 abbrev pub IsNoted : Buffer Kept → Buffer Kept → Kept → Type 0
 IsNoted old new kept = new ≡ buffer (keep_last 63 old.items ++ kept ∷ []) 64
 

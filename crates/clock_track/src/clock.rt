@@ -127,7 +127,7 @@ fn put_behind(rows: &mut HeapCircularBuffer<Kept>, kept: Kept)
 pub struct Clock {
     shift: i64,
     rows: HeapCircularBuffer<Kept>,
-    /// Room for as many packets as are missing to 64.
+    /// Room for the packets that are missing to make 64.
     spare: Vec<Vec<u8>>,
 }
 

@@ -42,7 +42,7 @@ items-next [] (suc n) = refl
 items-next (e ∷ es) zero = omega (arith, count-next is_item e [], due-one e)
 items-next (e ∷ es) (suc n) = omega (arith, count-next is_item e (take (suc n) es), count-next is_item e (take n es), items-next es n)
 
--- as many items are shown of the first places as there are items among them
+-- the number of items shown of the first places is the number of items among them
 each-below : (n : ℕ) (es : List Entry) (gs : List Given) → ((i : ℕ) → count_by (at i) gs ≡ times_due (slice_get es i)) → count_by (below n) gs ≡ count_by is_item (take n es)
 each-below zero es gs each = none-below gs
 each-below (suc n) es gs each = omega (arith, below-next n gs, each-below n es gs each, each n, items-next es n)

@@ -204,7 +204,7 @@ stands_with records r given old new st opened in_it plan still schedule lasting 
 
 -- ---- an item is shown
 
--- A listener is as before but for the next item, which was taken from it.
+-- A listener is as before, except that the next item was taken from it.
 pub record Goes (old new : ListenState) : Type 0 where
   pub plan : new.plan ≡ old.plan
   pub closed : is_closed new ≡ is_closed old

@@ -1,4 +1,4 @@
--- A capture beside itself never differs.
+-- A capture compared with itself never differs.
 use Rattle.std.proofs.Common.{◌≡◌, ◌≢◌, ℕ, suc, ◌+◌, ◌*◌, ◌<◌, ◌≤◌, Bool, true, false, cond, ◌&&◌, ◌||◌, not, eqb, ℤ, ◌≤ℤ◌, ◌<ℤ◌, ◌-ℤ◌, pos, List, [], ◌∷◌, ◌++◌, length, map, Option, Some, None, refl, sym, ap, ◌∙◌, subst, arith, append_assoc, length-append}
 use Rattle.std.specs.Prelude.{◌==◌, nat_le, unsigned_abs, option_map}
 use Rattle.std.specs.List.{AllByRecursion, IsDistinct, cons_option, filter_map, find, list_any}
@@ -23,7 +23,7 @@ use Rattle.listener_pair.proofs.Windows.{le-yes}
 use Rattle.pair_laws.specs.Beside.{AreAllTold, AreTold, IsPresentation}
 use Rattle.capture_pair.proofs.Joined.{merges}
 
--- ---- a batch beside itself
+-- ---- a batch compared with itself
 
 no-difference : (s : Which) (x : Presented) → difference_by s x x ≡ None
 no-difference A x = ap (option_map _) (sym (no-way x x refl (equal-batches x x x.count refl refl refl refl)))

@@ -17,7 +17,7 @@ ghost use Rattle.capture_pair.specs.Pairing.{Continues, EndsAreClosed, HavePlan,
 ghost use Rattle.pair_laws.specs.Agreeing.{IsOfAnother, IsOneOf, IsPairOf, IsPresentedOfTalker};
 ghost use Rattle.pair_laws.specs.Beside.{IsPresentation};
 
-/// A capture beside itself never differs, whatever it holds: all that a listener presents of it is paired, each batch with
+/// A capture compared with itself never differs, whatever it holds: all that a listener presents of it is paired, each batch with
 /// itself. The premise is that each sequence number is a byte.
 pub fn a_capture_beside_itself_never_differs()
     ensures differ { (list : List Presented) → IsPresentation list → differences (merged list list) ≡ [] }
@@ -50,8 +50,8 @@ pub fn batches_of_one_talker_never_differ()
     ensures presented { (shift : ℤ) (p : PacketJournal) (plan : ListenPlan) (records : List Record) → HearsTalker shift p plan records → AllByRecursion (IsPresentedOfTalker (by_clock plan) p) (presented_of (shown_of plan records)) }
 {}
 
-/// The differences that a pair has given are the first of those that are known, and stay so however the two captures continue
-/// or end.
+/// The differences that a pair has given are the first of those that are known, and remain the first, however the two captures
+/// continue or end.
 pub fn what_was_given_stays()
     ensures within { (records others : List Record) (given : ℕ) (pair : PairState) → StandsFor records others given pair → EndsAreClosed pair → given ≤ length (differences (known_by pair records others)) }
     ensures stays { (records others more more_others : List Record) (given : ℕ) (old new : PairState) → StandsFor records others given old → EndsAreClosed old → Continues more more_others old new

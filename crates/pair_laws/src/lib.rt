@@ -1,4 +1,4 @@
-//! Laws of the pairs of two captures: a capture beside itself never differs, and neither do two captures of one talker.
+//! Laws of the pairs of two captures: a capture compared with itself never differs, and neither do two captures of one talker.
 #![tactic(auto)]
 
 pub mod laws;

@@ -8,7 +8,7 @@ use Rattle.pcapng_frames.specs.declared.block.Stage.{Stage}
 use Rattle.pcapng_frames.specs.declared.block.Stage.TheVariants as stage
 use Rattle.pcapng_frames.specs.Blocks.{Place, Contents, contents, contents_from, whole_records, first_refusal, settled, ends, and_then, first_place, after_trailer, short_at}
 
--- The state of a reader: the place that it has come to; how many bytes are to be skipped before that place; the bytes that have
+-- The state of a reader: the place that it has reached; how many bytes are to be skipped before that place; the bytes that have
 -- come there; whether the block's packet is whole; and the refusal.
 pub record Reading : Type 0 where
   pub place : Place

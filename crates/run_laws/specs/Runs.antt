@@ -15,7 +15,7 @@ use Rattle.avtp_tool.specs.declared.status.Status.{Status}
 use Rattle.avtp_tool.specs.HasRun.{HasRun, ReadsAll}
 
 -- A run of these words that ended with this status. All that is known of it is what `run` promises of one request (`HasRun`),
--- with the same `handed`, `still` and `failed`. No fault of reading came, and the shelf tells its files, which were `files`
+-- with the same `handed`, `still` and `failed`. No fault of reading came, and the shelf shows its files, which were `files`
 -- before the run and are `files'` after it.
 pub record Ran (words : List (List ℕ)) (handed : List Shown → Type 0) (still : Type 0) (failed : Bool) (files files' : Files) (ended : Status) : Type 0 where
   pub shelf : ShelfState

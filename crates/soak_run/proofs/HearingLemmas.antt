@@ -19,14 +19,14 @@ use Rattle.listener.proofs.Places.{presented-or-flagged}
 
 -- ---- how many items were shown
 
--- as many items as were presented or flagged
+-- the number of items shown is that of the items presented and flagged
 shown_count : (listener : ListenState) (records : List Record) (given : ℕ) → StandsFor records given listener → shown_by listener ≡ given
 shown_count listener records given stands =
     let all = out listener records in
     let long : length (take given all) ≡ given = omega (arith, length-take given all, stands.within) in
     rw stands.counts (presented-or-flagged (take given all) ∙ long)
 
--- the items of at most as many records as there are
+-- at most as many items were shown as there are records
 shown_few : (listener : ListenState) (records : List Record) (given : ℕ) → StandsFor records given listener → given ≤ length records
 shown_few listener records given stands =
     let most : length (out listener records) ≤ length records = few (is_closed listener) _ _ listener.plan records in

@@ -37,7 +37,7 @@ ended hearing = pull_at hearing.stage
 abbrev pub handed : SoakCounts → SoakCounts → List Shown → Type 0
 handed begun now items = now ≡ with_all begun items
 
--- What was shown so far of this many deliveries was counted, but for what waits in the pipe.
+-- What was shown so far of this many deliveries was counted, except for what waits in the pipe.
 pub record HasCounted (delivered : ℕ) (begun now : Hearing) (pipe : Pipe) (counts : SoakCounts) : Type 0 where
   pub items : List Shown
   pub shown : HasShown begun now items

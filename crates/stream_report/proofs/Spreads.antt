@@ -115,7 +115,7 @@ all-up (v ∷ values) = done (up-yes (int_max (greatest_of values) v) v values (
     done : {a b c l : ℕ} → a ≡ b + 1 → c ≡ l → c ≤ b → b ≤ l → a ≡ suc l
     done e f le up = omega (arith, e, f, le, up)
 
--- ---- the rank, and the value that is told
+-- ---- the rank, and the value that is returned
 
 pub rank-within : (n h : ℕ) → 0 < n → h ≤ 100 → rank n h ≤ n
 rank-within n h some le = within (mul-le-mul_left n le)

@@ -70,7 +70,7 @@ pub struct Stream {
     pub key: StreamKey,
     pub sender: Sender,
     pub format: Format,
-    /// None before a packet tells its rate.
+    /// `None` before the first packet with a rate.
     beat: Option<Beat>,
     /// The time of the first packet that has any events, by the nominal rate, in nanoseconds; 0 if it is not known.
     pub packet_time: u64,

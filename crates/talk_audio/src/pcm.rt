@@ -82,8 +82,8 @@ fn put_bytes<const N: usize>(out: &mut [u8], offset: usize, bytes: &[u8; N])
 /// The size of each of the two parts in which samples are moved, in bytes.
 const PART: usize = 16;
 
-/// Copies samples to as many bytes. The 16 to 32 bytes of most packets are two parts, which may overlap and are moved without a
-/// call. A move whose length the compiler does not know becomes a call.
+/// Copies samples to a slice of the same length. The 16 to 32 bytes of most packets are two parts, which may overlap and are
+/// moved without a call. A move whose length the compiler does not know becomes a call.
 #[inline(always)]
 fn copy_samples(out: &mut [u8], samples: &[u8])
     requires { length out.old ≡ length samples.now }

@@ -122,7 +122,7 @@ unit_small plan input last_stamp from n e low =
     let bodies = all_short plan input last_stamp from (suc n - from) e in
     omega (arith, length-append (first_byte ((journal plan input).packet from)) (flat_map (λ (k : ℕ). carried ((journal plan input).packet k)) (range_with_len from (suc n - from))), byte, bodies, low)
 
--- ---- the frames of packets beside each other
+-- ---- the frames of adjacent packets
 
 pub record HasFrames (plan : TalkPlan) (input : List ℕ) (lead a k : ℕ) : Type 0 where
   pub sent : List SentFrame
@@ -130,7 +130,7 @@ pub record HasFrames (plan : TalkPlan) (input : List ℕ) (lead a k : ℕ) : Typ
   pub carry : AllCarry (journal plan input) lead (range_with_len a k) (map record_of sent)
   pub long : length sent ≡ k
 
--- packets beside each other have these frames
+-- adjacent packets have these frames
 pub frames_of : (plan : TalkPlan) (input : List ℕ) (lead a k : ℕ) → ((i : ℕ) → i < a + k → (f : SentFrame) × ((slice_get (frames plan input) i ≡ Some f) × Carries (journal plan input) lead i (record_of f))) → HasFrames plan input lead a k
 frames_of plan input lead a zero each = record { sent = []; same = λ places. refl; carry = tt; long = refl }
 frames_of plan input lead a (suc k) each =

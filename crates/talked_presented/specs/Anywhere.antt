@@ -40,8 +40,8 @@ pub record MustBePresented (plan : TalkPlan) (input : List ℕ) (listen : Listen
 
 -- Packets `from` to n of a plan of H.264, which carry one unit, are captured in their order after the packets `front`, and the
 -- packets `after` follow. The unit must be presented: no packet before it was captured after it is due, its last packet did not
--- come before, and the buffer has room for it beside all units that were completed before. A unit has at most 255 packets of 1,500
--- bytes.
+-- come before, and the buffer has room for it and for all units that were completed before. A unit has at most 255 packets of
+-- 1,500 bytes.
 pub record UnitMustBePresented (plan : TalkPlan) (input : List ℕ) (listen : ListenPlan) (front : List ℕ) (from n : ℕ) (after : List ℕ) : Type 0 where
   pub talk : ListensToVideo plan input (front ++ (range_with_len from (n - from) ++ n ∷ after)) listen
   pub sent : All (λ (k : ℕ). k < (journal plan input).times.packets) (front ++ n ∷ after)

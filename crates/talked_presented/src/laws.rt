@@ -164,7 +164,7 @@ pub fn talked_unit_anywhere_is_welcome()
     units_anywhere_are_welcome();
 }
 
-/// If exactly these packets are presented and nothing is flagged, the listener's counts say this: as many items are presented,
+/// If exactly these packets are presented and nothing is flagged, the listener's counts say so: this many items are presented,
 /// and none is flagged.
 pub fn presented_are_counted()
     ensures presented { (by : Bool) (p : PacketJournal) (packets : List ℕ) (plan : ListenPlan) (records : List Record) → ArePresented by p packets (shown_of plan records) → (counts_of plan records (shown_of plan records)).presented ≡ length packets }

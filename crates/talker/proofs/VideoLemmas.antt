@@ -188,7 +188,7 @@ on_time last_stamp plan bytes units lead n p sent limit h =
       unstamped = λ audio none. absurd audio;
     }
 
--- ---- packets beside each other
+-- ---- adjacent packets
 
 all_near : (plan : TalkPlan) (bytes : List ℕ) (units : List (ℕ × ℕ)) (numbers : List ℕ) → AreNear (video_times false plan bytes units) numbers
 all_near plan bytes units [] = tt

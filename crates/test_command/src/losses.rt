@@ -151,7 +151,7 @@ fn is_among(alloc: Global, whole: &str, text: &str, places: &[usize]) -> Result<
     Ok(true)
 }
 
-/// Whether the text ends like this, or presents at least as many packets.
+/// Whether the text ends like this, or presents at least this many packets.
 fn ends_as_stated(text: &str, end: &str) -> bool {
     if end.starts_with("presented") {
         return text.trim_ascii_end().ends_with(end);

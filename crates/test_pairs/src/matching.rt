@@ -33,7 +33,7 @@ const ROWS: &str = "\
 0@0 | 0@8000001 => matched 0 only 1 1 differ 0
 0@8000000 | 0@0 => 1 1 seq 0 At { sample: 0, a: 8000000, b: 0 }, matched 1 only 0 0 differ 1
 0@8000001 | 0@0 => matched 0 only 1 1 differ 0
-// The reach of three samples of A beside six of B, and the other way round.
+// The reach of three samples of A compared with six of B, and the other way round.
 0@0*3 | 0@4000000 => 1 1 seq 0 Count { a: 3, b: 6 }, matched 1 only 0 0 differ 1
 0@0*3 | 0@4000001 => matched 0 only 1 1 differ 0
 0@4000001 | 0@0*3 => 1 1 seq 0 Count { a: 6, b: 3 }, matched 1 only 0 0 differ 1
@@ -49,7 +49,7 @@ const ROWS: &str = "\
 256x0@0 256x0@8000001 | 256x0@8000001 => matched 256 only 256 0 differ 0
 // At one instant A comes before B, so the differences are in the order of B's batches.
 0@0=010101010101 1@0=010101010101 | 1@0 0@0 => 2 1 seq 1 Bytes { sample: 0 }, 1 2 seq 0 Bytes { sample: 0 }, matched 2 only 0 0 differ 2
-// A unit beside samples, and two units at the same instant and at different ones.
+// A unit compared with samples, and two units at the same instant and at different ones.
 0@5u=65 | 0@5 => matched 0 only 1 1 differ 0
 0@5 | 0@5u=65 => matched 0 only 1 1 differ 0
 0@5u=65 | 0@5u=65 => matched 1 only 0 0 differ 0

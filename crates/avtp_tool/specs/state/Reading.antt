@@ -74,7 +74,7 @@ pub record DoesFile (report : Report) (handed : List Shown → Type 0) (limit : 
   pub sink : KeepsSink out out' result
 
 -- A command read some of these files, in this order, and what it yields was printed and given to devices. Nothing else was
--- done. `Outcome` gives the possible outcomes over the files that a shelf tells.
+-- done. `Outcome` gives the possible outcomes over the files that a shelf shows.
 pub record DoesReading (Outcome : Files → Type 0 → List (List ℕ) → Status → Yield → Type 0) (names : List (List ℕ)) (handed : List Shown → Type 0) (shelf shelf' : ShelfState) (out out' : SinkState) (waits waits' : List ℕ) (result : Result Status Failed) : Type 0 where
   pub tells : (all : Files) → shelf.files ≡ Some all → IsSome shelf'.files → TellsRun (Outcome all (Rose shelf.reading_faults shelf'.reading_faults)) handed shelf shelf' (written out.held waits) (written out'.held waits') result
   pub count : ℕ

@@ -23,7 +23,7 @@ use Rattle.avtp_tool.specs.state.Outcome.{CountsReading, KeepsSink, TellsRun}
 use Rattle.avtp_tool.specs.Talk.{talk_plan}
 use Rattle.avtp_tool.specs.Run.{Outcome, names_of, is_listening, is_through}
 
--- What a run printed, gave to devices and made, over the files that a shelf tells before and after.
+-- What a run printed, gave to devices and made, over the files that a shelf shows before and after.
 pub record TellsAll (request : Request) (all : Files) (fault : Type 0) (failed : Bool) (handed : List Shown → Type 0) (shelf shelf' : ShelfState) (before now : Option (List ℕ)) (result : Result Status Failed) : Type 0 where
   pub made : Option (List ℕ)
   pub tells : TellsRun (λ came ended yields. Outcome request all fault failed came ended yields made) handed shelf shelf' before now result

@@ -48,14 +48,14 @@ abbrev pub kept : Placed → Option Paired → List Placed
 kept x None = x ∷ []
 kept x (Some pair) = []
 
--- x came to the batches that wait on its own side and on the other side, and made this pair or none; `next` is the place of the
--- next batch.
+-- x entered, given the batches that wait on its own side and on the other side, and made this pair or none; `next` is the place
+-- of the next batch.
 pub record Enters (x : Placed) (next : ℕ) (own other own_then other_then : List Placed) (pair : Option Paired) : Type 0 where
   pub made : pair ≡ made x other
   pub others : other_then ≡ without_passed next (without_first (takes x) other)
   pub owns : length (without_passed next own) < 512 → own_then ≡ without_passed next own ++ kept x pair
 
--- x came to the batches that wait in a matching
+-- x entered, given the batches that wait in a matching
 abbrev pub EntersSide : Which → Placed → ℕ → MatchingState → MatchingState → Option Paired → Type 0
 EntersSide A x next old new pair = Enters x next old.waiting_a old.waiting_b new.waiting_a new.waiting_b pair
 EntersSide B x next old new pair = Enters x next old.waiting_b old.waiting_a new.waiting_b new.waiting_a pair

@@ -1,4 +1,4 @@
--- What was shown so far was counted, but for what waits in the pipe.
+-- What was shown so far was counted, except for what waits in the pipe.
 use Rattle.std.proofs.Common.{length}
 use Rattle.presenter_ring.specs.Pipes.{work}
 use Rattle.soak_run.proofs.RoundLemmas.{HasCounted, left}
