@@ -40,7 +40,7 @@ aaf_shape v = record {
   reserved = v.reserved;
 }
 
--- the number that byte 16 of a packet has for a format of samples
+-- the value of byte 16 of a packet for a format of samples
 abbrev pub code_of : AafFormat → ℕ
 code_of Float32 = 1
 code_of Int32 = 2

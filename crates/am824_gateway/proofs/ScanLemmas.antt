@@ -18,7 +18,7 @@ pub passed : (frame : ℕ) (fault : Option ScanFault) (later : Option FaultAt) �
 passed frame None later e = (refl, e)
 passed frame (Some fault) later e = absurd cc
 
--- the first fault of records without a fault, and others after them, is that of the others
+-- if records without a fault come first, the first fault is that of the others
 none_more : (to : To) (stream : ℕ) (first : Option Shape) (frame n : ℕ) (xs : List Record) (r : Record) (others : List Record) → frame + length xs ≡ n → fault_from to stream first frame xs ≡ None
     → fault_from to stream first frame (xs ++ r ∷ others) ≡ fault_from to stream (shape_from stream first xs) n (r ∷ others)
 none_more to stream first frame n [] r others at e = (let same : frame ≡ n = omega arith in ap (λ (k : ℕ). fault_from to stream first k (r ∷ others)) same)
@@ -40,7 +40,7 @@ scanned_more to stream records old new r c is has to_same stream_same shape none
       none = next ∙ (rw no_fault refl);
     }
 
--- a record with a fault, after records without one, has the first fault
+-- if no record before it has a fault, a record's fault is the first one
 pub fault_found : (to : To) (stream : ℕ) (records others : List Record) (old : Scanning) (r : Record) (c : Content) (fault : ScanFault) → content old.stream r.bytes ≡ c → HasScanned to stream records old
     → content_fault old.to old.shape c ≡ Some fault → first_fault to stream (records ++ r ∷ others) ≡ Some (record { frame = suc (length records); fault = fault })
 fault_found to stream records others old r c fault is has found =

@@ -83,7 +83,7 @@ all_fine to stream first frame (r ∷ records) none =
 
 -- ---- deliveries
 
--- a delivery is of the clock, or its content allows that the stream is converted
+-- a delivery is of the clock, or its content allows the stream to be converted
 abbrev IsFineDelivery : To → Option Shape → Delivery → Type 0
 IsFineDelivery to shape d = ((d.subtype == crf_subtype) ≡ true) ⊎ IsFine to shape (packet_content (record { subtype = d.subtype; bytes = d.packet }))
 

@@ -20,7 +20,7 @@ part size j bytes = take size (drop (j * size) bytes)
 
 -- ---- what is presented to a gateway
 
--- the values of a sample, without labels, in the bytes that are presented to a gateway to this format
+-- the values of a sample, without labels, in the batches that a gateway to this format converts
 abbrev pub values_in : To → ℕ → List ℕ → List ℕ
 values_in Am824 channels bytes = bytes
 values_in Aaf channels bytes = unlabelled channels bytes

@@ -51,7 +51,7 @@ pub fn samples_are_kept()
         flat_map (samples_sent to shape) (cuts_after to shape given batches) ≡ flat_map (samples_presented to shape) (given_batches to shape given batches) }
 {}
 
-/// The shape that a scan finds in records without a fault is one that a gateway can have, if they have any.
+/// The shape that a scan finds in records without a fault, if it finds one, is a shape that a gateway can have.
 pub fn scanned_shapes_can_be_turned()
     ensures { (to : ToValue) (stream : ℕ) (records : List Record) → first_fault to stream records ≡ None → IfSome (shape_in stream records) IsShape }
 {}

@@ -1,4 +1,4 @@
-//! The command `avtp` once more, next to a capture that it refuses: its exit status is that of the refusal.
+//! The command `avtp` once more, stored with a capture that it refuses: it ends with the exit status of the refusal.
 #![tactic(auto)]
 
 use avtp_system::run_program;

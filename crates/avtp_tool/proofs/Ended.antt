@@ -1,4 +1,4 @@
--- How a run ends whose text was written to its end, or not.
+-- How a run ends, whether its text was written to its end or not.
 use Rattle.std.proofs.Common.{◌≡◌, ◌≢◌, ℕ, List, Option, Result, Ok, Err, true, false, sym, ap, subst, ◌∙◌, arith}
 use Rattle.std.specs.Prelude.{IfOk}
 use Rattle.std.proofs.lemmas.List.{append-nil}
@@ -47,7 +47,7 @@ ends_prefix {h} {h'} {w} {w'} {line = line} (Err e) ends = prefix_none (written 
 not_write : (result other : Status) → result ≡ other → other ≢ status.WriteFault → result ≢ status.WriteFault
 not_write result other is differs e = differs (sym is ∙ e)
 
--- a run that ends with a status other than a failed write ended with it before the text was written
+-- if a run ends with a status other than that of a failed write, it had that status before its text was written
 pub ended_as : {h h' : SinkState} {w w' : List ℕ} {ended : Result Status Failed} {result : Status} (other : Status) → other ≢ status.WriteFault → Finishes h h' w w' ended result → result ≡ other → ended ≡ Ok other
 ended_as {result = result} other differs finishes is = (finishes.whole (not_write result other is differs)).0 ∙ ap (λ (s : Status). Ok s) is
 

@@ -42,7 +42,7 @@ piece_written g i turn bytes is = sym (ap frame_bytes is)
 
 -- ---- a batch that is put
 
--- A gateway becomes the next one by a batch of a stream of this shape, and the batch adds these frames.
+-- A gateway took a batch of a stream of this shape and became the next one; the batch adds these frames.
 record IsNext (shape : Option Shape) (g next : Gating) (batch : Presented) (added : List SentFrame) : Type 0 where
   pub to_is : next.to ≡ g.to
   pub shape_is : next.shape ≡ g.shape

@@ -376,7 +376,7 @@ told_b {s} {t} {a} {b} {b'} {pair} {pair'} {asked} {x} {y} {before} {mid} {now} 
 
 -- ---- all that a side has
 
--- what comes of a side after the records that were given of it: none if its listener is closed
+-- the records of a side after those that were given: none if its listener is closed
 record RestOf (limit : ℕ) (bytes : List ℕ) (records : List Record) (listener : ListenState) : Type 0 where
   pub more : List Record
   pub all : records_in (take limit bytes) ≡ records ++ more

@@ -12,7 +12,7 @@ abbrev pub refused_or : Option Refusal → List ℕ → List ℕ
 refused_or (Some refusal) content = refused_content refusal
 refused_or None content = content
 
--- a refusal in a frame's payload as one in the frame: the payload begins at this offset of the frame
+-- a refusal in a frame's payload, with its offset counted from the start of the frame; the payload begins at this offset
 abbrev pub inside : ℕ → Refusal → Refusal
 inside start refusal = record refusal { at = refusal.at + start }
 

@@ -29,7 +29,7 @@ pub fn next_record<F: Shelf, S: Sink>(
     Ok(source.next(shelf))
 }
 
-/// Writes the text that waits, if the next record may have to be waited for.
+/// Writes the text that waits, if the next record may not be there yet.
 #[inline(always)]
 fn write_ahead<S: Sink>(source: &Source, text: &mut Text, out: &mut S) -> Result<(), Failed>
     ensures { WritesWaiting (S.state out.old) (S.state out.new) text.old text.new result }

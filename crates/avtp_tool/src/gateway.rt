@@ -96,7 +96,7 @@ fn turn<F: Shelf, S: Sink>(
     end_output(output, listener.limit, turned, shelf, text, out)
 }
 
-/// Opens the capture that was scanned again, and converts what is presented of it.
+/// Opens the scanned capture again, and converts what is presented of it.
 fn turn_input<F: Shelf, S: Sink>(
     alloc: Global,
     asked: &Gateway<'_>,

@@ -99,7 +99,7 @@ impl Output {
     }
 }
 
-/// Adds the first `number` frames of the last batch that was not skipped to the capture.
+/// Adds to the capture the first `number` frames of the last batch that was not skipped.
 fn write_frames<F: Shelf>(
     gateway: &Gateway,
     number: u32,
@@ -140,7 +140,7 @@ fn print_skip<S: Sink>(text: &mut Text, out: &mut S, frame: u64, skip: Skip) -> 
     text.skip(out, frame, skip_name(skip))
 }
 
-/// Writes the text that waits if the next item may have to be waited for.
+/// Writes the text that waits if the next item may not be there yet.
 fn write_ahead<S: Sink>(hearing: &Hearing, text: &mut Text, out: &mut S) -> Result<(), Failed>
     ensures { WritesWaiting (S.state out.old) (S.state out.new) text.old text.new result }
 {

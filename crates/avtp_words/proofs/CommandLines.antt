@@ -60,7 +60,7 @@ value-after rows (g ∷ gs) name row sound each is_row wanted =
         | inr different ↦ rw different later
       ]
 
--- A word that does not begin as an option splits a line into options and names in one way.
+-- A word that does not begin as an option splits a line into options and names in only one way.
 pub same_settings : (rows : List Row) (gs hs : List Setting) (rest names : List (List ℕ)) → All (IsSetting rows) gs → All (IsSetting rows) hs → All IsName names → IfSome (slice_get rest 0) (λ word. BeginsWithDash word → ⊥) → flat_map words_of gs ++ rest ≡ flat_map words_of hs ++ names → (gs ≡ hs) × (rest ≡ names)
 same_settings rows [] [] rest names gs_each hs_each named ends e = (refl, e)
 same_settings rows [] (h ∷ hs) [] names gs_each hs_each named ends e = absurd (cc)
@@ -186,7 +186,7 @@ words_after words place = ap texts (take_all (length words - place) (drop place 
 pub rest_within : (rows : List Row) (operands : List Operand) (words : List (String Global)) (place : ℕ) → IsRestTo rows operands (texts words) place → place ≤ length words
 rest_within rows operands words place r = omega (arith, r.here, ap length r.rest.spelled, length-append (flat_map words_of r.rest.settings) r.rest.names, length-map {A = String Global} {B = List ℕ} words string_bytes)
 
--- a line of a form falls into options and operands in one way
+-- a line of a form falls into options and operands in only one way
 pub same_line : (form : Form) (words : List (List ℕ)) (gs hs : List Setting) (ns ms : List (List ℕ)) → IsOf form words gs ns → IsOf form words hs ms → (gs ≡ hs) × (ns ≡ ms)
 same_line form words gs hs ns ms p q =
     let spelled : flat_map words_of gs ++ ns ≡ flat_map words_of hs ++ ms = cc (p.spelled, q.spelled) in

@@ -23,7 +23,7 @@ use Rattle.capture_io.proofs.Reader.{feeds_as, format_feeds, format_releases}
 
 -- ---- the reader
 
--- a reader that takes the next record from a piece has fed as much of it
+-- a reader that takes the next record from a piece was fed as much of the piece
 next_feeds : (r : CaptureReading) (piece : List ℕ) (size : ℕ) → size ≤ length piece → IsNext r (take size piece) → Feeds r piece (Ok size) (with_part r (take size piece))
 next_feeds r piece size within next =
     feeds_as r.format r.format (Some Classic) (Some Classic) r.front r.front r.classic (classic.with_part r.classic (take size piece)) r.ng r.ng r piece (Ok size) next.format next.format refl

@@ -49,8 +49,8 @@ StandsFor None r bytes records = (bytes ≡ r.front) × (length bytes < 4) × (r
 StandsFor (Some format) r bytes records =
     (progress_by format r.classic r.ng).has_read bytes records × (4 ≤ length bytes) × (format_in bytes ≡ format)
 
--- The reader has taken these bytes, and has released these of their records, in order. If it is not refused, no refusal in the
--- bytes stays whatever bytes follow.
+-- The reader has taken these bytes, and has released these of their records, in order. If it is not refused, the bytes have no
+-- refusal that stays whatever bytes follow.
 pub record HasRead (r : CaptureReading) (bytes : List ℕ) (records : List Record) : Type 0 where
   pub stands : StandsFor r.format r bytes records
   pub uncertain : refusal_of r ≡ None → certain_in bytes ≡ None

@@ -63,7 +63,7 @@ pub record Keeps (old new : FedPair) : Type 0 where
   pub a : KeepsFed old.a new.a
   pub b : KeepsFed old.b new.b
 
--- the listener of the other side than `which` is unchanged, except for what it has shown
+-- the listener of the side other than `which` is unchanged, except for what it has shown
 abbrev pub KeepsOther : Which → FedPair → FedPair → Type 0
 KeepsOther A old new = KeepsFed old.b new.b
 KeepsOther B old new = KeepsFed old.a new.a

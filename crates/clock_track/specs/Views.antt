@@ -18,7 +18,7 @@ row_of points = record {
   payload = points.payload.now;
 }
 
--- the line, and the number on it, of an answer, if there is one
+-- the line of an answer, and the sample's number on it, if there is a line
 abbrev pub answered : ClockAnswer → Option Spot
 answered (OnLine line offset) = Some (record { line = line; from = pos offset })
 answered NoClock = None

@@ -22,11 +22,11 @@ keeps_marks : (a : Assembly) (w : List Fragment) → KeepsAll a w → a.held ≡
 keeps_marks a [] k = k
 keeps_marks a (f ∷ rest) k = k.marks
 
--- the packets that the last event gave up, by the stretches before and after it
+-- the packets that the last event gave up, given the stretches before and after it
 abbrev pub lost_of : List Fragment → List Fragment → List Fragment
 lost_of before after = if is_joined after then [] else waiting before
 
--- What an assembler keeps after an event, by the stretches before and after it.
+-- What an assembler keeps after an event, given the stretches before and after it.
 pub record Left (a : Assembly) (before after : List Fragment) : Type 0 where
   pub waits : KeepsAll a (waiting after)
   pub lost : a.lost ≡ map mark_of (lost_of before after)
@@ -94,7 +94,7 @@ stays_long g gs f e = by (is_within (g ∷ (gs ++ f ∷ []))) refl
         let l = within_lengths (g ∷ (gs ++ f ∷ [])) k in
         absurd (within_fails (g ∷ gs) e (omega (arith, length_unit_more g gs f, l.0)) (omega (arith, length-append gs (f ∷ []), l.1)))
 
--- ---- what is returned for a stretch, by whether it is within the limits and complete
+-- ---- what is returned for a stretch, depending on whether it is within the limits and complete
 
 -- A stretch that is empty or exceeded the limits before its last packet: nothing waits, and the packet is lost as `Broken`.
 record Overlong (r : List Fragment) : Type 0 where

@@ -7,7 +7,7 @@ use Rattle.std.proofs.lemmas.List.Filters.{length-filter_both}
 use Rattle.std.specs.Int.{from_bool}
 use Rattle.std.proofs.lemmas.List.Elements.{AllZip-push}
 
--- The elements before i were changed as the relation says, those from i on are as they were, and this many more of the first
+-- The elements before i were changed as the relation says, those from i on are as they were, and this many more of those before i
 -- pass the test now.
 pub record HasWalked {X : Type 0} (R : X → X → Type 0) (test : X → Bool) (old new : List X) (i turned : ℕ) : Type 0 where
   pub long : length new ≡ length old

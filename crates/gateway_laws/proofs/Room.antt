@@ -51,7 +51,7 @@ use Rattle.gateway_laws.proofs.Stamped.{at_place, counted_length, now_early, sta
 
 -- ---- how many wait
 
--- each batch is at least 500 ns before the instant, for itself and for each batch after it
+-- each batch is before the instant by 500 ns, and by 500 ns more for each batch after it
 abbrev SpreadTo : ℤ → List Presented → Type 0
 SpreadTo x [] = ⊤
 SpreadTo x (b ∷ bs) = ((first_instant b +ℤ pos (500 * suc (length bs))) ≤ℤ x) × SpreadTo x bs

@@ -38,7 +38,7 @@ abbrev pub Presents : To → Option Shape → List Presented → List Presented 
 Presents to None batches heard = heard ≡ []
 Presents to (Some shape) batches heard = flat_map (samples_heard to shape) heard ≡ flat_map (samples_presented to shape) (given_batches to shape nothing_given batches)
 
--- no batch is skipped; of a stream without a shape there is none
+-- no batch is skipped; a stream without a shape has no batch
 abbrev pub SkipsNone : To → Option Shape → List Presented → Type 0
 SkipsNone to None batches = batches ≡ []
 SkipsNone to (Some shape) batches = given_batches to shape nothing_given batches ≡ batches

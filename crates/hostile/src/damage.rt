@@ -53,7 +53,7 @@ fn lengthen(draws: &mut Draws, bytes: &mut Vec<u8>, size: usize) -> Result<(), N
     Ok(())
 }
 
-/// A time that is one of the amounts in `by` before or after another one.
+/// A time that lies before or after another one by one of the amounts in `by`.
 fn moved(draws: &mut Draws, time: u64, by: &[u64]) -> u64 {
     let by = draws.pick(by);
     if draws.one_in(2) {
@@ -86,7 +86,7 @@ fn damage_field(draws: &mut Draws, record: &mut Record) {
     }
 }
 
-/// Cuts a frame, or makes it longer: seldom so that it is about as long as a capture allows.
+/// Cuts a frame or makes it longer, rarely to about the length that a capture allows.
 fn damage_size(draws: &mut Draws, frame: &mut Vec<u8>) -> Result<(), NoMemory> {
     let size = draws.below(frame.len());
     let more = draws.below(40);

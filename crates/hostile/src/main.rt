@@ -22,7 +22,7 @@ use std::env;
 use std::process::ExitCode;
 use std::thread::Threads;
 
-/// The runs over each capture: seven command lines, each once, once more, and once in pieces.
+/// The runs over each capture: seven command lines, each run three times, the last time in pieces of one byte.
 const RUNS: u64 = 21;
 
 /// Which captures are made.

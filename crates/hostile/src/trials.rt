@@ -28,7 +28,7 @@ const LISTENS: [&str; 12] = [
     "ffffffffffffffff",
 ];
 
-/// What `agree` is asked for, over a capture that is compared with itself.
+/// What `agree` is asked for when it compares a capture with itself.
 const AGREES: [&str; 5] = [
     "0200000000010001",
     "--look 64 --lead 1000000000 0200000000010001",

@@ -78,7 +78,7 @@ rate_of_fdf fdf =
     if fdf == 5 then Some 176400 else
     if fdf == 6 then Some 192000 else None
 
--- SYT_INTERVAL by FDF: one in this many data blocks has a timestamp (IEC 61883-6)
+-- the SYT_INTERVAL of an FDF: one in this many data blocks has a timestamp (IEC 61883-6)
 abbrev pub syt_interval : ℕ → Option ℕ
 syt_interval fdf =
     if fdf == 0 then Some 8 else

@@ -42,7 +42,7 @@ samples_of d v = OfPacket (record {
   bytes = v.payload;
 })
 
--- Which data block of an IEC 61883-6 packet is stamped, by its block count and the SYT interval of its rate. A no-data packet
+-- Which data block of an IEC 61883-6 packet is stamped, given its block count and the SYT interval of its rate. A no-data packet
 -- has neither rate nor interval.
 abbrev pub block_rule : ℕ → Option ℕ → HeadRule
 block_rule dbc None = Own

@@ -201,7 +201,7 @@ shown_of_frame frame list = filter (λ s. frame_of s == frame) list
 abbrev pub verdict_of : ListenPlan → List Record → ℕ → Item → Result Accepted Reason
 verdict_of plan records place item = verdict_in clock_spot (schedule_plan plan) (entries_in plan records) place item
 
--- What is shown of an item with this last delivery, by its verdict: it is presented if accepted, else flagged with the reason.
+-- What is shown of an item with this last delivery, given its verdict: it is presented if accepted, else flagged with the reason.
 abbrev pub shown_by : Delivery → Result Accepted Reason → Shown
 shown_by d (Ok a) = Present a.batch
 shown_by d (Err reason) = Flag d.frame d.seq reason

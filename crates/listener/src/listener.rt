@@ -38,9 +38,9 @@ pub enum ListenFault {
 
 /// A listener that takes a capture's bytes in pieces of any length, and shows of its records what a `RecordListener` shows.
 ///
-/// After each call the caller takes all that is due by `next_out` before it feeds more. Memory is reserved when the listener is
-/// made. Later each packet's samples are copied once, into the batch that is shown, and only a record that is cut between
-/// pieces is copied before.
+/// After each call the caller takes all that is due with `next_out` before it feeds more. Memory is reserved when the listener is
+/// made. Later each packet's samples are copied once, into the batch that is shown, and only a record that is cut between pieces
+/// is copied before.
 #[derive(Drop)]
 pub struct Listener {
     reader: Reader,

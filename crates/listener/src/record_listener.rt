@@ -33,7 +33,7 @@ use std::marker::Model;
 /// A listener that takes a capture's records one at a time, in the capture's order, and shows each item of the stream once:
 /// presented, or flagged with the first reason why not. It shows an item as soon as no later record can change that.
 ///
-/// After each record, and after `close`, the caller takes all that is due by `next_out` before it gives more. A record may give
+/// After each record, and after `close`, the caller takes all that is due with `next_out` before it gives more. A record may give
 /// up to 4,097 items, because it may give up fragments of H.264; `next_out` judges them one after another. Memory is reserved
 /// when the listener is made. Later each packet's samples, and each whole unit, are copied once, into the batch that is shown.
 #[derive(Drop)]

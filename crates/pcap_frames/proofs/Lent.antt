@@ -64,7 +64,7 @@ next_goes_on r bytes next before records h =
     subst (λ (p : List ℕ). HasRead (with_part r p) (before ++ bytes) records) all
     (record_goes_on r.refusal r.style styled.0 r.start r.part bytes before records accepted styled.1 (subst (IsReading r.refusal r.style r.start) (sym all) next.reading) h)
 
--- a reader that takes the next record from a piece has fed as much of it
+-- a reader that takes the next record from a piece was fed as much of the piece
 pub next_feeds : (r : Reading) (piece : List ℕ) (size : ℕ) → size ≤ length piece → IsNext r (take size piece)
     → Feeds meaning (progress r) piece (Ok size) (progress (with_part r (take size piece)))
 next_feeds r piece size within next =

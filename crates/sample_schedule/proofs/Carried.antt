@@ -29,7 +29,7 @@ instant_from_rest batch j instant rest is =
     } in
     one_at batch.line k instant (instant_at batch.line k) here (instant_at-at batch.line k some)
 
--- the next sample is a step later, and with a carry one nanosecond more
+-- the next sample is a step later, and another nanosecond if there is a carry
 pub carried : (batch : Presented) (j : ℕ) (instant : ℤ) (rest step step_rest carry rest' : ℕ)
     → IsRestOf batch j instant rest → step * batch.line.den + step_rest ≡ batch.line.num
     → rest + step_rest ≡ rest' + carry * batch.line.den → rest' < batch.line.den

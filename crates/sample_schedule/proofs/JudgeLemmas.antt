@@ -333,7 +333,7 @@ gives-flag clock entries given s item reason st e behind undue v =
       stands = judged-on clock entries given (given + 1) s P s.waiting st e (done.waiting ∙ ap (λ (l : List Accepted). by_instant (standing s.time l)) (sym same)) (omega arith);
     }
 
--- no item is shown, and what is accepted now is what was, and maybe the item
+-- no item is shown, and what is accepted is what was accepted before and perhaps the item
 none-shown : (clock : Clock) (entries : List Entry) (given : ℕ) (s : JudgeState) (p : Pending) (e : Entry) → StandsFor clock entries given s → s.current ≡ Some p → starts_due s.time s.waiting ≡ false → slice_get entries s.place ≡ Some e
     → flag_by s.place (Some e) (judged clock s.plan entries s.place (earlier_of clock entries s) e) ≡ [] → (given ≡ length (steps clock s.plan entries (suc s.place)))
 none-shown clock entries given s p e st is undue at no_flag =

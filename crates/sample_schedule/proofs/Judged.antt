@@ -152,7 +152,7 @@ flag_in clock plan es n item reason at e =
     (subst (λ (m : ℕ). In (steps clock plan es m) (Flags n item reason)) last
     (flag_stays clock plan es (suc n) (length es - suc n) (Flags n item reason) (becomes_flagged clock plan es n item reason at e)))
 
--- ---- once, and as its verdict has it
+-- ---- once, and as its verdict says
 
 pub ok-presented : (clock : Clock) (plan : SchedulePlan) (es : List Entry) (i : ℕ) (item : Item) (a : Accepted) → slice_get es i ≡ Some (OfItem item) → verdict_in clock plan es i item ≡ Ok a → In (presented (given clock plan es)) a
 ok-presented clock plan es i item a at is =
@@ -175,7 +175,7 @@ as-judged clock plan es i item at =
     alone (shown_at i gs) g (length-filter (λ h. place_of h == i) gs ∙ (each-once clock plan es i ∙ ap times_due at))
     (in_filter (λ h. place_of h == i) gs g (given_in clock plan es i item _ at refl) (eq-eqb (place_of g) i here))
 
--- all that is shown is an item of the list, as its verdict has it
+-- whatever is shown is an item of the list, as its verdict says
 pub record IsJudged (clock : Clock) (plan : SchedulePlan) (es : List Entry) (g : Given) : Type 0 where
   pub item : Item
   pub there : slice_get es (place_of g) ≡ Some (OfItem item)

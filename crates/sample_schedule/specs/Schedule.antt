@@ -132,7 +132,7 @@ settled plan entries = length entries - plan.look
 abbrev pub due : Clock → SchedulePlan → List Entry → List Shown
 due clock plan entries = map shown_of (steps clock plan entries (settled plan entries))
 
--- the accepted items that wait while more entries may follow, by first instant and then by place
+-- the accepted items that wait while more entries may follow, sorted by first instant and then by place
 abbrev pub waiting : Clock → SchedulePlan → List Entry → List Accepted
 waiting clock plan entries =
     by_instant (standing (latest (take (settled plan entries) entries)) (accepted clock plan entries (settled plan entries)))

@@ -34,8 +34,9 @@ impl Accepted {
             from,
             bytes,
         } = batch;
-        // Copied field by field, so that the fields go through registers. A batch that is copied whole is read in other pieces
-        // than it was written in. The processor waits for these writes each time, for a fifth of the time that a packet takes.
+        // Copied field by field, so that the fields go through registers. If a batch is copied whole, it is not read in the
+        // pieces in which it was written. The processor waits for these writes each time, for a fifth of the time that a packet
+        // takes.
         Shown::Present(Batch {
             frame,
             seq,

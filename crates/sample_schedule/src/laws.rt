@@ -25,7 +25,7 @@ pub fn waiting_is_bounded()
     ensures bytes { (clock : Clock) (plan : SchedulePlan) (entries : List Entry) (i : ℕ) → total_bytes (waiting_at clock plan entries i) ≤ plan.room }
 {}
 
-/// What is presented is what is accepted, by first instant and then by place.
+/// What is presented is what is accepted, sorted by first instant and then by place.
 pub fn accepted_are_presented()
     ensures { (clock : Clock) (plan : SchedulePlan) (entries : List Entry) → presented (given clock plan entries) ≡ by_instant (accepted clock plan entries (length entries)) }
 {}
@@ -71,7 +71,7 @@ pub fn what_is_not_due_waits()
     ensures unjudged { (plan : SchedulePlan) (entries : List Entry) → length entries ≤ settled plan entries + plan.look }
 {}
 
-/// A copy of an item that comes in time is found among the waiting batches, just as among all that were accepted.
+/// If a copy comes in time, the item that it repeats is found among the waiting batches, just as among all accepted ones.
 pub fn copies_wait()
     ensures { (now instant : ℤ) (seq : ℕ) (earlier : List Accepted) → now ≤ℤ instant → list_any (is_copy instant seq) (standing now earlier) ≡ list_any (is_copy instant seq) earlier }
 {}

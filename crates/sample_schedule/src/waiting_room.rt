@@ -30,8 +30,8 @@ fn size(accepted: &Accepted) -> u64
     accepted.batch.bytes.as_slice().len() as u64
 }
 
-/// Accepted batches that wait for their instants, by first instant and then by place. Small keys are in that order; the batches
-/// are kept in slots, and are not moved while they wait.
+/// Accepted batches that wait for their instants, sorted by first instant and then by place. Small keys are in that order; the
+/// batches are kept in slots, and are not moved while they wait.
 #[derive(Drop)]
 pub struct Waiting {
     keys: SortedKeys,

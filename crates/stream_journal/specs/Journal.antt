@@ -110,6 +110,6 @@ IsAtBy (Am824 interval dbc) false j n k instant = IsAtNominal j n k instant
 IsAtBy (H264 part) by_clock j n k instant = (k ≡ 0) × (instant ≡ pos (j.due n))
 
 -- Sample k of packet n is at this instant, for listeners with the clock or without. A packet of audio without a head has no
--- instants; neither has, with the clock, one whose head no joined pair covers.
+-- instants; with the clock, a packet whose head no joined pair covers has none either.
 abbrev pub IsAt : Bool → Journal → ℕ → ℕ → ℤ → Type 0
 IsAt by_clock j n k instant = IsAtBy j.kind by_clock j n k instant

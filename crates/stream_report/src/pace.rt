@@ -117,7 +117,7 @@ impl Misses {
     }
 }
 
-/// How the timestamps of a stream advance: unchanged, and with their bytes swapped.
+/// How the timestamps of a stream advance, if they are read unchanged and if their bytes are swapped.
 #[derive(Clone, Copy)]
 pub struct Pace {
     last: Option<Stamped>,

@@ -83,7 +83,8 @@ pub struct Stream {
     /// The events of the packets that came in order, before the newest.
     events: u64,
     last_lead: Option<i64>,
-    /// The number of packets directly after another whose arrival was compared with that one's time.
+    /// The number of packets that came directly after another of the stream, and whose arrival was compared with that packet's
+    /// time.
     pub compared: u64,
     /// The time from each packet to the next in the capture, in nanoseconds.
     pub distances: Spread,
@@ -100,7 +101,7 @@ pub struct Stream {
     pub count: u32,
     /// The leads below 0.
     pub late: Tally,
-    /// Arrivals that are off the time of the packet before.
+    /// Arrivals whose distance from the packet before is not that packet's time.
     pub uneven: Tally,
     pub restarts: Tally,
     pub flapping: Tally,
@@ -116,7 +117,7 @@ pub struct Stream {
     pub first_label: u8,
     pub malformed: Tally,
     pub fields: Vec<FieldCount>,
-    /// Packets of a sender, and of a format, other than the first packet's.
+    /// Packets whose sender differs from the first packet's, and packets whose format does.
     pub senders: Tally,
     pub formats: Tally,
 }
@@ -305,7 +306,8 @@ impl Stream {
         }
     }
 
-    /// Packets that are missing. At most 191 in a row are told from packets that came before, unless the stream paused.
+    /// Packets that are missing. Unless the stream paused, more than 191 in a row are not recognized: the next packet is taken
+    /// for an earlier one.
     pub fn lost(&self) -> Tally {
         self.counted().lost
     }
@@ -404,7 +406,7 @@ impl Stream {
         false
     }
 
-    /// Counts an arrival that is off the time of the packet before it.
+    /// Counts an arrival whose distance from the packet before is not that packet's time.
     fn note_evenness(&mut self, at: At, last: Option<Last>, distance: Option<i64>) {
         let (Some(beat), Some(last), Some(distance)) = (self.beat, last, distance) else {
             return;

@@ -82,7 +82,7 @@ first_index interval n count (inr (inr e)) whole =
 is_some_count : (n : ℕ) → 1 ≤ n → nat_lt 0 n ≡ true
 is_some_count n some = grind (arith, nat_tests)
 
--- what the journal of a plan of this kind has, each packet of which stamps its first sample
+-- what the journal of a plan has, if the plan is of this kind and each of its packets stamps its first sample
 record HasFirst (kind : TalkKind) (plan : TalkPlan) (crf : CrfPlan) (input : List ℕ) : Type 0 where
   first : (n : ℕ) → stamped_index (rule_of (stream_by (audio_by kind plan) plan input).journal.times.kind n) ≡ 0
   stamp : (n : ℕ) → (stream_by (audio_by kind plan) plan input).journal.times.stamp n ≡ Some (stamped_by plan.crf plan n 0)

@@ -112,7 +112,7 @@ stamp_kept j room k m instant e below few =
 
 -- ---- what came
 
--- The first `size` packets of a capture of `count` packets from packet a on are packets a to a + m - 1.
+-- In a capture of `count` packets from packet a on, the first `size` packets are packets a to a + m - 1.
 record IsFront (size a count : ℕ) : Type 0 where
   m : ℕ
   numbers : stream_numbers (take size (map OfStream (range_with_len a count))) ≡ range_with_len a m

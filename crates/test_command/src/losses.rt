@@ -116,7 +116,7 @@ fn deliver(places: &mut Vec<usize>, n: usize, fate: Fate) -> Result<(), NoMemory
     Ok(())
 }
 
-/// Whether `n`, counted from 0, is the last of every `each` numbers; never if `each` is 0.
+/// Whether `n` is the last of its group of `each` numbers, counted from 0; never if `each` is 0.
 fn is_each(n: usize, each: usize) -> bool {
     each > 0 && n % each == each - 1
 }

@@ -7,7 +7,7 @@ use std::alloc::Global;
 use std::test::Fail;
 use time_unfold::Line;
 
-/// Samples: their first instant, the spacing as a fraction, their count, and how often their bytes have which value.
+/// Samples: their first instant, the spacing as a fraction, their count, and how many of their bytes have each value.
 #[derive(Clone, Copy)]
 pub struct Samples {
     pub base: u32,

@@ -100,7 +100,7 @@ fn a_unit_is_whole_if_its_fragments_go_on_with_each_other(rt: HostRuntime) -> Re
     Ok(())
 }
 
-/// Pushes many fragments of one unit with equal bodies, and returns what becomes of the last, whose body is another.
+/// Pushes many fragments of one unit with equal bodies, and returns what becomes of the last, whose body differs.
 fn push_long(
     assembler: &mut Assembler,
     fragments: u64,

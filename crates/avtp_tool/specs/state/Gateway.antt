@@ -85,7 +85,7 @@ pub record AbandonsOutput (so : Result Status Failed → Type 0) (before after :
   pub ended : so result
   pub nothing : PrintsNothing out out' waits waits'
 
--- how the capture that is made is ended, by how far the other one was converted
+-- how the capture that is made is ended, given how far the other one was converted
 abbrev pub EndsOutput : ℕ → Result Turned Failed → ShelfState → ShelfState → Output → SinkState → SinkState → List ℕ → List ℕ → Result Status Failed → Type 0
 EndsOutput limit (Ok (turned.Ended how presented)) before after o out out' waits waits' result = FinishesOutput limit how presented before after o out out' waits waits' result
 EndsOutput limit (Ok turned.NoMemory) before after o out out' waits waits' result = AbandonsOutput (λ r. r ≡ Ok status.Memory) before after o out out' waits waits' result

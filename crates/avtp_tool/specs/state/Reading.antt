@@ -53,7 +53,7 @@ pub record ReadsRecords {T : Type 0} (Told : ℕ → List ℕ → Type 0 → Opt
 
 -- ---- what was done
 
--- The status of a run that only reads: no write fails, and it has neither words, devices nor an input of `talk`.
+-- The status of a run that only reads: none of a failed write, of bad words, of a device or of the input of `talk`.
 abbrev pub is_of_reading : Status → Bool
 is_of_reading status.Words = false
 is_of_reading status.WriteFault = false

@@ -100,7 +100,7 @@ ended_turn (Ok (turned.Ended how presented)) = Some how
 ended_turn (Ok other) = None
 ended_turn (Err e) = None
 
--- whether the packets of a capture were written, as a result of the writer's calls
+-- whether the packets of a capture were written, as the result of a writer's call
 abbrev pub wrote_all : Result Turned Failed → Result Unit Failed
 wrote_all (Ok turned.Unwritten) = Err (record {})
 wrote_all other = Ok tt

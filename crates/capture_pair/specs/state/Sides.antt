@@ -52,7 +52,7 @@ is_passed (Some (Present batch)) = false
 is_passed (Some (Flag frame seq reason)) = true
 is_passed None = false
 
--- what a matching was given, by the lists of side `which` and of the other side
+-- what a matching was given of the lists of side `which` and of the other side
 abbrev pub MatchesOn : Which → List Shown → List Shown → ℕ → ℕ → ℕ → MatchingState → Type 0
 MatchesOn A list other n k given m = Matches list other n k given m
 MatchesOn B list other n k given m = Matches other list k n given m
@@ -107,7 +107,7 @@ abbrev pub ended_of : Which → MatchingState → Bool
 ended_of A m = m.ended_a
 ended_of B m = m.ended_b
 
--- the other side than `which` has the same next batch as before, and has ended if it had
+-- the side other than `which` has the same next batch as before, and has ended if it had ended before
 abbrev pub IsOtherSame : Which → MatchingState → MatchingState → Type 0
 IsOtherSame A old new = (new.next_b ≡ old.next_b) × (new.ended_b ≡ old.ended_b)
 IsOtherSame B old new = (new.next_a ≡ old.next_a) × (new.ended_a ≡ old.ended_a)
