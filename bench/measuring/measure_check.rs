@@ -1,6 +1,6 @@
 //! `measure_check AVTP YARDSTICK REPORT PACKETS [STREAMS CAPTURE] ..`: runs `avtp check`, its yardstick and `avtp-report` in
-//! turn, to nothing, on captures of this many packets and streams, which have no findings. Prints a row of `check` compared with
-//! its yardstick, and one of the report compared with `check`, for their best runs.
+//! turn, to nothing, on captures of this many packets and streams, which have no findings. Prints a row that compares `check`
+//! with its yardstick, and one that compares the report with `check`, from their best runs.
 
 mod row;
 mod runner;

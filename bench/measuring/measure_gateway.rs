@@ -1,6 +1,6 @@
 //! `measure_gateway AVTP YARDSTICK STREAM PACKETS OUT OTHER AM824 AAF`: runs `avtp gateway`, which writes OUT, in turn with its
 //! yardstick, which writes OTHER. Both convert the capture AAF, of 24 bits, to AM824, and the capture AM824 to PCM. Prints a row
-//! of the best runs for each.
+//! for each, from the best runs.
 
 mod row;
 mod runner;

@@ -1,5 +1,5 @@
-//! `measure_judge MEASURED YARDSTICK`: runs `measured judge` and its yardstick in turn, on packets in several orders, and prints a row
-//! of each order, for the best runs.
+//! `measure_judge MEASURED YARDSTICK`: runs `measured judge` and its yardstick in turn, on packets in several orders, and prints
+//! a row for each order, from the best runs.
 
 mod row;
 mod timed;

@@ -1,5 +1,5 @@
 //! `measure_listener MEASURED YARDSTICK PACKETS`: runs `measured listener` and its yardstick in turn, on captures of PACKETS
-//! packets: of one stream, and of a hundred streams of which it hears one. Prints a row for each, for the best runs.
+//! packets: of one stream, and of a hundred streams of which it hears one. Prints a row for each, from the best runs.
 
 mod row;
 mod timed;

@@ -1,5 +1,5 @@
 //! `measure_parts MEASURED ROUNDS`: runs `measured rounds` at several capacities in turn with its yardstick, and `measured lines`
-//! over windows of several sizes, and prints a row of each, for the best runs.
+//! over windows of several sizes, and prints a row for each, from the best runs.
 
 mod row;
 mod runner;

@@ -1,5 +1,5 @@
 //! `measure_pcapng AVTP PACKETS CLASSIC PCAPNG`: runs `avtp show` in turn, to nothing, on captures of the same packets, one
-//! classic and one pcapng. Prints a row of the second compared with the first, for the best runs.
+//! classic and one pcapng. Prints a row that compares the second with the first, from the best runs.
 
 mod row;
 mod runner;

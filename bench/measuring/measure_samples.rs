@@ -1,4 +1,4 @@
-//! `measure_samples MEASURED YARDSTICK`: runs `measured samples` and its yardstick in turn, and prints a row of the best runs.
+//! `measure_samples MEASURED YARDSTICK`: runs `measured samples` and its yardstick in turn, and prints a row from the best runs.
 //! Both print equally many bytes.
 
 mod row;

@@ -1,5 +1,5 @@
-//! `measure_show AVTP YARDSTICK PACKETS TEXT TSHARK CAPTURE`: runs `avtp show` and its yardstick in turn, to nothing and to a file
-//! that each of them leaves in TEXT, and tshark once if TSHARK is not empty. Prints a row of each, for its best run.
+//! `measure_show AVTP YARDSTICK PACKETS TEXT TSHARK CAPTURE`: runs `avtp show` and its yardstick in turn, to nothing and to a
+//! file that each of them leaves in TEXT, and tshark once if TSHARK is not empty. Prints a row for each, from its best run.
 
 mod row;
 mod runner;

@@ -92,7 +92,7 @@ impl Receiver {
     }
 }
 
-/// The samples of a batch, whose line is one of a rate.
+/// The samples of a batch, whose line has the spacing of a sample rate.
 #[inline(always)]
 fn samples_of(batch: &Batch) -> Samples<'_> {
     let rate = batch.line.den as i64;
