@@ -67,7 +67,7 @@ impl Bases {
     }
 }
 
-/// Whole sample frames of each talker, which are a byte stream of H.264, too: short NAL units, and one that needs fragments.
+/// Whole sample frames for each talker. They are a byte stream of H.264, too, with short NAL units and one that needs fragments.
 fn input(alloc: Global) -> Result<Vec<u8>, NoMemory> {
     let mut bytes = Vec::new(alloc);
     for n in 0..3_840_u32 {

@@ -57,7 +57,7 @@ middle_of Last inside inner = absurd (inner (inr refl))
 
 -- ---- back to the first packet of the unit, and on to its last
 
--- no packet from one to before another ends a unit
+-- no packet from one number up to another, without the latter, ends a unit
 abbrev AreOpen : (ℕ → Part) → ℕ → ℕ → Type 0
 AreOpen part from to = (k : ℕ) → from ≤ k → k < to → Ends (part k) → ⊥
 

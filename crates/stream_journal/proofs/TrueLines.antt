@@ -1,4 +1,4 @@
--- What a listener finds among copies of a clock's packets is of the list of all points.
+-- A line that a listener finds among copies of a clock's packets is one of the list of all points.
 use Rattle.std.proofs.Common.{◌≡◌, inl, inr, ℕ, suc, ◌+◌, ◌-◌, ◌%◌, ◌^◌, ◌<◌, ◌≤◌, Bool, true, false, ℤ, pos, ◌+ℤ◌, List, [], ◌∷◌, All, Option, Some, None, length, refl, sym, ap, ◌∙◌, subst, arith}
 use Rattle.std.specs.Prelude.{◌==◌, nat_lt, if◌then◌else◌, option_map, IfSome}
 use Rattle.std.specs.List.{filter_map, range_with_len}

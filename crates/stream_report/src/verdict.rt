@@ -3,7 +3,7 @@
 use crate::pace::Miss;
 use crate::tally::Tally;
 
-/// What the clocks may be, if they differ by the lead.
+/// How the clocks may differ, if the lead is their difference.
 #[derive(Clone, Copy)]
 pub enum ClockGuess {
     /// Presentation times are 37 s after their arrivals: the capture's clock is UTC, and the talker's TAI.

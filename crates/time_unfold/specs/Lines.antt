@@ -17,6 +17,6 @@ pub record IsAt (line : Line) (k instant : ℤ) : Type 0 where
   pub not_after : ((instant -ℤ line.base) *ℤ pos line.den) ≤ℤ (k *ℤ pos line.num)
   pub last : (k *ℤ pos line.num) <ℤ (((instant -ℤ line.base) +ℤ pos 1) *ℤ pos line.den)
 
--- the samples of a nominal rate, counted from one at the instant
+-- samples at a nominal rate, counted from one at the instant
 abbrev pub nominal_line : ℤ → ℕ → Line
 nominal_line instant rate = record { base = instant; num = 1000000000; den = rate }
