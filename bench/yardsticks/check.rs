@@ -19,7 +19,7 @@ use std::process::ExitCode;
 use text::{Line, Text};
 use tracker::{Order, Tracker};
 
-/// What a packet breaks by itself.
+/// The rules that a packet breaks, whatever other packets come.
 struct Own {
     /// A reserved bit is set.
     reserved: bool,

@@ -1,7 +1,7 @@
 //! The yardstick of `bench/run` for `listen` that has the design of the program: `listen_rounds --ring ITEMS STREAM FILE` prints
 //! what `listen STREAM FILE` prints, in rounds. Each round joins two threads. A new one receives: it pushes items into a ring
-//! while it finds a free slot, at most as many as the ring holds. The other presents: it pops at most as many of the items that
-//! it finds. The rounds go on until the receiver has ended and nothing waits.
+//! while it finds a free slot, at most as many as the ring holds. The other presents: it pops items that it finds, at most as
+//! many as the ring holds. The rounds go on until the receiver has ended and nothing waits.
 
 mod aaf;
 mod items;
