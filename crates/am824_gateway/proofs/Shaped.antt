@@ -178,7 +178,7 @@ payload_long bytes accepted =
     let rest = length-drop 24 bytes in
     omega (arith, long, front, rest)
 
--- the length of a payload of three-byte samples, by the stated length
+-- the length of a payload of three-byte samples, given the stated length
 sized : (long pc c ch w k stated : ℕ) → long ≡ stated → c * (ch * w) ≡ stated → w ≡ 3 → ch ≡ k → pc ≡ c → long ≡ pc * (3 * k)
 sized long pc c ch w k stated same whole three channels count = rw (same, ← whole, three, channels, count) (omega arith)
 

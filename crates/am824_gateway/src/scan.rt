@@ -113,7 +113,7 @@ impl Scan {
         }
     }
 
-    /// Looks at the next record of a capture, by its bytes. It looks only at packets of the stream that have samples and a
+    /// Looks at the next record of a capture, given its bytes. It looks only at packets of the stream that have samples and a
     /// known rate and that their reader accepts, because others are never presented. Each packet of H.264 is a fault, even a
     /// malformed one. After a fault the scan promises nothing.
     ///

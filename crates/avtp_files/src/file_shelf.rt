@@ -26,7 +26,7 @@ pub struct RealFile<F> {
     made: bool,
 }
 
-/// Real files, by their paths. The shelf does not show their contents. If the system shows what its files hold, a read or a
+/// Real files, named by their paths. The shelf does not show their contents. If the system shows what its files hold, a read or a
 /// write moves exactly the bytes that it reports. A missing file counts as a fault.
 ///
 /// A file that was opened for reading is never made or emptied, under any path, and neither is standard output if it is a file:

@@ -53,7 +53,7 @@ kind_refusal subtype pdu =
 abbrev pub subtype_refusal : List ℕ → Option Refusal
 subtype_refusal pdu = if nat_lt (length pdu) 1 then Some (record { field = Subtype; at = 0; short = true }) else None
 
--- the packet that bytes spell, by the subtype in their first byte
+-- the packet that bytes spell, given the subtype in their first byte
 abbrev pub packet_of : List ℕ → AnyPacket
 packet_of pdu = kind_of (bits 0 0 8 pdu) pdu
 

@@ -85,7 +85,7 @@ part_text First = codes "first"
 part_text Middle = codes "middle"
 part_text Last = codes "last"
 
--- the type of a NAL unit, by the unit's first byte
+-- the type of a NAL unit, given the unit's first byte
 abbrev pub nal_type : ℕ → ℕ
 nal_type nal = nal % 32
 

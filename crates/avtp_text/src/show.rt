@@ -90,7 +90,7 @@ fn part_name(part: NalPart) -> &'static str
     }
 }
 
-/// The type of a NAL unit, by the unit's first byte.
+/// The type of a NAL unit, given the unit's first byte.
 fn nal_type(nal: u8) -> u32
     ensures { result ≡ type_of_nal nal }
 {

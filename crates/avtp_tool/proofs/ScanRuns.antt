@@ -1,4 +1,4 @@
--- The run of `gateway`, by what its scan found.
+-- The run of `gateway`, given what its scan found.
 use Rattle.std.proofs.Common.{◌≡◌, ◌≢◌, ℕ, true, false, List, [], ◌∷◌, take, Option, Some, None, Result, Ok, Err, inl, inr, refl, sym, ap, subst, ◌∙◌, arith}
 use Rattle.std.specs.Prelude.{IfOk, IsErrOf, IsSome}
 use Rattle.avtp_base.specs.declared.failed.Failed.{Failed}

@@ -15,7 +15,7 @@ use Rattle.talker.specs.Frames.{SentFrame, record_of}
 use Rattle.talker.specs.Turns.{frame_in, turn_of}
 use Rattle.avtp_tool.specs.state.Made.{frame_bytes}
 
--- ---- a frame, by its turn
+-- ---- a frame, given its turn
 
 turned_frame : (o : Option SentFrame) (turn : Turn) → option_map turn_of o ≡ Some turn → o ≡ Some (frame_in turn (frame_bytes o))
 turned_frame None turn is = absurd cc

@@ -332,7 +332,7 @@ module _ (limit : ℕ) (u v : ShelfState) (o' : Output) (out mid out' : SinkStat
 
 -- ---- what was given out and made
 
--- the last line, by the numbers of batches that were put
+-- the last line, given the numbers of batches that were put
 line_is : (asked : Turning) (shape : Option Shape) (batches : List Presented) (presented : ℕ) (o : Output) (how : End) → presented ≡ length batches → o.gateway.given.packets ≡ length (turned_frames asked shape batches)
     → presented - o.gateway.given.batches ≡ length (skips_in asked shape batches) → ended_line asked.listener.limit presented o.gateway how ≡ turned_last asked shape batches how
 line_is asked shape batches presented o end.Whole all packets skipped = rw (packets, skipped, all) refl

@@ -1,4 +1,4 @@
--- The batches of a capture that is heard, as they are put.
+-- The batches of a capture that is heard, put one after another.
 use Rattle.std.proofs.Common.{◌≡◌, ℕ, zero, suc, List, [], ◌∷◌, ◌++◌, length, take, Option, Some, None, Result, Ok, Err, refl, sym, ap, subst, ◌∙◌, arith, append-nil}
 use Rattle.std.specs.Prelude.{◌≢◌, flat_map, IsSome}
 use Rattle.std.proofs.lemmas.List.{take_all}
@@ -280,7 +280,7 @@ module _ {s t : ShelfState} {first source : Sourcing} {fresh listener : ListenSt
 
 -- ---- a capture that was heard to its end
 
--- a conversion, by what was done to the shelf
+-- a conversion, given what was done to the shelf
 module _ {s t : ShelfState} {first source : Sourcing} {fresh : ListenState} {old new : Output} {out out' : SinkState} {waits waits' : List ℕ} {how : Option End} where
   turns_by : (result : Result Turned Failed) → ReadsAndWrites s t (slot_of first) (slot_of source) old.writer.slot how (wrote_all result) → new.writer.slot ≡ old.writer.slot
       → ((files : Option Files) (name : List ℕ) → HoldsCapture files s old.writer name [] → (more : List Record) × HoldsCapture files t new.writer name more)

@@ -60,7 +60,7 @@ checked_packet start pdu =
 unfoldable pub checked_frame : Frame → Checked
 checked_frame frame = if frame.ethertype == avtp_ethertype then checked_packet frame.start frame.payload else Passed
 
--- what `check` makes of a record, by its bytes
+-- what `check` makes of a record, given its bytes
 unfoldable pub checked_record : List ℕ → Checked
 checked_record bytes = malformed_or (frame_refusal bytes) (checked_frame (frame_of bytes))
 

@@ -16,7 +16,7 @@ refused_or None content = content
 abbrev pub inside : ℕ → Refusal → Refusal
 inside start refusal = record refusal { at = refusal.at + start }
 
--- what `show` says of a packet's fields, by its format
+-- what `show` says of a packet's fields, depending on its format
 abbrev pub fields_content : AnyPacket → List ℕ
 fields_content (OfIec v) = iec_content v
 fields_content (OfAaf v) = aaf_content v
@@ -33,6 +33,6 @@ unfoldable pub frame_content : Frame → List ℕ
 frame_content frame =
     if frame.ethertype == avtp_ethertype then packet_content frame.start frame.payload else ethertype_content frame
 
--- what `show` says of a record, by its bytes
+-- what `show` says of a record, given its bytes
 unfoldable pub record_content : List ℕ → List ℕ
 record_content bytes = refused_or (frame_refusal bytes) (frame_content (frame_of bytes))

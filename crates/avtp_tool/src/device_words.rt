@@ -51,7 +51,7 @@ fn device_of(asked: &Listen<'_>, n: u32) -> Option<DeviceWord>
     }
 }
 
-/// The silence of a raw device, by the words.
+/// The silence of a raw device that the words ask for.
 pub fn raw_silence(asked: avtp_words::Silence) -> Silence
     ensures { result ≡ silence_as asked }
 {

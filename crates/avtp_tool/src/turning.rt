@@ -180,7 +180,7 @@ pub fn turn_records<F: Shelf, S: Sink>(
     }
 }
 
-/// How far a capture was converted, by how far it was heard.
+/// How far a capture was converted, given how far it was heard.
 fn turned_by(heard: Heard) -> Turned
     ensures { result ≡ turned_as heard }
 {

@@ -11,7 +11,7 @@ use Rattle.avtp_words.specs.state.Reading.{names_of}
 use Rattle.avtp_words.specs.Word.{texts}
 use Rattle.avtp_words.proofs.Steps.{absent, present}
 
--- an option that is among the words, by a test
+-- a test of whether an option is among the words
 abbrev has : List (String Global) → OptionRow → Bool
 has words row = list_any (λ word. bytes_eq (string_bytes word) row.name.now) words
 

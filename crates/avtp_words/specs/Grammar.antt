@@ -83,7 +83,7 @@ pub record Turning : Type 0 where
   pub input : List ℕ
   pub output : List ℕ
 
--- what a command line asks for, by its command
+-- what a command line asks for, given its command
 pub data Request : Type 0 where
   show : (limit : ℕ) → (file : List ℕ) → Request
   check : (limit : ℕ) → (files : List (List ℕ)) → Request

@@ -43,7 +43,7 @@ pub struct Offence {
 }
 
 impl Offence {
-    /// The offence of a word after the command, by its place there, from 0.
+    /// The offence of a word after the command, given the word's place there, from 0.
     pub(crate) fn after_command(place: usize) -> Offence
         requires { place < 2 ^ 64 - 2 }
         ensures { result.position ≡ place + 2 }

@@ -95,7 +95,7 @@ abbrev pub IsLatest : ℕ → ℤ → List Pair → Option Pair → Type 0
 IsLatest rate instant pairs None = All (λ pair. ¬ Covers pair rate instant) pairs
 IsLatest rate instant pairs (Some pair) = IsLastCovering rate instant pairs pair
 
--- The line of a sample that is stamped with an instant, and the sample's number on that line, by a clock's packets so far; `None`
--- if no pair covers the instant.
+-- The line of a sample that is stamped with an instant, and the sample's number on that line, according to a clock's packets so
+-- far; `None` if no pair covers the instant.
 abbrev pub clock_spot : List ClockRow → ℤ → ℤ → ℕ → Option Spot
 clock_spot rows shift instant rate = option_map (λ pair. spot_by pair rate instant) (latest shift instant rate (window rows))

@@ -62,9 +62,9 @@ pub fn line_among<R: Rows>(rows: &R, query: &Query) -> ClockAnswer
     }
 }
 
-/// The line of a sample that is stamped with an instant, in nanoseconds of gPTP, and the sample's number on that line, by a media
-/// clock, for a stream of a rate in Hz (IEEE 1722-2016, 10). The clock is that of the last 64 rows that give points; `shift`
-/// nanoseconds, at most a second either way, are added to each of its timestamps.
+/// The line of a sample that is stamped with an instant, in nanoseconds of gPTP, and the sample's number on that line, according
+/// to a media clock, for a stream of a rate in Hz (IEEE 1722-2016, 10). The clock is that of the last 64 rows that give points;
+/// `shift` nanoseconds, at most a second either way, are added to each of its timestamps.
 ///
 /// Two timestamps below 2^62 are a pair if they are adjacent in a packet, or are the last of one packet and the first of another
 /// that has the next number with the same restart bit, frequency and interval; and if the time between them is within 1/8 of the

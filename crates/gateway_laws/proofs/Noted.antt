@@ -45,7 +45,7 @@ all_numbered to shape given (b ∷ bs) =
     (two_numbered given.packets (given.packets + length (pieces_of to shape b given.block)) xs (cuts_after to shape (given_with to shape given b) bs) (omega (arith, long)) (from_numbered given.packets b (pieces_of to shape b given.block)) (all_numbered to shape (given_with to shape given b) bs))
     (all_numbered to shape given bs)
 
--- the number of a piece, by how many are before it
+-- the number of a piece, given how many are before it
 number_at : (n : ℕ) (front later : List Cut) (c : Cut) → NumberedFrom n (front ++ c ∷ later) → c.number ≡ n + length front
 number_at n [] later c all = all.0 ∙ omega arith
 number_at n (x ∷ front) later c all = number_at (suc n) front later c all.1 ∙ omega arith

@@ -1,4 +1,4 @@
--- Within reach, by a distance that is computed once.
+-- Whether batches are within reach, given a distance that is computed once.
 use Rattle.std.proofs.Common.{◌≡◌, ℕ, ◌-◌, ◌*◌, ◌/◌, ◌^◌, ◌≤◌, Bool, true, false, cond, ◌&&◌, ℤ, refl, sym, ap, ◌∙◌, arith}
 use Rattle.std.specs.Prelude.{◌||◌, ◌-ℤ◌, nat_le, min, unsigned_abs}
 use mathlib.Core.Bool.{beq}

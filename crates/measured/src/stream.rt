@@ -45,7 +45,7 @@ impl Stream {
         if self.waiting > 4_096 { 1_000 } else { 125_000 }
     }
 
-    /// The place of packet n among those that wait with it, by their instants.
+    /// The place of packet n among those that wait with it, in the order of their instants.
     fn place(&self, n: u32) -> u32
         requires { 1 ≤ self.now.waiting }
         ensures { result < self.now.waiting }

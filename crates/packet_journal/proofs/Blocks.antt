@@ -1,4 +1,4 @@
--- Packets of AM824, by the rules.
+-- Packets of AM824 that keep the rules.
 use Rattle.std.proofs.Common.{◌≡◌, ℕ, ◌*◌, ◌%◌, ◌^◌, ℤ, Option, Some, None, is_some, refl, inl, lit<, arith}
 use Rattle.std.specs.Prelude.{IfSome, unwrap_or}
 use Rattle.avtp_base.specs.Layout.{Fits}

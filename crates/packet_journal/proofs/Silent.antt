@@ -1,4 +1,4 @@
--- Silent packets of a sparse talker, by the rules.
+-- Silent packets of a sparse talker that keeps the rules.
 use Rattle.std.proofs.Common.{◌≡◌, ℕ, ◌^◌, ◌<◌, Bool, true, false, pos, ◌+ℤ◌, get_or, is_some, refl, lit<, arith}
 use Rattle.avtp_base.specs.Octets.{bits, flag}
 use Rattle.avtp_base.specs.Layout.{Fits}

@@ -13,7 +13,7 @@ use Rattle.pcapng_frames.specs.declared.block.Kind.TheVariants as kind
 use Rattle.pcapng_frames.specs.declared.interface.Interface.{Interface}
 use Rattle.pcapng_frames.specs.Interface.{microseconds, is_resolution, arrival_of}
 
--- the kind of a block, by its type (draft-ietf-opsawg-pcapng, section 4)
+-- the kind of a block, given its type (draft-ietf-opsawg-pcapng, section 4)
 abbrev pub kind_of : ℕ → Kind
 kind_of n =
     if nat_eq n 0x0A0D0D0A then kind.Section

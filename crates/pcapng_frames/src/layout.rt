@@ -57,7 +57,7 @@ pub fn i64_at(order: Order, bytes: &[u8], offset: usize) -> i64
     }
 }
 
-/// The kind of a block, by its type.
+/// The kind of a block, given its type.
 pub fn kind_of(block_type: u32) -> Kind
     ensures { result ≡ kind_of_type block_type }
 {

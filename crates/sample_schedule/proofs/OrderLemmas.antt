@@ -1,4 +1,4 @@
--- Accepted items, by their first instants.
+-- Accepted items, sorted by their first instants.
 use Rattle.std.proofs.Common.{◌≡◌, ℕ, suc, ◌+◌, Bool, true, false, cond, ◌||◌, ℤ, ◌≤ℤ◌, List, [], ◌∷◌, ◌++◌, length, filter, refl, ap, ◌∙◌, arith, fold}
 use Rattle.std.specs.Prelude.{int_lt, int_le}
 use Rattle.std.specs.List.{AllByRecursion, list_any, sum_by}

@@ -66,7 +66,7 @@ none_left (Some p) ahead = false
 abbrev pub is_over : JudgeState → Bool
 is_over judge = if judge.closed then none_left judge.current judge.ahead else false
 
--- The judge was given these entries, and has given `given` of the items that it shows of them, by the clock of its plan.
+-- The judge was given these entries, and has given `given` of the items that it shows of them, timed by the clock of its plan.
 pub record StandsFor (clock : Clock) (entries : List Entry) (given : ℕ) (judge : JudgeState) : Type 0 where
   pub asks : IsClockOf judge.plan clock
   -- the judge has the entries that are not judged, and has noted the stamps and clock packets of all entries

@@ -1,4 +1,4 @@
--- Accepted items, by their first instants.
+-- Accepted items, sorted by their first instants.
 use Rattle.std.specs.Prelude.{false, if◌then◌else◌, ℤ, int_lt, int_le, List, [], ◌∷◌, filter, fold}
 use Rattle.sample_schedule.specs.declared.accepted.Accepted.{Accepted}
 

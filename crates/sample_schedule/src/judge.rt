@@ -133,7 +133,7 @@ impl Judge {
         self.put(Pending::Item(item));
     }
 
-    /// Takes a packet of the stream's clock, by its arrival and its points: an entry that is never shown. The conditions are
+    /// Takes a packet of the stream's clock, given its arrival and its points: an entry that is never shown. The conditions are
     /// those of `step`. If the plan has no clock, only the arrival counts. Allocates nothing.
     pub fn step_clock(&mut self, arrival: i64, points: &Points<'_>)
         requires open { self.old.closed ≡ false }

@@ -1,4 +1,4 @@
--- Four packets of H.264, by the rules.
+-- Four packets of H.264 that keep the rules.
 use Rattle.std.proofs.Common.{◌≡◌, ◌⊎◌, inl, inr, ◌↔◌, ℕ, suc, Bool, true, false, Some, None, is_some, refl, subst, arith}
 use Rattle.std.specs.Prelude.{◌==◌, if◌then◌else◌}
 use Rattle.stream_journal.specs.Journal.{Part, First, Middle, Last}

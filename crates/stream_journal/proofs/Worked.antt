@@ -1,4 +1,4 @@
--- Three packets, by the rules.
+-- Three packets that keep the rules.
 use Rattle.std.proofs.Common.{◌≡◌, ◌↔◌, ℕ, ◌+◌, ◌*◌, ◌≤◌, pos, Some, refl, arith}
 use Rattle.std.proofs.lemmas.Int.{ints}
 use Rattle.stream_journal.specs.Clocks.{no_clock}

@@ -35,7 +35,7 @@ restarted = record {
   clock = no_clock;
 }
 
--- a copy of a packet, by the packet's number and the copy's arrival
+-- a copy of a packet, given the packet's number and the copy's arrival
 abbrev pub came : ℕ → ℕ → Copy
 came number arrival = record { number = number; arrival = arrival }
 

@@ -22,7 +22,7 @@ greatest first (number ∷ later) = max number (greatest first later)
 abbrev pub has_come : ℕ → List ℕ → ℕ → Bool
 has_come first later number = first == number || list_any (λ come. come == number) later
 
--- The place of the packet that comes next, by its number. If it is ahead of all others, the place says how many numbers it
+-- The place of the packet that comes next, given its number. If it is ahead of all others, the place says how many numbers it
 -- skips. Otherwise it repeats a packet that has come, or it is late (its number was skipped), or it is from before the stream's
 -- first packet.
 abbrev pub place_of : ℕ → List ℕ → ℕ → Place

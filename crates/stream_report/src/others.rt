@@ -19,9 +19,9 @@ pub enum Other {
     Subtype(u8),
     /// An AAF packet of AES3 or of a user-specified format.
     AafFormat(u8),
-    /// A CVF packet of a format other than H.264, by its two codes.
+    /// A CVF packet of a format other than H.264, with the format's two codes.
     CvfFormat { format: u8, subtype: u8 },
-    /// An IEC 61883 packet of a part other than 6, by its code FMT.
+    /// An IEC 61883 packet of a part other than 6, with its code FMT.
     IecFormat(u8),
     /// A stream packet whose stream id is not valid.
     NoStream(u8),

@@ -68,7 +68,7 @@ impl Beat {
         }
     }
 
-    /// The duration of a number of events in nanoseconds, by the rate.
+    /// The duration of a number of events in nanoseconds, at the rate.
     pub fn time_of(self, events: u64) -> u64 {
         if events == self.events {
             self.time

@@ -72,7 +72,7 @@ pub struct Stream {
     pub format: Format,
     /// `None` before the first packet with a rate.
     beat: Option<Beat>,
-    /// The time of the first packet that has any events, by the nominal rate, in nanoseconds; 0 if it is not known.
+    /// The time of the first packet that has any events, at the nominal rate, in nanoseconds; 0 if it is not known.
     pub packet_time: u64,
     /// The number of packets that are not refused.
     pub packets: u64,
@@ -445,7 +445,7 @@ impl Stream {
         self.note_trend(came.arrival, &stamped, advance);
     }
 
-    /// Adds a timestamp to the line of the drift, by the lead of its packet's first event. If the timestamps step, the line
+    /// Adds a timestamp to the line of the drift, given the lead of its packet's first event. If the timestamps step, the line
     /// goes on unchanged. A timestamp that advances by its packets' time is not a step, however late its packet arrives.
     fn note_trend(&mut self, arrival: i64, stamped: &Stamped, advance: Advance) {
         let before_anchor = match self.beat {

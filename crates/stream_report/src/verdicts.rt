@@ -11,7 +11,7 @@ use avtp_base::NoMemory;
 use avtp_header::subtype;
 use std::alloc::Global;
 
-/// The stream class, by the leads: the first one whose max transit time the median lead does not exceed.
+/// The stream class, according to the leads: the first one whose max transit time the median lead does not exceed.
 #[derive(Clone, Copy, PartialEq, Eq)]
 pub enum Class {
     /// 2 ms.
@@ -24,7 +24,7 @@ pub enum Class {
     Unknown,
 }
 
-/// The class of a stream, by its leads. `None` if no packet has a timestamp.
+/// The class of a stream, according to its leads. `None` if no packet has a timestamp.
 pub fn class_of(stream: &Stream) -> Option<Class> {
     let median = stream.leads.percentile(50)?;
     Some(match median {

@@ -52,7 +52,7 @@ pair_from b start m = record {
 abbrev pub IsNextStart : Beat → ℕ → ℕ → ℕ → Type 0
 IsNextStart b start events next = start + nominal_offset b.rate events + 4 ≤ next
 
--- the event of the clock that is nearest to the instant, by this pair, is at the instant, to the nanosecond
+-- according to this pair, the event of the clock that is nearest to the instant is at the instant, to the nanosecond
 abbrev pub IsOnEvent : Pair → ℕ → ℕ → Type 0
 IsOnEvent pair rate instant =
     instant_at (spot_by pair rate (pos instant)).line (spot_by pair rate (pos instant)).from ≡ pos instant

@@ -8,7 +8,8 @@ ghost use Rattle.stream_journal.specs.Regular.{IsSteady};
 ghost use Rattle.talk_plan.specs.Beats.{Beat, IsBeat, IsNextStart, IsOnEvent, pair_from, point_at, stamped_at};
 ghost use Rattle.talk_plan.specs.Plan.{fdf_of, interval_of, rate_code};
 
-/// Every rate of a plan is one that AAF or IEC 61883-6 names, by its code; for IEC 61883-6 also by its interval.
+/// The code of a plan's rate is the one that AAF or IEC 61883-6 gives that rate, and its interval is that of the code in IEC
+/// 61883-6.
 pub fn rates_are_named()
     ensures aaf { (rate code : ℕ) → rate_code rate ≡ Some code ↔ rate_of code ≡ Some rate }
     ensures iec { (rate fdf : ℕ) → fdf_of rate ≡ Some fdf ↔ rate_of_fdf fdf ≡ Some rate }

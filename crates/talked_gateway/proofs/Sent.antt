@@ -1,4 +1,4 @@
--- The batches that a listener without a clock presents of a plan of audio, by their packets.
+-- The batches that a listener without a clock presents of a plan of audio, each of which is one packet.
 use Rattle.std.proofs.Common.{◌≡◌, ℕ, ◌+◌, ◌-◌, ◌*◌, ◌<◌, ◌≤◌, true, false, ℤ, pos, ◌+ℤ◌, ◌≤ℤ◌, List, length, Some, refl, sym, ap, subst, ◌∙◌, arith}
 use Rattle.std.proofs.lemmas.Int.{ints}
 use Rattle.stream_journal.specs.Conforming.{Conforms}

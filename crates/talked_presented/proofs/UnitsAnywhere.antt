@@ -68,7 +68,7 @@ all_streamed p part lead (k ∷ ks) (d ∷ ds) h shows from =
     let here = video_streamed d (video_copy (pos 0) p part lead k d h.conforming h.kind from.0 (All-head Shows d ds shows)).subtype in
     rw here (ap (λ (l : List Delivery). d ∷ l) (all_streamed p part lead ks ds h (All-tail Shows d ds shows) from.1))
 
--- the deliveries that end a unit, by what they carry
+-- there are as many deliveries that end a unit as packets that do
 counted : (p : PacketJournal) (part : ℕ → Part) (lead : ℕ) (ks : List ℕ) (ds : List Delivery) → IsHeard p part lead → All Shows ds → AreFrom p lead (map OfStream ks) ds
     → length (filter (λ (d : Delivery). ends_unit (part_in d)) ds) ≡ length (filter (λ (k : ℕ). ends_unit (part k)) ks)
 counted p part lead [] [] h shows from = refl

@@ -26,7 +26,7 @@ use Rattle.talk_audio.proofs.PcmLemmas.{packet_again}
 use Rattle.talker.proofs.StreamLemmas.{AreCarried, all_carried, all_frames, at_number, frames_in, next_near, numbers_of, packets_in, some_carried, spelled}
 use Rattle.talker.proofs.TalkLemmas.{frames_alone, plan_keeps}
 
--- what a packet of AM824 holds, by the code of its rate
+-- what a packet of AM824 holds, given the code of its rate
 pub named_blocks : (plan : TalkPlan) (fdf interval : ℕ) → rate_of_fdf fdf ≡ Some plan.rate → syt_interval fdf ≡ Some interval → plan.channels ≤ 256
     → interval ≤ 8 * plan.count
     → plan.count * block_size plan.channels ≤ 1468 → FitsBlocks plan

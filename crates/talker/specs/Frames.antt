@@ -38,11 +38,11 @@ frame_of stream n = record {
   bytes = packet_bytes (stream.journal.packet n);
 }
 
--- the frames of a stream, by the numbers of their packets
+-- the frames of a stream, given the numbers of their packets
 abbrev pub numbered_frames : Stream → List SentFrame
 numbered_frames stream = map (frame_of stream) (range_with_len 0 stream.journal.times.packets)
 
--- the frames of a plan's stream, by the numbers of their packets
+-- the frames of a plan's stream, given the numbers of their packets
 abbrev pub stream_frames : TalkPlan → List ℕ → List SentFrame
 stream_frames plan input = numbered_frames (stream_of plan input)
 
@@ -57,11 +57,11 @@ clock_frame_of stream m = record {
   bytes = clock_bytes (stream.journal.clock_packet m);
 }
 
--- the frames of a clock, by the numbers of their packets
+-- the frames of a clock, given the numbers of their packets
 abbrev pub numbered_clock : Stream → List SentFrame
 numbered_clock stream = map (clock_frame_of stream) (range_with_len 0 stream.journal.times.clock.packets)
 
--- the frames of a plan's clock, by the numbers of their packets
+-- the frames of a plan's clock, given the numbers of their packets
 abbrev pub clock_frames : TalkPlan → List ℕ → List SentFrame
 clock_frames plan input = numbered_clock (stream_of plan input)
 

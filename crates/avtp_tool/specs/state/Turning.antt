@@ -89,7 +89,7 @@ pub record PutsBatch (batch : Presented) (before after : ShelfState) (old new : 
 
 -- ---- a capture
 
--- how far a capture was converted, by how far it was heard
+-- how far a capture was converted, given how far it was heard
 abbrev pub turned_as : Heard → Turned
 turned_as (heard.Ended how counts) = turned.Ended how counts.presented
 turned_as heard.NoMemory = turned.NoMemory
