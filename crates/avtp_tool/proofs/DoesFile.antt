@@ -70,7 +70,7 @@ module _ {s t u v : ShelfState} {source : Sourcing} {k limit : ℕ} {name : List
         sink = sink;
       }
 
-  -- giving it out was cut short
+  -- the text and the items of the file were given out only in part
   pub does_cut : {h h' : SinkState} {l l' : List ℕ} {handed : List Shown → Type 0} (result : Result Status Failed)
       → ((bytes : List ℕ) → HasGivenOf limit bytes t source [] → GivesPart handed (written h.held l) (written h'.held l') (file_yield report limit (Some bytes))) → IsCut result
       → (s.reading_faults ≤ v.reading_faults → CountsReading (name ∷ []) s.files s.reading_faults v.reading_faults result) → IsReadingStatus result → KeepsSink h h' result → DoesFile report handed limit name s v h h' l l' result

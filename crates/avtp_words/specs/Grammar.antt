@@ -413,8 +413,8 @@ pub record FitsSamples (format : AafFormat) (asked : Talking) : Type 0 where
   pub rate : (code : ℕ) × (rate_of code ≡ Some asked.rate)
   pub size : asked.count * frame_size asked.channels format ≤ limits.samples
 
--- An AM824 stream has a sample rate of IEC 61883-6. A packet has at least an eighth of its SYT interval, so each 8 packets have
--- a stamped block. A block has at most 256 quadlets, and the blocks of a packet fit into it.
+-- An AM824 stream has a sample rate of IEC 61883-6. A packet has at least an eighth as many blocks as the SYT interval, so each 8
+-- packets have a stamped block. A block has at most 256 quadlets, and the blocks of a packet fit into it.
 pub record FitsBlocks (asked : Talking) : Type 0 where
   pub rate : (fdf : ℕ) × (rate_of_fdf fdf ≡ Some asked.rate) × IsSomeAnd (syt_interval fdf) (λ interval. interval ≤ 8 * asked.count)
   pub quadlets : asked.channels ≤ limits.quadlets

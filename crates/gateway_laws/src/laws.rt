@@ -1,4 +1,4 @@
-//! Laws of what listeners present of the captures that a gateway makes. Each call is its contract, and does nothing.
+//! Laws of what listeners present of the captures that a gateway makes. Each call only states its contract, and does nothing.
 
 ghost use Rattle.std.specs.Prelude.{◌≡◌, ◌%◌, ◌^◌, ◌<◌, ◌≤◌, ◌∷◌, ◌++◌, ℕ, ℤ, IfSome, List, None, Option, Some, false, length, map};
 ghost use Rattle.am824_gateway.specs.Laws.{Cut};

@@ -50,7 +50,7 @@ pub enum Verdict {
         stamped: u64,
         most: u64,
     },
-    /// The first timestamp is off those that follow.
+    /// The first timestamp does not fit those that follow.
     FirstStamp {
         found: i64,
         wanted: u64,
