@@ -1,4 +1,4 @@
-//! Laws of the pairs of two captures. Each call is its contract, and does nothing.
+//! Laws of the pairs of two captures. Each call only states its contract, and does nothing.
 
 ghost use Rattle.std.specs.Prelude.{◌≡◌, ◌<◌, ◌≤◌, ◌++◌, [], ℕ, ℤ, Any, Bool, true, false, List, Some, length, slice_get, take};
 ghost use Rattle.std.specs.List.{AllByRecursion};
