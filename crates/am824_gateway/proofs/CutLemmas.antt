@@ -118,7 +118,7 @@ cuts_all : (P : ℤ → Type 0) (n : ℕ) (batch : Presented) (pieces : List Pie
 cuts_all P n batch [] all = tt
 cuts_all P n batch (p ∷ pieces) all = (all.0, cuts_all P (suc n) batch pieces all.1)
 
--- what holds of instants from a sample on holds of all pieces that begin there or later
+-- what holds for instants from a sample on holds for all pieces that begin there or later
 pub cuts_begin : (P : ℤ → Type 0) (n : ℕ) (batch : Presented) (first : ℕ) (pieces : List Piece) → ((j : ℕ) → first ≤ j → j < batch.count → P (sample_instant batch j)) → AllByRecursion (BeginsFrom batch first) pieces
     → AllByRecursion P (map cut_instant (cuts_from n batch pieces))
 cuts_begin P n batch first pieces holds all = cuts_all P n batch pieces (all_by (BeginsFrom batch first) (λ p. P (sample_instant batch p.first)) (λ p is. holds p.first is.from is.inside) pieces all)

@@ -33,7 +33,7 @@ use Rattle.am824_gateway.specs.state.Kept.{IsCut, IsCutFrom, IsWithin, frames_in
 use Rattle.am824_gateway.proofs.ListLemmas.{length-part}
 use Rattle.am824_gateway.proofs.PieceLemmas.{counted}
 
--- ---- what holds of all pieces
+-- ---- what holds for all pieces
 
 pub some_frames : (to : To) (channels : ℕ) → 1 ≤ channels → channels ≤ 256 → 1 ≤ most_frames to channels
 some_frames Am824 channels some most = grind arith

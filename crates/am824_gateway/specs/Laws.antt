@@ -1,4 +1,4 @@
--- What holds of all pieces that a gateway gives out, one after another.
+-- What holds for all pieces that a gateway gives out, one after another.
 use Rattle.std.specs.Prelude.{ℕ, suc, ◌<◌, ◌≤◌, ℤ, ◌<ℤ◌, List, [], ◌∷◌, ◌++◌, length, ⊤}
 use Rattle.std.specs.List.{AllByRecursion}
 use Rattle.sample_schedule.specs.Batches.{Presented, sample_instant}
@@ -46,7 +46,7 @@ given_batches to shape given (batch ∷ batches) =
     (batch ∷ given_batches to shape (given_with to shape given batch) batches)
     (given_batches to shape given batches)
 
--- ---- what holds of them
+-- ---- what holds for them
 
 -- a batch has a sample, and each of its samples is presented after the one before it
 pub record HasRisingInstants (batch : Presented) : Type 0 where

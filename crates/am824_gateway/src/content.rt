@@ -1,4 +1,4 @@
-//! What a record holds of a stream.
+//! The part of a stream that a record holds.
 
 ghost use Rattle.std.specs.Prelude.{◌≡◌, ◌≤◌};
 ghost use Rattle.aaf_format.specs.Aaf.{Aaf, aaf_of, aaf_refusal, aaf_shape};
@@ -27,7 +27,7 @@ pub(crate) struct Samples {
     pub linear: bool,
 }
 
-/// What a record holds of a stream.
+/// The part of a stream that a record holds.
 #[derive(Clone, Copy, Debug)]
 pub(crate) enum Content {
     /// Nothing that can be presented.
@@ -98,7 +98,7 @@ fn packet_content(packet: &StreamPacket<'_>) -> Content
     }
 }
 
-/// What a record holds of the stream with this id, given the record's bytes.
+/// The part of the stream with this id that a record holds, given the record's bytes.
 pub(crate) fn content_of(stream: u64, frame: &[u8]) -> Content
     ensures exact { result ≡ content stream frame.now }
     ensures counted { IsCounted result }

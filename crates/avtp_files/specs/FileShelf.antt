@@ -9,6 +9,6 @@ use Rattle.avtp_base.specs.Files as files
 abbrev pub real_slots : {F : Type 0} → Slots (RealFile F) → files.Slots
 real_slots live k = option_map (λ open_file. record { made = open_file.made; name = None; left = None }) (entry_at live.entries.items k)
 
--- if a file is open in slot k, what `known` gives of it: the bytes that it holds, or those that are left to read
+-- if a file is open in slot k, what `known` gives for it: the bytes that it holds, or those that are left to read
 abbrev pub known_at : {F : Type 0} → (F → Option (List ℕ)) → Slots (RealFile F) → ℕ → Option (List ℕ)
 known_at known live k = option_and_then (λ open_file. known open_file.file) (entry_at live.entries.items k)

@@ -236,7 +236,7 @@ module _ {s t u : ShelfState} {begun old_source source : Sourcing} {first old ne
             };
       }
 
--- ---- what holds of every hearing
+-- ---- what holds for every hearing
 
 -- one more item was shown, or none
 pub sound_on : {stage : Stage} {source : Sourcing} {old new : ListenState} (count : ℕ) → IsSoundAt stage source old → Keeps old new → ((records : List Record) (given : ℕ) → StandsFor records given old → StandsFor records (given + count) new) → IsSoundAt stage source new

@@ -23,7 +23,7 @@ use Rattle.capture_io.proofs.Leaving.{only_reads_closed, opens_then, reads_nothi
 pub live_now : {s t : ShelfState} {k j : ℕ} → ReadsSlot s t k j → IsSome (t.slots j)
 live_now {t = t} reads = subst (λ (n : ℕ). IsSome (t.slots n)) (sym reads.slot) reads.live
 
--- a fact about every failure holds of this failure
+-- a fact about every failure holds for this failure
 pub on_err : {T : Type 0} (A : Result T Failed → Type 0) (result : Result T Failed) → IsErr result → ((e : Failed) → A (Err e)) → A result
 on_err A (Ok x) err holds = absurd cc
 on_err A (Err e) err holds = holds e

@@ -34,7 +34,7 @@ abbrev pub malformed_or : Option Refusal → Checked → Checked
 malformed_or (Some refusal) checked = Malformed refusal
 malformed_or None checked = checked
 
--- what `check` notes of a packet
+-- what `check` notes about a packet
 abbrev pub seen_of : PacketStream → AnyPacket → Seen
 seen_of stream packet = record {
   id = stream.id;
@@ -71,7 +71,7 @@ abbrev pub noted : Checked → List Seen
 noted (Marked seen) = seen ∷ []
 noted checked = []
 
--- the packets that are noted of these records, in order
+-- the packets of these records that are noted, in order
 abbrev pub notes_of : List Record → List Seen
 notes_of records = flat_map (λ r. noted (checked_record r.bytes)) records
 

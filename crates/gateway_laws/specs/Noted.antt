@@ -1,4 +1,4 @@
--- What `check` notes of a gateway's frames.
+-- What `check` notes about a gateway's frames.
 use Rattle.std.specs.Prelude.{ℕ, ◌%◌, false, None}
 use Rattle.aaf_format.specs.Aaf.{aaf_subtype}
 use Rattle.iec61883_format.specs.Iec.{iec_subtype}
@@ -13,7 +13,7 @@ abbrev pub subtype_to : To → ℕ
 subtype_to Am824 = iec_subtype
 subtype_to Aaf = aaf_subtype
 
--- what `check` notes of the frame that carries a piece: no reserved bit is set, and the timestamp is where the format has it
+-- what `check` notes about the frame that carries a piece: no reserved bit is set, and the timestamp is where the format has it
 abbrev pub cut_seen : To → ℕ → Cut → Seen
 cut_seen to id c = record { id = id; subtype = subtype_to to; seq = c.number % 256; mr = false; reserved = false; stamp_wrong = false }
 

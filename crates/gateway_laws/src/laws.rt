@@ -89,8 +89,8 @@ pub fn default_buffers_are_never_full()
         → Hears id plan (gateway_records to shape id batches) }
 {}
 
-/// Each batch that a listener presents begins at 0 or later, and its instants rise, whatever the records and whether the
-/// listener has a clock or not. This holds of what is due, too, while more records may follow.
+/// Each batch that a listener presents begins at 0 or later, and its instants rise, whatever the records and whether the listener
+/// has a clock or not. This holds for what is due, too, while more records may follow.
 pub fn presented_batches_begin_in_time()
     ensures shown { (plan : ListenPlan) (records : List Record) → AllByRecursion BeginsInTime (presented_of (shown_of plan records)) }
     ensures due { (plan : ListenPlan) (records : List Record) → AllByRecursion BeginsInTime (presented_of (due_of plan records)) }

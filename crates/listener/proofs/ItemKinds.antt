@@ -100,7 +100,7 @@ pub all_kinds : (ds : List Delivery) → All (IsKind ds) (items_of ds)
 all_kinds ds =
     All-append (IsKind ds) (items_so_far ds) (left_at_end ds) (after_kinds ds [] ds refl) (flag_kinds ds BrokenUnit (waiting ds))
 
--- what holds of all of a list holds of each
+-- what holds for all of a list holds for each
 pub all_here : {X : Type 0} (P : X → Type 0) (before rest : List X) (x : X) → All P (before ++ x ∷ rest) → P x
 all_here {X} P [] rest x all = All-head P x rest all
 all_here {X} P (y ∷ before) rest x all = all_here P before rest x (All-tail P y (before ++ x ∷ rest) all)

@@ -88,7 +88,7 @@ before_it shift p plan records Q os place h kind from within holds j lt =
     let o = origin_at p plan.lead os (deliveries_of plan records) j d.0 from d.1 in
     record { o = o.o; at = o.at; holds = holds j o.o lt o.at; taken = taken_at shift p plan records j o.o d.0 h kind d.1 o.from }
 
--- what holds of all packets of the stream before a place holds at each of these places
+-- what holds for all packets of the stream before a place holds at each of these places
 holds_at : (Q : ℕ → Type 0) (os : List Origin) (place j : ℕ) (o : Origin) → j < place → slice_get os j ≡ Some o → All Q (stream_numbers (take place os)) → HoldsOf Q o
 holds_at Q [] place j o lt at all = absurd cc
 holds_at Q (x ∷ os) zero j o lt at all = absurd (omega arith)

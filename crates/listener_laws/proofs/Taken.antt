@@ -133,7 +133,7 @@ pub record IsSomeOf (Q : ℕ → Type 0) (by : Bool) (p : PacketJournal) (a : Ac
   pub holds : Q k
   pub is : IsPacketAt by p k a
 
--- a packet of which Q holds is accepted, and it is counted if it still waits
+-- a packet for which Q holds is accepted, and it is counted if it still waits
 pub record IsMore (Q : ℕ → Type 0) (by : Bool) (p : PacketJournal) (t : ℤ) (count next : ℕ) (xs ys : List Accepted) : Type 0 where
   pub a : Accepted
   pub more : ys ≡ xs ++ a ∷ []
@@ -180,12 +180,12 @@ none_first plan records = refl
 
 -- ---- a delivery of audio
 
--- Q holds of the packet that a delivery is a copy of, if it is one of the stream
+-- Q holds for the packet that a delivery is a copy of, if it is one of the stream
 abbrev pub HoldsOf : (ℕ → Type 0) → Origin → Type 0
 HoldsOf Q (OfStream k) = Q k
 HoldsOf Q (OfClock m) = Unit {0}
 
--- the delivery at place j is a copy of the packet of an origin, of which Q holds
+-- the delivery at place j is a copy of the packet of an origin, for which Q holds
 pub record IsAtPlace (p : PacketJournal) (plan : ListenPlan) (records : List Record) (Q : ℕ → Type 0) (os : List Origin) (j : ℕ) : Type 0 where
   pub o : Origin
   pub at : slice_get os j ≡ Some o

@@ -99,7 +99,8 @@ clock_none plan records front d back e clock =
 instant_is : (kind : Kind) (part : ℕ → Part) (by : Bool) (p : PacketJournal) (n : ℕ) (x : ℤ) → kind ≡ H264 part → IsAtBy kind by p.times n 0 x → x ≡ pos (p.times.due n)
 instant_is kind part by p n x e is = (subst (λ (k : Kind). IsAtBy k by p.times n 0 x) e is).1
 
--- what is asked of the packets that a delivery is a copy of: Q holds of them, and those that end a unit which still waits are counted
+-- what is asked of the packets that a delivery is a copy of: Q holds for them, and those that end a unit which still waits are
+-- counted
 pub record IsAsked (p : PacketJournal) (part : ℕ → Part) (lead : ℕ) (Q : ℕ → Type 0) (t : ℤ) (count next : ℕ) (d : Delivery) : Type 0 where
   pub holds : (k : ℕ) → IsCopyOf p lead k d → Q k
   pub counts : (k : ℕ) → IsCopyOf p lead k d → Ends (part k) → t ≤ℤ pos (p.times.due k) → count < next

@@ -38,7 +38,7 @@ pub fn shorter_captures_are_heard()
     ensures { (shift : ℤ) (p : PacketJournal) (plan : ListenPlan) (records others : List Record) → HearsTalker shift p plan (records ++ others) → HearsTalker shift p plan records }
 {}
 
-/// What a listener gives of a talker's records is as the headline says: all of it once the records have ended, and before that
+/// What a listener gives from a talker's records is as the headline says: all of it once the records have ended, and before that
 /// what is due, which is a true front. `RecordListener::next_out` gives exactly these items, one by one.
 pub fn records_are_given_truly()
     ensures ended { (shift : ℤ) (p : PacketJournal) (listener : ListenState) (records : List Record) → is_closed listener ≡ true → HearsTalker shift p listener.plan records → KeepsHeadline shift p listener.plan records (out listener records) }
@@ -48,9 +48,9 @@ pub fn records_are_given_truly()
     fronts_are_true();
 }
 
-/// What a listener gives of the bytes of a talker's capture, in pieces of any length, is as the headline says: all of it once
-/// the capture has ended, and before that what is due, which is a true front. `Listener::next_out` gives exactly these items,
-/// one by one.
+/// What a listener gives from the bytes of a talker's capture, in pieces of any length, is as the headline says: all of it once
+/// the capture has ended, and before that what is due, which is a true front. `Listener::next_out` gives exactly these items, one
+/// by one.
 pub fn bytes_are_given_truly()
     ensures ended { (shift : ℤ) (p : PacketJournal) (fed : Feeding) (bytes : List ℕ) → is_ended fed ≡ true → HearsTalker shift p fed.listener.plan (whole_records bytes) → KeepsHeadline shift p fed.listener.plan (whole_records bytes) (out_of fed bytes) }
     ensures due { (shift : ℤ) (p : PacketJournal) (fed : Feeding) (bytes : List ℕ) (others : List Record) → is_ended fed ≡ false → HearsTalker shift p fed.listener.plan (whole_records bytes) → (out_of fed bytes ≡ due_of fed.listener.plan (whole_records bytes)) × IsTrueFront p fed.listener.plan (whole_records bytes) others }

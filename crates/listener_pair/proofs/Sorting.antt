@@ -13,7 +13,7 @@ use Rattle.listener_pair.specs.declared.difference.Which.TheVariants.{A, B}
 use Rattle.listener_pair.specs.Merged.{IsInOrder, Sided, all_of, by_instant, is_side, merged, put_before}
 use Rattle.listener_pair.specs.Matching.{EndsOn, IsSorted, MayPrecede, batches_of, nexts, of_side}
 
--- ---- what holds of all
+-- ---- what holds for all
 
 pub all-weaker : {T : Type 0} (P Q : T → Type 0) → ((x : T) → P x → Q x) → (xs : List T) → AllByRecursion P xs → AllByRecursion Q xs
 all-weaker P Q w [] p = tt

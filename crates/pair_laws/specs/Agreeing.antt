@@ -1,4 +1,4 @@
--- What holds of two captures of one talker that keeps the rules.
+-- What holds for two captures of one talker that keeps the rules.
 use Rattle.std.specs.Prelude.{◌≡◌, ◌⊎◌, ℕ, ◌*◌, ◌≤◌, Bool, true}
 use Rattle.sample_schedule.specs.Batches.{Presented, is_unit}
 use Rattle.stream_journal.specs.Journal.{Am824, DenseAaf, H264, Kind, SparseAaf}

@@ -1,4 +1,4 @@
--- What holds of a capture that is compared with itself.
+-- What holds for a capture that is compared with itself.
 use Rattle.std.specs.Prelude.{◌≡◌, ◌≢◌, ◌<◌, ⊤, List, [], ◌∷◌}
 use Rattle.std.specs.List.{AllByRecursion}
 use Rattle.sample_schedule.specs.Batches.{Presented}

@@ -1,4 +1,4 @@
--- What holds of every judge holds after each move.
+-- What holds for every judge holds after each move.
 use Rattle.std.proofs.Common.{◌≡◌, inl, inr, ℕ, suc, ◌+◌, ◌-◌, ◌^◌, ◌<◌, ◌≤◌, ℤ, List, [], ◌∷◌, ◌++◌, All, length, drop, Some, None, refl, sym, ap, ◌∙◌, subst, arith}
 use Rattle.std.specs.Prelude.{if◌then◌else◌, nat_lt, slice_get}
 use Rattle.std.specs.Int.{int_max}
@@ -85,7 +85,7 @@ puts-some s pending next items new p is =
       full = λ h. p.size;
     })
 
--- ---- what holds of every judge
+-- ---- what holds for every judge
 
 pub sound-put : (s : JudgeState) (capacity size : ℕ) (held : Held) (pending : Pending) (items : List Pending) → IsSound s capacity held → s.current ≡ None → taken s < 2 ^ 62 → IsPending pending → size ≡ capacity → Fits s.ahead pending capacity items → IsSound (record s { ahead = items }) size held
 sound-put s capacity size held pending items is idle few fits' same f =

@@ -21,7 +21,7 @@ sample_instant batch j = instant_at batch.line (batch.from +ℤ pos j)
 abbrev pub is_unit : Presented → Bool
 is_unit batch = batch.line.num == 1 && batch.line.den == 1
 
--- what holds of every batch: it has 1 to 65,535 samples of equally many bytes, and all its instants are in range
+-- what holds for every batch: it has 1 to 65,535 samples of equally many bytes, and all its instants are in range
 pub record IsPresentable (batch : Presented) : Type 0 where
   pub some : 1 ≤ batch.count
   pub count : batch.count ≤ 65535

@@ -25,12 +25,12 @@ usable_stamp p =
     if p.rate == 0 then None else
     if nat_lt (stamped_index p.rule) p.count then p.stamp else None
 
--- the stamp that is noted of a packet of audio, if its timestamp is usable
+-- the stamp that is noted for a packet of audio, if its timestamp is usable
 abbrev pub stamp_of_packet : Packet → Option Stamp
 stamp_of_packet p =
     option_map (λ timestamp. record { seq = p.seq; mr = p.mr; block = stamped_block p.rule; rate = p.rate; instant = unfolded timestamp p.arrival }) (usable_stamp p)
 
--- the stamp that is noted of an entry, which only a packet of audio can have
+-- the stamp that is noted for an entry, which only a packet of audio can have
 abbrev pub stamp_of : Entry → Option Stamp
 stamp_of (OfItem (OfPacket p)) = stamp_of_packet p
 stamp_of (OfItem (OfUnit u)) = None

@@ -24,7 +24,7 @@ pending_of (OfClock arrival row) = PendingClock arrival
 
 -- ---- the judge
 
--- A judge: how many entries are judged, the greatest arrival up to the current one, what was noted of all entries, the accepted
+-- A judge: how many entries are judged, the greatest arrival up to the current one, what was noted from all entries, the accepted
 -- batches that wait for their instant, the current entry, the entries after it, and whether the list has ended.
 pub record JudgeState : Type 0 where
   pub plan : SchedulePlan

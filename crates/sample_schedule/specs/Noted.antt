@@ -1,4 +1,4 @@
--- What is noted of a list of entries, for packets that are counted from other packets.
+-- What is noted from a list of entries, for packets that are counted from other packets.
 use Rattle.std.specs.Prelude.{◌≡◌, ◌+◌, true, false, List, Option, None, Some}
 use Rattle.std.specs.List.{filter_map}
 use Rattle.clock_track.specs.Window.{ClockState, StandsFor as StandsForRows}
@@ -20,7 +20,7 @@ abbrev pub HasClock : SchedulePlan → List Entry → Option ClockState → Type
 HasClock plan entries None = plan.clock ≡ false
 HasClock plan entries (Some clock) = HasNotedClock plan entries clock
 
--- what is noted of the list: its last usable stamps, `look` + 16 of them, and the plan's clock
+-- what is noted from the list: its last usable stamps, `look` + 16 of them, and the plan's clock
 pub record HasNoted (plan : SchedulePlan) (entries : List Entry) (noted : Noted) : Type 0 where
   pub stamps : KeepsLast noted.stamps (stamps_of entries)
   pub room : noted.stamps.room ≡ plan.look + 16

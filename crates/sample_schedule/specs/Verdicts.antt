@@ -32,7 +32,7 @@ Clock = List ClockRow → ℤ → ℤ → ℕ → Option Spot
 abbrev pub IsClockOf : SchedulePlan → Clock → Type 0
 IsClockOf plan clock = plan.clock ≡ true → clock ≡ clock_spot
 
--- what a clock notes of an entry: of a packet of the clock its row, and of an item nothing
+-- the row that a clock notes for an entry: that of a packet of the clock, and none for an item
 abbrev pub row_of : Entry → Option ClockRow
 row_of (OfItem item) = None
 row_of (OfClock arrival row) = Some row

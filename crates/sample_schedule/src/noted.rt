@@ -24,7 +24,7 @@ use time_unfold::{Anchors, Stamp, Want};
 /// How many stamps are searched, besides those of the packets of the look-ahead.
 const STAMPS: u32 = 16;
 
-/// What was noted of the entries so far: the last usable stamps, and the packets of the clock if the plan has one.
+/// What was noted from the entries so far: the last usable stamps, and the packets of the clock if the plan has one.
 #[derive(Drop)]
 pub struct Noted {
     stamps: Anchors,

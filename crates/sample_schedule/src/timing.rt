@@ -143,7 +143,7 @@ fn timed_unit(unit: Unit) -> Batch
     }
 }
 
-/// What can be presented of an item, given what was noted of the prefix that is known when it is judged; or the first reason
+/// What can be presented of an item, given what was noted from the prefix that is known when it is judged; or the first reason
 /// why nothing can, apart from reasons of time.
 #[tactic(auto, unfolding(crate::specs::Verdicts::timed))]
 #[inline(always)]

@@ -48,7 +48,7 @@ fn judge(
     })
 }
 
-/// The verdict of an item, given the batches that wait and what was noted of the known prefix.
+/// The verdict of an item, given the batches that wait and what was noted from the known prefix.
 #[inline(always)]
 pub fn verdict(
     plan: &SchedulePlan,

@@ -1,4 +1,4 @@
-//! What a tracker notes of a packet, and what it finds in it.
+//! What a tracker notes about a packet, and what it finds in it.
 
 ghost use Rattle.std.specs.Prelude.{◌≡◌};
 ghost use Rattle.sequence_track.specs.Findings.{untracked_findings};

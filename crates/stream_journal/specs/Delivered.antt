@@ -49,7 +49,7 @@ IsNear j n m =
     IsFragment j.kind n → IsFragment j.kind m → ((j.stamp n ≡ None) ⊎ (j.stamp m ≡ None)) →
     (n ≤ m + 254) × (m ≤ n + 254)
 
--- `IsNear` holds of each two adjacent packets of the list; of a whole run of fragments it follows by induction
+-- `IsNear` holds for each two adjacent packets of the list; for a whole run of fragments it follows by induction
 abbrev pub AreNear : Journal → List ℕ → Type 0
 AreNear j [] = ⊤
 AreNear j (n ∷ []) = ⊤

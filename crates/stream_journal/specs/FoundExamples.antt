@@ -1,4 +1,4 @@
--- Stamps and clock packets that a listener has of small journals.
+-- Stamps and clock packets that a listener has from small journals.
 use Rattle.std.specs.Prelude.{ℕ, ◌+◌, ◌*◌, ◌%◌, false, List, [], ◌∷◌, ◌++◌, replicate}
 use Rattle.clock_track.specs.declared.clock_row.ClockRow.{ClockRow}
 use Rattle.clock_track.specs.Examples.{worked_row}

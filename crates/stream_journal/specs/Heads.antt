@@ -1,4 +1,4 @@
--- The stamps that a listener notes of copies, and the stamp that it looks for among them.
+-- The stamps that a listener notes for copies, and the stamp that it looks for among them.
 use Rattle.std.specs.Prelude.{◌≡◌, ◌≢◌, ℕ, ◌+◌, ◌-◌, ◌*◌, ◌/◌, ◌%◌, ◌<◌, ◌≤◌, ◌⊎◌, pos, Some, None}
 use Rattle.time_unfold.specs.declared.head_rule.Distance.{Distance}
 use Rattle.time_unfold.specs.declared.stamp.Stamp.{Stamp}
@@ -7,7 +7,7 @@ use Rattle.time_unfold.specs.Heads.{counted_block, distance, stamped_block}
 use Rattle.stream_journal.specs.Journal.{Journal, head_of, rule_of}
 use Rattle.stream_journal.specs.Delivered.{Copy, IsDelivered}
 
--- the stamp that a listener notes of a copy of packet k, which is stamped with an instant
+-- the stamp that a listener notes for a copy of packet k, which is stamped with an instant
 abbrev pub stamp_at : Journal → ℕ → ℕ → Stamp
 stamp_at j k instant = record {
   seq = k % 256;
@@ -17,7 +17,7 @@ stamp_at j k instant = record {
   instant = pos instant;
 }
 
--- the stamp is what a listener notes of a copy of packet k, which the journal stamps
+-- the stamp is what a listener notes for a copy of packet k, which the journal stamps
 pub record IsStampOf (j : Journal) (k : ℕ) (stamp : Stamp) : Type 0 where
   pub known : k < j.packets
   pub instant : ℕ

@@ -1,4 +1,4 @@
-//! What a report notes of a packet.
+//! What a report notes about a packet.
 
 use crate::pace::Stamp;
 use crate::rate::Rate;
@@ -61,7 +61,7 @@ pub struct Labels {
     pub first_reserved: u8,
 }
 
-/// What a report notes of a packet.
+/// What a report notes about a packet.
 #[derive(Clone, Copy)]
 pub struct Facts {
     pub key: StreamKey,

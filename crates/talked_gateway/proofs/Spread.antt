@@ -47,7 +47,7 @@ both_spread : (xs ys : List ℤ) → AreSpread xs → AreSpread ys → AllByRecu
 both_spread [] ys first second between = second
 both_spread (x ∷ xs) ys first second between = (both_hold (λ y. (x +ℤ pos 500) ≤ℤ y) xs ys first.0 between.0, both_spread xs ys first.1 second between.1)
 
--- what holds of all instants of the samples of batches
+-- what holds for all instants of the samples of batches
 abbrev HoldsOf : (ℤ → Type 0) → List Presented → Type 0
 HoldsOf P bs = AllByRecursion (λ b. (j : ℕ) → j < b.count → P (sample_instant b j)) bs
 

@@ -22,7 +22,7 @@ use talker::laws::{journal_conforms, losses_are_delivered};
 
 /// A gateway skips nothing that a listener without a clock presents of a capture of an audio plan, whatever the capture loses,
 /// repeats or reorders, if a scan finds no fault in it: each packet begins after the end of those before it, and arrives before
-/// 2^32 seconds. This also holds of what is due while more records may follow. If some packets have no timestamp, as in sparse
+/// 2^32 seconds. This also holds for what is due while more records may follow. If some packets have no timestamp, as in sparse
 /// PCM and in AM824 whose packets have fewer blocks than SYT_INTERVAL, the listener's lead must be within 127 packets' time of
 /// the plan's.
 pub fn nothing_talked_is_skipped()
@@ -35,8 +35,8 @@ pub fn nothing_talked_is_skipped()
     talked_keeps_headline();
 }
 
-/// A listener without a clock, whose buffer is at least the default one, has room for all that a gateway makes of such a
-/// capture, under any stream id. So the gateway's promises of what listeners present hold of it.
+/// A listener without a clock, whose buffer is at least the default one, has room for all that a gateway makes of such a capture,
+/// under any stream id. So the gateway's promises of what listeners present hold for it.
 pub fn default_listeners_hear_turned_captures()
     ensures { (to : ToValue) (plan : TalkPlan) (input places : List ℕ) (listen : ListenPlan) (id : ℕ) (hearing : ListenPlan) → ListensTo plan input listen → listen.clock ≡ None → first_fault to listen.stream (captured plan input places) ≡ None
         → id < 2 ^ 64 → HasDefaultRoom id hearing → Hears id hearing (map record_of (frames_made to listen id (captured plan input places))) }

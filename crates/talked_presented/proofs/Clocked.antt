@@ -81,7 +81,7 @@ use Rattle.talked_presented.proofs.Covered.{IsClocked, IsOverStamp, at_stamp, at
 use Rattle.talked_presented.proofs.Merged.{AreMerged, IsPlaced, has_place, placed}
 use Rattle.talked_presented.proofs.Sent.{few_wait, has_times, packet_size}
 
--- ---- what a listener has of the capture
+-- ---- what a listener gets from the capture
 
 -- the listener has a whole capture of a stream and of its clock
 pub record HasWhole (plan : TalkPlan) (crf : CrfPlan) (input : List ℕ) (listen : ListenPlan) (rs : List Record) (os : List Origin) : Type 0 where

@@ -1,4 +1,4 @@
--- A whole capture of a plan with a clock, and what a listener with the talker's clock has of it.
+-- A whole capture of a plan with a clock, and what a listener with the talker's clock gets from it.
 use Rattle.std.proofs.Common.{◌≡◌, ℕ, ◌+◌, ◌-◌, ◌*◌, ◌/◌, ◌%◌, ◌≤◌, true, false, ℤ, pos, List, [], ◌∷◌, length, map, Option, Some, None, is_some, refl, sym, ap, ◌∙◌, subst, inl, inr, arith}
 use Rattle.std.specs.Prelude.{nat_lt}
 use Rattle.std.proofs.lemmas.Bool.Decides.{nat_tests}

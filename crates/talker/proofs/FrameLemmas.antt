@@ -28,7 +28,7 @@ numbered f a (suc n) (suc k) j h e = numbered f (a + 1) n k j (omega arith) (ome
 
 -- ---- of two lists
 
--- what holds of numbered frames from a on
+-- what holds for numbered frames from a on
 pub each_from : (f : ℕ → SentFrame) (P : SentFrame → Type 0) (a n : ℕ) → ((k : ℕ) → a ≤ k → k < a + n → P (f k)) → AllByRecursion P (map f (range_with_len a n))
 each_from f P a zero h = tt
 each_from f P a (suc n) h = (h a (omega arith) (omega arith), each_from f P (a + 1) n (λ k from below. h k (omega arith) (omega arith)))

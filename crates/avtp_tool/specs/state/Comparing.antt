@@ -218,7 +218,7 @@ pub record IsAmidTwo (shelf shelf' : ShelfState) (old new : Comparing) : Type 0 
   pub plan_a : new.pair.a.plan ≡ old.pair.a.plan
   pub plan_b : new.pair.b.plan ≡ old.pair.b.plan
 
--- These records were given of a capture whose reading goes on or has ended in this way.
+-- These records were given from a capture whose reading goes on or has ended in this way.
 abbrev pub SideRead : ℕ → List ℕ → ShelfState → Sourcing → Option End → List Record → Type 0
 SideRead limit bytes shelf source None records = HasGivenOf limit bytes shelf source records
 SideRead limit bytes shelf source (Some how) records = (how ≡ end_of limit bytes) × (records ≡ records_in (take limit bytes))

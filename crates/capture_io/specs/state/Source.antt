@@ -12,7 +12,7 @@ use Rattle.capture_io.specs.state.Reader.{IsNext, Releases, with_part}
 use Rattle.capture_io.specs.Reads.{ReadsSlot}
 use Rattle.capture_io.specs.Source.{Sourcing, slot_of, remains_of, held_in, HasFed, EndsAfter, to_do}
 
--- what a source has given of a file that is open on a shelf
+-- what a source has given from a file that is open on a shelf
 abbrev pub HasFedOf : ℕ → List ℕ → ShelfState → Sourcing → List Record → Type 0
 HasFedOf limit bytes shelf source records = HasFed limit bytes (remains_of shelf source) source records
 

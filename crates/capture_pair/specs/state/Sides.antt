@@ -52,7 +52,7 @@ is_passed (Some (Present batch)) = false
 is_passed (Some (Flag frame seq reason)) = true
 is_passed None = false
 
--- what a matching was given of the lists of side `which` and of the other side
+-- what a matching was given from the lists of side `which` and of the other side
 abbrev pub MatchesOn : Which → List Shown → List Shown → ℕ → ℕ → ℕ → MatchingState → Type 0
 MatchesOn A list other n k given m = Matches list other n k given m
 MatchesOn B list other n k given m = Matches other list k n given m

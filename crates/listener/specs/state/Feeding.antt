@@ -8,7 +8,7 @@ use Rattle.sample_schedule.specs.declared.shown.Shown.{Shown}
 use Rattle.listener.specs.Listening.{IsIdle, ListenState, StandsFor as RecordsStandFor}
 use Rattle.listener.specs.Feeding.{Feeding, IsQuiet, out, StandsFor}
 
--- A list has all items that were given of these bytes.
+-- A list has all items that were given from these bytes.
 pub record HasGiven (bytes : List ℕ) (list : List Shown) (fed : Feeding) : Type 0 where
   pub stands : StandsFor bytes (length list) fed
   pub first : IsPrefix list (out fed bytes)
