@@ -71,7 +71,7 @@ fn check_h264(pdu: &[u8]) -> Result<Own, Refusal> {
     })
 }
 
-/// What a packet of a subtype other than AAF breaks by itself, if its format is known.
+/// The rules that a packet of a subtype other than AAF breaks, whatever other packets come, if its format is known.
 #[inline(never)]
 fn another(pdu: &[u8]) -> Result<Option<Own>, Refusal> {
     match pdu.first() {

@@ -1,4 +1,4 @@
-//! The streams of a capture, and what a packet breaks by those of its stream that came before it.
+//! The streams of a capture, and the rules that a packet breaks, given those of its stream that came before it.
 
 /// The most streams that are tracked.
 const MOST: usize = 1024;
@@ -26,7 +26,7 @@ struct Stream {
     held: u8,
 }
 
-/// What a packet breaks by those before it.
+/// The rules that a packet breaks, given those before it.
 #[derive(Clone, Copy)]
 pub struct Order {
     pub untracked: bool,
@@ -82,7 +82,7 @@ impl Tracker {
         self.tracked
     }
 
-    /// Notes a packet, and returns what it breaks.
+    /// Notes a packet, and returns the rules that it breaks.
     #[inline(always)]
     pub fn note(&mut self, subtype: u8, id: u64, seq: u8, mr: bool) -> Order {
         let mut at = slot_of(subtype, id);
