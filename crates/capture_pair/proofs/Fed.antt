@@ -168,7 +168,7 @@ pub open-side : (which : Which) (QuietA QuietB : Type 0) (pair : FedPair) → Is
 open-side A QuietA QuietB pair s w = s.open_a w
 open-side B QuietA QuietB pair s w = s.open_b w
 
--- ---- what a piece is answered
+-- ---- what is returned for a piece
 
 pub refused-on : (which : Which) (piece : List ℕ) (result : Result ℕ ListenFault) (refusal : Refusal) (bytes others more : List ℕ) (given : ℕ) (old : FedPair) (a2 b2 : Feeding) → FedOn which piece result old.a old.b a2 b2 → result ≡ Err (Refused refusal) → StandsFor bytes others given old
     → first_refusal ((bytes_of which bytes others ++ piece) ++ more) ≡ Some refusal

@@ -198,7 +198,7 @@ pairs-zero ShowsA ShowsB list other given m p = subst (λ (g : ℕ). Pairs Shows
 pub holds-of : (ShowsA ShowsB : List Shown → ℕ → Type 0) (list other : List Shown) (given : ℕ) (m : MatchingState) → Pairs ShowsA ShowsB list other given m → Holds ShowsA ShowsB list other given m
 holds-of ShowsA ShowsB list other given m p = record { shown_a = p.shown_a; shown_b = p.shown_b; shows_a = p.shows_a; shows_b = p.shows_b; matches = p.matches }
 
--- ---- what is answered
+-- ---- what is returned
 
 not-some : {T : Type 0} (o : Option T) → is_some o ≡ false → o ≡ None
 not-some None e = refl

@@ -46,9 +46,9 @@ pub record IsShift (shift : ℤ) : Type 0 where
   pub from : neg_ℤ (pos 1000000000) ≤ℤ shift
   pub to : shift ≤ℤ pos 1000000000
 
--- ---- a line that a clock answers
+-- ---- a line that a clock returns
 
--- The limits of the line that a clock answers for a stream of this rate and an instant, and of the sample's number on it.
+-- The limits of the line that a clock returns for a stream of this rate and an instant, and of the sample's number on it.
 pub record IsClockLine (rate : ℕ) (instant : ℤ) (spot : Spot) : Type 0 where
   pub some_num : 1 ≤ spot.line.num
   pub num : spot.line.num ≤ 2 ^ 60

@@ -1,4 +1,4 @@
-//! What a clock answers for an instant.
+//! The answer of a clock for an instant.
 
 use time_unfold::Line;
 

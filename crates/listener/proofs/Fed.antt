@@ -25,7 +25,7 @@ use Rattle.listener.proofs.Due.{due_none}
 use Rattle.listener.proofs.Listened.{counted_shown, out_ended, out_open, out_same, take_next, out_further, out_at_end}
 use Rattle.sample_schedule.proofs.GivenLemmas.{prefix-more, prefix-all}
 
--- ---- answers
+-- ---- what is returned
 
 pub if_none : {X P : Type 0} (o : Option X) → IfNone o P → o ≡ None → P
 if_none None p e = p

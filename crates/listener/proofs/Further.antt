@@ -101,7 +101,7 @@ arrival_kept t a = to_z-of_z (fits_signed_from_nat t a)
     fits_signed_from_nat : (t : ℤ) → IsArrival t → FitsSigned w64 t
     fits_signed_from_nat t a = omega (arith, ints, a.from, a.to)
 
--- ---- answers
+-- ---- what is returned
 
 -- if a choice between an item and none gave an item, the test holds
 pub chosen : {X : Type 0} (b : Bool) (x y : X) → Some x ≡ (if b then Some y else None) → (b ≡ true) × (x ≡ y)
