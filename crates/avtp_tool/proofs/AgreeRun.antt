@@ -50,7 +50,7 @@ use Rattle.avtp_tool.proofs.PlanRuns.{run_asked, run_cut}
 use Rattle.avtp_tool.proofs.TwoFiles.{both_closed, shown_before}
 use Rattle.avtp_tool.proofs.Yields.{part_none, part_text, part_whole}
 
--- ---- what a run comes to if no fault of reading comes
+-- ---- the outcome of a run if no fault of reading comes
 
 pub agree_here : (asked : Agreeing) (files : Files) (fault : Type 0) → AgreeOutcome asked files fault (agree_came asked (files asked.a)) (agree_ended asked (files asked.a) (files asked.b)) (agree_report asked (files asked.a) (files asked.b))
 agree_here asked files fault = at (files asked.a) (files asked.b) refl refl where
@@ -67,7 +67,7 @@ missing_b : (asked : Agreeing) (a : Option (List ℕ)) → (agree_ended asked a 
 missing_b asked None = (refl, refl)
 missing_b asked (Some x) = (refl, refl)
 
--- what a run comes to, given what a shelf shows of both files
+-- the outcome of a run, given what a shelf shows of both files
 abbrev pub ComesTo : Agreeing → List (List ℕ) → Status → List ℕ → Option (List ℕ) → Option (List ℕ) → Type 0
 ComesTo asked came ended text a b = (came ≡ agree_came asked a) × (ended ≡ agree_ended asked a b) × (text ≡ agree_report asked a b)
 
@@ -152,7 +152,7 @@ among_second : (a b name : List ℕ) → Contains (b ∷ []) name → Contains (
 among_second a b name (zero, less, is) = (1, omega arith, is)
 among_second a b name (suc n, less, is) = absurd (omega arith)
 
--- what a run comes to if a file could not be opened, given the cause
+-- the outcome of a run if a file could not be opened, given the cause
 unopened_run : {asked : Agreeing} {all : Files} {s t : ShelfState} {h h' : SinkState} {w w' : List ℕ} {result : Result Status Failed} (fault : OpenFault) (name : List ℕ) (came : List (List ℕ)) → s.files ≡ Some all → Refuses s t name fault → EndsUnopened fault h h' w w' result
     → (IsUnopened all (Rose s.reading_faults t.reading_faults) name → AgreeOutcome asked all (Rose s.reading_faults t.reading_faults) came status.ReadFault read_fault_line) → Asks came s t
     → TellsRun (AgreeYields asked all (Rose s.reading_faults t.reading_faults)) HandsNothing s t (written h.held w) (written h'.held w') result

@@ -58,11 +58,11 @@ gateway_here asked files fault = at (files asked.input) refl where
 
 -- ---- any other outcome needs a fault of reading
 
--- what a run comes to, given what a shelf shows of IN
+-- the outcome of a run, given what a shelf shows of IN
 abbrev pub TurnsOut : Turning → List (List ℕ) → Status → List ℕ → Option (List ℕ) → Option (List ℕ) → Type 0
 TurnsOut asked came ended text made told = (came ≡ gateway_came asked told) × (ended ≡ gateway_ended asked told) × (text ≡ gateway_report asked told) × (made ≡ gateway_made asked told)
 
--- what a run comes to, given the scan's fault, if any, and how the scan ended
+-- the outcome of a run, given the scan's fault, if any, and how the scan ended
 abbrev pub TurnsBy : Turning → List Record → List (List ℕ) → Status → List ℕ → Option (List ℕ) → Option FaultAt → End → Type 0
 TurnsBy asked records came ended text made at how = (came ≡ came_by asked at how) × (ended ≡ ended_by asked records at how) × (text ≡ text_by asked records at how) × (made ≡ made_by asked records at how)
 

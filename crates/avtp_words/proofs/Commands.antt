@@ -371,7 +371,7 @@ first_stands words place r none = let t = two_names words place r in let both = 
 pub second_stands : (words : List (List ℕ)) (place : ℕ) → IsRestTo talk_form.rows talk_form.operands words place → slice_get words (place + 1) ≡ None → ⊥
 second_stands words place r none = let t = two_names words place r in let both = sym t.at_second ∙ none in cc
 
--- an option's name after `talk` is one of all words
+-- the words have an option's name exactly if the words after `talk` have it
 after_talk : (name : List ℕ) (tells : Bool) (words : List (List ℕ)) → BeginsWithDash name → IsTrue tells ↔ Contains words name → IsTrue tells ↔ Contains (codes "talk" ∷ words) name
 after_talk name tells words dash told =
     let all = after_first (codes "talk") name words other in

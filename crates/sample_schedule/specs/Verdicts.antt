@@ -92,7 +92,7 @@ timed clock plan prefix (OfBad b) = Err b.reason
 abbrev pub first_instant : Presented → ℤ
 first_instant batch = sample_instant batch 0
 
--- the bytes of accepted batches together
+-- the number of bytes of all accepted batches
 abbrev pub total_bytes : List Accepted → ℕ
 total_bytes accepted = sum_by (λ a. length a.batch.bytes) accepted
 

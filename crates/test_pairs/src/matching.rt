@@ -37,7 +37,7 @@ const ROWS: &str = "\
 0@0*3 | 0@4000000 => 1 1 seq 0 Count { a: 3, b: 6 }, matched 1 only 0 0 differ 1
 0@0*3 | 0@4000001 => matched 0 only 1 1 differ 0
 0@4000001 | 0@0*3 => 1 1 seq 0 Count { a: 6, b: 3 }, matched 1 only 0 0 differ 1
-// The reach by A's rate, which is no whole number of nanoseconds.
+// The reach at A's rate, which is not a whole number of nanoseconds.
 0@0/44100 | 0@8707482 => 1 1 seq 0 At { sample: 0, a: 0, b: 8707482 }, matched 1 only 0 0 differ 1
 0@0/44100 | 0@8707483 => matched 0 only 1 1 differ 0
 0@8000001 | 0@0/44100 => matched 0 only 1 1 differ 0

@@ -1,5 +1,5 @@
--- Kept for proofs: what the code's own parts hold and do. No clause of a public call rests on it.
--- What a run comes to, whichever command the words ask for.
+-- Kept for proofs: what the code's own parts hold and do. No clause of a public call rests on it. The outcome of a run, whichever
+-- command the words ask for.
 use Rattle.std.specs.Prelude.{◌≡◌, ◌≢◌, ◌⊎◌, ℕ, ◌^◌, ◌≤◌, List, Option, Some, IfOk, IsSome, Result, Ok, Err, Bool, true, false}
 use Rattle.avtp_base.specs.declared.failed.Failed.{Failed}
 use Rattle.avtp_base.specs.Faults.{Rose}
