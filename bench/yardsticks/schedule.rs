@@ -147,7 +147,7 @@ struct Key {
     seq: u8,
 }
 
-/// Keys by instant, and then as they came, in blocks.
+/// Keys in blocks, sorted by instant, and then by the order in which they came.
 struct Keys {
     blocks: VecDeque<VecDeque<Key>>,
     spare: Vec<VecDeque<Key>>,
