@@ -4,7 +4,7 @@ use Rattle.std.specs.Prelude.{insert, int_le, int_lt, slice_set}
 use Rattle.std.specs.List.{AllByRecursion, AllWithin, list_any}
 use Rattle.std.specs.List.Sorted.{IsPartitionPoint, IsPartitionedBy}
 use Rattle.std.proofs.lemmas.Int.{ints, by_lt_z}
-use Rattle.std.proofs.lemmas.List.{append_assoc, append-nil, drop_all, length-append, take-append-drop}
+use Rattle.std.proofs.lemmas.List.{append_assoc, append-nil, drop_all, length-append, take_all, take-append-drop}
 use Rattle.std.proofs.lemmas.List.Folds.{list_any-append}
 use Rattle.std.proofs.Math.Bool.{or-false}
 use Rattle.sorted_keys.specs.declared.key.Key.{Key}
@@ -187,6 +187,12 @@ behind-holds P ks n k is p = let q = subst (λ (l : List Key). AllByRecursion P 
 
 pub no-key-earlier : (t : ℤ) (seq : ℕ) (ks : List Key) (n : ℕ) (k : Key) → IsBehind ks n k → KeysAreInOrder ks → k.instant <ℤ t → list_any (is_key t seq) (take n ks) ≡ false
 no-key-earlier t seq ks n k is o h = none-earlier t k.instant seq (take n ks) h (up-to-read k.instant ks n k is.within is.read o (omega (arith, ints)))
+
+-- no key has an instant after that of the last one
+pub none-behind : (t : ℤ) (seq : ℕ) (ks : List Key) (k : Key) → 0 < length ks → k ≡ get_or ks (length ks - 1) k → KeysAreInOrder ks → k.instant <ℤ t → list_any (is_key t seq) ks ≡ false
+none-behind t seq ks k some read o h =
+    subst (λ (l : List Key). list_any (is_key t seq) l ≡ false) (take_all (length ks) ks (omega arith))
+    (no-key-earlier t seq ks (length ks) k (record { some = some; within = omega arith; read = read }) o h)
 
 -- ---- blocks
 

@@ -1,6 +1,6 @@
 //! A block of sorted keys.
 
-ghost use Rattle.std.specs.Prelude.{◌≡◌, ◌+◌, ◌<◌, ◌≤◌, ◌++◌, [], insert, length, nat_le, slice_get, IfNone, IfOk};
+ghost use Rattle.std.specs.Prelude.{◌≡◌, ◌+◌, ◌<◌, ◌≤◌, ◌++◌, [], ℕ, false, true, insert, length, nat_le, slice_get, IfNone, IfOk};
 ghost use Rattle.std.specs.List.{list_any};
 ghost use Rattle.std.specs.Option.{option_to_list};
 ghost use Rattle.std.specs.VecDeque.{deque_capacity};
@@ -20,6 +20,7 @@ pub const FULL: usize = 512;
 pub const HALF: usize = FULL / 2;
 
 /// How many of the sorted keys are not later than the instant.
+#[inline(always)]
 fn place_behind(keys: &VecDeque<Key>, instant: i64) -> usize
     requires { KeysAreInOrder keys.now.items }
     ensures { IsPlace instant keys.now.items result }
@@ -30,7 +31,6 @@ fn place_behind(keys: &VecDeque<Key>, instant: i64) -> usize
     if instant < last.instant {
         keys.partition_point(|key| key.instant <= instant)
     } else {
-        // Most packets come in the order of their instants.
         keys.len()
     }
 }
@@ -41,6 +41,11 @@ fn insert_key(keys: &mut VecDeque<Key>, place: usize, key: Key)
     ensures items { keys.new.items ≡ insert keys.old.items place key }
     ensures capacity { deque_capacity keys.old ≤ deque_capacity keys.new }
 {
+    // Most packets come in the order of their instants.
+    if place == keys.len() {
+        keys.push_back_reserved(key);
+        return;
+    }
     let Ok(()) = keys.insert(place, key) else {
         unreachable!()
     };
@@ -132,6 +137,17 @@ impl Block {
         }
     }
 
+    /// Whether the last key is earlier than the instant.
+    #[inline(always)]
+    fn ends_before(&self, instant: i64) -> bool
+        ensures { result ≡ true → (seq : ℕ) → list_any (is_key instant seq) self.now ≡ false }
+    {
+        match self.keys.back() {
+            Some(last) => last.instant < instant,
+            None => false,
+        }
+    }
+
     /// Puts a key into the block, after all keys that are not later.
     pub fn put(&mut self, key: Key)
         requires { length self.old < 512 }
@@ -145,6 +161,9 @@ impl Block {
     pub fn has(&self, instant: i64, seq: u8) -> bool
         ensures { result ≡ list_any (is_key instant seq) self.now }
     {
+        if self.ends_before(instant) {
+            return false;
+        }
         let mut end = place_behind(&self.keys, instant);
         while end > 0 {
             let key = self.keys[end - 1];

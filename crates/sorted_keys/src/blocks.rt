@@ -15,10 +15,15 @@ use std::alloc::Global;
 use std::collections::VecDeque;
 
 /// The place of the block that a key with this instant goes into.
+#[inline(always)]
 pub fn block_for(blocks: &VecDeque<Block>, instant: i64) -> usize
     requires { AreBlocks blocks.now.items }
     ensures { IsBlockFor instant blocks.now.items result }
 {
+    // Few packets wait, mostly.
+    if blocks.len() == 1 {
+        return 0;
+    }
     blocks
         .partition_point(|block| block.starts_by(instant))
         .saturating_sub(1)

@@ -17,6 +17,11 @@ loop-end-init c =
           ∙ ap (λ (l : List Key). list_any (is_key t c.args.seq) l) c.self.view_is;
     }
 
+pub returns-then-ends_before : goal.returns-then-ends_before
+returns-then-ends_before c =
+    let now : to_z w64 (of_z w64 c.args.instant) ≡ c.args.instant = omega (arith, ints) in
+    rw now at (sym (c.ends_before.ensures c.if-ends_before.true c.args.seq))
+
 pub returns-then-key-instant : goal.returns-then-key-instant
 returns-then-key-instant c =
     let t = to_z w64 (of_z w64 c.args.instant) in
