@@ -1,5 +1,20 @@
 //! Evenly spaced samples.
 
+ghost use Rattle.std.specs.Prelude.{◌≡◌, ◌≤◌};
+ghost use Rattle.time_unfold.specs.Lines.{floor_of};
+
+/// A fraction, rounded down. Most need only a division in 64 bits.
+#[inline(always)]
+fn floor(numerator: i128, denominator: u64) -> i128
+    requires { 1 ≤ denominator }
+    ensures { result ≡ floor_of numerator denominator }
+{
+    match (i64::try_from(numerator), i64::try_from(denominator)) {
+        (Ok(numerator), Ok(denominator)) => i128::from(numerator.div_euclid(denominator)),
+        _ => numerator.div_euclid(i128::from(denominator)),
+    }
+}
+
 /// Samples at evenly spaced instants: sample 0 is at `base`, in nanoseconds of gPTP, and each later one `num / den` nanoseconds
 /// after the one before.
 #[derive(Clone, Copy, Debug, PartialEq, Eq)]
@@ -25,6 +40,6 @@ impl Line {
         ensures only { (other : ℤ) → IsAt self.now k other → other ≡ result }
     {
         let steps = i128::from(k) * i128::from(self.num);
-        (i128::from(self.base) + steps.div_euclid(i128::from(self.den))) as i64
+        (i128::from(self.base) + floor(steps, self.den)) as i64
     }
 }

@@ -16,15 +16,14 @@ product k num a b fits small p q =
     rw (left, right) (to_z-of_z w128 (k *ℤ pos num) within)
 
 -- the steps from the base
-steps_of : (c : goal.After-div_euclid) → c.div_euclid.result ≡ floor_of (c.args.k *ℤ pos c.args.self.now.num) c.args.self.now.den
+steps_of : (c : goal.After-floor) → c.floor.result ≡ floor_of (c.args.k *ℤ pos c.args.self.now.num) c.args.self.now.den
 steps_of c =
     let k : c.from.result ≡ c.args.k = omega (arith, ints) in
     let num : c.from-2.result ≡ pos c.args.self.now.num = c.from-2.ensures in
     let steps = product c.args.k c.args.self.now.num c.from.result c.from-2.result (omega (arith, ints)) (omega arith) k num in
-    let den : to_z w128 (of_z w128 c.from-4.result) ≡ pos c.args.self.now.den = omega (arith, ints) in
-    rw (← steps, ← den) c.div_euclid.ensures
+    rw (← steps) c.floor.ensures
 
-base_of : (c : goal.After-div_euclid) → c.from-3.result ≡ c.args.self.now.base
+base_of : (c : goal.After-floor) → c.from-3.result ≡ c.args.self.now.base
 base_of c = omega (arith, ints)
 
 pub overflow_add-result : goal.overflow_add-result
