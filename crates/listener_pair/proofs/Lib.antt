@@ -1,5 +1,4 @@
 pub mod Numbers
-pub mod Reaching
 pub mod Sorting
 pub mod Windows
 pub mod Samples

@@ -1,3 +1,2 @@
 -- Kept for proofs: what the code's own parts hold and do. No clause of a public call rests on it.
 pub mod Window
-pub mod Reach

@@ -1,16 +1,34 @@
 //! Which two batches may be a pair.
 
 ghost use Rattle.std.specs.Prelude.{◌≡◌};
-ghost use Rattle.listener_pair.specs.Pairs.{fits as fits_of, reaches as reaches_of, within_reach as within_reach_of};
+ghost use Rattle.listener_pair.specs.Pairs.{are_near as are_near_of, fits as fits_of, reaches as reaches_of, within_reach as within_reach_of};
 
 use crate::difference::Which;
 use crate::timed::Timed;
 
+/// Two batches of one packet may be apart by this many times the time of one.
+const REACH: u64 = 64;
+
+/// Whether a batch of A and one of B are apart by at most 64 times the time of A's batch.
+#[tactic(auto, using(crate::proofs::Numbers::products))]
+fn are_near(a: &Timed, b: &Timed) -> bool
+    ensures { result ≡ are_near_of a.now b.now }
+{
+    let distance = a.instant().abs_diff(b.instant());
+    let line = a.batch().line;
+    let samples = REACH * u64::from(a.batch().count);
+    u128::from(distance) * u128::from(line.den) <= u128::from(samples) * u128::from(line.num)
+}
+
 /// Whether a batch of A and one of B may present the same packet or unit.
+#[tactic(auto, unfolding(crate::specs::Pairs::within_reach))]
 fn within_reach(a: &Timed, b: &Timed) -> bool
     ensures { result ≡ within_reach_of a.now b.now }
 {
-    a.batch().is_unit() == b.batch().is_unit() && a.instant().abs_diff(b.instant()) <= a.reach()
+    if a.batch().is_unit() || b.batch().is_unit() {
+        return a.batch().is_unit() && b.batch().is_unit() && a.instant() == b.instant();
+    }
+    are_near(a, b)
 }
 
 fn reaches(side: Which, x: &Timed, y: &Timed) -> bool
