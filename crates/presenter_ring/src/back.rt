@@ -1,18 +1,21 @@
 //! The presenter's side of a ring.
 
-ghost use Rattle.std.specs.Prelude.{◌≡◌, length};
+ghost use Rattle.std.specs.Prelude.{◌≡◌, ◌++◌, ◌∷◌, [], List, length};
+ghost use Rattle.avtp_base.specs.Faults.{IsCounted};
 ghost use Rattle.rtrb.specs.Ring.{received};
+ghost use Rattle.sample_schedule.specs.declared.shown.Shown.{Shown as ShownValue};
 
 use crate::gate::{Gate, Side};
 use crate::presenter::Presenter;
-use avtp_base::Failed;
-use rtrb::Consumer;
+use avtp_base::{Bytes, Failed};
+use rtrb::{Consumer, Producer};
 use sample_schedule::Shown;
 
-/// The consumer's end of the ring.
+/// The consumer's end of the ring, and of the way back for the samples that were presented.
 #[derive(Drop)]
 pub struct Back {
     pub consumer: Consumer<Shown>,
+    pub samples: Producer<Bytes>,
     /// How many items were popped.
     pub pops: u64,
     ghost counted: { pops ≡ length (received consumer) },
@@ -40,7 +43,7 @@ impl Back {
             Ok(shown) => {
                 self.pops += 1;
                 gate.step(Side::Pop, self.pops);
-                presenter.present(shown)?;
+                present(presenter, shown, &mut self.samples)?;
                 Ok(true)
             }
             Err(_) => Ok(false),
@@ -85,4 +88,21 @@ impl Back {
         }
         Ok(())
     }
+}
+
+/// Presents an item, and sends its samples back to the receiver. Samples that find no free slot are dropped.
+#[inline(always)]
+fn present<P: Presenter>(
+    presenter: &mut P,
+    shown: Shown,
+    samples: &mut Producer<Bytes>,
+) -> Result<(), Failed>
+    ensures handed { (begun : P) (items : List ShownValue) → P.handed begun presenter.old items → P.handed begun presenter.new (items ++ shown ∷ []) }
+    ensures counted { IsCounted (P.faults presenter.old) (P.faults presenter.new) result }
+{
+    presenter.present(shown)?;
+    if let Some(spent) = presenter.give_back() {
+        let _ = samples.push(spent);
+    }
+    Ok(())
 }

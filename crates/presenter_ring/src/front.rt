@@ -1,19 +1,24 @@
 //! The receiver's side of a ring.
 
-ghost use Rattle.std.specs.Prelude.{◌≡◌, ◌+◌, ◌≤◌, length};
+ghost use Rattle.std.specs.Prelude.{◌≡◌, ◌+◌, ◌≤◌, ◌++◌, List, None, length};
 ghost use Rattle.std.specs.Option.{option_to_list};
 ghost use Rattle.rtrb.specs.Ring.{sent};
+ghost use Rattle.sample_schedule.specs.declared.shown.Shown.{Shown as ShownValue};
+ghost use Rattle.presenter_ring.specs.Pulls.{ending_of, items_of};
 
 use crate::ending::{Ending, end_of};
 use crate::gate::{Gate, Side};
 use crate::receiver::{Pull, Receiver};
-use rtrb::{Producer, PushError};
+use avtp_base::Bytes;
+use rtrb::{Consumer, Producer, PushError};
 use sample_schedule::Shown;
 
-/// The producer's end of the ring, the item that found no free slot, and how the receiver ended.
+/// The producer's end of the ring, and of the way back for the samples that were presented; the item that found no free slot,
+/// and how the receiver ended.
 #[derive(Drop)]
 pub struct Front {
     pub producer: Producer<Shown>,
+    pub samples: Consumer<Bytes>,
     pub hand: Option<Shown>,
     pub ended: Option<Ending>,
     /// How many items the receiver gave.
@@ -44,7 +49,7 @@ impl Front {
         if self.ended.is_some() {
             return None;
         }
-        match receiver.next() {
+        match pull(receiver, &mut self.samples) {
             Pull::Item(shown) => {
                 self.given += 1;
                 Some(shown)
@@ -110,5 +115,29 @@ impl Front {
                 return;
             }
         }
+    }
+}
+
+/// The receiver's next answer. The receiver first gets back samples that were presented, if some have come.
+#[inline(always)]
+fn pull<R: Receiver>(receiver: &mut R, samples: &mut Consumer<Bytes>) -> Pull
+    requires { R.ended receiver.old ≡ None }
+    ensures gave { (begun : R) (items : List ShownValue) → R.gave begun receiver.old items → R.gave begun receiver.new (items ++ items_of result) }
+    ensures left { R.left receiver.new + length (items_of result) ≤ R.left receiver.old }
+    ensures ended { R.ended receiver.new ≡ ending_of result }
+{
+    take_back(receiver, samples);
+    receiver.next()
+}
+
+/// Hands samples that were presented back to the receiver, if some have come.
+#[inline(always)]
+fn take_back<R: Receiver>(receiver: &mut R, samples: &mut Consumer<Bytes>)
+    ensures gave { (begun : R) (items : List ShownValue) → R.gave begun receiver.old items → R.gave begun receiver.new items }
+    ensures left { R.left receiver.new ≡ R.left receiver.old }
+    ensures ended { R.ended receiver.new ≡ R.ended receiver.old }
+{
+    if let Ok(spent) = samples.pop() {
+        receiver.take_back(spent);
     }
 }

@@ -61,15 +61,21 @@ impl Pipe {
         ensures free { IfOk result (λ pipe. known_free_of pipe ≡ capacity) }
     {
         let (producer, consumer) = RingBuffer::new(alloc, capacity as usize)?;
+        let (spent, samples) = RingBuffer::new(alloc, capacity as usize)?;
         Ok(Pipe {
             front: Front {
                 producer,
+                samples,
                 hand: None,
                 ended: None,
                 given: 0,
                 pushes: 0,
             },
-            back: Back { consumer, pops: 0 },
+            back: Back {
+                consumer,
+                samples: spent,
+                pops: 0,
+            },
             capacity,
         })
     }

@@ -1,9 +1,9 @@
 //! Where the items go.
 
-ghost use Rattle.std.specs.Prelude.{◌++◌, [], ◌∷◌};
+ghost use Rattle.std.specs.Prelude.{◌≡◌, ◌++◌, [], ◌∷◌};
 ghost use Rattle.avtp_base.specs.Faults.{IsCounted};
 
-use avtp_base::Failed;
+use avtp_base::{Bytes, Failed};
 use sample_schedule::Shown;
 
 /// Takes items one at a time, and counts its faults.
@@ -29,5 +29,13 @@ pub trait Presenter: Send {
         ensures counted { IsCounted (faults self.old) (faults self.new) result }
     {
         Ok(())
+    }
+
+    /// The samples of the item that was presented last, if they were kept and are not needed any more.
+    fn give_back(&mut self) -> Option<Bytes>
+        ensures handed { (begun : Self) (items : List ShownValue) → handed begun self.old items → handed begun self.new items }
+        ensures faults { faults self.new ≡ faults self.old }
+    {
+        None
     }
 }

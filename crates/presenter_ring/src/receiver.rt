@@ -3,7 +3,7 @@
 ghost use Rattle.std.specs.Prelude.{◌≡◌, ◌+◌, ◌++◌, ◌≤◌, None, length};
 ghost use Rattle.presenter_ring.specs.Pulls.{items_of, ending_of};
 
-use avtp_base::Refusal;
+use avtp_base::{Bytes, Refusal};
 use sample_schedule::Shown;
 
 /// A receiver's answer: the next item, or why there will be none.
@@ -49,5 +49,14 @@ pub trait Receiver: Send {
     /// Whether `next` may have to wait for its input. The items that were given so far are then best presented first.
     fn may_wait(&self) -> bool {
         false
+    }
+
+    /// Gets back the samples of an item that was presented, whose memory may be used again.
+    fn take_back(&mut self, samples: Bytes)
+        ensures gave { (begun : Self) (items : List ShownValue) → gave begun self.old items → gave begun self.new items }
+        ensures left { left self.new ≡ left self.old }
+        ensures ended { ended self.new ≡ ended self.old }
+    {
+        drop(samples);
     }
 }
