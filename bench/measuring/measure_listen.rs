@@ -1,6 +1,6 @@
-//! `measure_listen ROUNDS AVTP TWO ONE PACKETS TEXT STREAM CAPTURE`: runs `avtp listen` with rings of 64 and of 256 items in turn
-//! with its yardsticks, TWO of two threads that are joined in rounds and ONE of one thread. They print to nothing and, if TEXT is
-//! not empty, also to that file. Prints rows of `listen` compared with each yardstick, for the best of ROUNDS runs.
+//! `measure_listen AVTP TWO ONE PACKETS TEXT STREAM CAPTURE`: runs `avtp listen` with rings of 64 and of 256 items in turn with its
+//! yardsticks, TWO of two threads that are joined in rounds and ONE of one thread. They print to nothing, and to the file TEXT.
+//! Prints rows of `listen` beside each yardstick, for the best runs.
 
 mod row;
 mod runner;
@@ -10,7 +10,9 @@ use runner::{Runner, best_of};
 use std::env;
 use std::io::{self, Error};
 
-const USAGE: &str = "measure_listen ROUNDS AVTP TWO ONE PACKETS TEXT STREAM CAPTURE";
+const USAGE: &str = "measure_listen AVTP TWO ONE PACKETS TEXT STREAM CAPTURE";
+
+const ROUNDS: usize = 20;
 
 const RINGS: [&str; 2] = ["64", "256"];
 
@@ -60,14 +62,13 @@ impl Asked<'_> {
     }
 }
 
-/// Rows of `listen` to one sink: with each ring, compared with the yardstick of two threads and then with that of one. `more`
-/// ends each name.
-fn print_rows(runners: &[Runner], packets: f64, more: &str) {
+/// Rows of `listen` to one sink: with each ring beside the yardstick of two threads, and then of one.
+fn print_rows(runners: &[Runner], packets: f64) {
     let [pairs @ .., one] = runners else { return };
     for pair in pairs.chunks_exact(2) {
         for (beside, yardstick) in [("two threads", &pair[1]), ("one thread", one)] {
             let row = Row {
-                what: &format!("{}, beside {beside}{more}", pair[0].name),
+                what: &format!("{}, beside {beside}", pair[0].name),
                 seconds: pair[0].seconds,
                 count: packets,
                 things: "packets",
@@ -82,10 +83,10 @@ fn print_rows(runners: &[Runner], packets: f64, more: &str) {
 fn main() -> io::Result<()> {
     let words: Vec<String> = env::args().skip(1).collect();
     let words: Vec<&str> = words.iter().map(String::as_str).collect();
-    let [rounds, avtp, two, one, packets, text, stream, capture] = words[..] else {
+    let [avtp, two, one, packets, text, stream, capture] = words[..] else {
         return Err(Error::other(USAGE));
     };
-    let rounds = rounds.parse().map_err(Error::other)?;
+    let packets = packets.parse().map_err(Error::other)?;
     let asked = Asked {
         avtp,
         two,
@@ -94,19 +95,12 @@ fn main() -> io::Result<()> {
         capture,
     };
     let mut to_nothing = asked.runners(None);
-    let mut to_a_file = if text.is_empty() {
-        Vec::new()
-    } else {
-        asked.runners(Some(text))
-    };
-    for _ in 0..rounds {
+    let mut to_a_file = asked.runners(Some(text));
+    for _ in 0..ROUNDS {
         best_of(1, &mut to_nothing)?;
         best_of(1, &mut to_a_file)?;
     }
-
-    let packets = packets.parse().map_err(Error::other)?;
-    let more = if rounds == 1 { format!(", {packets} packets") } else { String::new() };
-    print_rows(&to_nothing, packets, &more);
-    print_rows(&to_a_file, packets, &more);
+    print_rows(&to_nothing, packets);
+    print_rows(&to_a_file, packets);
     Ok(())
 }

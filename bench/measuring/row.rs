@@ -1,12 +1,6 @@
 //! A row of the table of results: what was measured, the seconds it took, how many things a second, the throughput compared with
 //! that of a yardstick, and the largest resident memory in KiB.
 
-/// What `bench/run` writes above the rows.
-#[allow(dead_code)] // Printed by one of the programs.
-pub const HEAD: &str = "\
-| What | Seconds | A second | Ratio | KiB |
-|---|---|---|---|---|";
-
 pub struct Row<'a> {
     pub what: &'a str,
     pub seconds: f64,
