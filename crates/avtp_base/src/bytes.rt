@@ -26,6 +26,14 @@ impl Bytes {
         Bytes { items }
     }
 
+    /// The vector of the bytes. Allocates nothing.
+    pub fn into_vec(self) -> Vec<u8>
+        ensures { result.items ≡ self }
+    {
+        let Bytes { items } = self;
+        items
+    }
+
     pub fn as_slice(&self) -> &[u8]
         ensures { result.now ≡ self.now }
     {

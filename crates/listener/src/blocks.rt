@@ -5,8 +5,9 @@ ghost use Rattle.iec61883_format.specs.Iec.{iec_shape, syt_interval as syt_inter
 ghost use Rattle.listener.specs.state.Views.{delivery_shape};
 ghost use Rattle.listener.specs.Items.{block_rule as block_rule_of, blocks_of as blocks_of_packet};
 
+use crate::buffer_pool::BufferPool;
 use crate::delivery::DeliveryView;
-use avtp_base::{Bytes, NoMemory};
+use avtp_base::NoMemory;
 use iec61883_format::{Cip, IecView, rate_of_fdf, syt_interval};
 use sample_schedule::{Item, Packet};
 use std::alloc::Global;
@@ -28,12 +29,13 @@ fn block_rule(cip: Cip) -> HeadRule
 /// The data blocks of a packet, copied.
 pub fn blocks_of(
     alloc: Global,
+    pool: &mut BufferPool,
     delivery: &DeliveryView<'_>,
     view: &IecView<'_>,
 ) -> Result<Item, NoMemory>
     ensures { IfOk result (λ item. item ≡ blocks_of_packet (delivery_shape delivery.now) (iec_shape view.now)) }
 {
-    let bytes = Vec::from_slice(alloc, view.payload)?;
+    let bytes = pool.copy(alloc, view.payload)?;
     Ok(Item::Packet(Packet {
         frame: delivery.frame,
         arrival: delivery.arrival,
@@ -44,6 +46,6 @@ pub fn blocks_of(
         rule: block_rule(view.cip),
         rate: rate_of_fdf(view.cip.fdf).unwrap_or(0),
         count: view.count,
-        bytes: Bytes::over(bytes),
+        bytes,
     }))
 }

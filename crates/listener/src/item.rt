@@ -6,9 +6,10 @@ ghost use Rattle.listener.specs.state.Views.{delivery_shape};
 ghost use Rattle.listener.specs.Items.{aaf_item as aaf_item_of, iec_item as iec_item_of, item_of as item_of_delivery, malformed as malformed_of, samples_of as samples_of_packet};
 
 use crate::blocks::blocks_of;
+use crate::buffer_pool::BufferPool;
 use crate::delivery::DeliveryView;
 use aaf_format::{AafView, rate_of, read_aaf};
-use avtp_base::{Bytes, NoMemory, Refusal};
+use avtp_base::{NoMemory, Refusal};
 use avtp_header::subtype;
 use iec61883_format::read_iec;
 use sample_schedule::{Bad, HeadRule, Item, Packet, Reason};
@@ -28,12 +29,13 @@ pub(crate) fn malformed(delivery: &DeliveryView<'_>, refusal: Refusal) -> Item
 /// The samples of a packet, copied.
 fn samples_of(
     alloc: Global,
+    pool: &mut BufferPool,
     delivery: &DeliveryView<'_>,
     view: &AafView<'_>,
 ) -> Result<Item, NoMemory>
     ensures { IfOk result (λ item. item ≡ samples_of_packet (delivery_shape delivery.now) (aaf_shape view.now)) }
 {
-    let bytes = Vec::from_slice(alloc, view.payload)?;
+    let bytes = pool.copy(alloc, view.payload)?;
     Ok(Item::Packet(Packet {
         frame: delivery.frame,
         arrival: delivery.arrival,
@@ -48,35 +50,47 @@ fn samples_of(
         },
         rate: rate_of(view.nsr).unwrap_or(0),
         count: view.count,
-        bytes: Bytes::over(bytes),
+        bytes,
     }))
 }
 
-fn aaf_item(alloc: Global, delivery: &DeliveryView<'_>) -> Result<Item, NoMemory>
+fn aaf_item(
+    alloc: Global,
+    pool: &mut BufferPool,
+    delivery: &DeliveryView<'_>,
+) -> Result<Item, NoMemory>
     ensures { IfOk result (λ item. item ≡ aaf_item_of (delivery_shape delivery.now)) }
 {
     match read_aaf(delivery.packet) {
-        Ok(view) => samples_of(alloc, delivery, &view),
+        Ok(view) => samples_of(alloc, pool, delivery, &view),
         Err(refusal) => Ok(malformed(delivery, refusal)),
     }
 }
 
-fn iec_item(alloc: Global, delivery: &DeliveryView<'_>) -> Result<Item, NoMemory>
+fn iec_item(
+    alloc: Global,
+    pool: &mut BufferPool,
+    delivery: &DeliveryView<'_>,
+) -> Result<Item, NoMemory>
     ensures { IfOk result (λ item. item ≡ iec_item_of (delivery_shape delivery.now)) }
 {
     match read_iec(delivery.packet) {
-        Ok(view) => blocks_of(alloc, delivery, &view),
+        Ok(view) => blocks_of(alloc, pool, delivery, &view),
         Err(refusal) => Ok(malformed(delivery, refusal)),
     }
 }
 
 /// The item of a delivery of audio: its samples, or the field that refuses its packet.
-pub fn item_of(alloc: Global, delivery: &DeliveryView<'_>) -> Result<Item, NoMemory>
+pub fn item_of(
+    alloc: Global,
+    pool: &mut BufferPool,
+    delivery: &DeliveryView<'_>,
+) -> Result<Item, NoMemory>
     ensures { IfOk result (λ item. item ≡ item_of_delivery (delivery_shape delivery.now)) }
 {
     if delivery.subtype == subtype::AAF {
-        aaf_item(alloc, delivery)
+        aaf_item(alloc, pool, delivery)
     } else {
-        iec_item(alloc, delivery)
+        iec_item(alloc, pool, delivery)
     }
 }

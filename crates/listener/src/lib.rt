@@ -2,6 +2,7 @@
 #![tactic(auto)]
 
 mod blocks;
+mod buffer_pool;
 mod capture;
 mod clock;
 mod delivery;

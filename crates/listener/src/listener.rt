@@ -18,7 +18,7 @@ ghost use Rattle.listener.specs.declared.listener.ListenFault.TheVariants.{Refus
 use crate::heard::Counts;
 use crate::plan::ListenPlan;
 use crate::record_listener::RecordListener;
-use avtp_base::{NoMemory, Refusal};
+use avtp_base::{Bytes, NoMemory, Refusal};
 use pcap_frames::Reader;
 use sample_schedule::Shown;
 use std::alloc::Global;
@@ -159,6 +159,14 @@ impl Listener {
         let shown = self.next.take()?;
         self.next = self.listener.next_out();
         Some(shown)
+    }
+
+    /// Takes back the memory of samples that were shown. The samples of later packets are copied into it before more memory is
+    /// allocated. At most 64 such buffers are kept; the memory of others is freed. May be called at any time. Allocates nothing.
+    pub fn give_back(&mut self, samples: Bytes)
+        ensures { self.new ≡ self.old }
+    {
+        self.listener.give_back(samples);
     }
 
     /// Ends the capture after the bytes so far, and makes the rest due. Nothing may be due before, and the listener must not

@@ -17,13 +17,14 @@ ghost use Rattle.listener.specs.Listening.{IsIdle, Judges, Keeps, StandsFor, is_
 ghost use Rattle.listener.specs.state.Listening.{Closes, JudgesNext, shown_by};
 ghost use Rattle.listener.specs.state.Views.{delivery_shape};
 
+use crate::buffer_pool::BufferPool;
 use crate::clock::clock_points;
 use crate::delivery::{DeliveryView, delivery_of};
 use crate::heard::Counts;
 use crate::item::item_of;
 use crate::plan::ListenPlan;
 use crate::units::Units;
-use avtp_base::NoMemory;
+use avtp_base::{Bytes, NoMemory};
 use avtp_header::subtype;
 use pcap_frames::RecordView;
 use sample_schedule::{Judge, Shown};
@@ -48,6 +49,7 @@ pub struct RecordListener {
     /// another stream the judge is not called.
     idle: bool,
     counts: Counts,
+    pool: BufferPool,
 }
 
 impl Model for RecordListener {
@@ -77,6 +79,7 @@ impl RecordListener {
     {
         let units = Units::new(alloc)?;
         let judge = Judge::begin(alloc, plan.schedule_plan())?;
+        let pool = BufferPool::new(alloc)?;
         Ok(RecordListener {
             plan,
             units,
@@ -85,6 +88,7 @@ impl RecordListener {
             closed: false,
             idle: false,
             counts: Counts::none(),
+            pool,
         })
     }
 
@@ -110,7 +114,13 @@ impl RecordListener {
                 Ok(())
             }
             Some(delivery) => {
-                take_delivery(alloc, &mut self.units, &mut self.judge, &delivery)?;
+                take_delivery(
+                    alloc,
+                    &mut self.pool,
+                    &mut self.units,
+                    &mut self.judge,
+                    &delivery,
+                )?;
                 self.idle = false;
                 self.counts = self.counts.with_record(delivery.subtype != subtype::CRF);
                 Ok(())
@@ -163,6 +173,15 @@ impl RecordListener {
         }
     }
 
+    /// Takes back the memory of samples that were shown. The samples of later packets are copied into it before more memory is
+    /// allocated. At most 64 such buffers are kept; the memory of others is freed. May be called at any time. Allocates nothing.
+    #[inline(always)]
+    pub fn give_back(&mut self, samples: Bytes)
+        ensures { self.new ≡ self.old }
+    {
+        self.pool.give_back(samples);
+    }
+
     /// Ends the list of records. Nothing may be due of the records so far. Allocates nothing.
     pub fn close(&mut self)
         requires open { is_closed self.old ≡ false }
@@ -200,6 +219,7 @@ impl RecordListener {
 #[inline(always)]
 fn take_delivery(
     alloc: Global,
+    pool: &mut BufferPool,
     units: &mut Units,
     judge: &mut Judge,
     delivery: &DeliveryView<'_>,
@@ -218,7 +238,7 @@ fn take_delivery(
     if delivery.subtype == subtype::CRF {
         judge.step_clock(delivery.arrival, &clock_points(delivery.packet));
     } else {
-        if let Some(first) = units.take_delivery(alloc, delivery)? {
+        if let Some(first) = units.take_delivery(alloc, pool, delivery)? {
             judge.step(first);
         }
     }

@@ -15,6 +15,7 @@ ghost use Rattle.listener.specs.Items.{given_by, left_at_end, lost_for as lost_r
 ghost use Rattle.listener.specs.Units.{flaw_in, flaw_of, fragment_in, mark_of as mark_of_delivery};
 ghost use Rattle.listener.specs.state.Views.{delivery_shape};
 
+use crate::buffer_pool::BufferPool;
 use crate::delivery::DeliveryView;
 use crate::item::{item_of, malformed};
 use avtp_base::{Bytes, NoMemory};
@@ -215,6 +216,7 @@ impl Units {
     fn push(
         &mut self,
         alloc: Global,
+        pool: &mut BufferPool,
         delivery: &DeliveryView<'_>,
         view: &CvfView<'_>,
     ) -> Result<(), NoMemory>
@@ -226,7 +228,7 @@ impl Units {
     {
         let mark = mark_of(delivery);
         let stamp = stamp_of(delivery, view);
-        let bytes = Vec::with_capacity(alloc, self.assembler.unit_with(mark, stamp, view))?;
+        let bytes = pool.take(alloc, self.assembler.unit_with(mark, stamp, view))?;
         let pushed = self.assembler.push(mark, stamp, view);
         self.lost = pushed.lost;
         self.why = pushed.why;
@@ -243,6 +245,7 @@ impl Units {
     pub fn take_delivery(
         &mut self,
         alloc: Global,
+        pool: &mut BufferPool,
         delivery: &DeliveryView<'_>,
     ) -> Result<Option<Item>, NoMemory>
         requires stream { delivery.now.subtype ≢ crf_subtype }
@@ -253,22 +256,27 @@ impl Units {
         ensures same { OnErr result (self.new ≡ self.old) }
     {
         if delivery.subtype != subtype::CVF {
-            let item = item_of(alloc, delivery)?;
+            let item = item_of(alloc, pool, delivery)?;
             return Ok(self.cut_first(item));
         }
-        self.take_video(alloc, delivery)?;
+        self.take_video(alloc, pool, delivery)?;
         Ok(self.next())
     }
 
     /// Takes the next delivery of an H.264 stream.
-    fn take_video(&mut self, alloc: Global, delivery: &DeliveryView<'_>) -> Result<(), NoMemory>
+    fn take_video(
+        &mut self,
+        alloc: Global,
+        pool: &mut BufferPool,
+        delivery: &DeliveryView<'_>,
+    ) -> Result<(), NoMemory>
         requires video { delivery.now.subtype ≡ cvf_subtype }
         requires arrival { IsArrival delivery.now.arrival }
         ensures gives { OnOk result ((ds : List Delivery) → HasUnits ds self.old → Gives ds (delivery_shape delivery.now) self.new) }
         ensures same { OnErr result (self.new ≡ self.old) }
     {
         match read_cvf(delivery.packet) {
-            Ok(view) => self.take_packet(alloc, delivery, &view)?,
+            Ok(view) => self.take_packet(alloc, pool, delivery, &view)?,
             Err(refusal) => self.cut(malformed(delivery, refusal)),
         }
         Ok(())
@@ -278,6 +286,7 @@ impl Units {
     fn take_packet(
         &mut self,
         alloc: Global,
+        pool: &mut BufferPool,
         delivery: &DeliveryView<'_>,
         view: &CvfView<'_>,
     ) -> Result<(), NoMemory>
@@ -288,7 +297,7 @@ impl Units {
     {
         match flaw(view) {
             Some(reason) => self.cut(lost_item(mark_of(delivery), reason)),
-            None => self.push(alloc, delivery, view)?,
+            None => self.push(alloc, pool, delivery, view)?,
         }
         Ok(())
     }

@@ -89,15 +89,16 @@ fn feed(
     Ok(())
 }
 
-/// Counts the batches that are presented of all that is due.
+/// Counts the batches that are presented of all that is due, and gives their memory back.
 #[inline(always)]
 fn drain(listener: &mut Listener, presented: &mut u64)
     ensures quiet { IsQuiet listener.new }
     ensures keeps { Keeps listener.old listener.new }
 {
     while let Some(shown) = listener.next_out() {
-        if let Shown::Present(_) = shown {
+        if let Shown::Present(batch) = shown {
             *presented = presented.saturating_add(1);
+            listener.give_back(batch.bytes);
         }
     }
 }
