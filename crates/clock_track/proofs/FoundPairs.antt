@@ -1,6 +1,6 @@
 -- A pair of timestamps in the window that covers an instant gives it a line.
-use Rattle.std.proofs.Common.{◌≡◌, ◌≢◌, ℕ, zero, suc, ◌+◌, ◌-◌, ◌*◌, ◌^◌, ◌<◌, ◌≤◌, length, Bool, true, false, ℤ, pos, List, [], ◌∷◌, ◌++◌, All, Option, Some, None, refl, sym, ap, ◌∙◌, subst, arith}
-use Rattle.std.specs.Prelude.{Contains, IfSome, nat_lt, if◌then◌else◌, option_map, take, drop}
+use Rattle.std.proofs.Common.{◌≡◌, ◌≢◌, ℕ, zero, suc, ◌+◌, ◌-◌, ◌^◌, ◌<◌, length, true, ℤ, List, [], ◌∷◌, ◌++◌, All, Option, Some, None, refl, subst, arith}
+use Rattle.std.specs.Prelude.{Contains, IfSome, nat_lt, option_map}
 use Rattle.std.specs.List.{cons_option, filter_map, flat_map, range_with_len}
 use Rattle.std.proofs.Math.Seq.{take-append_seam, drop-append_seam}
 use Rattle.std.proofs.lemmas.Bool.Decides.{nat_tests}
@@ -8,8 +8,8 @@ use Rattle.std.proofs.lemmas.List.Elements.{All-cons, All-contains, All-drop, Al
 use Rattle.clock_track.specs.declared.clock_row.ClockRow.{ClockRow}
 use Rattle.clock_track.specs.declared.pair.Pair.{Pair}
 use Rattle.clock_track.specs.Adjacent.{AreAcross, AreInside, AreTaken, pair_across, pair_inside}
-use Rattle.clock_track.specs.Pairs.{Covers, IsJoined, is_joined, spot_by}
-use Rattle.clock_track.specs.Rows.{IsLatest, across, clock_spot, inside, joined_by, joined_pairs, latest, pair_of, pairs_at, seems_next, timestamp, timestamps, window}
+use Rattle.clock_track.specs.Pairs.{Covers, spot_by}
+use Rattle.clock_track.specs.Rows.{IsLatest, across, clock_spot, inside, joined_by, joined_pairs, latest, pair_of, pairs_at, timestamp, timestamps, window}
 use Rattle.clock_track.proofs.Latest.{last_is}
 use Rattle.clock_track.proofs.Pairs.{joins_not}
 

@@ -33,7 +33,7 @@ last_is rate instant (x ∷ xs) = cases (find_last (λ pair. covers pair rate in
 
 -- ---- each of the list is joined
 
-by_is : (shift : ℤ) (row : ClockRow) (first second : ℕ) → IfSome (joined_by shift row first second) IsJoined
+pub by_is : (shift : ℤ) (row : ClockRow) (first second : ℕ) → IfSome (joined_by shift row first second) IsJoined
 by_is shift row first second = cases (nat_lt first (2 ^ 62)) (nat_lt second (2 ^ 62)) (is_joined (pair_of shift row first second)) refl
   where
     cases : (a b d : Bool) → is_joined (pair_of shift row first second) ≡ d
@@ -43,7 +43,7 @@ by_is shift row first second = cases (nat_lt first (2 ^ 62)) (nat_lt second (2 ^
     cases true false d e = tt
     cases false b d e = tt
 
-across_is : (shift : ℤ) (row before : ClockRow) → IfSome (across shift row before) IsJoined
+pub across_is : (shift : ℤ) (row before : ClockRow) → IfSome (across shift row before) IsJoined
 across_is shift row before = cases (seems_next row before) (nat_lt 0 (timestamps before)) (nat_lt 0 (timestamps row))
   where
     cases : (a b d : Bool) → IfSome (if a then if b then if d then joined_by shift row (timestamp before (timestamps before - 1)) (timestamp row 0) else None else None else None) IsJoined

@@ -6,3 +6,4 @@ pub mod Noted
 pub mod Latest
 pub mod TooLate
 pub mod FoundPairs
+pub mod Outside

@@ -1,14 +1,15 @@
 -- What a clock keeps after one more packet.
-use Rattle.std.proofs.Common.{◌≡◌, ℕ, ◌+◌, ◌-◌, true, List, [], ◌∷◌, ◌++◌, All, length, drop, map, vec_len, sym, ap, ◌∙◌, subst, arith}
+use Rattle.std.proofs.Common.{◌≡◌, ℕ, zero, suc, ◌+◌, ◌-◌, true, ℤ, Some, slice_get, List, [], ◌∷◌, ◌++◌, All, length, drop, map, vec_len, sym, ap, ◌∙◌, subst, arith}
 use Rattle.std.specs.Global.{Vec}
 use Rattle.std.proofs.lemmas.List.{drop-map, length-append, length-map, map-append}
-use Rattle.std.proofs.lemmas.List.Elements.{All-append, All-cons, All-drop, All-nil}
+use Rattle.std.proofs.lemmas.List.Elements.{All-append, All-cons, All-drop, All-head, All-nil, All-tail}
 use Rattle.circular_buffer.specs.Buffer.{Buffer, buffer, keep_last}
 use Rattle.clock_track.specs.declared.clock.Kept.{Kept}
 use Rattle.clock_track.specs.declared.clock_row.ClockRow.{ClockRow}
 use Rattle.clock_track.specs.Limits.{IsNotable}
 use Rattle.clock_track.specs.Rows.{window}
-use Rattle.clock_track.specs.state.Window.{HasRoom, IsRoom, IsWindow, kept_row}
+use Rattle.clock_track.specs.state.Bounds.{HasPairs}
+use Rattle.clock_track.specs.state.Window.{HasBounds, HasRoom, IsRoom, IsWindow, kept_row}
 use Rattle.clock_track.proofs.Windows.{window-more}
 
 rows-noted : (xs : List Kept) (kept : Kept) → map kept_row (keep_last 63 xs ++ kept ∷ []) ≡ drop (length (map kept_row xs) - 63) (map kept_row xs) ++ kept_row kept ∷ []
@@ -24,9 +25,9 @@ all-one P xs x all is = All-append P xs (x ∷ []) all (All-cons P x [] is (All-
 abbrev pub IsNoted : Buffer Kept → Buffer Kept → Kept → Type 0
 IsNoted old new kept = new ≡ buffer (keep_last 63 old.items ++ kept ∷ []) 64
 
-pub window-noted : (old new : Buffer Kept) (kept : Kept) (spare left : Vec (Vec ℕ)) → IsWindow old spare → IsNoted old new kept → HasRoom kept → IsNotable (kept_row kept)
-    → All IsRoom left.items → length (keep_last 63 old.items) + vec_len left ≡ 63 → IsWindow new left
-window-noted old new kept spare left is e room notable left_room count =
+pub window-noted : (shift : ℤ) (old new : Buffer Kept) (kept : Kept) (spare left : Vec (Vec ℕ)) → IsWindow shift old spare → IsNoted old new kept → HasRoom kept → IsNotable (kept_row kept) → HasBounds shift kept
+    → All IsRoom left.items → length (keep_last 63 old.items) + vec_len left ≡ 63 → IsWindow shift new left
+window-noted shift old new kept spare left is e room notable bounds left_room count =
     let items : new.items ≡ keep_last 63 old.items ++ kept ∷ [] = ap (λ (b : Buffer Kept). b.items) e in
     let rows : map kept_row new.items ≡ drop (length (map kept_row old.items) - 63) (map kept_row old.items) ++ kept_row kept ∷ [] = ap (λ (l : List Kept). map kept_row l) items ∙ rows-noted old.items kept in
     let sum = length-append (keep_last 63 old.items) (kept ∷ []) in
@@ -38,6 +39,7 @@ window-noted old new kept spare left is e room notable left_room count =
       spare_room = left_room;
       notable = subst (λ (l : List ClockRow). All IsNotable l) (sym rows)
           (all-one IsNotable (drop (length (map kept_row old.items) - 63) (map kept_row old.items)) (kept_row kept) (All-drop IsNotable (length (map kept_row old.items) - 63) (map kept_row old.items) is.notable) notable);
+      bounds = subst (λ (l : List Kept). All (HasBounds shift) l) (sym items) (all-one (HasBounds shift) (keep_last 63 old.items) kept (All-drop (HasBounds shift) (length old.items - 63) old.items is.bounds) bounds);
     }
 
 -- the clock has noted the packets so far and this one
@@ -48,3 +50,13 @@ stands-noted old new kept rows row e same usable stands =
     ap (λ (l : List Kept). map kept_row l) items ∙ rows-noted old.items kept
     ∙ ap (λ (r : ClockRow). drop (length (map kept_row old.items) - 63) (map kept_row old.items) ++ r ∷ []) same
     ∙ window-more (map kept_row old.items) rows row stands usable
+
+-- the bounds that are kept with a packet
+pub bounds-kept : (shift : ℤ) (items : List Kept) (k : ℕ) (kept : Kept) (row : ClockRow) → slice_get items k ≡ Some kept → All (HasBounds shift) items → slice_get (map kept_row items) k ≡ Some row
+    → HasPairs shift row kept.bounds
+bounds-kept shift [] k kept row e all there = absurd cc
+bounds-kept shift (x ∷ xs) zero kept row e all there =
+    let same : x ≡ kept = cc in
+    let same_row : kept_row x ≡ row = cc in
+    subst (λ (k : Kept). HasPairs shift row k.bounds) same (subst (λ (r : ClockRow). HasPairs shift r x.bounds) same_row (All-head (HasBounds shift) x xs all))
+bounds-kept shift (x ∷ xs) (suc k) kept row e all there = bounds-kept shift xs k kept row e (All-tail (HasBounds shift) x xs all) there

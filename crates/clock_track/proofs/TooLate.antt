@@ -50,14 +50,15 @@ across_by shift row before rate instant none = cases (seems_next row before) (na
 pub late-none : (shift : ℤ) (row before : ClockRow) (rate : ℕ) (instant : ℤ) → IsAfter (pair_of shift row (timestamp row 0) (timestamp row 0)) rate instant → kept (test rate instant) (across shift row before) ≡ None
 late-none shift row before rate instant after = across_by shift row before rate instant (λ first. joined_none shift row first (timestamp row 0) rate instant after)
 
--- nothing is found if no item gives a pair that passes
-pub none-found : (f : ClockRow → Option Pair) (test : Pair → Bool) (xs : List ClockRow) → ((x : ClockRow) → kept test (f x) ≡ None) → find_last test (filter_map f xs) ≡ None
-none-found f test [] none = refl
-none-found f test (x ∷ xs) none = cases (f x) (none x) (none-found f test xs none)
+-- nothing is found if one more item is searched, which does not pass
+pub none-more : (test : Pair → Bool) (o : Option Pair) (rest : List Pair) → kept test o ≡ None → find_last test rest ≡ None → find_last test (cons_option o rest) ≡ None
+none-more test None rest e found = found
+none-more test (Some p) rest e found = one p (test p) e (find_last test rest) found
   where
     one : (p : Pair) (b : Bool) → (if b then Some p else None) ≡ None → (o : Option Pair) → o ≡ None → option_or o (if b then Some p else None) ≡ None
     one p b e o f = rw (f, e) refl
 
-    cases : (o : Option Pair) → kept test o ≡ None → find_last test (filter_map f xs) ≡ None → find_last test (cons_option o (filter_map f xs)) ≡ None
-    cases None e rest = rest
-    cases (Some p) e rest = one p (test p) e (find_last test (filter_map f xs)) rest
+-- nothing is found if no item gives what passes
+pub none-found : (f : ClockRow → Option Pair) (test : Pair → Bool) (xs : List ClockRow) → ((x : ClockRow) → kept test (f x) ≡ None) → find_last test (filter_map f xs) ≡ None
+none-found f test [] none = refl
+none-found f test (x ∷ xs) none = none-more test (f x) (filter_map f xs) (none x) (none-found f test xs none)

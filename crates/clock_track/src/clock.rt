@@ -3,16 +3,17 @@
 ghost use Rattle.std.specs.Prelude.{◌≡◌, ◌<◌, ◌≤◌, ◌+◌, ◌++◌, ◌∷◌, [], All, IfOk, IfSome, List, length, map, vec_capacity, vec_len};
 ghost use Rattle.circular_buffer.specs.Buffer.{buffer, keep_last};
 ghost use Rattle.clock_track.specs.declared.clock_row.ClockRow.{ClockRow as ClockRowValue};
-ghost use Rattle.clock_track.specs.Limits.{IsClockLine, IsNotable, IsShift};
+ghost use Rattle.clock_track.specs.Limits.{IsClockLine, IsNotable, IsRow, IsShift};
 ghost use Rattle.clock_track.specs.Rows.{clock_spot};
 ghost use Rattle.clock_track.specs.Views.{answered, row_of};
 ghost use Rattle.clock_track.specs.Window.{StandsFor};
-ghost use Rattle.clock_track.specs.state.Window.{HasRoom, IsRoom, kept_row};
+ghost use Rattle.clock_track.specs.state.Window.{HasBounds, HasRoom, IsRoom, kept_row};
 
 use crate::answer::ClockAnswer;
+use crate::bounds::Bounds;
 use crate::clock_row::Points;
 use crate::over::{WINDOW, line_among};
-use crate::search::{Query, Rows};
+use crate::search::{Query, Rows, bounds_of, lead_of};
 use avtp_base::NoMemory;
 use circular_buffer::HeapCircularBuffer;
 use std::alloc::Global;
@@ -31,15 +32,19 @@ struct Kept {
     pull: u8,
     interval: u16,
     payload: Vec<u8>,
+    /// Bounds of the pairs that end in the packet.
+    bounds: Bounds,
 }
 
 impl Kept {
     /// The packet, with its timestamps in the given room. Allocates nothing.
-    fn in_room(mut room: Vec<u8>, points: &Points<'_>) -> Self
+    fn in_room(mut room: Vec<u8>, points: &Points<'_>, shift: i64) -> Self
         requires room { 65528 ≤ vec_capacity room }
-        requires size { length points.now.payload.now ≤ 65528 }
+        requires row { IsRow (row_of points.now) }
+        requires shift { IsShift shift }
         ensures row { kept_row result ≡ row_of points.now }
         ensures room { HasRoom result }
+        ensures bounds { HasBounds shift result }
     {
         room.clear();
         let Ok(()) = room.extend_from_slice(points.payload) else {
@@ -53,6 +58,7 @@ impl Kept {
             pull: points.pull,
             interval: points.interval,
             payload: room,
+            bounds: bounds_of(points, shift),
         }
     }
 
@@ -80,6 +86,8 @@ struct Ring<'a> {
 impl Rows for Ring<'_> {
     ghost rows = { λ ring. map kept_row ring.rows.now.items };
 
+    ghost bounded = { λ ring shift. All (HasBounds shift) ring.rows.now.items };
+
     fn count(&self) -> usize {
         self.rows.len()
     }
@@ -87,6 +95,13 @@ impl Rows for Ring<'_> {
     fn row(&self, place: usize) -> Points<'_> {
         match self.rows.get(place) {
             Some(kept) => kept.points(),
+            None => unreachable!(),
+        }
+    }
+
+    fn bounds(&self, place: usize) -> Option<Bounds> {
+        match self.rows.get(place) {
+            Some(kept) => Some(kept.bounds),
             None => unreachable!(),
         }
     }
@@ -141,7 +156,7 @@ impl Model for Clock {
 
     ghost view = { λ clock. record { shift = clock.shift; rows = map kept_row clock.rows.items } };
 
-    ghost invariant = { λ clock. IsWindow clock.rows clock.spare × IsShift clock.shift };
+    ghost invariant = { λ clock. IsWindow clock.shift clock.rows clock.spare × IsShift clock.shift };
 }
 
 impl Clock {
@@ -170,7 +185,7 @@ impl Clock {
     {
         if points.usable {
             let room = take_room(&mut self.rows, &mut self.spare);
-            put_behind(&mut self.rows, Kept::in_room(room, points));
+            put_behind(&mut self.rows, Kept::in_room(room, points, self.shift));
         }
     }
 
@@ -189,6 +204,7 @@ impl Clock {
                 shift: self.shift,
                 instant,
                 rate,
+                lead: lead_of(rate),
             },
         )
     }

@@ -2,6 +2,7 @@
 #![tactic(auto)]
 
 mod answer;
+mod bounds;
 mod clock;
 mod clock_row;
 pub mod laws;

@@ -4,11 +4,13 @@ ghost use Rattle.std.specs.Prelude.{◌≡◌, ◌≤◌, All, IfSome, option_ma
 ghost use Rattle.clock_track.specs.Limits.{IsClockLine, IsNotable, IsShift};
 ghost use Rattle.clock_track.specs.Pairs.{spot_by};
 ghost use Rattle.clock_track.specs.Rows.{clock_spot, latest as latest_of, used, window};
+ghost use Rattle.clock_track.specs.state.Bounds.{IsLead};
 ghost use Rattle.clock_track.specs.Views.{answered};
 
 use crate::answer::ClockAnswer;
+use crate::bounds::Bounds;
 use crate::clock_row::{ClockRow, Points};
-use crate::search::{Query, Rows, latest};
+use crate::search::{Query, Rows, latest, lead_of};
 
 /// How many packets that give points are searched.
 pub const WINDOW: usize = 64;
@@ -22,12 +24,18 @@ struct Listed<'a> {
 impl Rows for Listed<'_> {
     ghost rows = { λ listed. listed.rows.now };
 
+    ghost bounded = { λ listed shift. Unit {0} };
+
     fn count(&self) -> usize {
         self.rows.len()
     }
 
     fn row(&self, place: usize) -> Points<'_> {
         self.rows[place].points()
+    }
+
+    fn bounds(&self, _place: usize) -> Option<Bounds> {
+        None
     }
 }
 
@@ -51,8 +59,10 @@ fn recent(rows: &[ClockRow]) -> &[ClockRow]
 /// The line of an instant from the packets that are kept, whatever keeps them.
 pub fn line_among<R: Rows>(rows: &R, query: &Query) -> ClockAnswer
     requires rows { All IsNotable (R.rows rows.now) }
+    requires bounded { R.bounded rows.now query.now.shift }
     requires shift { IsShift query.now.shift }
     requires rate { 1 ≤ query.now.rate }
+    requires lead { IsLead query.now.rate query.now.lead }
     ensures value { answered result ≡ option_map (λ pair. spot_by pair query.now.rate query.now.instant) (latest_of query.now.shift query.now.instant query.now.rate (used (R.rows rows.now))) }
     ensures line { IfSome (answered result) (IsClockLine query.now.rate query.now.instant) }
 {
@@ -91,6 +101,7 @@ pub fn line_over(rows: &[ClockRow], shift: i64, instant: i64, rate: u32) -> Cloc
             shift,
             instant,
             rate,
+            lead: lead_of(rate),
         },
     )
 }

@@ -1,9 +1,10 @@
 //! Two points of a clock, and the line after them.
 
-ghost use Rattle.std.specs.Prelude.{Some, ◌≡◌, ◌≤◌, ◌<◌, ◌*◌, ◌^◌, ◌↔◌, pos, ◌-ℤ◌, ◌*ℤ◌, ◌+ℤ◌, IsTrue};
+ghost use Rattle.std.specs.Prelude.{Some, ◌≡◌, ◌≤◌, ◌<◌, ◌*◌, ◌^◌, ◌↔◌, pos, ◌-ℤ◌, ◌*ℤ◌, ◌+ℤ◌, IsTrue, ℕ};
 ghost use Rattle.clock_track.specs.Limits.{IsSmall};
 ghost use Rattle.clock_track.specs.Pairs.{Covers, IsJoined, covers as covers_of, is_joined as is_joined_of, nominal as nominal_of, period as period_of, nearest_event as nearest_event_of, spot_by, step_den, step_num as step_num_of};
 ghost use Rattle.clock_track.specs.Search.{IsAfter, IsCovering};
+ghost use Rattle.clock_track.specs.state.Bounds.{IsPair};
 ghost use Rattle.clock_track.specs.Views.{answered};
 
 use crate::answer::ClockAnswer;
@@ -51,6 +52,24 @@ impl Pair {
         } else {
             0
         }
+    }
+
+    /// The instant that is one period after the later point.
+    #[tactic(auto, using(crate::proofs::LineFacts::most_period))]
+    pub fn end(&self) -> i64
+        requires { IsPair self.now }
+        ensures { result ≡ self.now.later +ℤ pos (period_of self.now) }
+    {
+        self.later + self.period() as i64
+    }
+
+    /// The longest period that a joined pair of this clock has.
+    pub fn longest_period(&self) -> u64
+        requires { IsSmall self.now }
+        ensures value { (d : ℕ) → 8 * (d * self.now.up) ≤ 9 * nominal_of self.now → d ≤ result }
+        ensures within { result < 2 ^ 60 }
+    {
+        9 * self.nominal() / (8 * self.up)
     }
 
     /// The nominal time of the interval, times `up`.

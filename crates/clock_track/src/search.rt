@@ -1,6 +1,6 @@
 //! The search for the pair of points that covers an instant.
 
-ghost use Rattle.std.specs.Prelude.{IsTrue, None, if◌then◌else◌, ◌≡◌, ◌<◌, ◌≤◌, ◌+◌, ◌-◌, ◌*◌, ◌/◌, ◌^◌, ℕ, All, IfSome, List, Some, filter, length, slice_get, true};
+ghost use Rattle.std.specs.Prelude.{IsTrue, None, if◌then◌else◌, ◌≡◌, ◌<◌, ◌≤◌, ◌+◌, ◌-◌, ◌*◌, ◌/◌, ◌^◌, ℕ, ℤ, All, IfSome, List, Some, filter, length, slice_get, true};
 ghost use Rattle.std.specs.List.{filter_map, range_with_len};
 ghost use Rattle.time_unfold.specs.Stamps.{find_last};
 ghost use Rattle.clock_track.specs.declared.clock_row.ClockRow.{ClockRow as ClockRowValue};
@@ -8,9 +8,11 @@ ghost use Rattle.clock_track.specs.Limits.{IsNotable, IsRow, IsShift, IsSmall};
 ghost use Rattle.clock_track.specs.Pairs.{IsJoined};
 ghost use Rattle.clock_track.specs.Rows.{across as across_rows, inside as inside_row, joined_by, latest as latest_of, pair_of as pair_of_rows, pairs_at, seems_next as seems_next_of, timestamp as timestamp_of, timestamps as timestamps_of, used};
 ghost use Rattle.clock_track.specs.Search.{IsCovering};
+ghost use Rattle.clock_track.specs.state.Bounds.{HasInside, HasPairs, IsLead, IsPair};
 ghost use Rattle.clock_track.specs.state.Search.{kept, test_of};
 ghost use Rattle.clock_track.specs.Views.{row_of};
 
+use crate::bounds::{Bounds, excludes, no_bounds, widened, widened_by};
 use crate::clock_row::Points;
 use crate::pair::Pair;
 use crate::pull::{pull_down, pull_up};
@@ -26,11 +28,25 @@ pub struct Query {
     pub shift: i64,
     pub instant: i64,
     pub rate: u32,
+    /// The longest time by which a pair covers instants before its later point, in nanoseconds.
+    pub lead: u64,
+}
+
+/// The longest time by which a pair covers instants before its later point, in nanoseconds, in a stream of a rate in Hz: 9/8 of
+/// half a sample.
+pub fn lead_of(rate: u32) -> u64
+    requires { 1 ≤ rate }
+    ensures { IsLead rate result }
+{
+    562_500_000 / u64::from(rate)
 }
 
 /// The packets of a clock by their places, the oldest first.
 pub trait Rows {
     ghost rows: { Self → List ClockRowValue };
+
+    /// What is known of the packets' pairs holds if this is added to the timestamps.
+    ghost bounded: { Self → ℤ → Type 0 };
 
     fn count(&self) -> usize
         ensures { result ≡ length (rows self.now) };
@@ -38,6 +54,11 @@ pub trait Rows {
     fn row(&self, place: usize) -> Points<'_>
         requires { place < length (rows self.now) }
         ensures { slice_get (rows self.now) place ≡ Some (row_of result) };
+
+    /// Bounds of the pairs that end in a packet, if they are known.
+    fn bounds(&self, place: usize) -> Option<Bounds>
+        requires { place < length (rows self.now) }
+        ensures { (shift : ℤ) (row : ClockRowValue) → bounded self.now shift → slice_get (rows self.now) place ≡ Some row → IfSome result (HasPairs shift row) };
 }
 
 fn timestamps(row: &Points<'_>) -> usize
@@ -70,6 +91,20 @@ fn pair_of(row: &Points<'_>, shift: i64, first: u64, second: u64) -> Pair
     }
 }
 
+/// The pair of two timestamps, if both are points and they are joined.
+fn joined(row: &Points<'_>, shift: i64, first: u64, second: u64) -> Option<Pair>
+    requires row { IsRow (row_of row.now) }
+    requires shift { IsShift shift }
+    ensures value { result ≡ joined_by shift (row_of row.now) first second }
+    ensures pair { IfSome result IsPair }
+{
+    if first >= POINTS_END || second >= POINTS_END {
+        return None;
+    }
+    let pair = pair_of(row, shift, first, second);
+    if pair.is_joined() { Some(pair) } else { None }
+}
+
 /// The pair of two timestamps, if both are points, they are joined, and they cover the instant.
 fn covering(row: &Points<'_>, query: &Query, first: u64, second: u64) -> Option<Pair>
     requires row { IsRow (row_of row.now) }
@@ -77,18 +112,56 @@ fn covering(row: &Points<'_>, query: &Query, first: u64, second: u64) -> Option<
     ensures value { result ≡ kept (test_of query.now) (joined_by query.now.shift (row_of row.now) first second) }
     ensures covering { IfSome result (IsCovering query.now.rate query.now.instant) }
 {
-    if first >= POINTS_END || second >= POINTS_END {
-        return None;
+    match joined(row, query.shift, first, second) {
+        Some(pair) => {
+            if pair.covers(query.rate, query.instant) {
+                Some(pair)
+            } else {
+                None
+            }
+        }
+        None => None,
     }
-    let pair = pair_of(row, query.shift, first, second);
-    if !pair.is_joined() {
-        return None;
+}
+
+/// Bounds of the pairs inside a packet whose earlier timestamps are those from `first` to before `end`.
+fn bounds_inside(row: &Points<'_>, shift: i64, first: usize, end: usize) -> Bounds
+    requires row { IsRow (row_of row.now) }
+    requires shift { IsShift shift }
+    requires end { end ≤ timestamps_of (row_of row.now) - 1 }
+    ensures { HasInside shift (row_of row.now) result first end }
+{
+    let mut bounds = no_bounds();
+    let mut i = first;
+    while i < end {
+        let pair = joined(row, shift, timestamp(row, i), timestamp(row, i + 1));
+        bounds = widened_by(&bounds, pair);
+        i += 1;
     }
-    if pair.covers(query.rate, query.instant) {
-        Some(pair)
-    } else {
-        None
+    bounds
+}
+
+/// Bounds of the pairs that end in a packet, whatever the packets before it.
+pub fn bounds_of(row: &Points<'_>, shift: i64) -> Bounds
+    requires row { IsRow (row_of row.now) }
+    requires shift { IsShift shift }
+    ensures { HasPairs shift (row_of row.now) result }
+{
+    let count = timestamps(row);
+    if count == 0 {
+        return no_bounds();
     }
+    let inside = bounds_inside(row, shift, 0, count - 1);
+    let first = timestamp(row, 0);
+    if first >= POINTS_END {
+        return inside;
+    }
+    let pair = pair_of(row, shift, first, first);
+    widened(
+        &inside,
+        pair.later,
+        pair.later + pair.longest_period() as i64,
+    )
 }
 
 /// The last pair inside a packet that covers the instant.
@@ -190,15 +263,33 @@ fn latest_across<R: Rows>(rows: &R, row: &Points<'_>, query: &Query) -> Option<P
     None
 }
 
+/// Whether the instant is known to be outside the bounds of the pairs that end in the packet at a place.
+fn is_outside<R: Rows>(rows: &R, place: usize, query: &Query) -> bool
+    requires bounded { R.bounded rows.now query.now.shift }
+    requires place { place < length (R.rows rows.now) }
+    requires lead { IsLead query.now.rate query.now.lead }
+    ensures { IsTrue result → (row : ClockRowValue) (used_rows : List ClockRowValue) → slice_get (R.rows rows.now) place ≡ Some row → find_last (test_of query.now) (pairs_at query.now.shift used_rows row) ≡ None }
+{
+    match rows.bounds(place) {
+        Some(bounds) => excludes(&bounds, query.instant, query.lead),
+        None => false,
+    }
+}
+
 /// The last pair that covers the instant and whose later point is in the packet at this place; none if the packet gives no
 /// points.
 fn latest_at<R: Rows>(rows: &R, place: usize, query: &Query) -> Option<Pair>
     requires rows { All IsNotable (R.rows rows.now) }
+    requires bounded { R.bounded rows.now query.now.shift }
     requires place { place < length (R.rows rows.now) }
     requires shift { IsShift query.now.shift }
+    requires lead { IsLead query.now.rate query.now.lead }
     ensures value { (row : ClockRowValue) → slice_get (R.rows rows.now) place ≡ Some row → result ≡ (if row.usable then find_last (test_of query.now) (pairs_at query.now.shift (used (R.rows rows.now)) row) else None) }
     ensures covering { IfSome result (IsCovering query.now.rate query.now.instant) }
 {
+    if is_outside(rows, place, query) {
+        return None;
+    }
     let row = rows.row(place);
     if !row.usable {
         return None;
@@ -214,7 +305,9 @@ fn latest_at<R: Rows>(rows: &R, place: usize, query: &Query) -> Option<Pair>
 /// pairs, and stops at the first that covers.
 pub fn latest<R: Rows>(rows: &R, query: &Query) -> Option<Pair>
     requires rows { All IsNotable (R.rows rows.now) }
+    requires bounded { R.bounded rows.now query.now.shift }
     requires shift { IsShift query.now.shift }
+    requires lead { IsLead query.now.rate query.now.lead }
     ensures value { result ≡ latest_of query.now.shift query.now.instant query.now.rate (used (R.rows rows.now)) }
     ensures covering { IfSome result (IsCovering query.now.rate query.now.instant) }
 {

@@ -1,11 +1,12 @@
 -- Kept for proofs: what the code's own parts hold and do. No clause of a public call rests on it.
 -- A clock that keeps its last packets.
-use Rattle.std.specs.Prelude.{◌≡◌, ◌≤◌, ◌+◌, ℕ, All, length, map, vec_capacity, vec_len}
+use Rattle.std.specs.Prelude.{◌≡◌, ◌≤◌, ◌+◌, ℕ, ℤ, All, length, map, vec_capacity, vec_len}
 use Rattle.std.specs.Global.{Vec}
 use Rattle.circular_buffer.specs.Buffer.{Buffer}
 use Rattle.clock_track.specs.declared.clock.Kept.{Kept}
 use Rattle.clock_track.specs.declared.clock_row.ClockRow.{ClockRow}
 use Rattle.clock_track.specs.Limits.{IsNotable}
+use Rattle.clock_track.specs.state.Bounds.{HasPairs}
 
 abbrev pub kept_row : Kept → ClockRow
 kept_row kept = record {
@@ -25,10 +26,15 @@ IsRoom room = 65528 ≤ vec_capacity room
 abbrev pub HasRoom : Kept → Type 0
 HasRoom kept = IsRoom kept.payload
 
+-- the bounds of the pairs that end in the packet are true
+abbrev pub HasBounds : ℤ → Kept → Type 0
+HasBounds shift kept = HasPairs shift (kept_row kept) kept.bounds
+
 -- the packets that are kept and the spare room together make 64
-pub record IsWindow (rows : Buffer Kept) (spare : Vec (Vec ℕ)) : Type 0 where
+pub record IsWindow (shift : ℤ) (rows : Buffer Kept) (spare : Vec (Vec ℕ)) : Type 0 where
   pub capacity : rows.capacity ≡ 64
   pub count : length rows.items + vec_len spare ≡ 64
   pub room : All HasRoom rows.items
   pub spare_room : All IsRoom spare.items
   pub notable : All IsNotable (map kept_row rows.items)
+  pub bounds : All (HasBounds shift) rows.items

@@ -6,7 +6,7 @@ pub returns-then-covers-clause-covering : goal.returns-then-covers-clause-coveri
 returns-then-covers-clause-covering c =
     let same : to_z w64 (of_z w64 c.args.query.now.instant) ≡ c.args.query.now.instant = omega (arith, ints) in
     record {
-      small = c.pair_of-pair.ensures.small;
-      joined = c.is_joined.ensures.joined c.if-not-is_joined.false;
+      small = c.in-Some.ensures.pair.small;
+      joined = c.in-Some.ensures.pair.joined;
       covers = rw same at (c.covers.ensures.covers c.if-covers.true);
     }

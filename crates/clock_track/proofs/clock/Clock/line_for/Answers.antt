@@ -1,9 +1,9 @@
 -- The packets that are kept are those of the window.
-use Rattle.std.proofs.Common.{◌≡◌, ap, ◌∙◌, map, w64, to_z, of_z, arith}
+use Rattle.std.proofs.Common.{◌≡◌, ℤ, All, ap, sym, subst, ◌∙◌, map, w64, to_z, of_z, arith}
 use Rattle.std.proofs.lemmas.Int.{ints}
 use Rattle.clock_track.specs.Rows.{used, window}
 use Rattle.clock_track.specs.Window.{ClockState}
-use Rattle.clock_track.specs.state.Window.{kept_row}
+use Rattle.clock_track.specs.state.Window.{HasBounds, kept_row}
 use Rattle.clock_track.proofs.Windows.{used-window}
 use Rattle.clock_track.proofs.clock.Clock.line_for.Goals as goal
 
@@ -17,3 +17,10 @@ returns-clause-value c rows stands =
     let same : to_z w64 (of_z w64 c.self.inside.shift) ≡ c.self.inside.shift = omega (arith, ints) in
     let instant : to_z w64 (of_z w64 c.args.instant) ≡ c.args.instant = omega (arith, ints) in
     rw (same, shift, instant, rows_are) at c.line_among.ensures.value
+
+pub line_among-requires-clause-bounded : goal.line_among-requires-clause-bounded
+line_among-requires-clause-bounded c =
+    let from = c.self.invariant.1.from in
+    let to = c.self.invariant.1.to in
+    let same : to_z w64 (of_z w64 c.self.inside.shift) ≡ c.self.inside.shift = omega (arith, ints) in
+    subst (λ (s : ℤ). All (HasBounds s) c.self.inside.rows.items) (sym same) c.self.invariant.0.bounds

@@ -1,21 +1,26 @@
 -- The packet is put after those that are kept, in the room of the oldest of 64.
-use Rattle.std.proofs.Common.{[], ◌∷◌, ◌+◌, ◌++◌, ap, sym, ◌∙◌, subst, length, vec_len}
+use Rattle.std.proofs.Common.{[], ◌∷◌, ◌+◌, ◌++◌, ap, sym, ◌∙◌, ◌≡◌, ℤ, w64, to_z, of_z, arith, subst, length, vec_len}
+use Rattle.std.proofs.lemmas.Int.{ints}
 use Rattle.circular_buffer.specs.Buffer.{Buffer, buffer}
 use Rattle.clock_track.specs.declared.clock.Kept.{Kept}
 use Rattle.clock_track.specs.Limits.{IsNotable}
 use Rattle.clock_track.specs.Views.{row_of}
+use Rattle.clock_track.specs.state.Window.{HasBounds}
 use Rattle.clock_track.specs.Window.{ClockState}
 use Rattle.clock_track.proofs.Noted.{stands-noted, window-noted}
 use Rattle.clock_track.proofs.clock.Clock.note.Goals as goal
 
 pub invariant_of-self : goal.invariant_of-self
-invariant_of-self c = (
-  window-noted c.self.inside.rows c.put_behind.new.rows c.in_room.result c.self.inside.spare c.take_room-room.new.spare c.self.invariant.0
-      (c.put_behind.ensures ∙ ap (λ (b : Buffer Kept). buffer (b.items ++ c.in_room.result ∷ []) 64) c.take_room-room.ensures.rows)
-      c.in_room.ensures.room (subst IsNotable (sym c.in_room.ensures.row) c.requires) c.take_room-room.ensures.spare
-      (ap (λ (b : Buffer Kept). length b.items + vec_len c.take_room-room.new.spare) (sym c.take_room-room.ensures.rows) ∙ c.take_room-room.ensures.count),
-  c.self.invariant.1,
-)
+invariant_of-self c =
+    let from = c.self.invariant.1.from in
+    let to = c.self.invariant.1.to in
+    let shift : to_z w64 (of_z w64 c.self.inside.shift) ≡ c.self.inside.shift = omega (arith, ints) in (
+      window-noted c.self.inside.shift c.self.inside.rows c.put_behind.new.rows c.in_room.result c.self.inside.spare c.take_room-room.new.spare c.self.invariant.0
+          (c.put_behind.ensures ∙ ap (λ (b : Buffer Kept). buffer (b.items ++ c.in_room.result ∷ []) 64) c.take_room-room.ensures.rows)
+          c.in_room.ensures.room (subst IsNotable (sym c.in_room.ensures.row) c.requires) (subst (λ (s : ℤ). HasBounds s c.in_room.result) shift c.in_room.ensures.bounds) c.take_room-room.ensures.spare
+          (ap (λ (b : Buffer Kept). length b.items + vec_len c.take_room-room.new.spare) (sym c.take_room-room.ensures.rows) ∙ c.take_room-room.ensures.count),
+      c.self.invariant.1,
+    )
 
 pub returns-then-points-clause-noted : goal.returns-then-points-clause-noted
 returns-then-points-clause-noted c rows stands =

@@ -1,0 +1,36 @@
+use Rattle.std.proofs.Common.{◌≡◌, ◌+ℤ◌, pos, w64, to_z, of_z, arith}
+use Rattle.std.proofs.lemmas.Int.{ints}
+use Rattle.clock_track.specs.Rows.{pair_of, timestamp}
+use Rattle.clock_track.specs.state.Bounds.{Widens}
+use Rattle.clock_track.specs.Views.{row_of}
+use Rattle.clock_track.proofs.Outside.{all-inside, pairs-empty, pairs-late, pairs-wide}
+use Rattle.clock_track.proofs.search.bounds_of.Goals as goal
+
+pub returns-then-count-eq0 : goal.returns-then-count-eq0
+returns-then-count-eq0 c = pairs-empty c.args.shift (row_of c.args.row.now) c.no_bounds.result (omega arith)
+
+pub returns-then-first-ge-POINTS_END : goal.returns-then-first-ge-POINTS_END
+returns-then-first-ge-POINTS_END c =
+    let shift : to_z w64 (of_z w64 c.args.shift) ≡ c.args.shift = omega (arith, ints) in
+    pairs-late c.args.shift (row_of c.args.row.now) c.bounds_inside-inside.result
+    (all-inside c.args.shift _ (row_of c.args.row.now) c.bounds_inside-inside.result c.timestamps-count.result shift c.timestamps-count.ensures c.bounds_inside-inside.ensures) (omega arith)
+
+pub returns : goal.returns
+returns c =
+    let shift : to_z w64 (of_z w64 c.args.shift) ≡ c.args.shift = omega (arith, ints) in
+    let same : c.pair_of-pair.result ≡ pair_of c.args.shift (row_of c.args.row.now) (timestamp (row_of c.args.row.now) 0) (timestamp (row_of c.args.row.now) 0) =
+    rw (c.timestamp-first.ensures, shift) at c.pair_of-pair.ensures.value in
+    let within = c.longest_period.ensures.within in
+    let low = c.pair_of-pair.ensures.small.later.from in
+    let high = c.pair_of-pair.ensures.small.later.to in
+    let from = c.widened.ensures.from in
+    let to = c.widened.ensures.to in
+    let wider : Widens c.bounds_inside-inside.result c.widened.result c.pair_of-pair.result.later (c.pair_of-pair.result.later +ℤ pos c.longest_period.result) = record {
+      earliest = c.widened.ensures.earliest;
+      from = omega (arith, ints);
+      latest = c.widened.ensures.latest;
+      to = omega (arith, ints);
+    } in
+    pairs-wide c.args.shift (row_of c.args.row.now) c.bounds_inside-inside.result c.widened.result c.pair_of-pair.result c.longest_period.result
+    (all-inside c.args.shift _ (row_of c.args.row.now) c.bounds_inside-inside.result c.timestamps-count.result shift c.timestamps-count.ensures c.bounds_inside-inside.ensures)
+    wider same c.longest_period.ensures.value

@@ -1,0 +1,44 @@
+-- Kept for proofs: what the code's own parts hold and do. No clause of a public call rests on it.
+-- Bounds of the instants that a packet's pairs can cover.
+use Rattle.std.specs.Prelude.{◌⊎◌, ℕ, ◌-◌, ◌*◌, ◌<◌, ◌≤◌, ℤ, pos, ◌+ℤ◌, ◌≤ℤ◌, ◌<ℤ◌, IfSome}
+use Rattle.clock_track.specs.declared.bounds.Bounds.{Bounds}
+use Rattle.clock_track.specs.declared.clock_row.ClockRow.{ClockRow}
+use Rattle.clock_track.specs.declared.pair.Pair.{Pair}
+use Rattle.clock_track.specs.Limits.{IsSmall}
+use Rattle.clock_track.specs.Pairs.{IsJoined, period}
+use Rattle.clock_track.specs.Rows.{across, inside, timestamps}
+
+-- a joined pair of numbers as small as the format makes them
+pub record IsPair (pair : Pair) : Type 0 where
+  pub small : IsSmall pair
+  pub joined : IsJoined pair
+
+-- a pair is within bounds
+pub record IsWithin (bounds : Bounds) (pair : Pair) : Type 0 where
+  pub from : bounds.earliest ≤ℤ pair.later
+  pub to : (pair.later +ℤ pos (period pair)) ≤ℤ bounds.latest
+
+-- the new bounds hold what the old ones do, and a pair with this later point and end
+pub record Widens (old new : Bounds) (later end : ℤ) : Type 0 where
+  pub earliest : new.earliest ≤ℤ old.earliest
+  pub from : new.earliest ≤ℤ later
+  pub latest : old.latest ≤ℤ new.latest
+  pub to : end ≤ℤ new.latest
+
+-- an instant is after the bounds, or longer than the lead before them
+abbrev pub IsOutside : Bounds → ℤ → ℕ → Type 0
+IsOutside bounds instant lead = (bounds.latest ≤ℤ instant) ⊎ ((instant +ℤ pos lead) <ℤ bounds.earliest)
+
+-- in a stream of this rate a joined pair covers no instant that is longer than the lead before its later point: the lead is
+-- at least 9/8 of half the nominal spacing
+abbrev pub IsLead : ℕ → ℕ → Type 0
+IsLead rate lead = (d : ℕ) → rate * d ≤ 562500000 → d ≤ lead
+
+-- the joined pairs inside a packet from one place to before another are within the bounds
+abbrev pub HasInside : ℤ → ClockRow → Bounds → ℕ → ℕ → Type 0
+HasInside shift row bounds first end = (i : ℕ) → first ≤ i → i < end → IfSome (inside shift row i) (λ pair. IsWithin bounds pair)
+
+-- the joined pairs that end in a packet are within the bounds
+pub record HasPairs (shift : ℤ) (row : ClockRow) (bounds : Bounds) : Type 0 where
+  pub inside : HasInside shift row bounds 0 (timestamps row - 1)
+  pub across : (before : ClockRow) → IfSome (across shift row before) (λ pair. IsWithin bounds pair)

@@ -1,0 +1,61 @@
+//! Bounds of the instants that a packet's pairs can cover.
+
+ghost use Rattle.std.specs.Prelude.{IfSome, IsTrue};
+ghost use Rattle.clock_track.specs.declared.pair.Pair.{Pair as PairValue};
+ghost use Rattle.clock_track.specs.state.Bounds.{IsOutside, IsPair, IsWithin, Widens};
+
+use crate::pair::Pair;
+
+/// No pair has its later point before `earliest`, or one period after its later point is later than `latest`.
+#[derive(Clone, Copy, Debug)]
+pub struct Bounds {
+    pub earliest: i64,
+    pub latest: i64,
+}
+
+/// Bounds of no pair.
+pub fn no_bounds() -> Bounds {
+    Bounds {
+        earliest: i64::MAX,
+        latest: i64::MIN,
+    }
+}
+
+/// The bounds, widened for a pair whose later point and end are these.
+pub fn widened(bounds: &Bounds, later: i64, end: i64) -> Bounds
+    ensures { Widens bounds.now result later end }
+{
+    Bounds {
+        earliest: if later < bounds.earliest {
+            later
+        } else {
+            bounds.earliest
+        },
+        latest: if end > bounds.latest {
+            end
+        } else {
+            bounds.latest
+        },
+    }
+}
+
+/// The bounds, widened for a pair if there is one.
+pub fn widened_by(bounds: &Bounds, pair: Option<Pair>) -> Bounds
+    requires { IfSome pair IsPair }
+    ensures pair { IfSome pair (IsWithin result) }
+    ensures others { (other : PairValue) → IsWithin bounds.now other → IsWithin result other }
+{
+    match pair {
+        Some(pair) => widened(bounds, pair.later, pair.end()),
+        None => *bounds,
+    }
+}
+
+/// Whether no pair within the bounds covers an instant. `lead` is the longest time by which a pair covers instants before its
+/// later point, in nanoseconds.
+pub fn excludes(bounds: &Bounds, instant: i64, lead: u64) -> bool
+    ensures { IsTrue result → IsOutside bounds.now instant lead }
+{
+    bounds.latest <= instant
+        || (instant < bounds.earliest && bounds.earliest.abs_diff(instant) > lead)
+}
