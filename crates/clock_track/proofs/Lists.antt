@@ -50,15 +50,11 @@ range-by : (a b n : ℕ) → a + n ≡ b → range_with_len a (suc n) ≡ range_
 range-by a b zero e = let same : a ≡ b = omega arith in ap (λ (x : ℕ). x ∷ []) same
 range-by a b (suc n) e = ap (λ (l : List ℕ). a ∷ l) (range-by (a + 1) b n (omega arith))
 
--- the pairs inside a packet, up to the one at a place
-inside-more : (f : ℕ → Option Pair) (test : Pair → Bool) (left : ℕ) → 1 < left
-    → find_last test (filter_map f (range_with_len 0 (left - 1)))
-    ≡ option_or (kept test (f (left - 1 - 1))) (find_last test (filter_map f (range_with_len 0 (left - 1 - 1))))
-inside-more f test left some =
-    let e : suc (left - 1 - 1) ≡ left - 1 = omega arith in
-    let split : range_with_len 0 (left - 1) ≡ range_with_len 0 (left - 1 - 1) ++ (left - 1 - 1) ∷ [] =
-    ap (λ (n : ℕ). range_with_len 0 n) (sym e) ∙ range-by 0 (left - 1 - 1) (left - 1 - 1) (omega arith) in
-    ap (λ (l : List ℕ). find_last test (filter_map f l)) split ∙ last-more f test (range_with_len 0 (left - 1 - 1)) (left - 1 - 1)
+range-split : (a b n m k : ℕ) → a + n ≡ b → n + m ≡ k → range_with_len a k ≡ range_with_len a n ++ range_with_len b m
+range-split a b zero m k e f = let same : a ≡ b = omega arith in let len : k ≡ m = omega arith in rw (same, len) refl
+range-split a b (suc n) m k e f =
+    let len : k ≡ suc (n + m) = omega arith in
+    ap (λ (l : ℕ). range_with_len a l) len ∙ ap (λ (l : List ℕ). a ∷ l) (range-split (a + 1) b n m (n + m) (omega arith) refl)
 
 -- ---- what the last item gives
 
@@ -72,20 +68,32 @@ or-none (Some x) p e = absurd cc
 
 -- ---- one step of a search
 
-inside-step : (f : ℕ → Option Pair) (test : Pair → Bool) (left : ℕ) (r whole : Option Pair) → 1 < left → r ≡ kept test (f (left - 1 - 1))
-    → find_last test (filter_map f (range_with_len 0 (left - 1))) ≡ whole
-    → option_or r (find_last test (filter_map f (range_with_len 0 (left - 1 - 1)))) ≡ whole
-inside-step f test left r whole some e same =
-    ap (λ (o : Option Pair). option_or o (find_last test (filter_map f (range_with_len 0 (left - 1 - 1))))) e ∙ sym (inside-more f test left some) ∙ same
+-- the pairs inside a packet from one place to another, up to the last of them
+pub between-found : (shift : ℤ) (row : ClockRow) (test : Pair → Bool) (first left a b : ℕ) (r whole : Option Pair) → first < left
+    → a ≡ timestamp row (left - 1) → b ≡ timestamp row (left - 1 + 1) → r ≡ kept test (joined_by shift row a b)
+    → find_last test (filter_map (inside shift row) (range_with_len first (left - first))) ≡ whole
+    → option_or r (find_last test (filter_map (inside shift row) (range_with_len first (left - 1 - first)))) ≡ whole
+between-found shift row test first left a b r whole some p q e same =
+    let f = inside shift row in
+    let xs = range_with_len first (left - 1 - first) in
+    let next : suc (left - 1 - first) ≡ left - first = omega arith in
+    let split : range_with_len first (left - first) ≡ xs ++ (left - 1) ∷ [] =
+    ap (λ (n : ℕ). range_with_len first n) (sym next) ∙ range-by first (left - 1) (left - 1 - first) (omega arith) in
+    let here : r ≡ kept test (inside shift row (left - 1)) = rw (← p, ← q) e in
+    ap (λ (o : Option Pair). option_or o (find_last test (filter_map f xs))) here ∙ sym (last-more f test xs (left - 1))
+    ∙ ap (λ (l : List ℕ). find_last test (filter_map f l)) (sym split) ∙ same
 
-pub inside-found : (shift : ℤ) (row : ClockRow) (test : Pair → Bool) (left a b : ℕ) (r whole : Option Pair) → 1 < left
-    → a ≡ timestamp row (left - 1 - 1) → b ≡ timestamp row (left - 1) → r ≡ kept test (joined_by shift row a b)
-    → find_last test (filter_map (inside shift row) (range_with_len 0 (left - 1))) ≡ whole
-    → option_or r (find_last test (filter_map (inside shift row) (range_with_len 0 (left - 1 - 1)))) ≡ whole
-inside-found shift row test left a b r whole some p q e same =
-    let next : left - 1 - 1 + 1 ≡ left - 1 = omega arith in
-    let here : r ≡ kept test (inside shift row (left - 1 - 1)) = rw (next, ← p, ← q) e in
-    inside-step (inside shift row) test left r whole some here same
+-- the pairs inside a packet, up to the last group of them
+pub group-found : (f : ℕ → Option Pair) (test : Pair → Bool) (first left : ℕ) (r whole : Option Pair) → first ≤ left
+    → r ≡ find_last test (filter_map f (range_with_len first (left - first)))
+    → find_last test (filter_map f (range_with_len 0 left)) ≡ whole
+    → option_or r (find_last test (filter_map f (range_with_len 0 first))) ≡ whole
+group-found f test first left r whole within e same =
+    let xs = range_with_len 0 first in
+    let ys = range_with_len first (left - first) in
+    let split : range_with_len 0 left ≡ xs ++ ys = range-split 0 first first (left - first) left (omega arith) (omega arith) in
+    ap (λ (o : Option Pair). option_or o (find_last test (filter_map f xs))) e ∙ sym (last-split test (filter_map f xs) (filter_map f ys))
+    ∙ ap (λ (l : List Pair). find_last test l) (sym (filter_map-append f xs ys)) ∙ ap (λ (l : List ℕ). find_last test (filter_map f l)) (sym split) ∙ same
 
 pub stop : (r rest whole : Option Pair) → is_some r ≡ true → option_or r rest ≡ whole → r ≡ whole
 stop r rest whole e step = sym (or-some r rest e) ∙ step

@@ -5,10 +5,11 @@ use Rattle.std.proofs.lemmas.List.{drop-map, length-append, length-map, map-appe
 use Rattle.std.proofs.lemmas.List.Elements.{All-append, All-cons, All-drop, All-head, All-nil, All-tail}
 use Rattle.circular_buffer.specs.Buffer.{Buffer, buffer, keep_last}
 use Rattle.clock_track.specs.declared.clock.Kept.{Kept}
+use Rattle.clock_track.specs.declared.clock.Room.{Room}
 use Rattle.clock_track.specs.declared.clock_row.ClockRow.{ClockRow}
 use Rattle.clock_track.specs.Limits.{IsNotable}
 use Rattle.clock_track.specs.Rows.{window}
-use Rattle.clock_track.specs.state.Bounds.{HasPairs}
+use Rattle.clock_track.specs.state.Bounds.{AreGroups, HasPairs}
 use Rattle.clock_track.specs.state.Window.{HasBounds, HasRoom, IsRoom, IsWindow, kept_row}
 use Rattle.clock_track.proofs.Windows.{window-more}
 
@@ -25,7 +26,7 @@ all-one P xs x all is = All-append P xs (x ∷ []) all (All-cons P x [] is (All-
 abbrev pub IsNoted : Buffer Kept → Buffer Kept → Kept → Type 0
 IsNoted old new kept = new ≡ buffer (keep_last 63 old.items ++ kept ∷ []) 64
 
-pub window-noted : (shift : ℤ) (old new : Buffer Kept) (kept : Kept) (spare left : Vec (Vec ℕ)) → IsWindow shift old spare → IsNoted old new kept → HasRoom kept → IsNotable (kept_row kept) → HasBounds shift kept
+pub window-noted : (shift : ℤ) (old new : Buffer Kept) (kept : Kept) (spare left : Vec Room) → IsWindow shift old spare → IsNoted old new kept → HasRoom kept → IsNotable (kept_row kept) → HasBounds shift kept
     → All IsRoom left.items → length (keep_last 63 old.items) + vec_len left ≡ 63 → IsWindow shift new left
 window-noted shift old new kept spare left is e room notable bounds left_room count =
     let items : new.items ≡ keep_last 63 old.items ++ kept ∷ [] = ap (λ (b : Buffer Kept). b.items) e in
@@ -53,10 +54,18 @@ stands-noted old new kept rows row e same usable stands =
 
 -- the bounds that are kept with a packet
 pub bounds-kept : (shift : ℤ) (items : List Kept) (k : ℕ) (kept : Kept) (row : ClockRow) → slice_get items k ≡ Some kept → All (HasBounds shift) items → slice_get (map kept_row items) k ≡ Some row
-    → HasPairs shift row kept.bounds
+    → HasPairs shift row kept.bounds × AreGroups shift row kept.groups.items
 bounds-kept shift [] k kept row e all there = absurd cc
 bounds-kept shift (x ∷ xs) zero kept row e all there =
     let same : x ≡ kept = cc in
     let same_row : kept_row x ≡ row = cc in
-    subst (λ (k : Kept). HasPairs shift row k.bounds) same (subst (λ (r : ClockRow). HasPairs shift r x.bounds) same_row (All-head (HasBounds shift) x xs all))
+    let has = All-head (HasBounds shift) x xs all in
+    subst (λ (k : Kept). HasPairs shift row k.bounds × AreGroups shift row k.groups.items) same
+    (subst (λ (r : ClockRow). HasPairs shift r x.bounds × AreGroups shift r x.groups.items) same_row (has.all, has.groups))
 bounds-kept shift (x ∷ xs) (suc k) kept row e all there = bounds-kept shift xs k kept row e (All-tail (HasBounds shift) x xs all) there
+
+pub has-bounds : (shift s : ℤ) (row : ClockRow) (kept : Kept) → s ≡ shift → kept_row kept ≡ row → HasPairs s row kept.bounds → AreGroups s row kept.groups.items → HasBounds shift kept
+has-bounds shift s row kept e same all groups = record {
+  all = subst (λ (r : ClockRow). HasPairs shift r kept.bounds) (sym same) (subst (λ (z : ℤ). HasPairs z row kept.bounds) e all);
+  groups = subst (λ (r : ClockRow). AreGroups shift r kept.groups.items) (sym same) (subst (λ (z : ℤ). AreGroups z row kept.groups.items) e groups);
+}

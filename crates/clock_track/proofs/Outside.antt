@@ -1,6 +1,6 @@
 -- No pair within bounds covers an instant that is outside them.
-use Rattle.std.proofs.Common.{◌≡◌, inl, inr, ℕ, zero, suc, ◌+◌, ◌-◌, ◌*◌, ◌^◌, ◌<◌, ◌≤◌, Bool, true, false, ℤ, pos, neg_ℤ, ◌+ℤ◌, ◌-ℤ◌, ◌*ℤ◌, ◌≤ℤ◌, ◌<ℤ◌, List, Option, Some, None, refl, sym, subst, ap, ◌∙◌, arith}
-use Rattle.std.specs.Prelude.{IfSome, nat_lt, if◌then◌else◌}
+use Rattle.std.proofs.Common.{◌≡◌, ◌⊎◌, length, inl, inr, ℕ, zero, suc, ◌+◌, ◌-◌, ◌*◌, ◌^◌, ◌<◌, ◌≤◌, Bool, true, false, ℤ, pos, neg_ℤ, ◌+ℤ◌, ◌-ℤ◌, ◌*ℤ◌, ◌≤ℤ◌, ◌<ℤ◌, List, [], ◌∷◌, ◌++◌, Option, Some, None, refl, sym, subst, ap, ◌∙◌, arith}
+use Rattle.std.specs.Prelude.{IfSome, IsSome, slice_get, nat_lt, if◌then◌else◌}
 use Rattle.std.specs.List.{filter_map, range_with_len}
 use Rattle.std.specs.Option.{option_or}
 use Rattle.std.proofs.Math.Nat.{mul-le-mul_left}
@@ -14,7 +14,7 @@ use Rattle.clock_track.specs.declared.clock_row.ClockRow.{ClockRow}
 use Rattle.clock_track.specs.declared.pair.Pair.{Pair}
 use Rattle.clock_track.specs.Pairs.{IsJoined, covers, is_joined, nominal, period, step_den, step_num}
 use Rattle.clock_track.specs.Rows.{across, inside, joined_by, pair_of, pairs_at, seems_next, timestamp, timestamps}
-use Rattle.clock_track.specs.state.Bounds.{HasInside, HasPairs, IsLead, IsOutside, IsWithin, Widens}
+use Rattle.clock_track.specs.state.Bounds.{AreGroups, HasInside, HasPairs, IsLead, IsOutside, IsWithin, Widens}
 use Rattle.clock_track.specs.state.Search.{kept}
 use Rattle.clock_track.proofs.Latest.{across_is, by_is}
 use Rattle.clock_track.proofs.Lists.{last-split}
@@ -204,3 +204,42 @@ pairs-wide shift row old new pair longest has wider same is =
       inside = widened-inside shift row old new pair.later (pair.later +ℤ pos longest) 0 (timestamps row - 1) has wider;
       across = λ before. across-by shift row before new (λ first. by-wide shift row new first (timestamp row 0) longest (omega (arith, ints)) (omega (arith, ints)) (subst (λ (p : Pair). IsLongest p longest) same is));
     }
+
+-- ---- groups of the pairs inside a packet
+
+-- no pair of a group covers an instant that is outside its bounds
+pub group-none : (shift : ℤ) (row : ClockRow) (groups : List Bounds) (g end rate lead : ℕ) (instant : ℤ) → IsLead rate lead → AreGroups shift row groups → 32 * g < end → end ≤ 32 * g + 32 → end ≤ timestamps row - 1
+    → IfSome (slice_get groups g) (λ bounds. IsOutside bounds instant lead) × IsSome (slice_get groups g)
+    → find_last (test rate instant) (filter_map (inside shift row) (range_with_len (32 * g) (end - 32 * g))) ≡ None
+group-none shift row groups g end rate lead instant is are some within inner h = cases (slice_get groups g) refl h.0 h.1
+  where
+    cases : (o : Option Bounds) → slice_get groups g ≡ o → IfSome o (λ bounds. IsOutside bounds instant lead) → IsSome o
+        → find_last (test rate instant) (filter_map (inside shift row) (range_with_len (32 * g) (end - 32 * g))) ≡ None
+    cases None e outside here = absurd cc
+    cases (Some bounds) e outside here =
+        inside-none shift row bounds rate lead instant (32 * g) (end - 32 * g) end is (are g bounds e end within inner) (omega arith) outside
+
+last-or : (xs : List Bounds) (x y : Bounds) (k : ℕ) → slice_get (xs ++ x ∷ []) k ≡ Some y → (slice_get xs k ≡ Some y) ⊎ ((k ≡ length xs) × (x ≡ y))
+last-or [] x y zero e = inr (refl, cc)
+last-or [] x y (suc k) e = absurd cc
+last-or (z ∷ zs) x y zero e = inl e
+last-or (z ∷ zs) x y (suc k) e = elim (last-or zs x y k e) [
+  | inl there ↦ inl there
+  | inr last ↦ inr (ap (λ (n : ℕ). suc n) last.0, last.1)
+]
+
+-- no groups have bounds
+pub no-groups : (shift : ℤ) (row : ClockRow) → AreGroups shift row []
+no-groups shift row g bounds there = absurd cc
+
+-- the bounds of one group more
+pub groups-more : (shift s : ℤ) (row : ClockRow) (groups : List Bounds) (bounds : Bounds) (first last : ℕ) → s ≡ shift → AreGroups shift row groups → first ≡ 32 * length groups
+    → ((end : ℕ) → end ≤ 32 * length groups + 32 → end ≤ timestamps row - 1 → end ≤ last) → HasInside s row bounds first last → AreGroups shift row (groups ++ bounds ∷ [])
+groups-more shift s row groups bounds first last same are e most has g other there end within inner = elim (last-or groups bounds other g there) [
+  | inl before ↦ are g other before end within inner
+  | inr last_is ↦ λ i from to.
+      let place = last_is.0 in
+      let enough : end ≤ last = most end (omega arith) inner in
+      subst (λ (b : Bounds). IfSome (inside shift row i) (λ pair. IsWithin b pair)) last_is.1
+      (subst (λ (z : ℤ). IfSome (inside z row i) (λ pair. IsWithin bounds pair)) same (has i (omega arith) (omega arith)))
+]

@@ -13,7 +13,7 @@ use crate::answer::ClockAnswer;
 use crate::bounds::Bounds;
 use crate::clock_row::Points;
 use crate::over::{WINDOW, line_among};
-use crate::search::{Query, Rows, bounds_of, lead_of};
+use crate::search::{Query, Rows, bound_groups, bounds_of, lead_of};
 use avtp_base::NoMemory;
 use circular_buffer::HeapCircularBuffer;
 use std::alloc::Global;
@@ -21,6 +21,16 @@ use std::marker::Model;
 
 /// The bytes of the most timestamps that a packet has.
 const ROOM: usize = 65_528;
+
+/// The most groups of pairs that a packet has.
+const GROUPS: usize = 256;
+
+/// Room for the timestamps of a packet, and for bounds of groups of its pairs.
+#[derive(Drop)]
+struct Room {
+    payload: Vec<u8>,
+    groups: Vec<Bounds>,
+}
 
 /// What is kept of a packet, in memory that is reused: noting a packet allocates nothing.
 #[derive(Drop)]
@@ -34,22 +44,29 @@ struct Kept {
     payload: Vec<u8>,
     /// Bounds of the pairs that end in the packet.
     bounds: Bounds,
+    /// Bounds of each 32 pairs inside the packet.
+    groups: Vec<Bounds>,
 }
 
 impl Kept {
     /// The packet, with its timestamps in the given room. Allocates nothing.
-    fn in_room(mut room: Vec<u8>, points: &Points<'_>, shift: i64) -> Self
-        requires room { 65528 ≤ vec_capacity room }
+    fn in_room(room: Room, points: &Points<'_>, shift: i64) -> Self
+        requires room { IsRoom room }
         requires row { IsRow (row_of points.now) }
         requires shift { IsShift shift }
         ensures row { kept_row result ≡ row_of points.now }
         ensures room { HasRoom result }
         ensures bounds { HasBounds shift result }
     {
-        room.clear();
-        let Ok(()) = room.extend_from_slice(points.payload) else {
+        let Room {
+            mut payload,
+            mut groups,
+        } = room;
+        payload.clear();
+        let Ok(()) = payload.extend_from_slice(points.payload) else {
             unreachable!()
         };
+        bound_groups(&mut groups, points, shift);
         Kept {
             usable: points.usable,
             seq: points.seq,
@@ -57,8 +74,9 @@ impl Kept {
             base_frequency: points.base_frequency,
             pull: points.pull,
             interval: points.interval,
-            payload: room,
+            payload,
             bounds: bounds_of(points, shift),
+            groups,
         }
     }
 
@@ -105,10 +123,17 @@ impl Rows for Ring<'_> {
             None => unreachable!(),
         }
     }
+
+    fn groups(&self, place: usize) -> &[Bounds] {
+        match self.rows.get(place) {
+            Some(kept) => kept.groups.as_slice(),
+            None => unreachable!(),
+        }
+    }
 }
 
 /// Room for the timestamps of one more packet: unused room, or that of the oldest packet, which is dropped.
-fn take_room(rows: &mut HeapCircularBuffer<Kept>, spare: &mut Vec<Vec<u8>>) -> Vec<u8>
+fn take_room(rows: &mut HeapCircularBuffer<Kept>, spare: &mut Vec<Room>) -> Room
     requires room { All HasRoom rows.old.items }
     requires spare { All IsRoom spare.old.items }
     requires count { length rows.old.items + vec_len spare.old ≡ 64 }
@@ -121,7 +146,10 @@ fn take_room(rows: &mut HeapCircularBuffer<Kept>, spare: &mut Vec<Vec<u8>>) -> V
         return room;
     }
     match rows.pop_front() {
-        Some(oldest) => oldest.payload,
+        Some(oldest) => Room {
+            payload: oldest.payload,
+            groups: oldest.groups,
+        },
         None => unreachable!(),
     }
 }
@@ -143,7 +171,7 @@ pub struct Clock {
     shift: i64,
     rows: HeapCircularBuffer<Kept>,
     /// Room for the packets that are missing to make 64.
-    spare: Vec<Vec<u8>>,
+    spare: Vec<Room>,
 }
 
 impl Model for Clock {
@@ -169,8 +197,9 @@ impl Clock {
         let rows = HeapCircularBuffer::with_capacity(alloc, WINDOW)?;
         let mut spare = Vec::with_capacity(alloc, WINDOW)?;
         for _ in 0..WINDOW {
-            let room = Vec::with_capacity(alloc, ROOM)?;
-            spare.push(room)?;
+            let payload = Vec::with_capacity(alloc, ROOM)?;
+            let groups = Vec::with_capacity(alloc, GROUPS)?;
+            spare.push(Room { payload, groups })?;
         }
         Ok(Clock { shift, rows, spare })
     }

@@ -37,6 +37,10 @@ impl Rows for Listed<'_> {
     fn bounds(&self, _place: usize) -> Option<Bounds> {
         None
     }
+
+    fn groups(&self, _place: usize) -> &[Bounds] {
+        &[]
+    }
 }
 
 /// The rows from the first of the last 64 that give points to the end.

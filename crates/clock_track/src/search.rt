@@ -1,6 +1,6 @@
 //! The search for the pair of points that covers an instant.
 
-ghost use Rattle.std.specs.Prelude.{IsTrue, None, if◌then◌else◌, ◌≡◌, ◌<◌, ◌≤◌, ◌+◌, ◌-◌, ◌*◌, ◌/◌, ◌^◌, ℕ, ℤ, All, IfSome, List, Some, filter, length, slice_get, true};
+ghost use Rattle.std.specs.Prelude.{IsSome, IsTrue, None, if◌then◌else◌, ◌≡◌, ◌<◌, ◌≤◌, ◌+◌, ◌-◌, ◌*◌, ◌/◌, ◌^◌, ℕ, ℤ, All, IfSome, List, Some, filter, length, slice_get, true};
 ghost use Rattle.std.specs.List.{filter_map, range_with_len};
 ghost use Rattle.time_unfold.specs.Stamps.{find_last};
 ghost use Rattle.clock_track.specs.declared.clock_row.ClockRow.{ClockRow as ClockRowValue};
@@ -8,7 +8,7 @@ ghost use Rattle.clock_track.specs.Limits.{IsNotable, IsRow, IsShift, IsSmall};
 ghost use Rattle.clock_track.specs.Pairs.{IsJoined};
 ghost use Rattle.clock_track.specs.Rows.{across as across_rows, inside as inside_row, joined_by, latest as latest_of, pair_of as pair_of_rows, pairs_at, seems_next as seems_next_of, timestamp as timestamp_of, timestamps as timestamps_of, used};
 ghost use Rattle.clock_track.specs.Search.{IsCovering};
-ghost use Rattle.clock_track.specs.state.Bounds.{HasInside, HasPairs, IsLead, IsPair};
+ghost use Rattle.clock_track.specs.state.Bounds.{AreGroups, HasInside, HasPairs, IsLead, IsOutside, IsPair};
 ghost use Rattle.clock_track.specs.state.Search.{kept, test_of};
 ghost use Rattle.clock_track.specs.Views.{row_of};
 
@@ -17,6 +17,9 @@ use crate::clock_row::Points;
 use crate::pair::Pair;
 use crate::pull::{pull_down, pull_up};
 use avtp_base::octets::u64_at;
+
+/// How many pairs inside a packet have bounds together.
+const GROUP: usize = 32;
 
 /// Timestamps from here on are not points.
 const POINTS_END: u64 = 1 << 62;
@@ -59,6 +62,11 @@ pub trait Rows {
     fn bounds(&self, place: usize) -> Option<Bounds>
         requires { place < length (rows self.now) }
         ensures { (shift : ℤ) (row : ClockRowValue) → bounded self.now shift → slice_get (rows self.now) place ≡ Some row → IfSome result (HasPairs shift row) };
+
+    /// Bounds of each 32 pairs inside a packet, for as many pairs as they are known.
+    fn groups(&self, place: usize) -> &[Bounds]
+        requires { place < length (rows self.now) }
+        ensures { (shift : ℤ) (row : ClockRowValue) → bounded self.now shift → slice_get (rows self.now) place ≡ Some row → AreGroups shift row result.now };
 }
 
 fn timestamps(row: &Points<'_>) -> usize
@@ -141,6 +149,37 @@ fn bounds_inside(row: &Points<'_>, shift: i64, first: usize, end: usize) -> Boun
     bounds
 }
 
+/// The end of a group, for a packet with this many pairs.
+fn group_end(group: usize, pairs: usize) -> usize
+    requires { 32 * group < pairs }
+    ensures within { result ≤ pairs }
+    ensures most { (end : ℕ) → end ≤ 32 * group + 32 → end ≤ pairs → end ≤ result }
+{
+    if pairs - GROUP * group > GROUP {
+        GROUP * group + GROUP
+    } else {
+        pairs
+    }
+}
+
+/// Replaces `groups` by bounds of each 32 pairs inside a packet. Pairs that there is no memory for have none.
+pub fn bound_groups(groups: &mut Vec<Bounds>, row: &Points<'_>, shift: i64)
+    requires row { IsRow (row_of row.now) }
+    requires shift { IsShift shift }
+    ensures { AreGroups shift (row_of row.now) groups.new.items }
+{
+    groups.clear();
+    let pairs = timestamps(row).saturating_sub(1);
+    while GROUP * groups.len() < pairs {
+        let group = groups.len();
+        let bounds = bounds_inside(row, shift, GROUP * group, group_end(group, pairs));
+        match groups.push(bounds) {
+            Ok(()) => {}
+            Err(_) => return,
+        }
+    }
+}
+
 /// Bounds of the pairs that end in a packet, whatever the packets before it.
 pub fn bounds_of(row: &Points<'_>, shift: i64) -> Bounds
     requires row { IsRow (row_of row.now) }
@@ -164,20 +203,73 @@ pub fn bounds_of(row: &Points<'_>, shift: i64) -> Bounds
     )
 }
 
-/// The last pair inside a packet that covers the instant.
-fn latest_inside(row: &Points<'_>, query: &Query) -> Option<Pair>
+/// The last pair that covers the instant, of those inside a packet whose earlier timestamps are from `first` to before `end`.
+fn latest_between(row: &Points<'_>, first: usize, end: usize, query: &Query) -> Option<Pair>
     requires row { IsRow (row_of row.now) }
     requires shift { IsShift query.now.shift }
-    ensures value { result ≡ find_last (test_of query.now) (filter_map (inside_row query.now.shift (row_of row.now)) (range_with_len 0 (timestamps_of (row_of row.now) - 1))) }
+    requires end { end ≤ timestamps_of (row_of row.now) - 1 }
+    ensures value { result ≡ find_last (test_of query.now) (filter_map (inside_row query.now.shift (row_of row.now)) (range_with_len first (end - first))) }
     ensures covering { IfSome result (IsCovering query.now.rate query.now.instant) }
 {
-    let mut left = timestamps(row);
-    while left > 1 {
+    let mut left = end;
+    while left > first {
         left -= 1;
-        let pair = covering(row, query, timestamp(row, left - 1), timestamp(row, left));
+        let pair = covering(row, query, timestamp(row, left), timestamp(row, left + 1));
         if pair.is_some() {
             return pair;
         }
+    }
+    None
+}
+
+/// Whether the instant is known to be outside the bounds of a group of the pairs inside a packet.
+fn is_past_group(groups: &[Bounds], group: usize, query: &Query) -> bool
+    ensures { IsTrue result → IfSome (slice_get groups.now group) (λ bounds. IsOutside bounds query.now.instant query.now.lead) × IsSome (slice_get groups.now group) }
+{
+    match groups.get(group) {
+        Some(bounds) => excludes(bounds, query.instant, query.lead),
+        None => false,
+    }
+}
+
+/// The last pair that covers the instant, of the pairs of a group before `end`.
+fn latest_of_group(
+    row: &Points<'_>,
+    groups: &[Bounds],
+    group: usize,
+    end: usize,
+    query: &Query,
+) -> Option<Pair>
+    requires row { IsRow (row_of row.now) }
+    requires groups { AreGroups query.now.shift (row_of row.now) groups.now }
+    requires query { IsShift query.now.shift × IsLead query.now.rate query.now.lead }
+    requires group { 32 * group < end × end ≤ 32 * group + 32 × end ≤ timestamps_of (row_of row.now) - 1 }
+    ensures value { result ≡ find_last (test_of query.now) (filter_map (inside_row query.now.shift (row_of row.now)) (range_with_len (32 * group) (end - 32 * group))) }
+    ensures covering { IfSome result (IsCovering query.now.rate query.now.instant) }
+{
+    if is_past_group(groups, group, query) {
+        return None;
+    }
+    latest_between(row, GROUP * group, end, query)
+}
+
+/// The last pair inside a packet that covers the instant.
+fn latest_inside(row: &Points<'_>, groups: &[Bounds], query: &Query) -> Option<Pair>
+    requires row { IsRow (row_of row.now) }
+    requires groups { AreGroups query.now.shift (row_of row.now) groups.now }
+    requires shift { IsShift query.now.shift }
+    requires lead { IsLead query.now.rate query.now.lead }
+    ensures value { result ≡ find_last (test_of query.now) (filter_map (inside_row query.now.shift (row_of row.now)) (range_with_len 0 (timestamps_of (row_of row.now) - 1))) }
+    ensures covering { IfSome result (IsCovering query.now.rate query.now.instant) }
+{
+    let mut left = timestamps(row).saturating_sub(1);
+    while left > 0 {
+        let group = (left - 1) / GROUP;
+        let pair = latest_of_group(row, groups, group, left, query);
+        if pair.is_some() {
+            return pair;
+        }
+        left = GROUP * group;
     }
     None
 }
@@ -294,7 +386,7 @@ fn latest_at<R: Rows>(rows: &R, place: usize, query: &Query) -> Option<Pair>
     if !row.usable {
         return None;
     }
-    let pair = latest_inside(&row, query);
+    let pair = latest_inside(&row, rows.groups(place), query);
     if pair.is_some() {
         return pair;
     }

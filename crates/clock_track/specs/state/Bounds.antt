@@ -1,6 +1,6 @@
 -- Kept for proofs: what the code's own parts hold and do. No clause of a public call rests on it.
 -- Bounds of the instants that a packet's pairs can cover.
-use Rattle.std.specs.Prelude.{◌⊎◌, ℕ, ◌-◌, ◌*◌, ◌<◌, ◌≤◌, ℤ, pos, ◌+ℤ◌, ◌≤ℤ◌, ◌<ℤ◌, IfSome}
+use Rattle.std.specs.Prelude.{◌≡◌, ◌⊎◌, List, Some, slice_get, ℕ, ◌+◌, ◌-◌, ◌*◌, ◌<◌, ◌≤◌, ℤ, pos, ◌+ℤ◌, ◌≤ℤ◌, ◌<ℤ◌, IfSome}
 use Rattle.clock_track.specs.declared.bounds.Bounds.{Bounds}
 use Rattle.clock_track.specs.declared.clock_row.ClockRow.{ClockRow}
 use Rattle.clock_track.specs.declared.pair.Pair.{Pair}
@@ -37,6 +37,10 @@ IsLead rate lead = (d : ℕ) → rate * d ≤ 562500000 → d ≤ lead
 -- the joined pairs inside a packet from one place to before another are within the bounds
 abbrev pub HasInside : ℤ → ClockRow → Bounds → ℕ → ℕ → Type 0
 HasInside shift row bounds first end = (i : ℕ) → first ≤ i → i < end → IfSome (inside shift row i) (λ pair. IsWithin bounds pair)
+
+-- the joined pairs inside a packet are within bounds of 32 pairs each, as far as these go
+abbrev pub AreGroups : ℤ → ClockRow → List Bounds → Type 0
+AreGroups shift row groups = (g : ℕ) (bounds : Bounds) → slice_get groups g ≡ Some bounds → (end : ℕ) → end ≤ 32 * g + 32 → end ≤ timestamps row - 1 → HasInside shift row bounds (32 * g) end
 
 -- the joined pairs that end in a packet are within the bounds
 pub record HasPairs (shift : ℤ) (row : ClockRow) (bounds : Bounds) : Type 0 where

@@ -4,9 +4,10 @@ use Rattle.std.specs.Prelude.{◌≡◌, ◌≤◌, ◌+◌, ℕ, ℤ, All, leng
 use Rattle.std.specs.Global.{Vec}
 use Rattle.circular_buffer.specs.Buffer.{Buffer}
 use Rattle.clock_track.specs.declared.clock.Kept.{Kept}
+use Rattle.clock_track.specs.declared.clock.Room.{Room}
 use Rattle.clock_track.specs.declared.clock_row.ClockRow.{ClockRow}
 use Rattle.clock_track.specs.Limits.{IsNotable}
-use Rattle.clock_track.specs.state.Bounds.{HasPairs}
+use Rattle.clock_track.specs.state.Bounds.{AreGroups, HasPairs}
 
 abbrev pub kept_row : Kept → ClockRow
 kept_row kept = record {
@@ -20,18 +21,19 @@ kept_row kept = record {
 }
 
 -- any packet's timestamps fit
-abbrev pub IsRoom : Vec ℕ → Type 0
-IsRoom room = 65528 ≤ vec_capacity room
+abbrev pub IsRoom : Room → Type 0
+IsRoom room = 65528 ≤ vec_capacity room.payload
 
 abbrev pub HasRoom : Kept → Type 0
-HasRoom kept = IsRoom kept.payload
+HasRoom kept = 65528 ≤ vec_capacity kept.payload
 
 -- the bounds of the pairs that end in the packet are true
-abbrev pub HasBounds : ℤ → Kept → Type 0
-HasBounds shift kept = HasPairs shift (kept_row kept) kept.bounds
+pub record HasBounds (shift : ℤ) (kept : Kept) : Type 0 where
+  pub all : HasPairs shift (kept_row kept) kept.bounds
+  pub groups : AreGroups shift (kept_row kept) kept.groups.items
 
 -- the packets that are kept and the spare room together make 64
-pub record IsWindow (shift : ℤ) (rows : Buffer Kept) (spare : Vec (Vec ℕ)) : Type 0 where
+pub record IsWindow (shift : ℤ) (rows : Buffer Kept) (spare : Vec Room) : Type 0 where
   pub capacity : rows.capacity ≡ 64
   pub count : length rows.items + vec_len spare ≡ 64
   pub room : All HasRoom rows.items

@@ -18,3 +18,6 @@ pub returns-clause-value : goal.returns-clause-value
 returns-clause-value g c row there =
     across-last c.args.query.now.shift (used (g.R.Rows.rows c.args.rows.now)) (test_of c.args.query.now) (row_of c.row-row.result) row _ c.latest_inside-pair.result c.latest_across.result
     c.row-row.ensures c.if-not-row.false c.latest_inside-pair.ensures.value (sym c.is_some.ensures ∙ c.if-is_some.false) c.latest_across.ensures.value there
+
+pub latest_inside-pair-requires-clause-groups : goal.latest_inside-pair-requires-clause-groups
+latest_inside-pair-requires-clause-groups g c = c.groups.ensures c.args.query.now.shift (row_of c.row-row.result) c.requires.bounded c.row-row.ensures

@@ -1,20 +1,21 @@
--- The last pair that is left is found, or is left out of the search.
-use Rattle.std.proofs.Common.{sym, ◌∙◌, arith}
+-- The last group that is left decides, or is left out of the search.
+use Rattle.std.proofs.Common.{◌*◌, ◌-◌, ◌/◌, sym, ◌∙◌, arith}
+use Rattle.clock_track.specs.Rows.{inside}
 use Rattle.clock_track.specs.state.Search.{test_of}
 use Rattle.clock_track.specs.Views.{row_of}
-use Rattle.clock_track.proofs.Lists.{go_on, inside-found, stop}
+use Rattle.clock_track.proofs.Lists.{go_on, group-found, stop}
 use Rattle.clock_track.proofs.search.latest_inside.Goals as goal
 
 pub returns-then-is_some-clause-value : goal.returns-then-is_some-clause-value
 returns-then-is_some-clause-value c =
-    stop c.covering-pair.result _ _ (sym c.is_some.ensures ∙ c.if-is_some.true)
-    (inside-found c.args.query.now.shift (row_of c.args.row.now) (test_of c.args.query.now) c.loop-left.left c.timestamp.result c.timestamp-in-loop-left.result
-    c.covering-pair.result _ (omega arith) c.timestamp.ensures c.timestamp-in-loop-left.ensures c.covering-pair.ensures.value c.loop-left.invariant.same)
+    stop c.latest_of_group-pair.result _ _ (sym c.is_some.ensures ∙ c.if-is_some.true)
+    (group-found (inside c.args.query.now.shift (row_of c.args.row.now)) (test_of c.args.query.now) (32 * ((c.loop-left.left - 1) / 32)) c.loop-left.left
+    c.latest_of_group-pair.result _ (omega arith) c.latest_of_group-pair.ensures.value c.loop-left.invariant.same)
 
 pub loop-left-preserved : goal.loop-left-preserved
 loop-left-preserved c = record {
-  within = omega arith;
-  same = go_on c.covering-pair.result _ _ (sym c.is_some.ensures ∙ c.if-is_some.false)
-      (inside-found c.args.query.now.shift (row_of c.args.row.now) (test_of c.args.query.now) c.loop-left.left c.timestamp.result c.timestamp-in-loop-left.result
-      c.covering-pair.result _ (omega arith) c.timestamp.ensures c.timestamp-in-loop-left.ensures c.covering-pair.ensures.value c.loop-left.invariant.same);
+  within = let within = c.loop-left.invariant.within in omega arith;
+  same = go_on c.latest_of_group-pair.result _ _ (sym c.is_some.ensures ∙ c.if-is_some.false)
+      (group-found (inside c.args.query.now.shift (row_of c.args.row.now)) (test_of c.args.query.now) (32 * ((c.loop-left.left - 1) / 32)) c.loop-left.left
+      c.latest_of_group-pair.result _ (omega arith) c.latest_of_group-pair.ensures.value c.loop-left.invariant.same);
 }

@@ -9,8 +9,8 @@ use Rattle.clock_track.proofs.search.latest_inside.Given as goal
 -- the timestamps that are left give the pair that is looked for
 abbrev pub invariant-loop-left : goal.invariant-loop-left
 invariant-loop-left l = record {
-  within : l.left ≤ timestamps (row_of l.row);
-  same : find_last (test_of l.query) (filter_map (inside l.query.shift (row_of l.row)) (range_with_len 0 (l.left - 1)))
+  within : l.left ≤ timestamps (row_of l.row) - 1;
+  same : find_last (test_of l.query) (filter_map (inside l.query.shift (row_of l.row)) (range_with_len 0 l.left))
       ≡ find_last (test_of l.query) (filter_map (inside l.query.shift (row_of l.row)) (range_with_len 0 (timestamps (row_of l.row) - 1)));
 }
 
