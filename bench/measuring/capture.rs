@@ -12,6 +12,9 @@
 //!   search. In `one` all packets have the same sequence number, and those of A are out of reach of those of B. In `strange` no
 //!   packet is in both captures. In `falling` and `middle` a burst is due at one instant, and the next packet of B is the last of
 //!   A's that wait, or the middle one.
+//! - `capture OUT COUNT clock TIMESTAMPS COVERED`: COUNT packets and a media clock with TIMESTAMPS timestamps in each of its
+//!   packets. In `each` the clock covers all packets, by one timestamp for every 16. In `none` and `oldest` 64 packets of the clock
+//!   come first. They cover no packet, or their first two timestamps cover all.
 //! - `capture OUT COUNT damaged IN`: the packets of the classic capture IN in turn. Half of them are damaged, and one in 16 comes
 //!   twice.
 //! - `capture OUT COUNT STYLE`: packets in `le-ns`, `le-us`, `be-ns` or `be-us`. Half of them are damaged, and one in 16 comes
@@ -186,6 +189,64 @@ fn put_bursts(capture: &mut Capture<impl Write>, count: u64, order: &str, is_b: 
     Ok(())
 }
 
+/// The frame of a packet of the media clock without its length, its interval and its timestamps: at 48 kHz.
+const CLOCK_FRAME: [u8; 34] = [
+    0x91, 0xe0, 0xf0, 0x00, 0xfe, 0x00, 0x02, 0, 0, 0, 0, 1, 0x81, 0x00, 0x60, 0x02, 0x22, 0xf0, //
+    0x04, 0x80, 0, 0x01, 0x02, 0, 0, 0, 0, 1, 0, 2, 0, 0, 0xbb, 0x80,
+];
+
+/// How many packets of a media clock a listener keeps.
+const WINDOW: u64 = 64;
+
+/// A packet of a media clock at 48 kHz, with a timestamp for every `interval` samples.
+fn clock_packet(number: u64, interval: u16, timestamps: u64, from: u64, step: u64) -> Vec<u8> {
+    let mut frame = CLOCK_FRAME.to_vec();
+    frame[SEQUENCE_NUM] = number as u8;
+    frame.extend((8 * timestamps as u16).to_be_bytes());
+    frame.extend(interval.to_be_bytes());
+    for i in 0..timestamps {
+        frame.extend((from + i * step).to_be_bytes());
+    }
+    frame
+}
+
+/// An AAF packet that is due at an instant.
+fn due_packet(n: u64, due: u64) -> [u8; 66] {
+    let mut frame = packet(n);
+    frame[TIMESTAMP..TIMESTAMP + 4].copy_from_slice(&(due as u32).to_be_bytes());
+    frame
+}
+
+/// Packets that a media clock covers, and the clock's packets.
+fn put_clocked(capture: &mut Capture<impl Write>, count: u64, timestamps: u64) -> io::Result<()> {
+    let each = 16 * timestamps;
+    for n in 0..count {
+        if n % each == 0 {
+            let from = 1_002_000_000 + n * 125_000;
+            capture.record(n, &clock_packet(n / each, 96, timestamps, from, 2_000_000))?;
+        }
+        capture.record(n, &packet(n))?;
+    }
+    Ok(())
+}
+
+/// A full window of a media clock's packets, and then packets of which it covers none, or which its first two timestamps cover.
+fn put_behind_clock(capture: &mut Capture<impl Write>, count: u64, timestamps: u64, oldest: bool) -> io::Result<()> {
+    let step = 1_365_312_500;
+    let first = 1_000_000_000;
+    for number in 0..WINDOW {
+        let from = first + number * timestamps * step;
+        capture.record_at(first, &clock_packet(number, u16::MAX, timestamps, from, step))?;
+    }
+    let behind = if oldest { 1 } else { WINDOW * timestamps + 2 };
+    let start = first + behind * step + 1_000_000;
+    for n in 0..count {
+        let arrival = start + n * 1_000;
+        capture.record_at(arrival, &due_packet(n, arrival + 20_000))?;
+    }
+    Ok(())
+}
+
 /// A section header, an interface in nanoseconds, and an enhanced packet block for each packet.
 fn write_pcapng(path: &str, count: u64) -> io::Result<()> {
     let mut out = BufWriter::new(File::create(path)?);
@@ -214,7 +275,7 @@ fn main() -> io::Result<()> {
     let words: Vec<String> = env::args().skip(1).collect();
     let words: Vec<&str> = words.iter().map(String::as_str).collect();
     let [path, count, how @ ..] = words.as_slice() else {
-        return Err(Error::other("capture OUT COUNT [ng, STREAMS [faulty], lost SEED, burst ORDER SIDE, damaged IN, or STYLE]"));
+        return Err(Error::other("capture OUT COUNT [ng, STREAMS [faulty], lost SEED, burst ORDER SIDE, clock TIMESTAMPS COVERED, damaged IN, or STYLE]"));
     };
     let count: u64 = count.parse().map_err(Error::other)?;
     if how == ["ng"] {
@@ -235,6 +296,15 @@ fn main() -> io::Result<()> {
         }
         ["lost", seed] => put_lossy_packets(&mut capture, count, seed.parse().map_err(Error::other)?)?,
         ["burst", order, side] => put_bursts(&mut capture, count, order, *side == "b")?,
+        ["clock", timestamps, covered] => {
+            let timestamps = timestamps.parse().map_err(Error::other)?;
+            match *covered {
+                "each" => put_clocked(&mut capture, count, timestamps)?,
+                "none" => put_behind_clock(&mut capture, count, timestamps, false)?,
+                "oldest" => put_behind_clock(&mut capture, count, timestamps, true)?,
+                other => return Err(Error::other(format!("{other} is not each, none or oldest"))),
+            }
+        }
         ["damaged", whole] => {
             let frames = frames_of(whole)?;
             put_damaged_packets(&mut capture, count, |n| frames[n as usize % frames.len()].clone())?;
