@@ -1,6 +1,6 @@
 -- Kept for proofs: what the code's own parts hold and do. No clause of a public call rests on it.
 -- A clock that keeps its last packets.
-use Rattle.std.specs.Prelude.{◌≡◌, ◌≤◌, ◌+◌, ℕ, ℤ, All, length, map, vec_capacity, vec_len}
+use Rattle.std.specs.Prelude.{◌≡◌, ◌≤◌, ◌+◌, ℤ, All, length, map, vec_capacity, vec_len}
 use Rattle.std.specs.Global.{Vec}
 use Rattle.circular_buffer.specs.Buffer.{Buffer}
 use Rattle.clock_track.specs.declared.clock.Kept.{Kept}

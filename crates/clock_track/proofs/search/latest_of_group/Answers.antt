@@ -1,5 +1,5 @@
 -- No pair of the group covers the instant.
-use Rattle.std.proofs.Common.{sym, ◌*◌, ◌-◌, arith}
+use Rattle.std.proofs.Common.{sym}
 use Rattle.clock_track.specs.Views.{row_of}
 use Rattle.clock_track.proofs.Outside.{group-none}
 use Rattle.clock_track.proofs.search.latest_of_group.Goals as goal

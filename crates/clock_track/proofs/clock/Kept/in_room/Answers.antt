@@ -1,6 +1,5 @@
 use Rattle.std.proofs.Common.{◌≡◌, ◌++◌, List, ℕ, ap, ◌∙◌, w64, to_z, of_z, arith}
 use Rattle.std.proofs.lemmas.Int.{ints}
-use Rattle.clock_track.specs.declared.clock_row.ClockRow.{ClockRow}
 use Rattle.clock_track.specs.Views.{row_of}
 use Rattle.clock_track.proofs.Noted.{has-bounds}
 use Rattle.clock_track.proofs.clock.Kept.in_room.Goals as goal
