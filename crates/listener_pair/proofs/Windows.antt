@@ -306,3 +306,14 @@ room-from s n lo (y ∷ ys) h = room-at s n y ys h.1 (room-from s n (suc y.place
 -- there is room for one more waiting batch
 pub room-next : (s : Which) (n : ℕ) (u : List Placed) → IsAscending 0 n u → length (without_passed (suc n) (window s n u)) < 512
 room-next s n u h = subst (λ (l : List Placed). length l < 512) (window-next s n 0 n u h) (room-from s n 0 u h)
+
+passed-one : (n : ℕ) (l : List Placed) → length l ≤ suc (length (without_passed n l))
+passed-one n [] = omega arith
+passed-one n (y ∷ ys) = elim (nat_le n (y.place + 512)) as (λ v. length (y ∷ ys) ≤ suc (length (cond v (y ∷ ys) ys))) [
+  | true ↦ omega arith
+  | false ↦ omega arith
+]
+
+-- at most 512 batches wait
+pub few-wait : (s : Which) (n : ℕ) (u : List Placed) → IsAscending 0 n u → length (window s n u) ≤ 512
+few-wait s n u h = let one = passed-one (suc n) (window s n u) in let room = room-next s n u h in omega arith

@@ -7,7 +7,7 @@ ghost use Rattle.sample_schedule.specs.Batches.{Presented};
 ghost use Rattle.listener_pair.specs.declared.difference.Which.TheVariants.{A, B};
 ghost use Rattle.listener_pair.specs.Differences.{counts_of, differences};
 ghost use Rattle.listener_pair.specs.Laws.{IsPair, times_paired};
-ghost use Rattle.listener_pair.specs.Matching.{IsSorted, batches_of};
+ghost use Rattle.listener_pair.specs.Matching.{IsSorted, MatchingState, StandsFor, batches_of};
 ghost use Rattle.listener_pair.specs.Merged.{Sided, known, merged};
 ghost use Rattle.listener_pair.specs.Pairs.{pairs};
 
@@ -37,6 +37,12 @@ pub fn each_batch_is_paired_once()
 /// A list in merged order is the merged list of its two sides, and so the only one.
 pub fn merged_is_the_only_one()
     ensures { (list : List Sided) → IsSorted list → merged (batches_of A list) (batches_of B list) ≡ list }
+{}
+
+/// Of each side, at most 512 batches wait for a partner.
+pub fn at_most_512_wait()
+    ensures a { (xs ys : List Presented) (given : ℕ) (m : MatchingState) → StandsFor xs ys given m → length m.waiting_a ≤ 512 }
+    ensures b { (xs ys : List Presented) (given : ℕ) (m : MatchingState) → StandsFor xs ys given m → length m.waiting_b ≤ 512 }
 {}
 
 /// Each batch is in one pair or in none: for each side, the pairs and the side's batches in no pair add up to the side's

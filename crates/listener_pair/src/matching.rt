@@ -10,13 +10,12 @@ ghost use Rattle.listener_pair.specs.Matching.{IsIdle, StandsFor, ended_by, give
 ghost use Rattle.listener_pair.specs.state.Window.{EntersSide, Tells, counted as counted_by, made_on, next_of, next_side, placed, risen, without_next};
 
 use crate::difference::{Difference, PairCounts, Which};
-use crate::placed::{Entered, Placed};
+use crate::placed::Entered;
 use crate::timed::Timed;
-use crate::window::{WINDOW, enter};
-use avtp_base::NoMemory;
+use crate::window::{Waiting, enter};
+use avtp_base::{Bytes, NoMemory};
 use sample_schedule::Batch;
 use std::alloc::Global;
-use std::collections::VecDeque;
 use std::marker::Model;
 
 /// Matches what two listeners present. It is given the batches of each, one at a time, and gives the differences of the batches
@@ -32,21 +31,17 @@ pub struct Matching {
     ended_b: bool,
     /// The number of batches that came so far, in merged order.
     place: u64,
-    waiting_a: VecDeque<Placed>,
-    waiting_b: VecDeque<Placed>,
+    waiting_a: Waiting,
+    waiting_b: Waiting,
     counts: PairCounts,
 }
 
 impl Model for Matching {
-    ghost use Rattle.std.specs.Prelude.{◌≤◌};
-    ghost use Rattle.std.specs.VecDeque.{deque_capacity};
     ghost use Rattle.listener_pair.specs.Matching.{MatchingState};
 
     ghost Value = { MatchingState };
 
-    ghost view = { λ m. record { next_a = m.next_a; next_b = m.next_b; ended_a = m.ended_a; ended_b = m.ended_b; place = m.place; waiting_a = m.waiting_a.items; waiting_b = m.waiting_b.items; counts = m.counts } };
-
-    ghost invariant = { λ m. (512 ≤ deque_capacity m.waiting_a) × (512 ≤ deque_capacity m.waiting_b) };
+    ghost view = { λ m. record { next_a = m.next_a; next_b = m.next_b; ended_a = m.ended_a; ended_b = m.ended_b; place = m.place; waiting_a = m.waiting_a; waiting_b = m.waiting_b; counts = m.counts } };
 }
 
 impl Matching {
@@ -56,8 +51,8 @@ impl Matching {
         ensures open { IfOk result (λ m. wanted m ≡ Some Which.A) }
         ensures ends { IfOk result (λ m. (m.ended_a ≡ false) × (m.ended_b ≡ false)) }
     {
-        let waiting_a = VecDeque::with_capacity(alloc, WINDOW)?;
-        let waiting_b = VecDeque::with_capacity(alloc, WINDOW)?;
+        let waiting_a = Waiting::begin(alloc)?;
+        let waiting_b = Waiting::begin(alloc)?;
         Ok(Matching {
             next_a: None,
             next_b: None,
@@ -132,6 +127,16 @@ impl Matching {
         ensures { IsIdle self.now → (xs ys : List Presented) (given : ℕ) → StandsFor xs ys given self.now → result ≡ counts_of (known_of self.now xs ys) }
     {
         self.counts
+    }
+
+    /// The memory of samples of a batch of a side that was paired or dropped, if some is kept. It can be used again.
+    pub fn take_spent(&mut self, which: Which) -> Option<Bytes>
+        ensures { self.new ≡ self.old }
+    {
+        match which {
+            Which::A => self.waiting_a.take_spent(),
+            Which::B => self.waiting_b.take_spent(),
+        }
     }
 
     /// Makes a batch the next one of a side.

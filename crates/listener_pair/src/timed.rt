@@ -2,6 +2,7 @@
 
 ghost use Rattle.std.specs.Prelude.{◌≡◌};
 
+use avtp_base::Bytes;
 use sample_schedule::Batch;
 use std::marker::Model;
 
@@ -41,6 +42,13 @@ impl Timed {
         ensures { result.now ≡ self.now }
     {
         &self.batch
+    }
+
+    /// The memory of the samples.
+    pub fn into_samples(self) -> Bytes
+        ensures { result ≡ self.bytes }
+    {
+        self.batch.bytes
     }
 
     /// The instant of the first sample, in nanoseconds of gPTP.

@@ -1,8 +1,7 @@
 //! The batches that wait for a partner.
 
-ghost use Rattle.std.specs.Prelude.{◌≡◌, ◌+◌, ◌<◌, ◌≤◌, ◌++◌, ◌∷◌, [], length, slice_get, None, IfNone, IfSome, IsSome};
+ghost use Rattle.std.specs.Prelude.{◌≡◌, ◌+◌, ◌<◌, ◌++◌, ◌∷◌, [], length, slice_get, None, IfNone, IfOk, IfSome, IsSome};
 ghost use Rattle.std.specs.List.{find, remove};
-ghost use Rattle.std.specs.VecDeque.{deque_capacity};
 ghost use Rattle.listener_pair.specs.Pairs.{without_first};
 ghost use Rattle.listener_pair.specs.state.Window.{Enters, Tells, made, placed, risen, takes_by, without_passed};
 
@@ -11,10 +10,107 @@ use crate::placed::{Entered, Placed};
 use crate::reach::fits;
 use crate::timed::Timed;
 use crate::way::difference_of;
+use avtp_base::{Bytes, NoMemory};
+use std::alloc::Global;
 use std::collections::VecDeque;
+use std::marker::Model;
 
 /// A batch is paired only with one of this many directly before it in merged order.
-pub const WINDOW: usize = 512;
+const WINDOW: usize = 512;
+
+/// The samples of at most this many batches are kept to be given back.
+const SPENT: usize = 8;
+
+/// The batches of a side that wait for a partner, and the memory of samples of some that no longer do.
+#[derive(Drop)]
+pub struct Waiting {
+    batches: VecDeque<Placed>,
+    spent: Vec<Bytes>,
+}
+
+impl Model for Waiting {
+    ghost use Rattle.std.specs.Prelude.{◌≤◌, List};
+    ghost use Rattle.std.specs.VecDeque.{deque_capacity};
+    ghost use Rattle.listener_pair.specs.declared.placed.Placed.{Placed as PlacedValue};
+
+    ghost Value = { List PlacedValue };
+
+    ghost view = { λ waiting. waiting.batches.items };
+
+    ghost invariant = { λ waiting. 512 ≤ deque_capacity waiting.batches };
+}
+
+impl Waiting {
+    ghost use Rattle.std.specs.Prelude.{◌≡◌, ◌<◌, ◌++◌, ◌∷◌, [], length, slice_get, None, IfNone, IfOk, IfSome};
+    ghost use Rattle.std.specs.List.{find, remove};
+    ghost use Rattle.listener_pair.specs.Pairs.{without_first};
+    ghost use Rattle.listener_pair.specs.state.Window.{takes_by, without_passed};
+
+    /// Nothing waits. All memory is reserved.
+    pub fn begin(alloc: Global) -> Result<Self, NoMemory>
+        ensures { IfOk result (λ waiting. waiting ≡ []) }
+    {
+        let batches = VecDeque::with_capacity(alloc, WINDOW)?;
+        let spent = Vec::with_capacity(alloc, SPENT)?;
+        Ok(Waiting { batches, spent })
+    }
+
+    /// The memory of samples of a batch that no longer waits, if some is kept.
+    pub fn take_spent(&mut self) -> Option<Bytes>
+        ensures { self.new ≡ self.old }
+    {
+        self.spent.pop()
+    }
+
+    /// Keeps the memory of a batch's samples, if there is room.
+    #[inline(always)]
+    fn spend(&mut self, batch: Timed)
+        ensures { self.new ≡ self.old }
+    {
+        if self.spent.len() < self.spent.capacity() {
+            self.spent.push_reserved(batch.into_samples());
+        }
+    }
+
+    /// Takes the first batch that a batch of the other side may be paired with.
+    fn take_partner(&mut self, side: Which, x: &Timed) -> Option<Placed>
+        ensures found { result ≡ find (takes_by side x.now) self.old }
+        ensures left { self.new ≡ without_first (takes_by side x.now) self.old }
+    {
+        match find_partner(&self.batches, side, x) {
+            Some(i) => self.batches.remove(i),
+            None => None,
+        }
+    }
+
+    /// Drops the first batch if it is not among the 512 batches before a place.
+    fn drop_passed(&mut self, place: u64)
+        ensures { self.new ≡ without_passed place self.old }
+    {
+        let passed = match self.batches.front() {
+            Some(first) => place.saturating_sub(first.place) > WINDOW as u64,
+            None => false,
+        };
+        if !passed {
+            return;
+        }
+        if let Some(first) = self.batches.pop_front() {
+            self.spend(first.batch);
+        }
+    }
+
+    /// Adds the next batch of a side. At most 511 others of the last 512 batches wait, so there is room. If there were none, those
+    /// that wait would be dropped.
+    #[inline(always)]
+    fn keep(&mut self, batch: Placed)
+        ensures { length self.old < 512 → self.new ≡ self.old ++ batch ∷ [] }
+    {
+        if self.batches.len() >= WINDOW {
+            self.batches.clear();
+        }
+        self.batches.push_back_reserved(batch);
+    }
+}
 
 /// The place of the first waiting batch that a batch of a side may be paired with.
 fn find_partner(waiting: &VecDeque<Placed>, side: Which, x: &Timed) -> Option<usize>
@@ -30,49 +126,6 @@ fn find_partner(waiting: &VecDeque<Placed>, side: Which, x: &Timed) -> Option<us
     None
 }
 
-/// Takes the first waiting batch that a batch of a side may be paired with.
-fn take_partner(waiting: &mut VecDeque<Placed>, side: Which, x: &Timed) -> Option<Placed>
-    ensures found { result ≡ find (takes_by side x.now) waiting.old.items }
-    ensures left { waiting.new.items ≡ without_first (takes_by side x.now) waiting.old.items }
-    ensures capacity { deque_capacity waiting.new ≡ deque_capacity waiting.old }
-{
-    match find_partner(waiting, side, x) {
-        Some(i) => waiting.remove(i),
-        None => None,
-    }
-}
-
-/// Drops the first waiting batch if it is not among the 512 batches before a place.
-fn drop_passed(waiting: &mut VecDeque<Placed>, place: u64)
-    ensures left { waiting.new.items ≡ without_passed place waiting.old.items }
-    ensures capacity { deque_capacity waiting.new ≡ deque_capacity waiting.old }
-{
-    let passed = match waiting.front() {
-        Some(first) => place.saturating_sub(first.place) > WINDOW as u64,
-        None => false,
-    };
-    if passed {
-        let _ = waiting.pop_front();
-    }
-}
-
-/// Puts the next batch of a side after those that wait. At most 511 others of the last 512 batches wait, so there is room. If
-/// there were no room, the waiting batches would be dropped.
-#[inline(always)]
-fn keep(waiting: &mut VecDeque<Placed>, side: Which, place: u64, next: &mut Option<Timed>)
-    requires { 512 ≤ deque_capacity waiting.old }
-    ensures kept { IfSome next.old (λ batch. length waiting.old.items < 512 → waiting.new.items ≡ waiting.old.items ++ placed place side batch ∷ []) }
-    ensures taken { next.new ≡ None }
-    ensures capacity { deque_capacity waiting.new ≡ deque_capacity waiting.old }
-{
-    if waiting.len() >= WINDOW {
-        waiting.clear();
-    }
-    if let Some(batch) = next.take() {
-        waiting.push_back_reserved(Placed { place, side, batch });
-    }
-}
-
 /// Takes the next batch of a side: it is paired with the first waiting batch of the other side that it may be paired with, or it
 /// waits. Waiting batches that are then not among the last 512 are dropped.
 #[inline(always)]
@@ -80,33 +133,35 @@ pub fn enter(
     side: Which,
     place: u64,
     next: &mut Option<Timed>,
-    own: &mut VecDeque<Placed>,
-    other: &mut VecDeque<Placed>,
+    own: &mut Waiting,
+    other: &mut Waiting,
 ) -> Entered
-    requires room { 512 ≤ deque_capacity own.old }
-    requires next { IsSome next.old }
-    ensures enters { IfSome next.old (λ batch. Enters (placed place side batch) (risen place) own.old.items other.old.items own.new.items other.new.items (made (placed place side batch) other.old.items)) }
-    ensures tells { IfSome next.old (λ batch. Tells (made (placed place side batch) other.old.items) result) }
+    requires { IsSome next.old }
+    ensures enters { IfSome next.old (λ batch. Enters (placed place side batch) (risen place) own.old other.old own.new other.new (made (placed place side batch) other.old)) }
+    ensures tells { IfSome next.old (λ batch. Tells (made (placed place side batch) other.old) result) }
     ensures taken { next.new ≡ None }
-    ensures capacity { deque_capacity own.new ≡ deque_capacity own.old }
-    ensures other_capacity { deque_capacity other.new ≡ deque_capacity other.old }
 {
     let Some(x) = &*next else { unreachable!() };
-    let partner = take_partner(other, side, x);
+    let partner = other.take_partner(side, x);
     let then = place.saturating_add(1);
-    drop_passed(own, then);
-    drop_passed(other, then);
+    own.drop_passed(then);
+    other.drop_passed(then);
     match partner {
         Some(earlier) => {
             let difference = difference_of(side, x, &earlier.batch);
-            *next = None;
+            other.spend(earlier.batch);
+            if let Some(batch) = next.take() {
+                own.spend(batch);
+            }
             Entered {
                 paired: true,
                 difference,
             }
         }
         None => {
-            keep(own, side, place, next);
+            if let Some(batch) = next.take() {
+                own.keep(Placed { place, side, batch });
+            }
             Entered {
                 paired: false,
                 difference: None,

@@ -2,4 +2,4 @@ use Rattle.listener_pair.proofs.Standing.{begun}
 use Rattle.listener_pair.proofs.matching.Matching.begin.Goals as goal
 
 pub returns-clause-stands : goal.returns-clause-stands
-returns-clause-stands c = begun c.in_ok-waiting_a.waiting_a.items c.in_ok-waiting_b.waiting_b.items c.none.result c.in_ok-waiting_a.ensures.items c.in_ok-waiting_b.ensures.items c.none.ensures
+returns-clause-stands c = begun c.in_ok-waiting_a.waiting_a c.in_ok-waiting_b.waiting_b c.none.result c.in_ok-waiting_a.ensures c.in_ok-waiting_b.ensures c.none.ensures
