@@ -1,11 +1,12 @@
 -- A pair of listeners takes bytes.
-use Rattle.std.proofs.Common.{◌≡◌, ℕ, zero, suc, ◌^◌, ◌≤◌, Bool, true, false, cond, List, [], ◌∷◌, ◌++◌, length, take, drop, Option, Some, None, Result, Ok, Err, refl, sym, ap, ◌∙◌, subst, arith, append-nil}
+use Rattle.std.proofs.Common.{◌≡◌, ℕ, zero, suc, ◌*◌, ◌^◌, ◌≤◌, Bool, true, false, cond, List, [], ◌∷◌, ◌++◌, length, length-drop, take, drop, Option, Some, None, Result, Ok, Err, refl, sym, ap, ◌∙◌, subst, arith, append-nil}
 use Rattle.std.specs.Prelude.{IfOk, is_none}
 use mathlib.Core.List.{IsPrefix}
 use Rattle.avtp_base.specs.declared.refusal.Refusal.{Refusal}
 use Rattle.pcap_frames.specs.Capture.{Record, first_refusal, record_of, record_size, records_behind, records_from, style_of, whole_records}
 use Rattle.pcap_frames.specs.declared.style.Style.{Style}
 use Rattle.pcap_frames.specs.Layout.{certain, record_refusal}
+use Rattle.pcap_frames.proofs.Fields.{record_whole}
 use Rattle.pcap_frames.proofs.Firsts.{records_first}
 use Rattle.sample_schedule.specs.Batches.{Presented}
 use Rattle.sample_schedule.specs.declared.shown.Shown.{Shown}
@@ -34,23 +35,32 @@ use Rattle.capture_pair.proofs.Taking.{more-a, more-b}
 
 -- ---- what few bytes show
 
-records-few : (n : ℕ) (style : Style) (bytes : List ℕ) → length (records_from n style bytes) ≤ n
-records-few zero style bytes = omega arith
-records-few (suc n) style bytes = by (is_none (record_refusal style.order 0 bytes)) (records-few n style (drop (record_size style bytes) bytes))
-  where
-    by : (b : Bool) → length (records_from n style (drop (record_size style bytes) bytes)) ≤ n → length (cond b (record_of style (take (record_size style bytes) bytes) ∷ records_from n style (drop (record_size style bytes) bytes)) []) ≤ suc n
-    by true h = omega arith
-    by false h = omega arith
+nothing-refused : (o : Option Refusal) → is_none o ≡ true → o ≡ None
+nothing-refused None h = refl
+nothing-refused (Some refusal) h = absurd (cc)
 
-whole-few : (bytes : List ℕ) → length (whole_records bytes) ≤ length bytes
+-- a record has at least 16 bytes
+records-few : (n : ℕ) (style : Style) (bytes : List ℕ) → 2 * length (records_from n style bytes) ≤ length bytes
+records-few zero style bytes = omega arith
+records-few (suc n) style bytes = by (is_none (record_refusal style.order 0 bytes)) refl (records-few n style (drop (record_size style bytes) bytes))
+  where
+    by : (b : Bool) → is_none (record_refusal style.order 0 bytes) ≡ b → 2 * length (records_from n style (drop (record_size style bytes) bytes)) ≤ length (drop (record_size style bytes) bytes)
+        → 2 * length (cond b (record_of style (take (record_size style bytes) bytes) ∷ records_from n style (drop (record_size style bytes) bytes)) []) ≤ length bytes
+    by true e h =
+        let whole = record_whole style.order 0 bytes (nothing-refused (record_refusal style.order 0 bytes) e) in
+        let left = length-drop (record_size style bytes) bytes in
+        omega arith
+    by false e h = omega arith
+
+whole-few : (bytes : List ℕ) → 2 * length (whole_records bytes) ≤ length bytes
 unfolding whole_records
 whole-few bytes = by (style_of bytes)
   where
-    by : (style : Option Style) → length (records_behind style bytes) ≤ length bytes
+    by : (style : Option Style) → 2 * length (records_behind style bytes) ≤ length bytes
     by None = omega arith
-    by (Some style) = records-few (length bytes) style (drop 24 bytes)
+    by (Some style) = let few = records-few (length bytes) style (drop 24 bytes) in let left = length-drop 24 bytes in omega arith
 
-heard-fed : (bytes : List ℕ) (fed : Feeding) → length bytes ≤ 2 ^ 61 → IsHeard (out fed bytes)
+heard-fed : (bytes : List ℕ) (fed : Feeding) → length bytes ≤ 2 ^ 62 → IsHeard (out fed bytes)
 heard-fed bytes fed le = let h = whole-few bytes in heard-of (whole_records bytes) fed.listener (omega arith)
 
 -- ---- a list that goes on
@@ -201,7 +211,7 @@ begun-pair wanted_plan a b m sa sb s ea eb = record {
 }
   where
     none-shown : (f : Feeding) → is_ended f ≡ false → 0 ≡ length (out f [])
-    none-shown f opened = let h = whole-few [] in sym (ap length (ap (out_of f.listener) (no-records h) ∙ out_open f.listener [] opened ∙ due_none f.listener.plan))
+    none-shown f opened = let h = whole-few [] in sym (ap length (ap (out_of f.listener) (no-records (omega (arith, h))) ∙ out_open f.listener [] opened ∙ due_none f.listener.plan))
       where
         empty : (l : List Record) → length l ≤ 0 → l ≡ []
         empty [] h = refl

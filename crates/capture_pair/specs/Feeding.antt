@@ -35,10 +35,10 @@ pub record HavePlan (plan : ListenPlan) (pair : FedPair) : Type 0 where
   pub a : pair.a.listener.plan ≡ plan
   pub b : pair.b.listener.plan ≡ plan
 
--- Both captures have at most 2^61 bytes.
+-- Both captures have at most 2^62 bytes.
 pub record AreShort (bytes others : List ℕ) : Type 0 where
-  pub a : length bytes ≤ 2 ^ 61
-  pub b : length others ≤ 2 ^ 61
+  pub a : length bytes ≤ 2 ^ 62
+  pub b : length others ≤ 2 ^ 62
 
 -- The known part of the merged list of what both listeners present, given the bytes of A and of B.
 abbrev pub known_by : FedPair → List ℕ → List ℕ → List Sided

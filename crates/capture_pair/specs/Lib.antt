@@ -1,4 +1,3 @@
-pub mod Sources
 pub mod Pairing
 pub mod Feeding
 pub mod state

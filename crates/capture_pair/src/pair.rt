@@ -27,7 +27,7 @@ use std::marker::Model;
 /// bytes of each capture are fed in its order, and only as far as `wants` asks for them.
 ///
 /// It gives the differences that a `RecordPair` gives for the records of both captures. Items that a listener flags are dropped,
-/// and do not end a side. Each capture has at most 2^61 bytes.
+/// and do not end a side. Each capture has at most 2^62 bytes.
 #[derive(Drop)]
 pub struct Pair {
     a: ByteSource,

@@ -16,6 +16,7 @@ use sample_schedule::Shown;
 
 /// Gives the matching what the listener of the wanted side shows next: a batch is the side's next batch, and a flag is dropped.
 /// If nothing is shown and the listener has ended, the side ends. Returns whether the listener is to be asked again.
+#[inline(always)]
 fn hand_on(matching: &mut Matching, which: Which, next: Option<Shown>, ended: bool) -> bool
     requires { wanted matching.old ≡ Some which }
     ensures handed { matching.new ≡ handed which next ended matching.old }
@@ -37,6 +38,7 @@ fn hand_on(matching: &mut Matching, which: Which, next: Option<Shown>, ended: bo
 }
 
 /// Whether this side is the one that is wanted.
+#[inline(always)]
 fn is_wanted(matching: &Matching, which: Which) -> bool
     ensures { result ≡ wants_side which (wanted matching.now) }
 {
