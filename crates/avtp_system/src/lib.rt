@@ -8,9 +8,11 @@ ghost use Rattle.avtp_tool.specs.Status.{code_of};
 mod host;
 mod output;
 mod program;
+mod progress;
 mod system;
 
 use crate::output::Output;
+use crate::progress::{ProgressLine, WatchedShelf};
 use avtp_files::{FileShelf, StdSink};
 use avtp_tool::Status;
 pub use host::Host;
@@ -23,13 +25,16 @@ pub use system::System;
 const PROGRAM: &str = "avtp";
 
 /// Does what the arguments ask for, over real files and standard output, and returns the exit status. If a file or standard
-/// output fails, standard error says which and why.
+/// output fails, standard error says which and why. A terminal shows there how much was read, after a second.
 pub fn run_program<T: Threads + Sync>(rt: &HostRuntime, threads: &T) -> ExitCode
     ensures { (ended : Status) × (exit_status result ≡ code_of ended) }
 {
     let alloc = rt.alloc();
-    let mut shelf = FileShelf::new(alloc, rt).telling(PROGRAM);
-    let mut out = StdSink::new(Output::of(rt, PROGRAM));
+    let line = ProgressLine::new(*rt);
+    let files = FileShelf::new(alloc, rt).telling(PROGRAM);
+    let mut shelf = WatchedShelf::over(files, &line);
+    let mut out = StdSink::new(Output::of(rt, PROGRAM, &line));
     let status = run_over(threads, alloc, &Host { rt: *rt }, &mut shelf, &mut out);
+    line.remove();
     ExitCode::from(status.code())
 }

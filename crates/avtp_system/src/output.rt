@@ -1,26 +1,33 @@
 //! Standard output.
 
+use crate::progress::ProgressLine;
 use avtp_files::FaultTeller;
-use std::io::{self, ErrorKind, Print, Write};
+use std::io::{self, ErrorKind, IsTerminal, Print, Write};
 
 /// Standard output, which says on standard error why a write fails. It says nothing if the reader has ended, as `head` does.
 #[derive(Drop)]
 pub struct Output<'a> {
     rt: &'a HostRuntime,
     teller: FaultTeller<&'a HostRuntime>,
+    /// The line in whose place the text comes, if standard output is a terminal.
+    covered: Option<&'a ProgressLine>,
 }
 
 impl<'a> Output<'a> {
-    pub fn of(rt: &'a HostRuntime, program: &'static str) -> Self {
+    pub fn of(rt: &'a HostRuntime, program: &'static str, line: &'a ProgressLine) -> Self {
         Output {
             rt,
             teller: FaultTeller::new(rt, Some(program)),
+            covered: rt.stdout().is_terminal().then_some(line),
         }
     }
 }
 
 impl Write for Output<'_> {
     fn write(&mut self, buf: &[u8]) -> io::Result<usize> {
+        if let Some(line) = self.covered {
+            line.remove();
+        }
         let written = self.rt.write_some(buf);
         if let Err(error) = &written
             && error.kind() != ErrorKind::BrokenPipe
