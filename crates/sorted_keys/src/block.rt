@@ -19,7 +19,7 @@ pub const FULL: usize = 512;
 
 pub const HALF: usize = FULL / 2;
 
-/// How many of the sorted keys are not later than the instant.
+/// How many of the sorted keys are not later than the instant: mostly all of them.
 #[inline(always)]
 fn place_behind(keys: &VecDeque<Key>, instant: i64) -> usize
     requires { KeysAreInOrder keys.now.items }
@@ -29,10 +29,17 @@ fn place_behind(keys: &VecDeque<Key>, instant: i64) -> usize
         return 0;
     };
     if instant < last.instant {
-        keys.partition_point(|key| key.instant <= instant)
+        find_place(keys, instant)
     } else {
         keys.len()
     }
+}
+
+fn find_place(keys: &VecDeque<Key>, instant: i64) -> usize
+    requires { KeysAreInOrder keys.now.items }
+    ensures { IsPlace instant keys.now.items result }
+{
+    keys.partition_point(|key| key.instant <= instant)
 }
 
 fn insert_key(keys: &mut VecDeque<Key>, place: usize, key: Key)

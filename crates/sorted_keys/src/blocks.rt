@@ -14,16 +14,23 @@ use avtp_base::NoMemory;
 use std::alloc::Global;
 use std::collections::VecDeque;
 
-/// The place of the block that a key with this instant goes into.
+/// The place of the block that a key with this instant goes into. Mostly there is one block.
 #[inline(always)]
 pub fn block_for(blocks: &VecDeque<Block>, instant: i64) -> usize
     requires { AreBlocks blocks.now.items }
     ensures { IsBlockFor instant blocks.now.items result }
 {
-    // Few packets wait, mostly.
     if blocks.len() == 1 {
-        return 0;
+        0
+    } else {
+        find_block(blocks, instant)
     }
+}
+
+fn find_block(blocks: &VecDeque<Block>, instant: i64) -> usize
+    requires { AreBlocks blocks.now.items }
+    ensures { IsBlockFor instant blocks.now.items result }
+{
     blocks
         .partition_point(|block| block.starts_by(instant))
         .saturating_sub(1)

@@ -4,7 +4,7 @@ use Rattle.std.proofs.lemmas.Int.{ints}
 use Rattle.std.proofs.lemmas.List.Sorted.{IsPartitionPoint-from_clause}
 use Rattle.sorted_keys.specs.state.Keys.{IsBlockFor, starts_by}
 use Rattle.sorted_keys.proofs.BlockLemmas.{block-found, block-partitioned}
-use Rattle.sorted_keys.proofs.blocks.block_for.Goals as goal
+use Rattle.sorted_keys.proofs.blocks.find_block.Goals as goal
 
 pub returns : goal.returns
 returns c =
