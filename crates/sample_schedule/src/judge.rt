@@ -103,8 +103,7 @@ impl Judge {
     }
 
     /// Puts an entry into the delay line. If that has more entries than the look-ahead, the first becomes the current one.
-    #[inline(always)]
-    fn put(&mut self, pending: Pending)
+    fn put_ahead(&mut self, pending: Pending)
         requires idle { IsIdle self.old }
         requires taken { taken self.old < 2 ^ 62 }
         requires pending { IsPending pending }
@@ -113,6 +112,21 @@ impl Judge {
         match self.ahead.push_back(pending) {
             Some(next) => self.judge_next(next),
             None => {}
+        }
+    }
+
+    /// Puts an entry into the delay line. Without a look-ahead, it is the current one at once.
+    #[inline(always)]
+    fn put(&mut self, pending: Pending)
+        requires idle { IsIdle self.old }
+        requires taken { taken self.old < 2 ^ 62 }
+        requires pending { IsPending pending }
+        ensures { Puts pending self.old self.new }
+    {
+        if self.plan.look == 0 {
+            self.judge_next(pending);
+        } else {
+            self.put_ahead(pending);
         }
     }
 

@@ -4,7 +4,7 @@ use Rattle.circular_buffer.specs.Buffer.{Buffer}
 use Rattle.sample_schedule.specs.declared.pending.Pending.{Pending}
 use Rattle.sample_schedule.specs.Judge.{JudgeState, taken}
 use Rattle.sample_schedule.proofs.JudgeSound.{Fits, Passes, passes-fits, pushed, pushes-none, puts-none, puts-of, puts-some, sound-pass, sound-put}
-use Rattle.sample_schedule.proofs.judge.Judge.put.Goals as goal
+use Rattle.sample_schedule.proofs.judge.Judge.put_ahead.Goals as goal
 
 fits : (c : goal.In-None) → Fits c.self.inside.ahead.items c.args.pending c.self.inside.ahead.capacity c.push_back.new.self.items
 fits c = pushes-none c.self.inside.ahead.items c.args.pending c.self.inside.ahead.capacity c.push_back.new.self.items (ap (λ (b : Buffer Pending). b.items) c.in-None.ensures.items) c.in-None.ensures.value
