@@ -1,2 +1,3 @@
 mod Streams
 mod Noted
+mod Places
