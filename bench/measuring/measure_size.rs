@@ -1,5 +1,6 @@
 //! `measure_size AVTP SIZE PACKETS COMMAND WORD ..`: runs `avtp COMMAND WORD ..`, to nothing, on captures of that size and of that
-//! many packets. Prints a row of the best run, with the largest memory of all.
+//! many packets. Prints a row of the best run, with the largest memory of all. The programs are always at the same addresses: where
+//! they are would change how many of their pages the system maps beside those that are used.
 
 mod row;
 mod runner;
@@ -11,12 +12,21 @@ use std::io::{self, Error};
 
 const ROUNDS: usize = 5;
 
+/// The programs that are started are at the same addresses in each run.
+const ADDR_NO_RANDOMIZE: u64 = 0x0004_0000;
+
+unsafe extern "C" {
+    fn personality(persona: u64) -> i32;
+}
+
 fn main() -> io::Result<()> {
     let words: Vec<String> = env::args().skip(1).collect();
     let words: Vec<&str> = words.iter().map(String::as_str).collect();
     let [avtp, size, packets, asked @ ..] = words.as_slice() else {
         return Err(Error::other("measure_size AVTP SIZE PACKETS COMMAND WORD .."));
     };
+    // Sound, as it changes no address of this process.
+    unsafe { personality(ADDR_NO_RANDOMIZE) };
     let what = format!("`{}`, {size}", asked[0]);
     let mut runners = [Runner::new(&what, avtp, asked, None)];
     best_of(ROUNDS, &mut runners)?;
