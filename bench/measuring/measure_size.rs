@@ -1,4 +1,4 @@
-//! `measure_size AVTP SIZE PACKETS COMMAND WORD ..`: runs `avtp COMMAND WORD ..`, to nothing, on captures of that size and of that
+//! `measure_size ROUNDS AVTP SIZE PACKETS COMMAND WORD ..`: runs `avtp COMMAND WORD ..`, to nothing, on captures of that size and of that
 //! many packets. Prints a row of the best run, with the largest memory of all. The programs are always at the same addresses: where
 //! they are would change how many of their pages the system maps beside those that are used.
 
@@ -10,8 +10,6 @@ use runner::{Runner, best_of};
 use std::env;
 use std::io::{self, Error};
 
-const ROUNDS: usize = 5;
-
 /// The programs that are started are at the same addresses in each run.
 const ADDR_NO_RANDOMIZE: u64 = 0x0004_0000;
 
@@ -22,14 +20,14 @@ unsafe extern "C" {
 fn main() -> io::Result<()> {
     let words: Vec<String> = env::args().skip(1).collect();
     let words: Vec<&str> = words.iter().map(String::as_str).collect();
-    let [avtp, size, packets, asked @ ..] = words.as_slice() else {
-        return Err(Error::other("measure_size AVTP SIZE PACKETS COMMAND WORD .."));
+    let [rounds, avtp, size, packets, asked @ ..] = words.as_slice() else {
+        return Err(Error::other("measure_size ROUNDS AVTP SIZE PACKETS COMMAND WORD .."));
     };
     // Sound, as it changes no address of this process.
     unsafe { personality(ADDR_NO_RANDOMIZE) };
     let what = format!("`{}`, {size}", asked[0]);
     let mut runners = [Runner::new(&what, avtp, asked, None)];
-    best_of(ROUNDS, &mut runners)?;
+    best_of(rounds.parse().map_err(Error::other)?, &mut runners)?;
     let row = Row {
         what: &what,
         seconds: runners[0].seconds,
