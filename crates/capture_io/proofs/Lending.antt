@@ -6,39 +6,99 @@ use Rattle.avtp_base.specs.States.{ShelfState}
 use Rattle.pcap_frames.specs.Capture.{Record}
 use Rattle.pcap_frames.specs.Readers as readers
 use Rattle.pcap_frames.specs.Reading as classic
-use Rattle.pcap_frames.proofs.Lent.{next_feeds as classic_feeds, next_long, next_releases}
+use Rattle.pcap_frames.proofs.Lent.{next_feeds as classic_feeds, next_long as classic_long, next_releases as classic_releases}
+use Rattle.pcap_frames.specs.declared.style.RecordView.{RecordView}
+use Rattle.pcap_frames.specs.Layout.{IsRecordTime}
+use Rattle.pcap_frames.specs.Readers.{shown}
+use Rattle.pcapng_frames.specs.Reading as ng
+use Rattle.pcapng_frames.proofs.Lent.{next_feeds as ng_feeds, next_held as ng_held, next_releases as ng_releases}
 use Rattle.capture_io.specs.declared.capture_reader.Format.{Format}
-use Rattle.capture_io.specs.declared.capture_reader.Format.TheVariants.{Classic}
+use Rattle.capture_io.specs.declared.capture_reader.Format.TheVariants.{Classic, Pcapng}
 use Rattle.capture_io.specs.declared.end.End.{End}
 use Rattle.capture_io.specs.Ends.{CountsFault}
 use Rattle.capture_io.specs.Pieces.{Piecing}
-use Rattle.capture_io.specs.Reader.{CaptureReading, held, held_by}
-use Rattle.capture_io.specs.state.Reader.{Feeds, IsNext, Releases, with_part}
+use Rattle.capture_io.specs.Reader.{CaptureReading, IsView, held, held_by, progress_by}
+use Rattle.capture_io.specs.state.Reader.{Feeds, IsFront, IsNext, IsNextBy, KeepsOther, Releases, taken, with_by, with_record}
 use Rattle.capture_io.specs.Reads.{ReadsSlot}
 use Rattle.capture_io.specs.Source.{Sourcing, Advances, GivesNext, HasFed, HasGivenOf, held_in, remains_of, slot_of, to_do}
 use Rattle.capture_io.specs.state.Source.{GivesUp, LiesAhead, ReadsOn, holding, lending}
 use Rattle.capture_io.proofs.Giving.{gives_next, if_some, released}
 use Rattle.capture_io.proofs.Leaving.{reads_nothing}
-use Rattle.capture_io.proofs.Reader.{feeds_as, format_feeds, format_releases}
+use Rattle.capture_io.proofs.Reader.{capture, feeds_as, format_feeds, format_releases, front_still}
 
 -- ---- the reader
 
 -- a reader that takes the next record from a piece was fed as much of the piece
-next_feeds : (r : CaptureReading) (piece : List ℕ) (size : ℕ) → size ≤ length piece → IsNext r (take size piece) → Feeds r piece (Ok size) (with_part r (take size piece))
-next_feeds r piece size within next =
-    feeds_as r.format r.format (Some Classic) (Some Classic) r.front r.front r.classic (classic.with_part r.classic (take size piece)) r.ng r.ng r piece (Ok size) next.format next.format refl
-    (format_feeds Classic r.front r.classic (classic.with_part r.classic (take size piece)) r.ng r.ng piece (Ok size) (classic_feeds r.classic piece size within next.next))
+feeds_by : (format : Option Format) (r : CaptureReading) (piece : List ℕ) (size : ℕ) → r.format ≡ format → size ≤ length piece → IsNextBy format r (take size piece) → Feeds r piece (Ok size) (with_by format r (take size piece))
+feeds_by None r piece size is within next = absurd next
+feeds_by (Some Classic) r piece size is within next =
+    feeds_as r.format r.format (Some Classic) (Some Classic) r.front r.front r.classic (classic.with_part r.classic (take size piece)) r.ng r.ng r piece (Ok size) is is refl
+    (format_feeds Classic r.front r.classic (classic.with_part r.classic (take size piece)) r.ng r.ng piece (Ok size) (classic_feeds r.classic piece size within next))
+feeds_by (Some Pcapng) r piece size is within next =
+    feeds_as r.format r.format (Some Pcapng) (Some Pcapng) r.front r.front r.classic r.classic r.ng (ng.with_block r.ng (take size piece)) r piece (Ok size) is is refl
+    (format_feeds Pcapng r.front r.classic r.classic r.ng (ng.with_block r.ng (take size piece)) piece (Ok size) (ng_feeds r.ng piece size within next))
+
+next_feeds : (r : CaptureReading) (piece : List ℕ) (size : ℕ) → size ≤ length piece → IsNext r (take size piece) → Feeds r piece (Ok size) (with_record r (take size piece))
+next_feeds r piece size within next = feeds_by r.format r piece size refl within next
 
 -- a reader that takes the next record holds it
-next_held : (r : CaptureReading) (bytes : List ℕ) → IsNext r bytes → held (with_part r bytes) ≡ classic.held (classic.with_part r.classic bytes)
-next_held r bytes next = ap (λ (f : Option Format). held_by f (with_part r bytes)) next.format
+held_as : (format : Option Format) (r : CaptureReading) (bytes : List ℕ) → r.format ≡ format → IsNextBy format r bytes → IsSome (held (with_by format r bytes))
+held_as None r bytes is next = absurd next
+held_as (Some Classic) r bytes is next = subst (λ (f : Option Format). IsSome (held_by f (with_by (Some Classic) r bytes))) (sym is) next.whole
+held_as (Some Pcapng) r bytes is next = subst (λ (f : Option Format). IsSome (held_by f (with_by (Some Pcapng) r bytes))) (sym is) (ng_held r.ng bytes next)
+
+next_held : (r : CaptureReading) (bytes : List ℕ) → IsNext r bytes → IsSome (held (with_record r bytes))
+next_held r bytes next = held_as r.format r bytes refl next
+
+-- the next record has some bytes
+long_by : (format : Option Format) (r : CaptureReading) (bytes : List ℕ) → IsNextBy format r bytes → 16 ≤ length bytes
+long_by None r bytes next = absurd next
+long_by (Some Classic) r bytes next = classic_long r.classic bytes next
+long_by (Some Pcapng) r bytes next = omega (arith, next.packet.long)
+
+next_long : (r : CaptureReading) (bytes : List ℕ) → IsNext r bytes → 16 ≤ length bytes
+next_long r bytes next = long_by r.format r bytes next
+
+pub classic_next : (f : Option Format) (front : List ℕ) (c : classic.Reading) (n : ng.Reading) (bytes : List ℕ) → f ≡ Some Classic → IsNext (capture f front c n) bytes → classic.IsNext c bytes
+classic_next f front c n bytes is next = subst (λ (g : Option Format). IsNext (capture g front c n) bytes) is next
+
+pub ng_next : (f : Option Format) (front : List ℕ) (c : classic.Reading) (n : ng.Reading) (bytes : List ℕ) → f ≡ Some Pcapng → IsNext (capture f front c n) bytes → ng.IsNext n bytes
+ng_next f front c n bytes is next = subst (λ (g : Option Format). IsNext (capture g front c n) bytes) is next
+
+pub taken_as : (f : Option Format) (format : Format) (front : List ℕ) (c : classic.Reading) (n : ng.Reading) → f ≡ Some format → taken (capture f front c n) ≡ (progress_by format c n).taken
+taken_as f format front c n is = ap (λ (g : Option Format). taken (capture g front c n)) is
+
+pub front_as : (f : Option Format) (format : Format) (front : List ℕ) (c c' : classic.Reading) (n n' : ng.Reading) → f ≡ Some format → IsFront f front c n → KeepsOther format c c' n n' → IsFront f front c' n'
+front_as f format front c c' n n' is unused kept =
+    subst (λ (g : Option Format). IsFront g front c' n') (sym is) (front_still format front c c' n n' (subst (λ (g : Option Format). IsFront g front c n) is unused) kept)
+
+-- a view of the next record shows what a reader that takes it holds
+pub classic_lends : (f : Option Format) (front : List ℕ) (c : classic.Reading) (n : ng.Reading) (bytes : List ℕ) (view : RecordView) → f ≡ Some Classic → classic.held (classic.with_part c bytes) ≡ Some (shown view) → IsRecordTime view.arrival
+    → IsView (held (with_record (capture f front c n) bytes)) view
+classic_lends f front c n bytes view is exact time =
+    subst (λ (g : Option Format). IsView (held (with_record (capture g front c n) bytes)) view) (sym is) (record { exact = exact; time = time })
+
+pub ng_lends : (f : Option Format) (front : List ℕ) (c : classic.Reading) (n : ng.Reading) (bytes : List ℕ) (view : RecordView) → f ≡ Some Pcapng → ng.held (ng.with_block n bytes) ≡ Some (shown view) → IsRecordTime view.arrival
+    → IsView (held (with_record (capture f front c n) bytes)) view
+ng_lends f front c n bytes view is exact time =
+    subst (λ (g : Option Format). IsView (held (with_record (capture g front c n) bytes)) view) (sym is) (record { exact = exact; time = time })
 
 -- a reader that skips the next record releases it
-pub next_passes : (r : CaptureReading) (c' : classic.Reading) (bytes : List ℕ) → IsNext r bytes → c' ≡ record r.classic { start = r.classic.start + length bytes } → Releases (with_part r bytes) (record r { classic = c' })
-next_passes r c' bytes next is =
-    subst (λ (f : Option Format). Releases (record { format = f; front = r.front; classic = classic.with_part r.classic bytes; ng = r.ng }) (record { format = f; front = r.front; classic = c'; ng = r.ng })) (sym next.format)
-    (format_releases Classic r.front (classic.with_part r.classic bytes) c' r.ng r.ng
-    (subst (λ (x : classic.Reading). readers.Releases (classic.progress (classic.with_part r.classic bytes)) (classic.progress x)) (sym is) (next_releases r.classic bytes next.next)))
+pub classic_passes : (f : Option Format) (front : List ℕ) (c c' : classic.Reading) (n : ng.Reading) (bytes : List ℕ) → f ≡ Some Classic → IsNext (capture f front c n) bytes → c' ≡ record c { start = c.start + length bytes }
+    → Releases (with_record (capture f front c n) bytes) (capture f front c' n)
+classic_passes f front c c' n bytes is ahead new =
+    let next = classic_next f front c n bytes is ahead in
+    subst (λ (g : Option Format). Releases (with_record (capture g front c n) bytes) (capture g front c' n)) (sym is)
+    (format_releases Classic front (classic.with_part c bytes) c' n n
+    (subst (λ (x : classic.Reading). readers.Releases (classic.progress (classic.with_part c bytes)) (classic.progress x)) (sym new) (classic_releases c bytes next)))
+
+pub ng_passes : (f : Option Format) (front : List ℕ) (c : classic.Reading) (n n' : ng.Reading) (bytes : List ℕ) → f ≡ Some Pcapng → IsNext (capture f front c n) bytes → n' ≡ ng.passing n bytes
+    → Releases (with_record (capture f front c n) bytes) (capture f front c n')
+ng_passes f front c n n' bytes is ahead new =
+    let next = ng_next f front c n bytes is ahead in
+    subst (λ (g : Option Format). Releases (with_record (capture g front c n) bytes) (capture g front c n')) (sym is)
+    (format_releases Pcapng front c c (ng.with_block n bytes) n'
+    (subst (λ (x : ng.Reading). readers.Releases (ng.progress (ng.with_block n bytes)) (ng.progress x)) (sym new) (ng_releases n bytes next)))
 
 -- ---- the source
 
@@ -65,7 +125,7 @@ fed_more limit bytes remains source size records ahead fed =
 reads_ahead : (shelf : ShelfState) (source : Sourcing) (size : ℕ) → IsSome (shelf.slots (slot_of source)) → LiesAhead source size → ReadsOn shelf shelf source (holding source size) None
 reads_ahead shelf source size live ahead =
     let waiting = source.pieces.waiting in
-    let some = next_long source.reader.classic (take size waiting) ahead.next.next in
+    let some = next_long source.reader (take size waiting) ahead.next in
     let long : length (take size waiting) ≡ size = length-take-le size waiting ahead.within in
     record {
       more = λ none limit bytes records fed. fed_more limit bytes (remains_of shelf source) source size records ahead fed;
@@ -79,7 +139,7 @@ reads_ahead shelf source size live ahead =
 lends_next : (shelf : ShelfState) (old mid : Sourcing) (size : ℕ) → IsSome (shelf.slots (slot_of old)) → GivesUp old mid → LiesAhead mid size → GivesNext shelf shelf old (holding mid size) None
 lends_next shelf old mid size live gone ahead =
     let here = subst (λ (p : Piecing). IsSome (shelf.slots p.slot)) (sym gone.pieces) live in
-    let some : IsSome (held_in (holding mid size)) = subst (λ (h : Option Record). IsSome h) (sym (next_held mid.reader (take size mid.pieces.waiting) ahead.next)) ahead.next.next.whole in
+    let some : IsSome (held_in (holding mid size)) = next_held mid.reader (take size mid.pieces.waiting) ahead.next in
     subst (λ (e : Option End). GivesNext shelf shelf old (record (holding mid size) { ended = e }) None) (sym ahead.going)
     (gives_next shelf shelf old mid (holding mid size) None (sym gone.ended ∙ ahead.going) gone.pieces gone.reader (reads_ahead shelf mid size here ahead) (λ none. some))
 

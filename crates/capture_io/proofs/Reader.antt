@@ -26,7 +26,7 @@ use Rattle.capture_io.specs.declared.capture_reader.Format.{Format}
 use Rattle.capture_io.specs.declared.capture_reader.Format.TheVariants.{Classic, Pcapng}
 use Rattle.capture_io.specs.Formats.{format_in, meaning_of, records_in, certain_in}
 use Rattle.capture_io.specs.Reader.{CaptureReading, HasRead, StandsFor, held, held_by, progress_by}
-use Rattle.capture_io.specs.state.Reader.{EndsHere, Feeds, FindsNext, GoesOn, IsFront, KeepsOther, RefusedAfter, Releases, nothing_read}
+use Rattle.capture_io.specs.state.Reader.{EndsHere, Feeds, FindsNext, GoesOn, IsFront, IsNextBy, KeepsOther, RefusedAfter, Releases, nothing_read}
 use Rattle.capture_io.proofs.Formats.{certain_by, format_longer, records_by, refusal_by, short_certain, short_records, short_refusal}
 
 pub read_nothing : HasRead nothing_read [] []
@@ -246,7 +246,7 @@ pub front_still : (format : Format) (front : List ℕ) (c c' : classic.Reading) 
 front_still Classic front c c' n n' unused kept = kept ∙ unused
 front_still Pcapng front c c' n n' unused kept = kept ∙ unused
 
-abbrev capture : Option Format → List ℕ → classic.Reading → reading.Reading → CaptureReading
+abbrev pub capture : Option Format → List ℕ → classic.Reading → reading.Reading → CaptureReading
 capture format front c n = record { format = format; front = front; classic = c; ng = n }
 
 -- if the reader of classic captures holds a record, it is the one that the reader of captures holds
@@ -265,22 +265,12 @@ pub views_some : (h : Option Record) (view : RecordView) → Views h (Some view)
 views_some None view v = absurd (let no = v.exact in cc)
 views_some (Some r) view v = refl
 
--- a reader that has taken nothing has no next record
-no_next : (bytes : List ℕ) → classic.IsNext classic.nothing_read bytes → ⊥
-no_next bytes next = absurd (let some = next.whole in cc)
-
-next_classic : (format : Option Format) (front : List ℕ) (c : classic.Reading) (n : reading.Reading) (bytes : List ℕ) → IsFront format front c n → classic.IsNext c bytes → format ≡ Some Classic
-next_classic None front c n bytes unused next = absurd (no_next bytes (subst (λ (r : classic.Reading). classic.IsNext r bytes) unused.1 next))
-next_classic (Some Classic) front c n bytes unused next = refl
-next_classic (Some Pcapng) front c n bytes unused next = absurd (no_next bytes (subst (λ (r : classic.Reading). classic.IsNext r bytes) unused next))
-
-pub finds_next : (r : CaptureReading) (piece : List ℕ) (result : Option ℕ) → IsFront r.format r.front r.classic r.ng → IfSome result (λ size. size ≤ length piece) → IfSome result (λ size. classic.IsNext r.classic (take size piece))
-    → (result ≡ None → (size : ℕ) → classic.IsNext r.classic (take size piece) → ⊥) → FindsNext r piece result
-finds_next r piece None unused within next none = record { within = tt; next = tt; none = λ e size found. none e size found.next }
-finds_next r piece (Some size) unused within next none = record {
+pub finds_next : (format : Option Format) (r : CaptureReading) (piece : List ℕ) (result : Option ℕ) → r.format ≡ format → IfSome result (λ size. size ≤ length piece) → IfSome result (λ size. IsNextBy format r (take size piece))
+    → (result ≡ None → (size : ℕ) → IsNextBy format r (take size piece) → ⊥) → FindsNext r piece result
+finds_next format r piece result is within next none = record {
   within = within;
-  next = record { format = next_classic r.format r.front r.classic r.ng (take size piece) unused next; next = next };
-  none = λ e. absurd cc;
+  next = subst (λ (f : Option Format). IfSome result (λ (size : ℕ). IsNextBy f r (take size piece))) (sym is) next;
+  none = subst (λ (f : Option Format). result ≡ None → (size : ℕ) → IsNextBy f r (take size piece) → ⊥) (sym is) none;
 }
 
 -- ---- releasing

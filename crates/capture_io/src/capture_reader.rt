@@ -6,7 +6,7 @@ ghost use Rattle.pcap_frames.specs.Capture.{Record};
 ghost use Rattle.pcap_frames.specs.Readers.{Feeds as FeedsReader, Views};
 ghost use Rattle.capture_io.specs.Formats.{format_in, meaning_of};
 ghost use Rattle.capture_io.specs.Reader.{HasRead, IsView, held, progress_by};
-ghost use Rattle.capture_io.specs.state.Reader.{EndsHere, Feeds, FindsNext, IsNext, KeepsOther, Releases, nothing_read, taken, with_part};
+ghost use Rattle.capture_io.specs.state.Reader.{EndsHere, Feeds, FindsNext, IsNext, KeepsOther, Releases, nothing_read, taken, with_record};
 
 use avtp_base::rows::cut_off;
 use avtp_base::{Field, NoMemory, Refusal};
@@ -31,8 +31,8 @@ const SECTION_HEADER: u32 = 0x0A0D_0D0A;
 /// The number of bytes that show the layout.
 const FRONT: usize = 4;
 
-/// Reads a capture in either layout, with the calls of [`Reader`]; only records of a classic capture are lent. The first four
-/// bytes are held back until all have come, because they show the layout.
+/// Reads a capture in either layout, with the calls of [`Reader`]. The first four bytes are held back until all have come, because they show
+/// the layout.
 #[derive(Drop)]
 pub struct CaptureReader {
     format: Option<Format>,
@@ -128,15 +128,22 @@ impl CaptureReader {
 
     /// The size of the next record, if it is complete at the front of the piece and nothing of it was taken yet.
     ///
-    /// It is `None` only if there is no such record, or the capture is not a classic one. Then the piece must be fed.
+    /// It is `None` only if there is no such record. Then the piece must be fed.
+    #[inline(always)]
     pub fn whole_ahead(&self, piece: &[u8]) -> Option<usize>
         ensures { FindsNext self.now piece.now result }
     {
-        self.classic.whole_ahead(piece)
+        match self.format {
+            None => None,
+            Some(format) => match format {
+                Format::Classic => self.classic.whole_ahead(piece),
+                Format::Pcapng => self.ng.whole_ahead(piece),
+            },
+        }
     }
 
-    /// Whether the piece is known to have all of the next record. For a pcapng capture any bytes count: nothing of it is lent,
-    /// and writers write whole blocks.
+    /// Whether the piece is known to have all of the next record. For a pcapng capture any bytes count, because writers write
+    /// whole blocks.
     pub fn is_ahead(&self, piece: &[u8]) -> bool {
         match self.format {
             None => false,
@@ -145,21 +152,35 @@ impl CaptureReader {
         }
     }
 
-    /// The next record, shown in these bytes of the piece, which include its header.
+    /// The next record, shown in these bytes of the piece: the record with its header, or its whole block.
+    #[inline(always)]
     pub fn lend<'a>(&self, bytes: &'a [u8]) -> RecordView<'a>
         requires { IsNext self.now bytes.now }
-        ensures { IsView (held (with_part self.now bytes.now)) result }
+        ensures { IsView (held (with_record self.now bytes.now)) result }
     {
-        self.classic.lend(bytes)
+        match self.format {
+            None => unreachable!(),
+            Some(format) => match format {
+                Format::Classic => self.classic.lend(bytes),
+                Format::Pcapng => self.ng.lend(bytes),
+            },
+        }
     }
 
     /// Skips the next record, as if its bytes had been fed and the record released.
+    #[inline(always)]
     pub fn pass(&mut self, bytes: &[u8])
         requires next { IsNext self.old bytes.now }
         requires bounded { taken self.old + length bytes.now ≤ 2 ^ 62 }
-        ensures { Releases (with_part self.old bytes.now) self.new }
+        ensures { Releases (with_record self.old bytes.now) self.new }
     {
-        self.classic.pass(bytes);
+        match self.format {
+            None => unreachable!(),
+            Some(format) => match format {
+                Format::Classic => self.classic.pass(bytes),
+                Format::Pcapng => self.ng.pass(bytes),
+            },
+        }
     }
 
     /// Whether the bytes so far are a whole capture; otherwise returns their first refusal. It changes nothing: bytes may

@@ -105,6 +105,7 @@ impl Feed {
 
     /// The size of the next record, if it is complete at the front of the bytes that wait and nothing of it was taken yet. It
     /// is `None` only if there is no such record, or the reading has ended.
+    #[inline(always)]
     pub fn whole_ahead(&self) -> Option<usize>
         ensures { FindsAhead self.now result }
     {
@@ -123,6 +124,7 @@ impl Feed {
     }
 
     /// The next record, which is the first `size` of the bytes that wait.
+    #[inline(always)]
     pub fn lend(&self, size: usize) -> RecordView<'_>
         requires { LiesAhead self.now size }
         ensures { IsView (held_in (holding self.now size)) result }
@@ -131,6 +133,7 @@ impl Feed {
     }
 
     /// Skips the next record, which is the first `size` of the bytes that wait.
+    #[inline(always)]
     pub fn pass(&mut self, size: usize)
         requires { LiesAhead self.old size }
         ensures { GivesUp (holding self.old size) self.new }

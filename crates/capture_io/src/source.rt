@@ -101,6 +101,7 @@ impl Source {
     }
 
     /// The record that is held.
+    #[inline(always)]
     pub fn record(&self) -> RecordView<'_>
         requires { IsSome (held_in self.now) }
         ensures { IsView (held_in self.now) result }
@@ -124,6 +125,7 @@ impl Source {
 }
 
 /// Releases the record that is lent, or else the one that is held, if there is one.
+#[inline(always)]
 fn give_up(feed: &mut Feed, lent: Option<usize>)
     requires { IsLending lent feed.old }
     ensures { GivesUp (lending lent feed.old) feed.new }

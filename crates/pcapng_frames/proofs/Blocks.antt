@@ -143,10 +143,10 @@ not_ended (Some order) start (suc n) h = refl
 cut_in_body : (p : Place) (bytes : List ℕ) → 8 ≤ length bytes → cut_block p bytes ≡ short_at BlockBody (p.start + 8)
 cut_in_body p bytes h = grind (arith, nat_tests)
 
-cut_body : (p : Place) (bytes : List ℕ) → p.stage ≡ stage.Block → 8 ≤ length bytes → cut_short p bytes ≡ ends (Some (short_at BlockBody (p.start + 8)))
+pub cut_body : (p : Place) (bytes : List ℕ) → p.stage ≡ stage.Block → 8 ≤ length bytes → cut_short p bytes ≡ ends (Some (short_at BlockBody (p.start + 8)))
 cut_body p bytes is h = rw (is, not_ended p.order p.start (length bytes) (omega arith), cut_in_body p bytes h) refl
 
-at_block_rows : (p : Place) (bytes : List ℕ) → p.stage ≡ stage.Block → refusal_here p bytes ≡ first_refused p.start (length bytes) (block_rows (kind_at p.order bytes) p.order p.interfaces bytes)
+pub at_block_rows : (p : Place) (bytes : List ℕ) → p.stage ≡ stage.Block → refusal_here p bytes ≡ first_refused p.start (length bytes) (block_rows (kind_at p.order bytes) p.order p.interfaces bytes)
 unfolding refusal_here block_refused
 at_block_rows p bytes is = rw is refl
 
@@ -158,11 +158,11 @@ pub size_at_block : (p : Place) (bytes : List ℕ) → p.stage ≡ stage.Block �
 unfolding size_here
 size_at_block p bytes is = rw is refl
 
-next_at_block : (p : Place) (bytes : List ℕ) → p.stage ≡ stage.Block → next_place p bytes ≡ after_any p bytes
+pub next_at_block : (p : Place) (bytes : List ℕ) → p.stage ≡ stage.Block → next_place p bytes ≡ after_any p bytes
 unfolding next_place
 next_at_block p bytes is = rw is refl
 
-none_in_block : (s : Stage) (packet : Option Record) → s ≡ stage.Block → packet_by s packet ≡ None
+pub none_in_block : (s : Stage) (packet : Option Record) → s ≡ stage.Block → packet_by s packet ≡ None
 none_in_block s packet is = rw is refl
 
 head_long : (k : Kind) (order : Order) (bytes : List ℕ) → length bytes ≡ head_need k order bytes → head_size k ≤ length bytes

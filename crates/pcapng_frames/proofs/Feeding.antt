@@ -32,7 +32,7 @@ pub record IsBlockPart (c : Cursor) (interfaces : List Interface) (part : List �
   pub packet : c.packet ≡ None
   pub interface : c.interface ≡ None
 
-ahead_block : (s : Stage) (skip left total : ℕ) → s ≡ stage.Block → IsAhead s skip left total → skip ≡ 0
+pub ahead_block : (s : Stage) (skip left total : ℕ) → s ≡ stage.Block → IsAhead s skip left total → skip ≡ 0
 ahead_block s skip left total is h = rw is at h
 
 free_block : (s : Stage) (packet : Option Record) (interface : Option Interface) → s ≡ stage.Block → IsFree s packet interface → (packet ≡ None) × (interface ≡ None)
@@ -368,7 +368,7 @@ packet_absent : (packet : Option PacketHead) (part : List ℕ) → is_some packe
 packet_absent None part e = refl
 packet_absent (Some head) part e = absurd (cc)
 
-whole_by : (refusal : Option Refusal) (whole : Bool) (p : Place) (skip : ℕ) (part : List ℕ) → refusal ≡ None → whole ≡ true → IsWhole p skip part → IsReading refusal whole p skip part
+pub whole_by : (refusal : Option Refusal) (whole : Bool) (p : Place) (skip : ℕ) (part : List ℕ) → refusal ≡ None → whole ≡ true → IsWhole p skip part → IsReading refusal whole p skip part
 whole_by refusal whole p skip part none is h = rw (none, is) h
 
 -- the reader's invariant holds when the trailer of a packet's block is whole
@@ -402,7 +402,7 @@ is_whole refusal whole p skip part none held h = rw (none, held) at h
 pub passed_whole : (s : Stage) (skip left total : ℕ) → s ≡ stage.Trailer → passed_by s skip left total ≡ total - 4 - skip
 passed_whole s skip left total is = rw is refl
 
-held_whole : (refusal : Option Refusal) (whole : Bool) (packet : Option Record) → refusal ≡ None → whole ≡ true → held_by refusal whole packet ≡ packet
+pub held_whole : (refusal : Option Refusal) (whole : Bool) (packet : Option Record) → refusal ≡ None → whole ≡ true → held_by refusal whole packet ≡ packet
 held_whole refusal whole packet none is = rw (none, is) refl
 
 after_both : (records : List Record) (packet : Option Record) (rest : Contents) → after_all records (and_then packet rest) ≡ after_all (records ++ option_to_list packet) rest

@@ -6,7 +6,7 @@ pub mod Moves
 pub mod Heads
 pub mod Blocks
 pub mod Options
-pub mod Packets
 pub mod Needs
 pub mod Feeding
 pub mod Rest
+pub mod Lent

@@ -1,6 +1,8 @@
 -- Facts about numbers.
 use Rattle.std.proofs.Common.{◌≡◌, ℕ, ◌+◌, ◌-◌, ◌*◌, ◌/◌, ◌^◌, ◌≤◌, ◌<◌, ◌∙◌, sym, ap, true, ℤ, pos, List, length, drop, slice_index_or, is_some, IfSome, Option, Some, None, refl, arith, length-drop}
 use Rattle.std.proofs.lemmas.List.{take_all}
+use Rattle.std.specs.Prelude.{int_lt, if◌then◌else◌}
+use Rattle.std.proofs.lemmas.Bool.Decides.{nat_tests}
 use Rattle.pcap_frames.specs.declared.style.Order.{Order}
 use Rattle.pcap_frames.specs.Layout.{number_at}
 use Rattle.pcapng_frames.specs.declared.block.PacketHead.{PacketHead}
@@ -10,7 +12,7 @@ use Rattle.std.proofs.Math.Nat.{one-le-pow, div-eq_of_eq-mul_left, mul_assoc, mu
 use Rattle.std.proofs.lemmas.Nat.{pow-add}
 use Rattle.std.proofs.lemmas.List.Elements.{All-get_or}
 use Rattle.pcapng_frames.specs.declared.interface.Interface.{Interface}
-use Rattle.pcapng_frames.specs.Interface.{is_resolution}
+use Rattle.pcapng_frames.specs.Interface.{arrival_limit, arrival_of, instant, is_resolution, units}
 use Rattle.pcapng_frames.specs.state.Fields.{AllResolved}
 
 -- a power of a number from 1 on is at least 1
@@ -31,6 +33,25 @@ short_units x k h =
     let more : k ≡ (k - 9) + 9 = omega arith in
     let whole : 10 ^ k ≡ 10 ^ (k - 9) * 1000000000 = ap (λ (n : ℕ). 10 ^ n) more ∙ pow-add 10 (k - 9) 9 in
     sym (ap (λ (n : ℕ). x * 1000000000 / n) whole ∙ mul-div-mul_right x (10 ^ (k - 9)) (omega arith))
+
+instant_is : (interface : Interface) (x n : ℕ) → interface.offset ≡ pos 0 → x * 1000000000 / units interface.resolution ≡ n → instant interface x ≡ pos n
+unfolding instant
+instant_is interface x n epoch e = rw (epoch, e) (ap pos (omega arith))
+
+in_time : (t : ℤ) (n : ℕ) → t ≡ pos n → n < 4294967296000000000 → (if int_lt t (pos 0) then None else if int_lt t arrival_limit then Some t else None) ≡ Some (pos n)
+in_time t n is early = rw is (grind (arith, nat_tests))
+
+-- the arrival by a clock that counts nanoseconds from the epoch
+pub nanosecond_arrival : (interface : Interface) (x : ℕ) → interface.offset ≡ pos 0 → interface.resolution ≡ 9 → x < 4294967296000000000 → arrival_of interface x ≡ Some (pos x)
+nanosecond_arrival interface x epoch unit early =
+    let long : x * 1 ≡ x * 1000000000 / 1000000000 = long_units x 9 (omega arith) in
+    in_time (instant interface x) x (instant_is interface x x epoch (ap (λ (k : ℕ). x * 1000000000 / units k) unit ∙ (sym long ∙ omega arith))) early
+
+-- the arrival by a clock that counts microseconds from the epoch
+pub microsecond_arrival : (interface : Interface) (x : ℕ) → interface.offset ≡ pos 0 → interface.resolution ≡ 6 → x < 4294967296000000 → arrival_of interface x ≡ Some (pos (x * 1000))
+microsecond_arrival interface x epoch unit early =
+    let long : x * 1000 ≡ x * 1000000000 / 1000000 = long_units x 6 (omega arith) in
+    in_time (instant interface x) (x * 1000) (instant_is interface x (x * 1000) epoch (ap (λ (k : ℕ). x * 1000000000 / units k) unit ∙ sym long)) (omega arith)
 
 -- the nanoseconds of a timestamp of 64 bits are below 2^94
 pub time_limit : (x units : ℕ) → x < 2 ^ 64 → x * 1000000000 / units < 2 ^ 94

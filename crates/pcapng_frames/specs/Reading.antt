@@ -1,12 +1,16 @@
 -- What the state of a reader means: the bytes that it has taken, and the packets that it has released.
-use Rattle.std.specs.Prelude.{◌≡◌, ℕ, suc, ◌+◌, ◌-◌, Bool, true, false, nat_lt, if◌then◌else◌, List, [], ◌++◌, length, drop, Option, Some, None}
+use Rattle.std.specs.Prelude.{◌≡◌, ℕ, suc, ◌+◌, ◌-◌, ◌≤◌, Bool, true, false, is_some, nat_lt, if◌then◌else◌, List, [], ◌++◌, length, drop, Option, Some, None}
 use Rattle.avtp_base.specs.declared.field.Field.TheVariants.{BlockBody}
 use Rattle.avtp_base.specs.declared.refusal.Refusal.{Refusal}
 use Rattle.pcap_frames.specs.Capture.{Record}
 use Rattle.pcap_frames.specs.Readers.{Meaning, Progress}
+use Rattle.pcap_frames.specs.declared.style.Order.{Order}
+use Rattle.pcapng_frames.specs.declared.block.Kind.TheVariants as kind
 use Rattle.pcapng_frames.specs.declared.block.Stage.{Stage}
 use Rattle.pcapng_frames.specs.declared.block.Stage.TheVariants as stage
-use Rattle.pcapng_frames.specs.Blocks.{Place, Contents, contents, contents_from, whole_records, first_refusal, settled, ends, and_then, first_place, after_trailer, short_at}
+use Rattle.pcapng_frames.specs.declared.interface.Interface.{Interface}
+use Rattle.pcapng_frames.specs.Fields.{first_refused, kind_of, number_at, packet_rows}
+use Rattle.pcapng_frames.specs.Blocks.{Place, Contents, after_block, order_or_little, contents, contents_from, whole_records, first_refusal, settled, ends, and_then, first_place, after_trailer, short_at}
 
 -- The state of a reader: the place that it has reached; how many bytes are to be skipped before that place; the bytes that have
 -- come there; whether the block's packet is whole; and the refusal.
@@ -87,3 +91,38 @@ progress r = record { has_read = HasRead r; held = held r; taken = taken r; refu
 -- these packets, and then this refusal
 abbrev pub refused_after : List Record → Refusal → Contents
 refused_after records refusal = record { records = records; ending = Some (record { refusal = refusal; cut = false }) }
+
+-- ---- a packet that is borrowed
+
+-- The bytes are the whole block of an enhanced packet, in a section with this byte order and these interfaces, and nothing in it
+-- is refused.
+pub record IsPacketBlock (order : Order) (interfaces : List Interface) (block : List ℕ) : Type 0 where
+  pub kind : kind_of (number_at order 0 4 block) ≡ kind.Packet
+  pub accepted : first_refused 0 (length block) (packet_rows order interfaces block) ≡ None
+  pub total : number_at order 4 4 block ≡ length block
+  pub trailer : number_at order 0 4 (drop (length block - 4) block) ≡ length block
+  pub long : 32 ≤ length block
+
+-- These bytes are the block of the next packet, and the reader has taken nothing of it yet: if it takes them, it holds the packet.
+pub record IsNext (r : Reading) (block : List ℕ) : Type 0 where
+  pub accepted : r.refusal ≡ None
+  pub free : r.whole ≡ false
+  pub before : r.place.stage ≡ stage.Block
+  pub ready : r.skip ≡ 0
+  pub untaken : r.part ≡ []
+  pub opened : is_some r.place.order ≡ true
+  pub packet : IsPacketBlock (order_or_little r.place.order) r.place.interfaces block
+
+-- the reader after it took the block of the next packet, which it holds
+abbrev pub with_block : Reading → List ℕ → Reading
+with_block r block = record {
+  place = after_block kind.Packet r.place (length block) block;
+  skip = 0;
+  part = drop (length block - 4) block;
+  whole = true;
+  refusal = r.refusal;
+}
+
+-- the reader after it took the block of the next packet and released it
+abbrev pub passing : Reading → List ℕ → Reading
+passing r block = record r { place = record r.place { start = r.place.start + length block } }

@@ -36,17 +36,6 @@ pub struct PacketHead {
     pub orig_len: u32,
 }
 
-/// An enhanced packet whose block is complete in a piece.
-#[derive(Clone, Copy, Debug, PartialEq, Eq)]
-pub struct WholePacket {
-    /// What its fixed fields say.
-    pub head: PacketHead,
-    /// The block's total length.
-    pub total: u32,
-    /// How many bytes of the frame were captured.
-    pub captured: u32,
-}
-
 /// Where a reader is in a capture.
 #[derive(Clone, Copy, Debug, PartialEq, Eq)]
 pub struct Cursor {

@@ -17,7 +17,7 @@ pub struct Interface {
 const SECOND: u128 = 1_000_000_000;
 
 /// The first instant, in nanoseconds, that is too late for an arrival.
-const ARRIVAL_LIMIT: i128 = 4_294_967_296_000_000_000;
+const ARRIVAL_LIMIT: u64 = 4_294_967_296_000_000_000;
 
 /// Microseconds since the epoch.
 pub const MICROSECONDS: Interface = Interface {
@@ -79,15 +79,35 @@ fn instant_of(interface: Interface, timestamp: u64) -> i128
     i128::from(interface.offset) * 1_000_000_000 + nanoseconds as i128
 }
 
-/// The arrival of a packet, in nanoseconds. `None` if that is before the epoch, or 2^32 seconds or more after it.
-pub fn arrival(interface: Interface, timestamp: u64) -> Option<u64>
+/// The arrival of a packet by any clock.
+#[inline(never)]
+fn any_arrival(interface: Interface, timestamp: u64) -> Option<u64>
     requires { is_resolution interface.resolution ≡ true }
     ensures exact { option_map pos result ≡ arrival_of interface timestamp }
     ensures limit { IfSome result (λ t. t ≤ 2 ^ 62) }
 {
     let instant = instant_of(interface, timestamp);
-    if instant < 0 || instant >= ARRIVAL_LIMIT {
+    if instant < 0 || instant >= i128::from(ARRIVAL_LIMIT) {
         return None;
     }
     Some(instant as u64)
+}
+
+/// The arrival of a packet, in nanoseconds. `None` if that is before the epoch, or 2^32 seconds or more after it.
+///
+/// Most clocks count nanoseconds or microseconds from the epoch, and need at most one product.
+#[tactic(auto, using(crate::proofs::Numbers::nanosecond_arrival, crate::proofs::Numbers::microsecond_arrival))]
+#[inline(always)]
+pub fn arrival(interface: Interface, timestamp: u64) -> Option<u64>
+    requires { is_resolution interface.resolution ≡ true }
+    ensures exact { option_map pos result ≡ arrival_of interface timestamp }
+    ensures limit { IfSome result (λ t. t ≤ 2 ^ 62) }
+{
+    if interface.offset == 0 && interface.resolution == 9 && timestamp < ARRIVAL_LIMIT {
+        return Some(timestamp);
+    }
+    if interface.offset == 0 && interface.resolution == 6 && timestamp < ARRIVAL_LIMIT / 1_000 {
+        return Some(timestamp * 1_000);
+    }
+    any_arrival(interface, timestamp)
 }

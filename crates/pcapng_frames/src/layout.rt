@@ -1,6 +1,6 @@
 //! The offsets of the fields of blocks (draft-ietf-opsawg-pcapng, sections 3 and 4).
 
-ghost use Rattle.std.specs.Prelude.{◌≡◌, ◌+◌, ◌<◌, ◌≤◌, ◌^◌, length, pos, IfSome};
+ghost use Rattle.std.specs.Prelude.{◌≡◌, ◌+◌, ◌<◌, ◌≤◌, ◌^◌, length, pos, IfSome, Some};
 ghost use Rattle.std.specs.Int.{cast_signed, w64};
 ghost use Rattle.std.specs.Option.{option_map};
 ghost use Rattle.pcap_frames.specs.Layout.{number_at, IsRecordTime};
@@ -8,7 +8,8 @@ ghost use Rattle.pcap_frames.specs.Readers.{shown};
 ghost use Rattle.pcapng_frames.specs.state.Reading.{packet_with};
 ghost use Rattle.pcapng_frames.specs.Fields.{kind_of as kind_of_type, order_of_magic as order_of_number, packet_arrival as arrival_in, padded as padded_length, timestamp as timestamp_in};
 ghost use Rattle.pcapng_frames.specs.state.Fields.{AllResolved};
-ghost use Rattle.pcapng_frames.specs.Blocks.{kind_at as kind_in, order_at as order_in, order_or_little as order_or};
+ghost use Rattle.pcapng_frames.specs.Blocks.{kind_at as kind_in, order_at as order_in, order_or_little as order_or, record_by};
+ghost use Rattle.pcapng_frames.specs.Reading.{IsPacketBlock};
 ghost use Rattle.pcapng_frames.specs.declared.block.Kind.TheVariants as kind;
 
 use crate::block::{Kind, PacketHead};
@@ -98,6 +99,7 @@ fn timestamp(order: Order, bytes: &[u8]) -> u64
 
 /// The arrival of a packet, if its timestamp is in range.
 #[tactic(auto, unfolding(crate::specs::Fields::packet_arrival), using(crate::proofs::Numbers::one_resolved))]
+#[inline(always)]
 pub fn packet_arrival(order: Order, interfaces: &[Interface], bytes: &[u8]) -> Option<u64>
     requires stands { 20 ≤ length bytes.now }
     requires known { number_at order 8 4 bytes.now < length interfaces.now }
@@ -120,6 +122,40 @@ pub fn view(packet: PacketHead, part: &[u8]) -> RecordView<'_>
         arrival: instant(packet.arrival),
         orig_len: packet.orig_len,
         bytes: &part[PACKET_HEAD..],
+    }
+}
+
+/// What the block of a packet shows.
+#[inline(always)]
+pub fn packet_view<'a>(order: Order, interfaces: &[Interface], block: &'a [u8]) -> RecordView<'a>
+    requires packet { IsPacketBlock order interfaces.now block.now }
+    requires resolved { AllResolved interfaces.now }
+    ensures exact { record_by (arrival_in order interfaces.now block.now) order block.now ≡ Some (shown result) }
+    ensures time { IsRecordTime result.arrival }
+{
+    // In each of the calls the byte order is known to the compiler.
+    match order {
+        Order::Little => view_in(Order::Little, interfaces, block),
+        Order::Big => view_in(Order::Big, interfaces, block),
+    }
+}
+
+/// What `packet_view` returns.
+#[inline(always)]
+fn view_in<'a>(order: Order, interfaces: &[Interface], block: &'a [u8]) -> RecordView<'a>
+    requires packet { IsPacketBlock order interfaces.now block.now }
+    requires resolved { AllResolved interfaces.now }
+    ensures exact { record_by (arrival_in order interfaces.now block.now) order block.now ≡ Some (shown result) }
+    ensures time { IsRecordTime result.arrival }
+{
+    let Some(arrival) = packet_arrival(order, interfaces, block) else {
+        unreachable!()
+    };
+    let captured = u32_at(order, block, 20) as usize;
+    RecordView {
+        arrival: instant(arrival),
+        orig_len: u32_at(order, block, 24),
+        bytes: &block[PACKET_HEAD..PACKET_HEAD + captured],
     }
 }
 

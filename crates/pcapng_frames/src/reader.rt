@@ -1,20 +1,20 @@
 //! Packets from the bytes of a pcapng capture, in pieces of any length.
 
-ghost use Rattle.std.specs.Prelude.{ℕ, List, IfSome, IsSome, ◌⊎◌, ◌↔◌, is_some, ◌≡◌, ◌+◌, ◌<◌, ◌≤◌, ◌^◌, false, length, None, Some, Ok, IfOk, [], vec_capacity};
-ghost use Rattle.pcap_frames.specs.Readers.{Ends, Feeds, Releases, Views};
+ghost use Rattle.std.specs.Prelude.{ℕ, List, IfSome, IsSome, ◌⊎◌, ◌↔◌, is_some, ◌≡◌, ◌+◌, ◌<◌, ◌≤◌, ◌^◌, false, length, take, None, Some, Ok, IfOk, [], vec_capacity};
+ghost use Rattle.pcap_frames.specs.Layout.{IsRecordTime};
+ghost use Rattle.pcap_frames.specs.Readers.{Ends, Feeds, Releases, Views, shown};
 ghost use Rattle.pcap_frames.specs.state.Readers.{Accepts, IsSure, Steps};
 ghost use Rattle.pcapng_frames.specs.declared.block.Stage.TheVariants as stage;
-ghost use Rattle.pcapng_frames.specs.Reading.{HasRead, held, meaning, nothing_read, progress, taken};
-ghost use Rattle.pcapng_frames.specs.state.Reading.{IsAt, IsGoing, IsWholePacket, lacks};
+ghost use Rattle.pcapng_frames.specs.Reading.{HasRead, IsNext, held, meaning, nothing_read, passing, progress, taken, with_block};
+ghost use Rattle.pcapng_frames.specs.state.Reading.{IsAt, IsGoing, lacks};
 
-use crate::block::{Cursor, Kind, Stage, WholePacket};
+use crate::block::{Cursor, Stage};
 use crate::interface::Interface;
-use crate::layout::PACKET_HEAD;
 use crate::{layout, refusals, steps};
 use avtp_base::rows::cut_off;
 use avtp_base::{Field, NoMemory, Refusal};
+use pcap_frames::RecordView;
 use pcap_frames::part::gather;
-use pcap_frames::{Order, RecordView};
 use std::alloc::Global;
 use std::marker::Model;
 
@@ -26,6 +26,9 @@ const TAIL_ROOM: usize = 12;
 
 /// Reads a pcapng capture (draft-ietf-opsawg-pcapng). It takes the capture's bytes in pieces of any length, and holds one
 /// packet at a time: feed a piece until all of it is taken, and after each call look at the held packet and release it.
+///
+/// A packet whose block is complete in a piece need not be copied: if `whole_ahead` finds one, `lend` shows it in the piece, and
+/// `pass` skips it, instead of `feed`, `held` and `release`.
 #[derive(Debug, Drop)]
 pub struct Ng {
     cursor: Cursor,
@@ -115,15 +118,11 @@ impl Ng {
         ensures steps { Steps (progress self.old) piece.now result (progress self.new) }
     {
         if self.cursor.skip > 0 {
-            let taken = self.pass(piece);
+            let taken = self.skip(piece);
             return Ok(taken);
         }
         match self.cursor.stage {
             Stage::Block => {
-                if let Some(packet) = self.packet_ahead(piece) {
-                    let taken = self.feed_packet(packet, piece);
-                    return Ok(taken);
-                }
                 let taken = self.feed_block(piece)?;
                 Ok(taken)
             }
@@ -153,6 +152,51 @@ impl Ng {
         self.tail.clear();
         self.whole = false;
         true
+    }
+
+    /// The size of the next packet's block, if it is complete at the front of the piece and nothing of it was taken yet.
+    ///
+    /// It is `None` only if there is no such block: another block comes first, some bytes of the block were taken, a field is
+    /// refused, or the block continues after the piece. Then the piece must be fed.
+    #[inline(always)]
+    pub fn whole_ahead(&self, piece: &[u8]) -> Option<usize>
+        ensures within { IfSome result (λ size. size ≤ length piece.now) }
+        ensures next { IfSome result (λ size. IsNext self.now (take size piece.now)) }
+        ensures none { result ≡ None → (size : ℕ) → IsNext self.now (take size piece.now) → ⊥ }
+    {
+        if self.refusal.is_some() || !self.part.is_empty() {
+            return None;
+        }
+        match self.cursor.stage {
+            Stage::Block => {
+                let order = self.cursor.order?;
+                steps::packet_size(order, self.interfaces.as_slice(), piece)
+            }
+            _ => None,
+        }
+    }
+
+    /// The next packet, shown in its block.
+    #[inline(always)]
+    pub fn lend<'a>(&self, block: &'a [u8]) -> RecordView<'a>
+        requires { IsNext self.now block.now }
+        ensures exact { held (with_block self.now block.now) ≡ Some (shown result) }
+        ensures time { IsRecordTime result.arrival }
+    {
+        let order = layout::order_or_little(self.cursor.order);
+        layout::packet_view(order, self.interfaces.as_slice(), block)
+    }
+
+    /// Skips the block of the next packet, as if its bytes had been fed and the packet released.
+    ///
+    /// At most 2^62 bytes may be taken in all, including these.
+    #[inline(always)]
+    pub fn pass(&mut self, block: &[u8])
+        requires next { IsNext self.old block.now }
+        requires bounded { taken self.old + length block.now ≤ 2 ^ 62 }
+        ensures exact { self.new ≡ passing self.old block.now }
+    {
+        self.cursor.start += block.len() as u64;
     }
 
     /// Whether the bytes so far are a whole capture: whole blocks, of which the first is a section header.
@@ -193,7 +237,7 @@ impl Ng {
     }
 
     /// Skips bytes that are not read. Nothing is held of a block that is skipped, whatever its length.
-    fn pass(&mut self, piece: &[u8]) -> usize
+    fn skip(&mut self, piece: &[u8]) -> usize
         requires going { IsGoing self.old piece.now }
         requires some { 0 < self.old.skip }
         ensures some { 0 < result }
@@ -202,50 +246,6 @@ impl Ng {
         let taken = piece.len().min(self.cursor.skip as usize);
         self.cursor.skip -= taken as u32;
         taken
-    }
-
-    /// The packet whose whole block is at the front of the piece, if no byte of the block was taken before and nothing in it is
-    /// refused.
-    fn packet_ahead(&self, piece: &[u8]) -> Option<WholePacket>
-        requires { self.now.place.stage ≡ stage.Block }
-        ensures begins { IfSome result (λ packet. self.now.part ≡ []) }
-        ensures whole { IfSome result (λ packet. IsWholePacket self.now.place.order self.now.place.interfaces piece.now packet) }
-    {
-        if !self.part.is_empty() {
-            return None;
-        }
-        steps::whole_packet(self.cursor.order, self.interfaces.as_slice(), piece)
-    }
-
-    /// Takes the whole block of a packet in one step. The steps from place to place, for blocks that are cut, refused or of
-    /// another kind, lead to the same state.
-    fn feed_packet(&mut self, packet: WholePacket, piece: &[u8]) -> usize
-        requires at { IsAt stage.Block self.old piece.now }
-        requires begins { self.old.part ≡ [] }
-        requires whole { IsWholePacket self.old.place.order self.old.place.interfaces piece.now packet }
-        ensures some { 0 < result }
-        ensures steps { Steps (progress self.old) piece.now (Ok result) (progress self.new) }
-    {
-        let size = packet.total as usize;
-        gather(
-            &mut self.part,
-            PACKET_HEAD + packet.captured as usize,
-            piece,
-        );
-        self.tail.clear();
-        gather(&mut self.tail, 4, &piece[size - 4..]);
-        self.cursor = Cursor {
-            stage: Stage::Trailer,
-            order: self.cursor.order,
-            interface: None,
-            start: self.cursor.start,
-            total: packet.total,
-            left: 0,
-            skip: 0,
-            packet: Some(packet.head),
-        };
-        self.whole = true;
-        size
     }
 
     /// Takes bytes until more is known of a block.

@@ -1,10 +1,10 @@
 //! How a cursor moves on: how much is read of a block, an option or a trailer, and the cursor after it.
 
-ghost use Rattle.std.specs.Prelude.{ℕ, List, [], ◌++◌, true, ◌≡◌, ◌+◌, ◌-◌, ◌<◌, ◌≤◌, ◌^◌, ◌%◌, is_some, vec_capacity, length, pos, IfSome, Some};
+ghost use Rattle.std.specs.Prelude.{ℕ, List, [], ◌++◌, true, ◌≡◌, ◌+◌, ◌-◌, ◌<◌, ◌≤◌, ◌^◌, ◌%◌, is_none, is_some, vec_capacity, length, take, pos, IfSome, None, Some};
 ghost use Rattle.std.specs.Option.{option_to_list};
 ghost use Rattle.pcap_frames.specs.Layout.{number_at};
-ghost use Rattle.pcapng_frames.specs.Reading.{passed_by};
-ghost use Rattle.pcapng_frames.specs.state.Reading.{HasEntered, IsAhead, IsResolved, IsWholePacket, block_need as need_of_block, option_need as need_of_option, head_need, place_of};
+ghost use Rattle.pcapng_frames.specs.Reading.{IsPacketBlock, passed_by};
+ghost use Rattle.pcapng_frames.specs.state.Reading.{HasEntered, IsAhead, IsResolved, block_need as need_of_block, option_need as need_of_option, head_need, place_of};
 ghost use Rattle.pcapng_frames.specs.declared.interface.Interface.{Interface};
 ghost use Rattle.pcapng_frames.specs.Fields.{first_refused, interface_rows, option_code, other_rows, packet_arrival as arrival_in, packet_rows};
 ghost use Rattle.pcapng_frames.specs.state.Fields.{AllResolved};
@@ -13,7 +13,7 @@ ghost use Rattle.pcapng_frames.specs.state.Blocks.{interfaces_after};
 ghost use Rattle.pcapng_frames.specs.declared.block.Kind.TheVariants as kind;
 ghost use Rattle.pcapng_frames.specs.declared.block.Stage.TheVariants as stage;
 
-use crate::block::{Cursor, Kind, PacketHead, Stage, WholePacket};
+use crate::block::{Cursor, Kind, PacketHead, Stage};
 use crate::interface::{Interface, MICROSECONDS};
 use crate::layout::{
     END_OF_OPTIONS, ENHANCED_PACKET, IF_TSOFFSET, IF_TSRESOL, PACKET_HEAD, PACKET_LIMIT, i64_at,
@@ -171,53 +171,63 @@ fn packet_head(order: Order, interfaces: &[Interface], part: &[u8]) -> Option<Pa
     })
 }
 
-/// What the fixed fields of an enhanced packet say, if none of them is refused.
-fn accepted_head(order: Order, interfaces: &[Interface], bytes: &[u8]) -> Option<PacketHead>
-    requires stands { 28 ≤ length bytes.now }
+/// Whether none of the fixed fields of an enhanced packet is refused.
+#[inline(always)]
+fn accepts_packet(order: Order, interfaces: &[Interface], bytes: &[u8]) -> bool
+    requires long { 28 ≤ length bytes.now }
     requires resolved { AllResolved interfaces.now }
-    ensures accepted { IfSome result (λ head. (start : ℕ) → first_refused start (length bytes.now) (packet_rows order interfaces.now bytes.now) ≡ None) }
-    ensures arrival { IfSome result (λ head. arrival_in order interfaces.now bytes.now ≡ Some (pos head.arrival)) }
-    ensures limit { IfSome result (λ head. head.arrival ≤ 2 ^ 62) }
-    ensures orig_len { IfSome result (λ head. number_at order 24 4 bytes.now ≡ head.orig_len) }
-    ensures held { IfSome result (λ head. number_at order 20 4 bytes.now ≤ 262144) }
-    ensures room { IfSome result (λ head. 32 + number_at order 20 4 bytes.now ≤ number_at order 4 4 bytes.now) }
+    ensures { result ≡ is_none (first_refused 0 (length bytes.now) (packet_rows order interfaces.now bytes.now)) }
 {
     let total = u32_at(order, bytes, 4);
-    if bad_length(Kind::Packet, total) || u32_at(order, bytes, 8) as usize >= interfaces.len() {
-        return None;
-    }
-    let head = packet_head(order, interfaces, bytes)?;
     let captured = u32_at(order, bytes, 20);
-    if captured > PACKET_LIMIT || u64::from(total) < 32 + padded(captured) {
-        return None;
-    }
-    Some(head)
+    !bad_length(Kind::Packet, total)
+        && (u32_at(order, bytes, 8) as usize) < interfaces.len()
+        && captured <= PACKET_LIMIT
+        && 32 + padded(captured) <= u64::from(total)
+        && packet_arrival(order, interfaces, bytes).is_some()
 }
 
-/// The enhanced packet that the bytes begin with, if its block is complete in them and nothing in it is refused.
-pub fn whole_packet(
-    order: Option<Order>,
-    interfaces: &[Interface],
-    bytes: &[u8],
-) -> Option<WholePacket>
-    requires resolved { AllResolved interfaces.now }
-    ensures { IfSome result (λ packet. IsWholePacket order interfaces.now bytes.now packet) }
+/// The size of the enhanced packet's block that the bytes begin with, if it is complete in them and nothing in it is refused.
+#[inline(always)]
+pub fn packet_size(order: Order, interfaces: &[Interface], bytes: &[u8]) -> Option<usize>
+    requires { AllResolved interfaces.now }
+    ensures within { IfSome result (λ size. size ≤ length bytes.now) }
+    ensures packet { IfSome result (λ size. IsPacketBlock order interfaces.now (take size bytes.now)) }
+    ensures none { result ≡ None → (size : ℕ) → IsPacketBlock order interfaces.now (take size bytes.now) → ⊥ }
 {
-    let order = order?;
-    if bytes.len() < PACKET_HEAD || u32_at(order, bytes, 0) != ENHANCED_PACKET {
+    // In each of the calls the byte order is known to the compiler.
+    match order {
+        Order::Little => size_in(Order::Little, interfaces, bytes),
+        Order::Big => size_in(Order::Big, interfaces, bytes),
+    }
+}
+
+/// What `packet_size` returns.
+#[inline(always)]
+fn size_in(order: Order, interfaces: &[Interface], bytes: &[u8]) -> Option<usize>
+    requires { AllResolved interfaces.now }
+    ensures within { IfSome result (λ size. size ≤ length bytes.now) }
+    ensures packet { IfSome result (λ size. IsPacketBlock order interfaces.now (take size bytes.now)) }
+    ensures none { result ≡ None → (size : ℕ) → IsPacketBlock order interfaces.now (take size bytes.now) → ⊥ }
+{
+    if bytes.len() < PACKET_HEAD {
         return None;
     }
-    let head = accepted_head(order, interfaces, bytes)?;
+    if u32_at(order, bytes, 0) != ENHANCED_PACKET {
+        return None;
+    }
+    if !accepts_packet(order, interfaces, bytes) {
+        return None;
+    }
     let total = u32_at(order, bytes, 4);
-    let end = total as usize;
-    if bytes.len() < end || u32_at(order, &bytes[end - 4..], 0) != total {
+    let size = total as usize;
+    if bytes.len() < size {
         return None;
     }
-    Some(WholePacket {
-        head,
-        total,
-        captured: u32_at(order, bytes, 20),
-    })
+    if u32_at(order, &bytes[size - 4..], 0) != total {
+        return None;
+    }
+    Some(size)
 }
 
 /// The cursor after what is read of a block's front.

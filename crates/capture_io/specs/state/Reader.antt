@@ -69,14 +69,23 @@ pub record EndsHere (r : CaptureReading) (bytes : List ℕ) (records : List Reco
 
 -- ---- a record that is lent
 
--- the reader with these bytes of the header or record of a classic capture that it is reading
-abbrev pub with_part : CaptureReading → List ℕ → CaptureReading
-with_part r bytes = record r { classic = classic.with_part r.classic bytes }
+-- the reader after it took the bytes of the next record, which it holds
+abbrev pub with_by : Option Format → CaptureReading → List ℕ → CaptureReading
+with_by None r bytes = r
+with_by (Some Classic) r bytes = record r { classic = classic.with_part r.classic bytes }
+with_by (Some Pcapng) r bytes = record r { ng = ng.with_block r.ng bytes }
 
--- These bytes are the next whole record of a classic capture, and nothing of it was taken yet.
-pub record IsNext (r : CaptureReading) (bytes : List ℕ) : Type 0 where
-  pub format : r.format ≡ Some Classic
-  pub next : classic.IsNext r.classic bytes
+abbrev pub with_record : CaptureReading → List ℕ → CaptureReading
+with_record r bytes = with_by r.format r bytes
+
+-- these bytes are the next whole record, or its whole block, and nothing of it was taken yet
+abbrev pub IsNextBy : Option Format → CaptureReading → List ℕ → Type 0
+IsNextBy None r bytes = ⊥
+IsNextBy (Some Classic) r bytes = classic.IsNext r.classic bytes
+IsNextBy (Some Pcapng) r bytes = ng.IsNext r.ng bytes
+
+abbrev pub IsNext : CaptureReading → List ℕ → Type 0
+IsNext r bytes = IsNextBy r.format r bytes
 
 -- If the next record is complete at the front of the piece, this is its size.
 pub record FindsNext (r : CaptureReading) (piece : List ℕ) (result : Option ℕ) : Type 0 where

@@ -8,7 +8,7 @@ use Rattle.pcap_frames.specs.Capture.{Record}
 use Rattle.capture_io.specs.declared.end.End.{End}
 use Rattle.capture_io.specs.Ends.{CountsFault}
 use Rattle.capture_io.specs.Reader.{held}
-use Rattle.capture_io.specs.state.Reader.{IsNext, Releases, with_part}
+use Rattle.capture_io.specs.state.Reader.{IsNext, Releases, with_record}
 use Rattle.capture_io.specs.Reads.{ReadsSlot}
 use Rattle.capture_io.specs.Source.{Sourcing, slot_of, remains_of, held_in, HasFed, EndsAfter, to_do}
 
@@ -39,7 +39,7 @@ IsReady slots source = IsSome (slots (slot_of source)) × (held_in source ≡ No
 
 -- the source after its reader took the first `count` of the bytes that wait
 abbrev pub holding : Sourcing → ℕ → Sourcing
-holding source size = record source { pieces = record source.pieces { waiting = drop size source.pieces.waiting }; reader = with_part source.reader (take size source.pieces.waiting) }
+holding source size = record source { pieces = record source.pieces { waiting = drop size source.pieces.waiting }; reader = with_record source.reader (take size source.pieces.waiting) }
 
 -- The reading has not ended, and the first `size` bytes that wait are the next record.
 pub record LiesAhead (source : Sourcing) (size : ℕ) : Type 0 where

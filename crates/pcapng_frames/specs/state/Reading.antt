@@ -11,9 +11,8 @@ use Rattle.pcapng_frames.specs.declared.block.Stage.{Stage}
 use Rattle.pcapng_frames.specs.declared.block.Stage.TheVariants as stage
 use Rattle.pcapng_frames.specs.declared.block.Cursor.{Cursor}
 use Rattle.pcapng_frames.specs.declared.block.PacketHead.{PacketHead}
-use Rattle.pcapng_frames.specs.declared.block.WholePacket.{WholePacket}
 use Rattle.pcapng_frames.specs.Interface.{is_resolution}
-use Rattle.pcapng_frames.specs.Fields.{first_refused, option_code, packet_arrival, packet_rows}
+use Rattle.pcapng_frames.specs.Fields.{first_refused, kind_of, option_code, packet_rows}
 use Rattle.pcapng_frames.specs.Blocks.{kind_at, order_or_little, refusal_here, ends_at, cut_by, Place}
 use Rattle.pcapng_frames.specs.Reading.{Reading, rest_of, passed_by, taken, taken_by}
 use Rattle.pcapng_frames.specs.state.Fields.{AllResolved}
@@ -161,24 +160,13 @@ lacks_by false p part = if ends_at p.stage p.order p.start (length part) then No
 abbrev pub lacks : Reading → Option Refusal
 lacks r = lacks_by r.whole r.place r.part
 
--- The bytes begin with the fixed fields of an enhanced packet, and none of these is refused.
-pub record IsPacket (order : Option Order) (interfaces : List Interface) (bytes : List ℕ) (packet : WholePacket) : Type 0 where
-  pub opened : is_some order ≡ true
-  pub kind : kind_at order bytes ≡ kind.Packet
-  pub accepted : (start : ℕ) → first_refused start (length bytes) (packet_rows (order_or_little order) interfaces bytes) ≡ None
-  pub total : number_at (order_or_little order) 4 4 bytes ≡ packet.total
-  pub captured : number_at (order_or_little order) 20 4 bytes ≡ packet.captured
-  pub arrival : packet_arrival (order_or_little order) interfaces bytes ≡ Some (pos packet.head.arrival)
-  pub orig_len : number_at (order_or_little order) 24 4 bytes ≡ packet.head.orig_len
-
 -- The bytes begin with the whole block of a packet, and nothing in it is refused.
-pub record IsWholePacket (order : Option Order) (interfaces : List Interface) (bytes : List ℕ) (packet : WholePacket) : Type 0 where
-  pub front : IsPacket order interfaces bytes packet
-  pub limit : packet.head.arrival ≤ 2 ^ 62
-  pub held : packet.captured ≤ 262144
-  pub room : 32 + packet.captured ≤ packet.total
-  pub within : packet.total ≤ length bytes
-  pub trailer : number_at (order_or_little order) 0 4 (drop (packet.total - 4) bytes) ≡ packet.total
+pub record BeginsPacket (order : Order) (interfaces : List Interface) (bytes : List ℕ) : Type 0 where
+  pub long : 28 ≤ length bytes
+  pub kind : kind_of (number_at order 0 4 bytes) ≡ kind.Packet
+  pub accepted : first_refused 0 (length bytes) (packet_rows order interfaces bytes) ≡ None
+  pub within : number_at order 4 4 bytes ≤ length bytes
+  pub trailer : number_at order 0 4 (drop (number_at order 4 4 bytes - 4) bytes) ≡ number_at order 4 4 bytes
 
 -- The invariant of a reader with these fields, whose buffers can hold this many bytes and interfaces.
 pub record IsReader (cursor : Cursor) (interfaces : List Interface) (front tail : List ℕ) (whole : Bool) (refusal : Option Refusal) (front_capacity tail_capacity interface_capacity : ℕ) : Type 0 where

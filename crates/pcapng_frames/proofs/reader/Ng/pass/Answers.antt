@@ -1,17 +1,18 @@
-use Rattle.std.proofs.Common.{arith, rules}
-use Rattle.std.proofs.lemmas.List.{length-take-le}
-use Rattle.pcapng_frames.proofs.Moves.{goes_on, pass_takes}
+use Rattle.std.proofs.Common.{arith, ap, length}
+use Rattle.pcapng_frames.proofs.Lent.{before_block, still_before}
 use Rattle.pcapng_frames.proofs.reader.Ng.pass.Goals as goal
 
-pub returns-clause-steps : goal.returns-clause-steps
-returns-clause-steps c =
-    let going = rw (← c.self.view_is) at c.requires.going in
+pub invariant_of-self : goal.invariant_of-self
+invariant_of-self c =
+    let next = rw (← c.self.view_is) at c.requires.next in
+    let room = rw (← c.self.view_is) at c.requires.bounded in
     record {
-      within = omega arith;
-      counted = search rules;
-      bounded = search rules;
-      read = rw (← c.self.view_is) (goes_on _ _ _ (pass_takes _ _ _ _ _ _ _ going.accepted going.partial (length-take-le _ _ (omega arith)) (omega arith)));
-      accepted = going.accepted;
-      refused = tt;
-      stopped = tt;
+      front_room = c.self.invariant.front_room;
+      tail_room = c.self.invariant.tail_room;
+      interface_room = c.self.invariant.interface_room;
+      resolved = c.self.invariant.resolved;
+      described = c.self.invariant.described;
+      head = c.self.invariant.head;
+      bounded = omega (arith, room, before_block _ _ next, ap length next.untaken);
+      reading = still_before _ _ next c.self.invariant.reading;
     }
