@@ -1,10 +1,9 @@
 -- A packet that is lent.
-use Rattle.std.proofs.Common.{◌≡◌, ℕ, ℤ, ◌+◌, ◌-◌, ◌≤◌, ◌<◌, Bool, true, false, List, [], ◌∷◌, ◌++◌, length, drop, take, Option, Some, None, Ok, IsSome, is_some, inl, inr, refl, ap, sym, subst, ◌∙◌, arith, append_assoc, length-append, length-drop}
+use Rattle.std.proofs.Common.{◌≡◌, ℕ, ℤ, ◌+◌, ◌-◌, ◌≤◌, Bool, true, false, List, [], ◌∷◌, ◌++◌, length, drop, take, Option, Some, None, Ok, IsSome, is_some, inl, inr, refl, ap, sym, subst, ◌∙◌, arith, append_assoc, length-append, length-drop}
 use Rattle.std.specs.Prelude.{IfSome, is_none, option_to_list}
 use Rattle.std.proofs.lemmas.Bool.Decides.{nat_tests}
 use Rattle.std.proofs.lemmas.List.{append-nil, drop-append-le, length-take-le, take_all, take-append-drop}
 use Rattle.avtp_base.specs.declared.refusal.Refusal.{Refusal}
-use Rattle.avtp_base.specs.declared.field.Field.TheVariants.{BlockBody}
 use Rattle.pcap_frames.specs.Capture.{Record}
 use Rattle.pcap_frames.specs.declared.style.Order.{Order}
 use Rattle.pcap_frames.specs.Layout.{number_at}
@@ -18,7 +17,7 @@ use Rattle.pcapng_frames.specs.declared.block.Stage.TheVariants as stage
 use Rattle.pcapng_frames.specs.declared.interface.Interface.{Interface}
 use Rattle.pcapng_frames.specs.Fields.{Row, first_refused, kind_of, packet_arrival, packet_rows, padded}
 use Rattle.pcapng_frames.specs.state.Fields.{head_size}
-use Rattle.pcapng_frames.specs.Blocks.{Place, after_any, after_block, after_trailer, block_rows, block_size, cut_short, ends, kind_at, next_place, order_at, order_or_little, record_by, refusal_here, short_at, size_here, size_of_any, trailer_refused}
+use Rattle.pcapng_frames.specs.Blocks.{Place, after_any, after_block, after_trailer, block_rows, block_size, cut_short, kind_at, next_place, order_at, order_or_little, record_by, refusal_here, size_here, size_of_any, trailer_refused}
 use Rattle.pcapng_frames.specs.Reading.{IsNext, IsPacketBlock, Reading, after_all, contents_at, contents_past, held, held_by, meaning, passed_by, passing, progress, rest_of, taken, with_block}
 use Rattle.pcapng_frames.specs.state.Reading.{BeginsPacket, IsReading, Takes}
 use Rattle.pcapng_frames.proofs.Blocks.{at_block, at_block_rows, block_stays, cut_body, next_at_block, none_in_block, place_stays, size_at_block, size_stays}
@@ -49,10 +48,6 @@ none_or (Some x) e = refl
 -- the packet has an arrival
 pub accepted_time : (order : Order) (interfaces : List Interface) (bytes : List ℕ) → 24 ≤ length bytes → first_refused 0 (length bytes) (packet_rows order interfaces bytes) ≡ None → is_some (packet_arrival order interfaces bytes) ≡ true
 accepted_time order interfaces bytes long e = grind (arith, nat_tests, none_or (packet_arrival order interfaces bytes))
-
--- the packet is of an interface of the section
-pub accepted_known : (order : Order) (interfaces : List Interface) (bytes : List ℕ) → 24 ≤ length bytes → first_refused 0 (length bytes) (packet_rows order interfaces bytes) ≡ None → number_at order 8 4 bytes < length interfaces
-accepted_known order interfaces bytes long e = grind (arith, nat_tests)
 
 -- ---- a block that is complete at the front of some bytes
 

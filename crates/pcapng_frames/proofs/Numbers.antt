@@ -41,17 +41,32 @@ instant_is interface x n epoch e = rw (epoch, e) (ap pos (omega arith))
 in_time : (t : ℤ) (n : ℕ) → t ≡ pos n → n < 4294967296000000000 → (if int_lt t (pos 0) then None else if int_lt t arrival_limit then Some t else None) ≡ Some (pos n)
 in_time t n is early = rw is (grind (arith, nat_tests))
 
+out_of_time : (t : ℤ) (n : ℕ) → t ≡ pos n → 4294967296000000000 ≤ n → (if int_lt t (pos 0) then None else if int_lt t arrival_limit then Some t else None) ≡ None
+out_of_time t n is late = rw is (grind (arith, nat_tests))
+
+nanosecond_instant : (interface : Interface) (x : ℕ) → interface.offset ≡ pos 0 → interface.resolution ≡ 9 → instant interface x ≡ pos x
+nanosecond_instant interface x epoch unit =
+    let long : x * 1 ≡ x * 1000000000 / 1000000000 = long_units x 9 (omega arith) in
+    instant_is interface x x epoch (ap (λ (k : ℕ). x * 1000000000 / units k) unit ∙ (sym long ∙ omega arith))
+
+microsecond_instant : (interface : Interface) (x : ℕ) → interface.offset ≡ pos 0 → interface.resolution ≡ 6 → instant interface x ≡ pos (x * 1000)
+microsecond_instant interface x epoch unit =
+    let long : x * 1000 ≡ x * 1000000000 / 1000000 = long_units x 6 (omega arith) in
+    instant_is interface x (x * 1000) epoch (ap (λ (k : ℕ). x * 1000000000 / units k) unit ∙ sym long)
+
 -- the arrival by a clock that counts nanoseconds from the epoch
 pub nanosecond_arrival : (interface : Interface) (x : ℕ) → interface.offset ≡ pos 0 → interface.resolution ≡ 9 → x < 4294967296000000000 → arrival_of interface x ≡ Some (pos x)
-nanosecond_arrival interface x epoch unit early =
-    let long : x * 1 ≡ x * 1000000000 / 1000000000 = long_units x 9 (omega arith) in
-    in_time (instant interface x) x (instant_is interface x x epoch (ap (λ (k : ℕ). x * 1000000000 / units k) unit ∙ (sym long ∙ omega arith))) early
+nanosecond_arrival interface x epoch unit early = in_time (instant interface x) x (nanosecond_instant interface x epoch unit) early
+
+pub nanosecond_late : (interface : Interface) (x : ℕ) → interface.offset ≡ pos 0 → interface.resolution ≡ 9 → 4294967296000000000 ≤ x → arrival_of interface x ≡ None
+nanosecond_late interface x epoch unit late = out_of_time (instant interface x) x (nanosecond_instant interface x epoch unit) late
 
 -- the arrival by a clock that counts microseconds from the epoch
 pub microsecond_arrival : (interface : Interface) (x : ℕ) → interface.offset ≡ pos 0 → interface.resolution ≡ 6 → x < 4294967296000000 → arrival_of interface x ≡ Some (pos (x * 1000))
-microsecond_arrival interface x epoch unit early =
-    let long : x * 1000 ≡ x * 1000000000 / 1000000 = long_units x 6 (omega arith) in
-    in_time (instant interface x) (x * 1000) (instant_is interface x (x * 1000) epoch (ap (λ (k : ℕ). x * 1000000000 / units k) unit ∙ sym long)) (omega arith)
+microsecond_arrival interface x epoch unit early = in_time (instant interface x) (x * 1000) (microsecond_instant interface x epoch unit) (omega arith)
+
+pub microsecond_late : (interface : Interface) (x : ℕ) → interface.offset ≡ pos 0 → interface.resolution ≡ 6 → 4294967296000000 ≤ x → arrival_of interface x ≡ None
+microsecond_late interface x epoch unit late = out_of_time (instant interface x) (x * 1000) (microsecond_instant interface x epoch unit) (omega arith)
 
 -- the nanoseconds of a timestamp of 64 bits are below 2^94
 pub time_limit : (x units : ℕ) → x < 2 ^ 64 → x * 1000000000 / units < 2 ^ 94

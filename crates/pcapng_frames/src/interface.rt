@@ -96,18 +96,28 @@ fn any_arrival(interface: Interface, timestamp: u64) -> Option<u64>
 /// The arrival of a packet, in nanoseconds. `None` if that is before the epoch, or 2^32 seconds or more after it.
 ///
 /// Most clocks count nanoseconds or microseconds from the epoch, and need at most one product.
-#[tactic(auto, using(crate::proofs::Numbers::nanosecond_arrival, crate::proofs::Numbers::microsecond_arrival))]
+#[tactic(auto, using(crate::proofs::Numbers::nanosecond_arrival, crate::proofs::Numbers::microsecond_arrival, crate::proofs::Numbers::nanosecond_late, crate::proofs::Numbers::microsecond_late))]
 #[inline(always)]
 pub fn arrival(interface: Interface, timestamp: u64) -> Option<u64>
     requires { is_resolution interface.resolution ≡ true }
     ensures exact { option_map pos result ≡ arrival_of interface timestamp }
     ensures limit { IfSome result (λ t. t ≤ 2 ^ 62) }
 {
-    if interface.offset == 0 && interface.resolution == 9 && timestamp < ARRIVAL_LIMIT {
-        return Some(timestamp);
+    match interface.resolution {
+        9 if interface.offset == 0 => {
+            if timestamp < ARRIVAL_LIMIT {
+                Some(timestamp)
+            } else {
+                None
+            }
+        }
+        6 if interface.offset == 0 => {
+            if timestamp < ARRIVAL_LIMIT / 1_000 {
+                Some(timestamp * 1_000)
+            } else {
+                None
+            }
+        }
+        _ => any_arrival(interface, timestamp),
     }
-    if interface.offset == 0 && interface.resolution == 6 && timestamp < ARRIVAL_LIMIT / 1_000 {
-        return Some(timestamp * 1_000);
-    }
-    any_arrival(interface, timestamp)
 }

@@ -19,7 +19,6 @@ use crate::layout::{
     END_OF_OPTIONS, ENHANCED_PACKET, IF_TSOFFSET, IF_TSRESOL, PACKET_HEAD, PACKET_LIMIT, i64_at,
     kind_at, order_or_little, packet_arrival, padded, section_order,
 };
-use crate::refusals::bad_length;
 use pcap_frames::Order;
 use pcap_frames::numbers::{u16_at, u32_at};
 
@@ -180,7 +179,7 @@ fn accepts_packet(order: Order, interfaces: &[Interface], bytes: &[u8]) -> bool
 {
     let total = u32_at(order, bytes, 4);
     let captured = u32_at(order, bytes, 20);
-    !bad_length(Kind::Packet, total)
+    total % 4 == 0
         && (u32_at(order, bytes, 8) as usize) < interfaces.len()
         && captured <= PACKET_LIMIT
         && 32 + padded(captured) <= u64::from(total)
