@@ -207,7 +207,7 @@ within_at current pieces c i p e cut h is =
 pub cut_one : (current : Option Current) (pieces : List Piece) (c : Current) (i : ℕ) (p : Piece) → current ≡ Some c → IsCutFrom current pieces → i < length pieces → p ≡ slice_index_or pieces i p → IsCut c (p ∷ [])
 cut_one current pieces c i p e cut h is =
     let all : IsCut c pieces = rw e at cut in
-    record { shape = all.shape; presentable = all.presentable; size = all.size; within = (within_at current pieces c i p e cut h is, tt) }
+    record { stream = all.stream; presentable = all.presentable; size = all.size; within = (within_at current pieces c i p e cut h is, tt) }
 
 short : (xs : List SentFrame) (i : ℕ) (turn : Turn) → option_map turn_of (slice_get xs i) ≡ Some turn → i < length xs
 short [] i turn e = absurd cc

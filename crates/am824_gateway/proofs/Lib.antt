@@ -10,3 +10,4 @@ pub mod Accepted
 pub mod Timely
 pub mod Shaped
 pub mod Scanned
+pub mod HeaderLemmas

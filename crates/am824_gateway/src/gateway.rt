@@ -8,13 +8,14 @@ ghost use Rattle.am824_gateway.specs.Labels.{value_in};
 ghost use Rattle.am824_gateway.specs.Pieces.{has_labels as has_labels_by, has_shape as has_shape_by, most_frames, nothing_given, overlaps as overlaps_by, skip_of};
 ghost use Rattle.am824_gateway.specs.Packets.{frame_size, piece_frame};
 ghost use Rattle.am824_gateway.specs.Scan.{IsShape};
+ghost use Rattle.am824_gateway.specs.state.Streams.{HasHeaders};
 
 use crate::labels::are_linear;
-use crate::packet::Stream;
+use crate::packet::{AM824_HEADERS, Stream, first_headers};
 use crate::piece::{MOST_PIECES, Piece, arrival_of, cut};
 use crate::scan::{Shape, To};
 use crate::skip::Skip;
-use avtp_base::NoMemory;
+use avtp_base::{Bytes, NoMemory};
 use sample_schedule::Batch;
 use std::alloc::Global;
 use std::marker::Model;
@@ -38,6 +39,8 @@ pub struct Gateway {
     to: To,
     shape: Option<Shape>,
     id: u64,
+    /// The headers of the frames, if there is a shape.
+    headers: [u8; AM824_HEADERS],
     /// The number of batches that were not skipped, and of their packets.
     batches: u64,
     packets: u64,
@@ -64,6 +67,17 @@ impl Model for Gateway {
     ghost view = { λ g. record { to = g.to; shape = g.shape; id = g.id; given = record { batches = g.batches; packets = g.packets; block = g.block; last = g.last }; frames = frames_in g.current g.pieces.items } };
 
     ghost invariant = { IsGateway };
+}
+
+/// The headers of the frames of a stream, if it has a shape.
+fn headers_for(to: To, shape: Option<Shape>, id: u64) -> [u8; AM824_HEADERS]
+    requires { IfSome shape IsShape }
+    ensures { IfSome shape (λ shape. HasHeaders to shape id result) }
+{
+    match shape {
+        Some(shape) => first_headers(to, shape, id),
+        None => [0; AM824_HEADERS],
+    }
 }
 
 impl Current {
@@ -144,6 +158,7 @@ impl Gateway {
         requires { IfSome shape IsShape }
         ensures { IfOk result (λ gateway. gateway ≡ record { to = to; shape = shape; id = id; given = nothing_given; frames = [] }) }
     {
+        let headers = headers_for(to, shape, id);
         let pieces = Vec::with_capacity(alloc, MOST_PIECES)?;
         let spare = Vec::with_capacity(alloc, MOST_PIECES)?;
         let frame = vec![in alloc; 0u8; LONGEST_FRAME]?;
@@ -151,6 +166,7 @@ impl Gateway {
             to,
             shape,
             id,
+            headers,
             batches: 0,
             packets: 0,
             block: 0,
@@ -200,6 +216,7 @@ impl Gateway {
             to: self.to,
             shape,
             id: self.id,
+            headers: self.headers,
         };
         self.current = Some(Current {
             stream,
@@ -251,6 +268,16 @@ impl Gateway {
         };
         let piece = self.pieces[i as usize];
         current.write(piece, current.first + u64::from(i), out);
+    }
+
+    /// The samples of the last batch that was not skipped, so that their memory can be used again once its packets are written.
+    /// After this call there are no pieces.
+    pub fn give_back(&mut self) -> Option<Bytes>
+        ensures { self.new ≡ record self.old { frames = [] } }
+    {
+        self.pieces.clear();
+        let current = self.current.take()?;
+        Some(current.batch.bytes)
     }
 
     /// The frame of piece `i` of the last batch that was not skipped, counted from 0. It allocates nothing.

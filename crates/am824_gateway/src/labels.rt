@@ -20,7 +20,8 @@ pub(crate) fn are_linear(quadlets: &[u8]) -> bool
 }
 
 /// Writes bytes at an offset. The compiler knows their number, so it moves them without a call.
-fn put_bytes<const N: usize>(out: &mut [u8], offset: usize, bytes: &[u8; N])
+#[inline(always)]
+pub(crate) fn put_bytes<const N: usize>(out: &mut [u8], offset: usize, bytes: &[u8; N])
     requires { offset + N ≤ length out.old }
     ensures { out.new ≡ take offset out.old ++ (bytes.now ++ drop (offset + N) out.old) }
 {

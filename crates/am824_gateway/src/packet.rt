@@ -1,32 +1,43 @@
 //! The packets that carry pieces, and their frames.
 
-ghost use Rattle.std.specs.Prelude.{◌≡◌, ◌+◌, ◌*◌, ◌≤◌, [], true, length, IsSome};
+ghost use Rattle.std.specs.Prelude.{◌≡◌, ◌+◌, ◌*◌, ◌≤◌, ◌++◌, ℕ, List, [], length, IsSome, pos};
 ghost use Rattle.aaf_format.specs.Aaf.{aaf_shape};
-ghost use Rattle.avtp_base.specs.Layout.{spelling};
 ghost use Rattle.iec61883_format.specs.Iec.{iec_shape};
-ghost use Rattle.pcap_frames.specs.Frame.{frame_layout};
 ghost use Rattle.packet_journal.specs.Packets.{spelling_of};
-ghost use Rattle.talk_plan.specs.Ethernet.{ethernet, packet_bytes};
+ghost use Rattle.talk_plan.specs.Ethernet.{packet_bytes};
 ghost use Rattle.talk_plan.specs.Plan.{fdf_of as fdf_by};
 ghost use Rattle.am824_gateway.specs.Labels.{turned, value_in, value_out};
-ghost use Rattle.am824_gateway.specs.Packets.{aaf_packet as aaf_packet_of, am824_packet as am824_packet_of, frame_size as frame_size_of, header_at as header_by, headers_of, packet_of};
-ghost use Rattle.am824_gateway.specs.Pieces.{most_bytes, most_frames};
+ghost use Rattle.am824_gateway.specs.Packets.{aaf_packet as aaf_packet_of, am824_packet as am824_packet_of, frame_size as frame_size_of, header_at as header_by, headers_of, packet_of, timestamp_at};
+ghost use Rattle.am824_gateway.specs.Pieces.{most_bytes};
 ghost use Rattle.am824_gateway.specs.Scan.{IsShape};
+ghost use Rattle.am824_gateway.specs.state.Streams.{Carries, HasHeaders, IsStream, no_samples, stated_of};
 
-use crate::labels::turn_values;
+use crate::labels::{put_bytes, turn_values};
 use crate::piece::Piece;
 use crate::rates::{fdf_of, nsr_of};
 use crate::scan::{Shape, To};
 use aaf_format::{AafFormat, AafView, write_aaf};
-use avtp_header::{ETHERTYPE, StreamHeader, subtype};
+use avtp_header::{StreamHeader, subtype};
 use iec61883_format::{Cip, IecView, write_iec};
-use pcap_frames::{FrameView, Tag, write_frame};
+use talk_plan::{ETHERNET_HEADER, write_ethernet};
 
-/// The length of the Ethernet header, with its tag.
-const ETHERNET: usize = 18;
+/// The length of the headers of a frame of AM824: Ethernet's with its tag, the stream header and the CIP header.
+pub(crate) const AM824_HEADERS: usize = ETHERNET_HEADER + 32;
 
-/// The most bytes of samples in a packet.
-const SAMPLES_LIMIT: usize = 1476;
+/// The length of the headers of a frame of PCM.
+const AAF_HEADERS: usize = ETHERNET_HEADER + 24;
+
+/// Where a frame has the packet's sequence number (IEEE 1722-2016, 4.4.4).
+const SEQUENCE_NUMBER: usize = ETHERNET_HEADER + 2;
+
+/// Where a frame has the packet's timestamp.
+const TIMESTAMP: usize = ETHERNET_HEADER + 12;
+
+/// Where a frame has the number of bytes after the stream header.
+const DATA_LENGTH: usize = ETHERNET_HEADER + 20;
+
+/// Where a frame of AM824 has the block count of its first data block (IEC 61883-1).
+const BLOCK_COUNT: usize = ETHERNET_HEADER + 27;
 
 /// What all packets of a stream have in common: their format, their sample rate and channels, and their stream id.
 #[derive(Clone, Copy, Debug)]
@@ -34,33 +45,14 @@ pub(crate) struct Stream {
     pub to: To,
     pub shape: Shape,
     pub id: u64,
+    /// The headers of a frame, which are encoded once. Frames differ in the sequence number, the timestamp, the length and the
+    /// block count.
+    pub headers: [u8; AM824_HEADERS],
 }
 
-/// Writes the Ethernet header, which is that of a talker's frames.
-fn write_ethernet(out: &mut [u8])
-    requires { length out.old ≡ 18 }
-    ensures { out.new ≡ spelling (frame_layout true) (ethernet []) }
-{
-    let header = FrameView {
-        dst: 0x91e0_f000_fe00,
-        src: 0x0200_0000_0001,
-        tag: Some(Tag {
-            pcp: 3,
-            dei: false,
-            vid: 2,
-        }),
-        ethertype: ETHERTYPE,
-        start: ETHERNET,
-        payload: &[],
-    };
-    let Ok(_) = write_frame(out, &header) else {
-        unreachable!()
-    };
-}
-
-/// The stream header of packet `n`, with the timestamp of `instant`, before a payload of `length` bytes.
-fn header_at(subtype: u8, id: u64, n: u64, instant: i64, length: u16) -> StreamHeader
-    ensures { result ≡ header_by subtype id n instant length }
+/// The stream header of a packet without samples, with a payload of `length` bytes.
+fn first_header(subtype: u8, id: u64, length: u16) -> StreamHeader
+    ensures { result ≡ header_by subtype id 0 (pos 0) length }
 {
     StreamHeader {
         subtype,
@@ -68,29 +60,24 @@ fn header_at(subtype: u8, id: u64, n: u64, instant: i64, length: u16) -> StreamH
         mr: false,
         format_bits: 0,
         tv: true,
-        seq: (n % 256) as u8,
+        seq: 0,
         tu: false,
         stream_id: id,
-        timestamp: instant.rem_euclid(1 << 32) as u32,
+        timestamp: 0,
         data_length: length,
     }
 }
 
-/// A packet of AM824 with these data blocks.
-fn am824_packet<'a>(
-    shape: Shape,
-    header: StreamHeader,
-    piece: Piece,
-    blocks: &'a [u8],
-) -> IecView<'a>
+/// A packet of AM824 without samples.
+fn am824_packet(shape: Shape, id: u64) -> IecView<'static>
     requires { IsSome (fdf_by shape.rate) }
-    ensures { iec_shape result ≡ am824_packet_of shape header piece blocks.now }
+    ensures { iec_shape result ≡ am824_packet_of shape (header_by 0 id 0 (pos 0) 8) no_samples [] }
 {
     let Some(fdf) = fdf_of(shape.rate) else {
         unreachable!()
     };
     IecView {
-        header,
+        header: first_header(subtype::IEC_61883, id, 8),
         gateway_info: 0,
         channel: 31,
         tcode: 0xa,
@@ -98,38 +85,91 @@ fn am824_packet<'a>(
         cip: Cip {
             sid: 63,
             dbs: shape.channels,
-            dbc: piece.block,
+            dbc: 0,
             fdf,
             syt: 0xffff,
         },
-        count: piece.count,
-        payload: blocks,
+        count: 0,
+        payload: &[],
         reserved: false,
     }
 }
 
-/// A packet of PCM with these samples.
-fn aaf_packet<'a>(
-    shape: Shape,
-    header: StreamHeader,
-    piece: Piece,
-    samples: &'a [u8],
-) -> AafView<'a>
+/// A packet of PCM without samples.
+fn aaf_packet(shape: Shape, id: u64) -> AafView<'static>
     requires { IsSome (fdf_by shape.rate) }
-    ensures { aaf_shape result ≡ aaf_packet_of shape header piece samples.now }
+    ensures { aaf_shape result ≡ aaf_packet_of shape (header_by 2 id 0 (pos 0) 0) no_samples [] }
 {
     AafView {
-        header,
+        header: first_header(subtype::AAF, id, 0),
         format: AafFormat::Int24,
         nsr: nsr_of(shape.rate),
         channels: shape.channels,
         depth: 24,
         sparse: false,
         evt: 0,
-        count: piece.count,
-        payload: samples,
+        count: 0,
+        payload: &[],
         reserved: false,
     }
+}
+
+/// Writes a packet without samples.
+fn write_packet(out: &mut [u8], to: To, shape: Shape, id: u64)
+    requires shape { IsShape shape }
+    requires room { length out.old + 18 ≡ headers_of to }
+    ensures { out.new ≡ spelling_of (packet_of to shape id 0 (pos 0) no_samples []) }
+{
+    match to {
+        To::Am824 => {
+            let Ok(_) = write_iec(out, &am824_packet(shape, id)) else {
+                unreachable!()
+            };
+        }
+        To::Aaf => {
+            let Ok(_) = write_aaf(out, &aaf_packet(shape, id)) else {
+                unreachable!()
+            };
+        }
+    }
+}
+
+/// The timestamp of an instant: its low 32 bits.
+fn timestamp_of(instant: i64) -> u32
+    ensures { result ≡ timestamp_at instant }
+{
+    instant.rem_euclid(1 << 32) as u32
+}
+
+/// The length of a frame's headers.
+fn headers_size(to: To) -> usize
+    ensures { result ≡ headers_of to }
+{
+    match to {
+        To::Am824 => AM824_HEADERS,
+        To::Aaf => AAF_HEADERS,
+    }
+}
+
+/// Writes a frame without samples.
+#[tactic(auto, unfolding(talk_plan::specs::Ethernet::packet_bytes))]
+fn write_frame(out: &mut [u8], to: To, shape: Shape, id: u64)
+    requires shape { IsShape shape }
+    requires room { length out.old ≡ headers_of to }
+    ensures { out.new ≡ packet_bytes (packet_of to shape id 0 (pos 0) no_samples []) }
+{
+    write_ethernet(&mut out[..ETHERNET_HEADER]);
+    write_packet(&mut out[ETHERNET_HEADER..], to, shape, id);
+}
+
+/// The headers of a frame without samples, with zeros after those of PCM.
+pub(crate) fn first_headers(to: To, shape: Shape, id: u64) -> [u8; AM824_HEADERS]
+    requires { IsShape shape }
+    ensures { HasHeaders to shape id result }
+{
+    let mut headers = [0; AM824_HEADERS];
+    write_frame(&mut headers[..headers_size(to)], to, shape, id);
+    headers
 }
 
 impl Stream {
@@ -143,21 +183,10 @@ impl Stream {
         }
     }
 
-    /// The number of bytes of a frame's headers.
-    fn headers(&self) -> usize
-        ensures { result ≡ headers_of self.now.to }
-    {
-        match self.to {
-            To::Am824 => ETHERNET + 32,
-            To::Aaf => ETHERNET + 24,
-        }
-    }
-
     /// The number of bytes of a piece's samples that are sent.
     #[tactic(auto, using(crate::proofs::PieceLemmas::fits))]
     fn samples_size(&self, piece: Piece) -> usize
-        requires shape { IsShape self.now.shape }
-        requires fits { piece.count ≤ most_frames self.now.to self.now.shape.channels }
+        requires { Carries self.now piece }
         ensures value { result ≡ piece.count * (value_out self.now.to * self.now.shape.channels) }
         ensures bound { result ≤ most_bytes self.now.to }
     {
@@ -166,56 +195,60 @@ impl Stream {
 
     /// The length of a piece's frame.
     pub fn frame_size(&self, piece: Piece) -> usize
-        requires shape { IsShape self.now.shape }
-        requires fits { piece.count ≤ most_frames self.now.to self.now.shape.channels }
+        requires { Carries self.now piece }
         ensures value { result ≡ frame_size_of self.now.to self.now.shape piece }
         ensures bound { result ≤ 1518 }
     {
-        self.headers() + self.samples_size(piece)
+        headers_size(self.to) + self.samples_size(piece)
     }
 
-    /// Writes the packet that carries a piece, with these samples.
-    fn write_packet(&self, out: &mut [u8], n: u64, instant: i64, piece: Piece, samples: &[u8])
-        requires shape { IsShape self.now.shape }
-        requires fits { piece.count ≤ most_frames self.now.to self.now.shape.channels }
-        requires samples { length samples.now ≡ piece.count * (value_out self.now.to * self.now.shape.channels) }
-        requires room { length out.old + 18 ≡ frame_size_of self.now.to self.now.shape piece }
-        ensures { out.new ≡ spelling_of (packet_of self.now.to self.now.shape self.now.id n instant piece samples.now) }
+    /// Writes the headers of a frame without samples.
+    fn write_first(&self, out: &mut [u8])
+        requires stream { IsStream self.now }
+        requires room { length out.old ≡ headers_of self.now.to }
+        ensures { out.new ≡ packet_bytes (packet_of self.now.to self.now.shape self.now.id 0 (pos 0) no_samples []) }
     {
         match self.to {
-            To::Am824 => {
-                let length = 8 + samples.len() as u16;
-                let header = header_at(subtype::IEC_61883, self.id, n, instant, length);
-                let view = am824_packet(self.shape, header, piece, samples);
-                let Ok(_) = write_iec(out, &view) else {
-                    unreachable!()
-                };
-            }
+            To::Am824 => put_bytes(out, 0, &self.headers),
             To::Aaf => {
-                let length = samples.len() as u16;
-                let header = header_at(subtype::AAF, self.id, n, instant, length);
-                let view = aaf_packet(self.shape, header, piece, samples);
-                let Ok(_) = write_aaf(out, &view) else {
+                let Some(headers) = self.headers.first_chunk::<AAF_HEADERS>() else {
                     unreachable!()
                 };
+                put_bytes(out, 0, headers);
             }
         }
     }
 
+    /// Writes the headers of packet `n`, which carries a piece, is presented from this instant on, and has this many bytes after
+    /// its stream header.
+    fn write_headers(&self, out: &mut [u8], n: u64, instant: i64, piece: Piece, stated: u16)
+        requires stream { IsStream self.now }
+        requires room { length out.old ≡ headers_of self.now.to }
+        requires stated { stated ≡ stated_of self.now.to self.now.shape piece }
+        ensures { (samples : List ℕ) → out.new ++ samples ≡ packet_bytes (packet_of self.now.to self.now.shape self.now.id n instant piece samples) }
+    {
+        let timestamp = timestamp_of(instant);
+        self.write_first(out);
+        put_bytes(out, SEQUENCE_NUMBER, &[(n % 256) as u8]);
+        put_bytes(out, TIMESTAMP, &timestamp.to_be_bytes());
+        put_bytes(out, DATA_LENGTH, &stated.to_be_bytes());
+        match self.to {
+            To::Am824 => put_bytes(out, BLOCK_COUNT, &[piece.block]),
+            To::Aaf => {}
+        }
+    }
+
     /// Writes the frame of packet `n`, which carries a piece with these values and is presented from this instant on.
-    #[tactic(auto, unfolding(talk_plan::specs::Ethernet::packet_bytes))]
     pub fn write(&self, out: &mut [u8], n: u64, instant: i64, piece: Piece, values: &[u8])
-        requires shape { IsShape self.now.shape }
-        requires fits { piece.count ≤ most_frames self.now.to self.now.shape.channels }
+        requires carries { Carries self.now piece }
         requires values { length values.now ≡ piece.count * (value_in self.now.to * self.now.shape.channels) }
         requires room { length out.old ≡ frame_size_of self.now.to self.now.shape piece }
         ensures { out.new ≡ packet_bytes (packet_of self.now.to self.now.shape self.now.id n instant piece (turned self.now.to (piece.count * self.now.shape.channels) values.now)) }
     {
-        let mut samples = [0; SAMPLES_LIMIT];
-        let samples = &mut samples[..self.samples_size(piece)];
+        let stated = (out.len() - AAF_HEADERS) as u16;
         let number = piece.count as usize * usize::from(self.shape.channels);
+        let (headers, samples) = out.split_at_mut(headers_size(self.to));
+        self.write_headers(headers, n, instant, piece, stated);
         turn_values(self.to, samples, number, values);
-        write_ethernet(&mut out[..ETHERNET]);
-        self.write_packet(&mut out[ETHERNET..], n, instant, piece, samples);
     }
 }

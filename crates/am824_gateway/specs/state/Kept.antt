@@ -12,6 +12,7 @@ use Rattle.am824_gateway.specs.Labels.{value_in}
 use Rattle.am824_gateway.specs.Packets.{frames_from}
 use Rattle.am824_gateway.specs.Pieces.{is_late, most_frames}
 use Rattle.am824_gateway.specs.Scan.{IsShape}
+use Rattle.am824_gateway.specs.state.Streams.{HasHeaders, IsStream}
 
 -- A piece lies within its batch, fits one packet, and arrives in time.
 pub record IsWithin (to : To) (shape : Shape) (batch : Presented) (p : Piece) : Type 0 where
@@ -22,7 +23,7 @@ pub record IsWithin (to : To) (shape : Shape) (batch : Presented) (p : Piece) : 
 
 -- The batch is of the stream's shape, and its pieces lie within it.
 pub record IsCut (c : Current) (pieces : List Piece) : Type 0 where
-  pub shape : IsShape c.stream.shape
+  pub stream : IsStream c.stream
   pub presentable : IsPresentable c.batch
   pub size : length c.batch.bytes ≡ c.batch.count * (value_in c.stream.to * c.stream.shape.channels)
   pub within : AllByRecursion (IsWithin c.stream.to c.stream.shape c.batch) pieces
@@ -46,6 +47,7 @@ first_in (Some c) = c.first
 -- the pieces of any batch, twice, and for the longest frame.
 pub record IsGateway (g : Inside) : Type 0 where
   pub shape : IfSome g.shape IsShape
+  pub headers : IfSome g.shape (λ shape. HasHeaders g.to shape g.id g.headers)
   pub cut : IsCutFrom g.current g.pieces.items
   pub packets : first_in g.current + length g.pieces.items ≤ g.packets
   pub few : g.packets ≤ 65535 * g.batches

@@ -27,8 +27,9 @@ invariant_of-self-2 c =
     let most = presentable.count in
     record {
       shape = c.self.invariant.shape;
+      headers = c.self.invariant.headers;
       cut = record {
-        shape = is;
+        stream = record { shape = is; headers = rw c.in-Some.is at c.self.invariant.headers };
         presentable = presentable;
         size = shaped to shape batch fits;
         within = rw (c.swap.ensures.x_after, c.cut-block.ensures.cuts.cut) all;

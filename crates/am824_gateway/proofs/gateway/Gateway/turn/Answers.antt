@@ -4,7 +4,7 @@ use Rattle.am824_gateway.specs.declared.gateway.Current.{Current}
 use Rattle.am824_gateway.specs.Gateways.{Gating}
 use Rattle.am824_gateway.specs.Packets.{frames_from}
 use Rattle.am824_gateway.specs.state.Kept.{IsCut, frames_in}
-use Rattle.am824_gateway.proofs.GatewayLemmas.{begun, frame_at, in_time, known, turn_is, within_at}
+use Rattle.am824_gateway.proofs.GatewayLemmas.{begun, cut_one, frame_at, in_time, known, turn_is, within_at}
 use Rattle.am824_gateway.proofs.gateway.Gateway.turn.Goals as goal
 
 pub index-piece-requires : goal.index-piece-requires
@@ -23,13 +23,13 @@ instant-requires c =
     let within = within_at inside.current inside.pieces.items c.in-Some.current c.args.i p c.in-Some.is c.self.invariant.cut here c.index-piece.ensures in
     omega (arith, within.inside)
 
-pub frame_size-requires-clause-fits : goal.frame_size-requires-clause-fits
-frame_size-requires-clause-fits c =
+pub frame_size-requires : goal.frame_size-requires
+frame_size-requires c =
     let inside = c.self.inside in
     let asked = rw (← c.self.view_is) at c.requires in
     let here = known inside.current inside.pieces.items c.in-Some.current c.args.i c.in-Some.is asked in
-    let p = c.index-piece.result.now in
-    (within_at inside.current inside.pieces.items c.in-Some.current c.args.i p c.in-Some.is c.self.invariant.cut here c.index-piece.ensures).fits
+    let cut = cut_one inside.current inside.pieces.items c.in-Some.current c.args.i c.index-piece.result.now c.in-Some.is c.self.invariant.cut here c.index-piece.ensures in
+    record { stream = cut.stream; fits = cut.within.0.fits }
 
 pub arrival_of-requires : goal.arrival_of-requires
 arrival_of-requires c =

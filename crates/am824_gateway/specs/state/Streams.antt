@@ -1,0 +1,35 @@
+-- Kept for proofs: what the code's own parts hold and do. No clause of a public call rests on it.
+-- What the packets of a stream have in common.
+use Rattle.std.specs.Prelude.{◌≡◌, ℕ, ◌+◌, ◌*◌, ◌≤◌, pos, List, [], take}
+use Rattle.talk_plan.specs.Ethernet.{packet_bytes}
+use Rattle.am824_gateway.specs.declared.packet.Stream.{Stream}
+use Rattle.am824_gateway.specs.declared.piece.Piece.{Piece}
+use Rattle.am824_gateway.specs.declared.scan.Shape.{Shape}
+use Rattle.am824_gateway.specs.declared.scan.To.{To}
+use Rattle.am824_gateway.specs.declared.scan.To.TheVariants.{Aaf, Am824}
+use Rattle.am824_gateway.specs.Packets.{headers_of, packet_of}
+use Rattle.am824_gateway.specs.Pieces.{most_frames}
+use Rattle.am824_gateway.specs.Scan.{IsShape}
+
+-- a piece without samples
+abbrev pub no_samples : Piece
+no_samples = record { first = 0; count = 0; block = 0 }
+
+-- these bytes begin with the headers of a frame without samples
+abbrev pub HasHeaders : To → Shape → ℕ → List ℕ → Type 0
+HasHeaders to shape id headers = take (headers_of to) headers ≡ packet_bytes (packet_of to shape id 0 (pos 0) no_samples [])
+
+-- the length of a packet that carries a piece, after its stream header
+abbrev pub stated_of : To → Shape → Piece → ℕ
+stated_of Am824 shape p = 8 + p.count * (4 * shape.channels)
+stated_of Aaf shape p = p.count * (3 * shape.channels)
+
+-- The shape is one that both formats have, and the headers are those of the stream.
+pub record IsStream (s : Stream) : Type 0 where
+  pub shape : IsShape s.shape
+  pub headers : HasHeaders s.to s.shape s.id s.headers
+
+-- A packet of the stream can carry the piece.
+pub record Carries (s : Stream) (p : Piece) : Type 0 where
+  pub stream : IsStream s
+  pub fits : p.count ≤ most_frames s.to s.shape.channels
