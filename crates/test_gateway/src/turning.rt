@@ -102,6 +102,16 @@ fn check_lent(alloc: Global, gateway: &mut Gateway, i: u32) -> Result<(), Fail>
     Ok(())
 }
 
+/// Checks that the gateway gives the samples of a batch back.
+fn check_given_back(gateway: &mut Gateway, batch: &Batch) -> Result<(), Fail>
+    ensures { gateway.new.given ≡ gateway.old.given }
+{
+    match gateway.give_back() {
+        Some(samples) if samples.as_slice() == batch.bytes.as_slice() => Ok(()),
+        _ => Err(Fail::new("other samples are given back")),
+    }
+}
+
 /// Gives a batch to the gateway, and adds its frames or the reason why it is skipped.
 fn turn_batch(
     alloc: Global,
@@ -121,6 +131,7 @@ fn turn_batch(
             for i in 0..number {
                 turned.records.push(record_of(alloc, gateway, i)?)?;
             }
+            check_given_back(gateway, batch)?;
         }
         Err(skip) => {
             let frame = batch.frame;
