@@ -1,5 +1,5 @@
 -- Where a stream is among those that are tracked.
-use Rattle.std.proofs.Common.{◌≡◌, ℕ, Bool, true, List, Some, Option, refl, sym, ap, subst, ◌∙◌}
+use Rattle.std.proofs.Common.{◌≡◌, true, Some, Option, refl, sym, ap, subst}
 use Rattle.std.specs.Bool.{Decides}
 use Rattle.std.specs.Cmp.{IsEquivalence}
 use Rattle.std.specs.Option.{option_map_or}

@@ -1,13 +1,12 @@
 -- A packet of a stream that is tracked is noted where the stream is.
-use Rattle.std.proofs.Common.{◌≡◌, ℕ, ◌+◌, ◌≤◌, List, length, Some, Option, sym, ap, ◌∙◌, subst, arith}
+use Rattle.std.proofs.Common.{◌≡◌, List, Some, sym, ap, ◌∙◌, subst, arith}
 use Rattle.std.specs.List.{slice_get}
-use Rattle.std.specs.Map.{lookup}
 use Rattle.std.proofs.lemmas.Map.Entries.{lookup_from_place}
 use Rattle.indexmap.specs.IndexMap.{with_value_at}
 use Rattle.indexmap.proofs.CallerLemmas.{index_map_len-with_value_at, updates-with_value_at}
 use Rattle.sequence_track.specs.declared.stream.StreamKey.{StreamKey}
 use Rattle.sequence_track.specs.declared.stream.StreamState.{StreamState}
-use Rattle.sequence_track.specs.Findings.{same_stream, stream_of}
+use Rattle.sequence_track.specs.Findings.{stream_of}
 use Rattle.sequence_track.specs.Tracking.{StandsFor}
 use Rattle.sequence_track.proofs.Noted.{noted-known, found-known, Puts}
 use Rattle.sequence_track.proofs.Places.{key_same, same_equiv}
