@@ -88,6 +88,7 @@ fn checked_stream(packet: &Packet<'_>) -> Checked
 }
 
 /// The number of findings.
+#[inline(always)]
 pub fn count(findings: &Findings) -> u64
     ensures count { result ≡ length (finding_texts findings.now) }
     ensures few { result ≤ 5 }
