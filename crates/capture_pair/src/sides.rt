@@ -62,7 +62,8 @@ fn fill<S: Source>(source: &mut S, matching: &mut Matching, which: Which)
     }
     loop {
         let ended = source.has_ended();
-        let next = source.next_out();
+        let spent = matching.take_spent(which);
+        let next = source.next_out(spent);
         if !hand_on(matching, which, next, ended) {
             return;
         }

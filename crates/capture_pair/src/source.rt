@@ -4,6 +4,7 @@ ghost use Rattle.std.specs.Prelude.{◌≡◌, false};
 ghost use Rattle.listener.specs.Feeding.{is_ended};
 ghost use Rattle.listener.specs.Listening.{is_closed};
 
+use avtp_base::Bytes;
 use listener::{Listener, RecordListener};
 use sample_schedule::Shown;
 
@@ -26,8 +27,9 @@ pub trait Source {
     /// The most items that the listener can still show.
     ghost work: { Self → ℕ };
 
-    /// The next item that is shown of what was taken so far. Returns `None` exactly if all of that was shown.
-    fn next_out(&mut self) -> Option<Shown>
+    /// The next item that is shown of what was taken so far. Returns `None` exactly if all of that was shown. The listener uses
+    /// the memory of `spent` again.
+    fn next_out(&mut self, spent: Option<Bytes>) -> Option<Shown>
         ensures given { (taken : Taken) (list : List ShownValue) (n : ℕ) → shows self.old taken list n → result ≡ slice_get list n }
         ensures shows { (taken : Taken) (list : List ShownValue) (n : ℕ) → shows self.old taken list n → shows self.new taken list (n + length (option_to_list result)) }
         ensures quiet { IfNone result (is_quiet self.new) }
@@ -59,7 +61,10 @@ impl Source for RecordSource {
 
     ghost work = { λ s. work_of s.listener };
 
-    fn next_out(&mut self) -> Option<Shown> {
+    fn next_out(&mut self, spent: Option<Bytes>) -> Option<Shown> {
+        if let Some(samples) = spent {
+            self.listener.give_back(samples);
+        }
         self.listener.next_out()
     }
 
@@ -90,7 +95,10 @@ impl Source for ByteSource {
 
     ghost work = { λ s. work_of s.listener };
 
-    fn next_out(&mut self) -> Option<Shown> {
+    fn next_out(&mut self, spent: Option<Bytes>) -> Option<Shown> {
+        if let Some(samples) = spent {
+            self.listener.give_back(samples);
+        }
         self.listener.next_out()
     }
 
