@@ -49,7 +49,7 @@ use Rattle.avtp_tool.specs.Gateway.{batches_by, format_of, skipped_at, skipped_l
 use Rattle.avtp_tool.specs.Listen.{plan_of, shown_by}
 use Rattle.avtp_tool.specs.state.Hearing.{GoesOn, closed_at, heard_at, pull_at, read_end}
 use Rattle.avtp_tool.specs.state.Outcome.{KeepsSink, WritesWaiting}
-use Rattle.avtp_tool.specs.state.Turning.{HasHeard, HasPut, HoldsFirst, IsCutShort, IsToTurn, PutsBatch, Turns, TurnsTo, ended_turn, given_over, records_for, turned_as, wrote_all}
+use Rattle.avtp_tool.specs.state.Turning.{HasHeard, HasPut, HoldsFirst, IsCutShort, IsToTurn, PutsBatch, Turns, TurnsTo, ended_turn, given_back, given_over, records_for, turned_as, wrote_all}
 use Rattle.avtp_tool.proofs.HeardBeside.{IsHeard, ReadsAndWrites, batches_within, beside_none, beside_read, beside_written, heard_none, heard_on, heard_still, left_written, only_moves, presented_count, presented_flag, same_plan}
 use Rattle.avtp_tool.proofs.HeardTo.{all_heard}
 use Rattle.avtp_tool.proofs.Outcomes.{sink_err, sink_ok, sink_still, sink_then}
@@ -111,6 +111,17 @@ module _ {s t u : ShelfState} {old mid new : Output} {batches : List Presented} 
     holds = λ to shape id files name none held. one.frames refl to shape id batches files name (puts.put to shape id none) (puts.holds to shape id files name none held);
     lines = lines_one did.Done puts one;
   }
+
+-- the gateway keeps no piece of the last batch
+put_given_back : {to : To} {shape : Option Shape} {id : ℕ} {batches : List Presented} {o : Output} → HasPut to shape id batches o.gateway → HasPut to shape id batches (given_back o).gateway
+put_given_back has = record { to_is = has.to_is; shape_is = has.shape_is; id_is = has.id_is; given = has.given }
+
+puts_given_back : {s t : ShelfState} {old new : Output} {batches : List Presented} {before now : Option (List ℕ)} → PutsAll s t old new batches before now → PutsAll s t old (given_back new) batches before now
+puts_given_back {new = new} puts = record {
+  put = λ to shape id none. put_given_back {o = new} (puts.put to shape id none);
+  holds = puts.holds;
+  lines = puts.lines;
+}
 
 -- ---- between two items
 
@@ -200,6 +211,19 @@ module _ {s t : ShelfState} {first source : Sourcing} {fresh listener : ListenSt
           subst (IsHeard s u first source fresh listener stage) (sym (append-nil items)) still,
         );
     sink = sink_ok tt (sink_then so_far.sink one.sink);
+  }
+
+  -- the samples of a batch that was put were given back
+  pub so_far_given_back : {out' : SinkState} {waits'' : List ℕ} → IsPutSoFar s t first source fresh listener stage old new out out' waits waits'' []
+      → IsPutSoFar s t first source fresh listener stage old (given_back new) out out' waits waits'' []
+  so_far_given_back so_far = record {
+    plan = so_far.plan;
+    slot = so_far.slot;
+    beside = so_far.beside;
+    batches = so_far.batches;
+    puts = puts_given_back so_far.puts;
+    told = so_far.told;
+    sink = so_far.sink;
   }
 
 -- ---- a capture that was cut short

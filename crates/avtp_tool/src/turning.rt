@@ -9,7 +9,7 @@ ghost use Rattle.avtp_tool.specs.Gateway.{skip_name as skip_name_of, skipped_lin
 ghost use Rattle.avtp_tool.specs.state.Hearing.{IsAtReading};
 ghost use Rattle.avtp_tool.specs.state.Made.{WritesFrames};
 ghost use Rattle.avtp_tool.specs.state.Outcome.{WritesWaiting};
-ghost use Rattle.avtp_tool.specs.state.Turning.{AreOpenIn, PutsBatch, Turns, piece_bytes, turned_as};
+ghost use Rattle.avtp_tool.specs.state.Turning.{AreOpenIn, PutsBatch, Turns, given_back, piece_bytes, turned_as};
 
 use crate::ahead::write_waiting;
 use crate::hearing::{Heard, Hearing};
@@ -151,6 +151,18 @@ fn write_ahead<S: Sink>(hearing: &Hearing, text: &mut Text, out: &mut S) -> Resu
     }
 }
 
+/// Gives the samples whose packets were written back to the listener, which uses their memory again.
+fn give_back(hearing: &mut Hearing, output: &mut Output)
+    ensures source { hearing.new.source ≡ hearing.old.source }
+    ensures listener { hearing.new.listener ≡ hearing.old.listener }
+    ensures stage { hearing.new.stage ≡ hearing.old.stage }
+    ensures output { output.new ≡ given_back output.old }
+{
+    if let Some(samples) = output.gateway.give_back() {
+        hearing.listener.give_back(samples);
+    }
+}
+
 /// Converts each batch that is presented of a capture, as far as the capture can be read, and writes its packets.
 pub fn turn_records<F: Shelf, S: Sink>(
     hearing: &mut Hearing,
@@ -172,6 +184,7 @@ pub fn turn_records<F: Shelf, S: Sink>(
                     if let Put::Unwritten = output.put(batch, shelf, text, out)? {
                         return Ok(Turned::Unwritten);
                     }
+                    give_back(hearing, output);
                 }
                 Shown::Flag { .. } => {}
             },

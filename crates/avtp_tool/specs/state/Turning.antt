@@ -87,6 +87,12 @@ pub record PutsBatch (batch : Presented) (before after : ShelfState) (old new : 
   pub few : new.gateway.given.batches ≤ old.gateway.given.batches + 1
   pub sink : KeepsSink out out' result
 
+-- ---- samples that are given back
+
+-- the output once the samples of the last batch were given back: no piece of it is left
+abbrev pub given_back : Output → Output
+given_back o = record o { gateway = record o.gateway { frames = [] } }
+
 -- ---- a capture
 
 -- how far a capture was converted, given how far it was heard

@@ -5,7 +5,7 @@ use Rattle.avtp_tool.specs.state.Turning.{Turns}
 use Rattle.avtp_tool.proofs.HeardBeside.{still_open}
 use Rattle.avtp_tool.proofs.HearingTo.{reading_pull}
 use Rattle.avtp_tool.proofs.Leaving.{on_err}
-use Rattle.avtp_tool.proofs.TurningTo.{done_left, ended_pull, so_far_flagged, so_far_flushed, so_far_heard, so_far_none, so_far_put, still_made, turns_over, turns_unflushed, turns_unprinted, turns_unwritten}
+use Rattle.avtp_tool.proofs.TurningTo.{done_left, ended_pull, so_far_flagged, so_far_flushed, so_far_given_back, so_far_heard, so_far_none, so_far_put, still_made, turns_over, turns_unflushed, turns_unprinted, turns_unwritten}
 use Rattle.avtp_tool.proofs.turning.turn_records.Goals as goal
 
 pub loop-hearing-init : goal.loop-hearing-init
@@ -46,17 +46,18 @@ returns-in-Unwritten g c =
     turns_unwritten c.requires.none c.next.new.self.sound.closed (rw c.in-Unwritten.is at c.in_ok-put-in-Present.ensures) heard
 
 pub loop-hearing-smaller-in_default-2 : goal.loop-hearing-smaller-in_default-2
-loop-hearing-smaller-in_default-2 g c = omega (arith, c.in-Item.ensures.on.left)
+loop-hearing-smaller-in_default-2 g c = let back = c.give_back.ensures in rw (back.listener, back.stage, back.source) (omega (arith, c.in-Item.ensures.on.left))
 
 pub loop-hearing-preserved-in_default-2 : goal.loop-hearing-preserved-in_default-2
 loop-hearing-preserved-in_default-2 g c =
     let before = c.loop-hearing.invariant in
     let next = rw c.in-Present.is at c.in-Item.ensures in
     let put = rw (done_left _ c.in_default-2.not-Unwritten) at c.in_ok-put-in-Present.ensures in
-    record {
+    let back = c.give_back.ensures in
+    rw (back.output, back.listener, back.stage, back.source) record {
       going = next.ended;
       few = omega (arith, before.few, next.on.left, put.few);
-      so_far = so_far_put put (so_far_heard c.requires.open.apart next.on (so_far_flushed c.in_ok-write_ahead.ensures before.so_far));
+      so_far = so_far_given_back (so_far_put put (so_far_heard c.requires.open.apart next.on (so_far_flushed c.in_ok-write_ahead.ensures before.so_far)));
     }
 
 pub loop-hearing-smaller : goal.loop-hearing-smaller
