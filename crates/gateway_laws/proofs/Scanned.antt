@@ -74,7 +74,7 @@ record IsTurnable (to : To) (shape : Shape) (id : ℕ) (bytes : List ℕ) : Type
   more : content_fault (other to) (Some shape) (content id bytes) ≡ None
   found : shape_after None (content id bytes) ≡ Some shape
 
-no_row : (w r e m c l : Bool) → w ≡ true → r ≡ false → e ≡ true → m ≡ false → c ≡ true → l ≡ true → first_of (row Kind false ∷ row Format (not w) ∷ row Rate (r || not e) ∷ row Channels (m || not c) ∷ row Label (not l) ∷ []) ≡ None
+pub no_row : (w r e m c l : Bool) → w ≡ true → r ≡ false → e ≡ true → m ≡ false → c ≡ true → l ≡ true → first_of (row Kind false ∷ row Format (not w) ∷ row Rate (r || not e) ∷ row Channels (m || not c) ∷ row Label (not l) ∷ []) ≡ None
 no_row w r e m c l is_w is_r is_e is_m is_c is_l = rw (is_w, is_r, is_e, is_m, is_c, is_l) refl
 
 -- the tests of a shape
@@ -93,7 +93,7 @@ tests shape is =
     known None some = absurd cc
     known (Some code) some = refl
 
-of_pcm : (subtype : ℕ) (packet : List ℕ) → subtype ≡ aaf_subtype → packet_content (record { subtype = subtype; bytes = packet }) ≡ pcm_content (aaf_refusal packet) (aaf_of packet)
+pub of_pcm : (subtype : ℕ) (packet : List ℕ) → subtype ≡ aaf_subtype → packet_content (record { subtype = subtype; bytes = packet }) ≡ pcm_content (aaf_refusal packet) (aaf_of packet)
 of_pcm subtype packet is = rw is refl
 
 of_am824 : (subtype : ℕ) (packet : List ℕ) → subtype ≡ iec_subtype → packet_content (record { subtype = subtype; bytes = packet }) ≡ am824_content (iec_refusal packet) (iec_of packet)

@@ -1,6 +1,6 @@
 -- A scan finds no fault in PCM of 24 bits that a talker sent.
 use Rattle.std.proofs.Common.{◌≡◌, ℕ, suc, ◌+◌, ◌<◌, ◌≤◌, Bool, true, false, pos, List, [], ◌∷◌, Option, Some, None, IsSome, refl, sym, ap, subst, ◌∙◌, eq-eqb, arith}
-use Rattle.std.specs.Prelude.{◌==◌, ◌&&◌, ◌||◌, IfSome, cond, filter, is_none, map, nat_lt, not}
+use Rattle.std.specs.Prelude.{◌==◌, ◌&&◌, ◌||◌, IfSome, cond, filter, is_none, map, nat_lt}
 use Rattle.std.specs.List.{enumerate_from}
 use Rattle.std.proofs.lemmas.Bool.Decides.{nat_tests}
 use Rattle.avtp_base.specs.declared.refusal.Refusal.{Refusal}
@@ -14,11 +14,11 @@ use Rattle.packet_journal.specs.Deliveries.{belongs, delivery, is_delivered, pac
 use Rattle.packet_journal.specs.Delivered.{AreFrom, Delivers, OfClock, OfStream, Origin, Spells}
 use Rattle.packet_journal.specs.Packets.{IsConforming, PacketJournal, Pcm}
 use Rattle.listener.specs.Streams.{stream_packet}
-use Rattle.am824_gateway.specs.declared.scan.ScanFault.TheVariants.{Kind, Format, Rate, Channels, Label}
 use Rattle.am824_gateway.specs.declared.scan.Shape.{Shape}
 use Rattle.am824_gateway.specs.declared.scan.To.TheVariants.{Am824}
 use Rattle.am824_gateway.specs.Content.{content, has_24_bits, packet_content, pcm_content}
-use Rattle.am824_gateway.specs.Scan.{content_fault, fault_from, first_fault, first_of, row, shape_after}
+use Rattle.am824_gateway.specs.Scan.{content_fault, fault_from, first_fault, shape_after}
+use Rattle.gateway_laws.proofs.Scanned.{no_row, of_pcm}
 use Rattle.talk_plan.specs.declared.plan.TalkKind.{TalkKind}
 use Rattle.talk_plan.specs.declared.plan.TalkKind.TheVariants.{Aaf, Am824 as TalkAm824, H264}
 use Rattle.talk_plan.specs.declared.plan.TalkPlan.{TalkPlan}
@@ -57,9 +57,6 @@ silent_by (H264 last_stamp) plan input none = rw none refl
 
 -- ---- what a scan makes of a copy
 
-of_pcm : (subtype : ℕ) (packet : List ℕ) → subtype ≡ aaf_subtype → packet_content (record { subtype = subtype; bytes = packet }) ≡ pcm_content (aaf_refusal packet) (aaf_of packet)
-of_pcm subtype packet is = rw is refl
-
 content_of_copy : (stream : ℕ) (bytes : List ℕ) (v : AafPacket) → belongs stream_kinds stream bytes ≡ true → IsWritableAaf v → Fits aaf_layout v → Spells (aaf_spelling v) (packet_in bytes) → content stream bytes ≡ pcm_content None (plain_aaf v)
 content_of_copy stream bytes v here writable fits s =
     let read : SpellsAaf (packet_in bytes) (plain_aaf v) = rw s.whole (aaf_again v s.trail writable fits) in
@@ -69,9 +66,6 @@ content_of_copy stream bytes v here writable fits s =
     belonging
     ∙ (of_pcm (peeked_of (packet_in bytes)).subtype (packet_in bytes) subtype
     ∙ (ap (λ (o : Option Refusal). pcm_content o (aaf_of (packet_in bytes))) read.accepted ∙ ap (pcm_content None) (sym same)))
-
-no_row : (w r e m c : Bool) → w ≡ true → r ≡ false → e ≡ true → m ≡ false → c ≡ true → first_of (row Kind false ∷ row Format (not w) ∷ row Rate (r || not e) ∷ row Channels (m || not c) ∷ row Label false ∷ []) ≡ None
-no_row w r e m c is_w is_r is_e is_m is_c = rw (is_w, is_r, is_e, is_m, is_c) refl
 
 named : (o : Option ℕ) → IsSome o → is_none o ≡ false
 named None some = absurd cc
@@ -96,8 +90,8 @@ module _ (plan : TalkPlan) (rate : IsSome (fdf_of plan.rate)) (most : plan.chann
 
   no_fault : (p : PacketJournal) (n : ℕ) (first : Option Shape) → (w : IsWhole plan p n) → IfSome first (λ s. s ≡ record { rate = plan.rate; channels = plan.channels })
       → content_fault Am824 first (pcm_content None (plain_aaf w.v)) ≡ None
-  no_fault p n None w known = rw (w.rate, w.count, some_samples) (no_row _ _ _ _ _ w.whole (named (fdf_of plan.rate) rate) same_rate (rw w.channels few_channels) (rw w.channels same_channels))
-  no_fault p n (Some s) w known = rw (known, w.rate, w.count, some_samples) (no_row _ _ _ _ _ w.whole (named (fdf_of plan.rate) rate) same_rate (rw w.channels few_channels) (rw w.channels same_channels))
+  no_fault p n None w known = rw (w.rate, w.count, some_samples) (no_row _ _ _ _ _ true w.whole (named (fdf_of plan.rate) rate) same_rate (rw w.channels few_channels) (rw w.channels same_channels) refl)
+  no_fault p n (Some s) w known = rw (known, w.rate, w.count, some_samples) (no_row _ _ _ _ _ true w.whole (named (fdf_of plan.rate) rate) same_rate (rw w.channels few_channels) (rw w.channels same_channels) refl)
 
   one_shape : (p : PacketJournal) (n : ℕ) (first : Option Shape) → (w : IsWhole plan p n) → IfSome first (λ s. s ≡ record { rate = plan.rate; channels = plan.channels })
       → IfSome (shape_after first (pcm_content None (plain_aaf w.v))) (λ s. s ≡ record { rate = plan.rate; channels = plan.channels })
