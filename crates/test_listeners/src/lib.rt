@@ -24,6 +24,8 @@ mod hearing;
 #[cfg(test)]
 mod instants;
 #[cfg(test)]
+mod memory;
+#[cfg(test)]
 mod outcomes;
 #[cfg(test)]
 mod packets;
