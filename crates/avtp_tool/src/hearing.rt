@@ -4,7 +4,7 @@ ghost use Rattle.std.specs.Prelude.{◌≡◌, ◌<◌, [], MatchResult, None, f
 ghost use Rattle.listener.specs.Listening.{IsIdle, is_closed};
 ghost use Rattle.avtp_tool.specs.state.Hearing.{ClosesAt, GivesPull, GoesOn, IsGoing, IsAtReading, IsSoundAt, heard_at, pull_at, pull_with, reads_left};
 
-use avtp_base::NoMemory;
+use avtp_base::{Bytes, NoMemory};
 use avtp_files::Shelf;
 use capture_io::{End, Source};
 use listener::{Counts, RecordListener};
@@ -96,6 +96,16 @@ impl Hearing {
             Stage::Reading => self.source.must_read(),
             _ => false,
         }
+    }
+
+    /// Gets back the samples of an item that was presented. They are dropped in the thread that takes memory for the next ones,
+    /// where the allocator finds it again at once.
+    pub fn take_back(&mut self, samples: Bytes)
+        ensures source { self.new.source ≡ self.old.source }
+        ensures listener { self.new.listener ≡ self.old.listener }
+        ensures stage { self.new.stage ≡ self.old.stage }
+    {
+        drop(samples);
     }
 
     /// Reads the next record and gives it to the listener, or ends the reading. No item may be due of the records before.

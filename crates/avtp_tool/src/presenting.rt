@@ -33,13 +33,13 @@ impl<'a, S: Sink + Send, D: Devices + Send> Presenter for Presenting<'a, S, D> {
 
     ghost faults = { λ presenting. failures presenting.result };
 
-    fn present(&mut self, shown: Shown) -> Result<(), Failed> {
+    fn present(&mut self, shown: &Shown) -> Result<(), Failed> {
         if self.result.is_err() {
             return Ok(());
         }
-        self.result = self.text.shown(self.out, &shown);
+        self.result = self.text.shown(self.out, shown);
         self.result?;
-        hand(self.rack, &shown);
+        hand(self.rack, shown);
         Ok(())
     }
 

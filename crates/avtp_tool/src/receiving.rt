@@ -1,6 +1,7 @@
 //! The receiver's side of `listen`.
 
 use crate::hearing::Hearing;
+use avtp_base::Bytes;
 use avtp_files::Shelf;
 use presenter_ring::{Pull, Receiver};
 
@@ -31,5 +32,9 @@ impl<'a, F: Shelf + Send> Receiver for Receiving<'a, F> {
 
     fn may_wait(&self) -> bool {
         self.hearing.may_wait()
+    }
+
+    fn take_back(&mut self, samples: Bytes) {
+        self.hearing.take_back(samples);
     }
 }

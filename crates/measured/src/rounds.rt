@@ -55,7 +55,7 @@ impl Presenter for Counted {
 
     ghost faults = { λ counted. 0 };
 
-    fn present(&mut self, _shown: Shown) -> Result<(), Failed> {
+    fn present(&mut self, _shown: &Shown) -> Result<(), Failed> {
         self.items = self.items.saturating_add(1);
         Ok(())
     }

@@ -100,9 +100,9 @@ fn present<P: Presenter>(
     ensures handed { (begun : P) (items : List ShownValue) → P.handed begun presenter.old items → P.handed begun presenter.new (items ++ shown ∷ []) }
     ensures counted { IsCounted (P.faults presenter.old) (P.faults presenter.new) result }
 {
-    presenter.present(shown)?;
-    if let Some(spent) = presenter.give_back() {
-        let _ = samples.push(spent);
+    presenter.present(&shown)?;
+    if let Shown::Present(batch) = shown {
+        let _ = samples.push(batch.bytes);
     }
     Ok(())
 }

@@ -136,7 +136,7 @@ impl Pipe {
     {
         match self.front.hand.take() {
             Some(shown) => {
-                presenter.present(shown)?;
+                presenter.present(&shown)?;
                 presenter.pause()
             }
             None => Ok(()),

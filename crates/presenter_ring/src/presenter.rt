@@ -3,7 +3,7 @@
 ghost use Rattle.std.specs.Prelude.{◌≡◌, ◌++◌, [], ◌∷◌};
 ghost use Rattle.avtp_base.specs.Faults.{IsCounted};
 
-use avtp_base::{Bytes, Failed};
+use avtp_base::Failed;
 use sample_schedule::Shown;
 
 /// Takes items one at a time, and counts its faults.
@@ -18,8 +18,8 @@ pub trait Presenter: Send {
     ghost faults: { Self → ℕ };
 
     /// Presents an item. Returns `Failed` only if the count of faults rose; even then the item counts as presented.
-    fn present(&mut self, shown: Shown) -> Result<(), Failed>
-        ensures handed { (begun : Self) (items : List ShownValue) → handed begun self.old items → handed begun self.new (items ++ shown ∷ []) }
+    fn present(&mut self, shown: &Shown) -> Result<(), Failed>
+        ensures handed { (begun : Self) (items : List ShownValue) → handed begun self.old items → handed begun self.new (items ++ shown.now ∷ []) }
         ensures counted { IsCounted (faults self.old) (faults self.new) result };
 
     /// Called when there is nothing more to present for now. A presenter that keeps output back should show it here. Returns
@@ -29,13 +29,5 @@ pub trait Presenter: Send {
         ensures counted { IsCounted (faults self.old) (faults self.new) result }
     {
         Ok(())
-    }
-
-    /// The samples of the item that was presented last, if they were kept and are not needed any more.
-    fn give_back(&mut self) -> Option<Bytes>
-        ensures handed { (begun : Self) (items : List ShownValue) → handed begun self.old items → handed begun self.new items }
-        ensures faults { faults self.new ≡ faults self.old }
-    {
-        None
     }
 }

@@ -88,8 +88,8 @@ impl Presenter for SoakCounts {
 
     ghost faults = { λ _. 0 };
 
-    fn present(&mut self, shown: Shown) -> Result<(), Failed> {
-        *self = self.with_shown(&shown);
+    fn present(&mut self, shown: &Shown) -> Result<(), Failed> {
+        *self = self.with_shown(shown);
         Ok(())
     }
 }

@@ -56,9 +56,9 @@ impl Presenter for Counted {
 
     ghost faults = { λ counted. counted.faults };
 
-    fn present(&mut self, shown: Shown) -> Result<(), Failed> {
+    fn present(&mut self, shown: &Shown) -> Result<(), Failed> {
         self.items = self.items.saturating_add(1);
-        if frame_of(&shown) != self.items {
+        if frame_of(shown) != self.items {
             self.out_of_order = self.out_of_order.saturating_add(1);
         }
         if self.items == self.fails_at {

@@ -6,4 +6,4 @@ use Rattle.soak_run.proofs.counts.SoakCountsPresenter.present.Goals as goal
 
 pub returns-clause-handed : goal.returns-clause-handed
 returns-clause-handed c begun items handed =
-    c.with_shown.ensures ∙ ap (λ (counts : SoakCounts). with_shown counts c.args.shown) handed ∙ sym (with_all_append begun items (c.args.shown ∷ []))
+    c.with_shown.ensures ∙ ap (λ (counts : SoakCounts). with_shown counts c.args.shown.now) handed ∙ sym (with_all_append begun items (c.args.shown.now ∷ []))
