@@ -98,14 +98,13 @@ impl Hearing {
         }
     }
 
-    /// Gets back the samples of an item that was presented. They are dropped in the thread that takes memory for the next ones,
-    /// where the allocator finds it again at once.
+    /// Gives the samples of an item that was presented back to the listener, which uses their memory again.
     pub fn take_back(&mut self, samples: Bytes)
         ensures source { self.new.source ≡ self.old.source }
         ensures listener { self.new.listener ≡ self.old.listener }
         ensures stage { self.new.stage ≡ self.old.stage }
     {
-        drop(samples);
+        self.listener.give_back(samples);
     }
 
     /// Reads the next record and gives it to the listener, or ends the reading. No item may be due of the records before.
