@@ -1,3 +1,4 @@
+pub mod Sources
 pub mod Pairing
 pub mod Feeding
 pub mod state

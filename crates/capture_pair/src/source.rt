@@ -13,7 +13,7 @@ pub trait Source {
     ghost use Rattle.std.specs.Prelude.{◌≡◌, ◌+◌, ◌≤◌, List, ℕ, IfNone, length, slice_get};
     ghost use Rattle.std.specs.Option.{option_to_list};
     ghost use Rattle.sample_schedule.specs.declared.shown.Shown.{Shown as ShownValue};
-    ghost use Rattle.capture_pair.specs.state.Sources.{Kept, Taken};
+    ghost use Rattle.capture_pair.specs.Sources.{Kept, Taken};
 
     /// The listener took this, shows this list of it, and has shown this many items of the list.
     ghost shows: { Self → Taken → List ShownValue → ℕ → Type 0 };

@@ -56,7 +56,7 @@ impl Pair {
 
     /// The instant that is one period after the later point.
     #[tactic(auto, using(crate::proofs::LineFacts::most_period))]
-    pub fn end(&self) -> i64
+    pub(crate) fn end(&self) -> i64
         requires { IsPair self.now }
         ensures { result ≡ self.now.later +ℤ pos (period_of self.now) }
     {
@@ -64,7 +64,7 @@ impl Pair {
     }
 
     /// The longest period that a joined pair of this clock has.
-    pub fn longest_period(&self) -> u64
+    pub(crate) fn longest_period(&self) -> u64
         requires { IsSmall self.now }
         ensures value { (d : ℕ) → 8 * (d * self.now.up) ≤ 9 * nominal_of self.now → d ≤ result }
         ensures within { result < 2 ^ 60 }

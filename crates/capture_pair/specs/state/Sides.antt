@@ -11,7 +11,7 @@ use Rattle.listener_pair.specs.declared.difference.Which.TheVariants.{A, B}
 use Rattle.listener_pair.specs.Merged.{IsInOrder}
 use Rattle.listener_pair.specs.Matching.{MatchingState, ended_by, given_to, wanted}
 use Rattle.capture_pair.specs.Pairing.{Matches}
-pub use Rattle.capture_pair.specs.state.Sources.{Kept, OfBytes, OfRecords, Taken}
+pub use Rattle.capture_pair.specs.Sources.{Kept, OfBytes, OfRecords, Taken}
 
 -- ---- a listener
 

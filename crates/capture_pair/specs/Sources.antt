@@ -1,4 +1,3 @@
--- Kept for proofs: what the code's own parts hold and do. No clause of a public call rests on it.
 -- A listener as one side of a pair: what it has taken, and what stays while it is asked for what it shows.
 use Rattle.std.specs.Prelude.{ℕ, Bool, List, Option}
 use Rattle.pcap_frames.specs.Capture.{Record}
