@@ -113,12 +113,12 @@ module _ {s t u : ShelfState} {old mid new : Output} {batches : List Presented} 
   }
 
 -- the gateway keeps no piece of the last batch
-put_given_back : {to : To} {shape : Option Shape} {id : ℕ} {batches : List Presented} {o : Output} → HasPut to shape id batches o.gateway → HasPut to shape id batches (given_back o).gateway
-put_given_back has = record { to_is = has.to_is; shape_is = has.shape_is; id_is = has.id_is; given = has.given }
+put_given_back : {to : To} {shape : Option Shape} {id : ℕ} {batches : List Presented} (o : Output) → HasPut to shape id batches o.gateway → HasPut to shape id batches (given_back o).gateway
+put_given_back o has = record { to_is = has.to_is; shape_is = has.shape_is; id_is = has.id_is; given = has.given }
 
 puts_given_back : {s t : ShelfState} {old new : Output} {batches : List Presented} {before now : Option (List ℕ)} → PutsAll s t old new batches before now → PutsAll s t old (given_back new) batches before now
 puts_given_back {new = new} puts = record {
-  put = λ to shape id none. put_given_back {o = new} (puts.put to shape id none);
+  put = λ to shape id none. put_given_back new (puts.put to shape id none);
   holds = puts.holds;
   lines = puts.lines;
 }
@@ -214,8 +214,8 @@ module _ {s t : ShelfState} {first source : Sourcing} {fresh listener : ListenSt
   }
 
   -- the samples of a batch that was put were given back
-  pub so_far_given_back : {out' : SinkState} {waits'' : List ℕ} → IsPutSoFar s t first source fresh listener stage old new out out' waits waits'' []
-      → IsPutSoFar s t first source fresh listener stage old (given_back new) out out' waits waits'' []
+  pub so_far_given_back : IsPutSoFar s t first source fresh listener stage old new out mid waits waits' []
+      → IsPutSoFar s t first source fresh listener stage old (given_back new) out mid waits waits' []
   so_far_given_back so_far = record {
     plan = so_far.plan;
     slot = so_far.slot;

@@ -45,11 +45,11 @@ returns-in-Unwritten g c =
     let heard = so_far_heard c.requires.open.apart next.on (so_far_flushed c.in_ok-write_ahead.ensures c.loop-hearing.invariant.so_far) in
     turns_unwritten c.requires.none c.next.new.self.sound.closed (rw c.in-Unwritten.is at c.in_ok-put-in-Present.ensures) heard
 
-pub loop-hearing-smaller-in_default-2 : goal.loop-hearing-smaller-in_default-2
-loop-hearing-smaller-in_default-2 g c = let back = c.give_back.ensures in rw (back.listener, back.stage, back.source) (omega (arith, c.in-Item.ensures.on.left))
+pub loop-hearing-smaller-in-Present : goal.loop-hearing-smaller-in-Present
+loop-hearing-smaller-in-Present g c = let back = c.give_back.ensures in rw (back.listener, back.stage, back.source) (omega (arith, c.in-Item.ensures.on.left))
 
-pub loop-hearing-preserved-in_default-2 : goal.loop-hearing-preserved-in_default-2
-loop-hearing-preserved-in_default-2 g c =
+pub loop-hearing-preserved-in-Present : goal.loop-hearing-preserved-in-Present
+loop-hearing-preserved-in-Present g c =
     let before = c.loop-hearing.invariant in
     let next = rw c.in-Present.is at c.in-Item.ensures in
     let put = rw (done_left _ c.in_default-2.not-Unwritten) at c.in_ok-put-in-Present.ensures in
