@@ -24,8 +24,6 @@ mod hearing;
 #[cfg(test)]
 mod instants;
 #[cfg(test)]
-mod memory;
-#[cfg(test)]
 mod outcomes;
 #[cfg(test)]
 mod packets;
