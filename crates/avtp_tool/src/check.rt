@@ -130,7 +130,6 @@ fn of_unmarked(reserved: bool) -> Findings
 }
 
 /// Prints a line for each finding in a packet. Returns how many findings there are.
-#[inline(always)]
 fn print_findings<S: Sink>(
     text: &mut Text,
     out: &mut S,

@@ -49,23 +49,12 @@ fn checked_packet(frame: &FrameView<'_>) -> Checked
     requires { frame.now.start < 2 ^ 32 }
     ensures { result ≡ checked_packet_of frame.now.start frame.now.payload.now }
 {
-    // PCM has code of its own, in which its fields stay in registers.
     match read_packet(frame.payload) {
         Err(refusal) => Checked::Malformed(in_frame(frame, refusal)),
-        Ok(Packet::Aaf(view)) => checked_stream(&Packet::Aaf(view)),
-        Ok(packet) => checked_other(&packet),
+        Ok(packet) => checked_stream(&packet),
     }
 }
 
-/// Reads a packet of another format than PCM.
-#[inline(never)]
-fn checked_other(packet: &Packet<'_>) -> Checked
-    ensures { result ≡ checked_stream_of (stream_of_packet (packet_shape packet.now)) (packet_shape packet.now) }
-{
-    checked_stream(packet)
-}
-
-#[inline(always)]
 fn checked_stream(packet: &Packet<'_>) -> Checked
     ensures { result ≡ checked_stream_of (stream_of_packet (packet_shape packet.now)) (packet_shape packet.now) }
 {
@@ -88,7 +77,6 @@ fn checked_stream(packet: &Packet<'_>) -> Checked
 }
 
 /// The number of findings.
-#[inline(always)]
 pub fn count(findings: &Findings) -> u64
     ensures count { result ≡ length (finding_texts findings.now) }
     ensures few { result ≤ 5 }

@@ -1,3 +1,2 @@
 mod Streams
 mod Noted
-mod Places

@@ -1,5 +1,5 @@
 -- What a tracker keeps of the packets that it noted.
-use Rattle.std.specs.Prelude.{◌≡◌, ℕ, nat_lt, min, if◌then◌else◌, List, [], ◌∷◌, length, slice_get, Option, Some, None}
+use Rattle.std.specs.Prelude.{◌≡◌, ℕ, nat_lt, min, if◌then◌else◌, List, [], ◌∷◌, length, Option, Some, None}
 use Rattle.std.specs.Map.{lookup}
 use Rattle.sequence_track.specs.declared.seen.Seen.{Seen}
 use Rattle.sequence_track.specs.declared.stream.StreamKey.{StreamKey}
@@ -27,7 +27,3 @@ kept_of notes stream = if is_tracked stream notes then state_of (recent stream n
 pub record StandsFor (tracker : List (StreamKey × StreamState)) (notes : List Seen) : Type 0 where
   pub states : (stream : StreamKey) → lookup (same_stream stream) tracker ≡ kept_of notes stream
   pub count : length tracker ≡ length (tracked notes)
-
--- a state is kept for the stream at this place
-abbrev pub IsAt : StreamKey → ℕ → List (StreamKey × StreamState) → Type 0
-IsAt stream place tracker = (state : StreamState) × (slice_get tracker place ≡ Some (stream, state))
