@@ -1,4 +1,4 @@
--- Each packet of the stream is shown once and those of the clock never, so the counts add up.
+-- Each packet of the stream is shown once, and packets of the clock never, so the counts add up.
 use Rattle.std.proofs.Common.{◌≡◌, ℕ, zero, suc, ◌+◌, ◌-◌, ◌≤◌, Bool, true, false, List, [], ◌∷◌, All, length, Option, Some, None, refl, sym, ap, ◌∙◌, arith, take_all, inl, inr}
 use Rattle.std.specs.Prelude.{⊤, ◌==◌, ◌||◌, if◌then◌else◌, count_by, slice_get, take, map, filter}
 use Rattle.std.specs.List.{enumerate_from, list_any}
@@ -42,7 +42,7 @@ items-next [] (suc n) = refl
 items-next (e ∷ es) zero = omega (arith, count-next is_item e [], due-one e)
 items-next (e ∷ es) (suc n) = omega (arith, count-next is_item e (take (suc n) es), count-next is_item e (take n es), items-next es n)
 
--- the number of items shown of the first places is the number of items among them
+-- if each item is shown once, as many of the first `n` entries are shown as there are items among them
 each-below : (n : ℕ) (es : List Entry) (gs : List Given) → ((i : ℕ) → count_by (at i) gs ≡ times_due (slice_get es i)) → count_by (below n) gs ≡ count_by is_item (take n es)
 each-below zero es gs each = none-below gs
 each-below (suc n) es gs each = omega (arith, below-next n gs, each-below n es gs each, each n, items-next es n)
@@ -71,7 +71,6 @@ made xs = map (λ numbered. delivery numbered.0 numbered.1) xs
 abbrev kept : ℕ → Option ℕ → List (ℕ × Record) → List (ℕ × Record)
 kept stream clock xs = filter (λ numbered. is_delivered stream clock numbered.1.bytes) xs
 
--- the subtype that a record is judged by
 abbrev subtype_in : Record → ℕ
 subtype_in r = (peeked_of (packet_in r.bytes)).subtype
 
@@ -104,7 +103,6 @@ clock_kind : (clock : Option ℕ) (r : Record) → belongs_to_clock clock r.byte
 clock_kind None r e = absurd cc
 clock_kind (Some id) r e = is_crf (subtype_in r) (of_kind clock_kinds id r e)
 
--- a record adds one to the count of the stream's records if it belongs to the stream
 one_counted : (stream : ℕ) (clock : Option ℕ) (i : ℕ) (r : Record) (rest : List (ℕ × Record)) (a b : Bool) → belongs stream_kinds stream r.bytes ≡ a → belongs_to_clock clock r.bytes ≡ b
     → count_by is_streamed (made (if a || b then (i, r) ∷ rest else rest)) ≡ counted a + count_by is_streamed (made rest)
 one_counted stream clock i r rest true b e f =
@@ -126,9 +124,10 @@ streamed-counted stream clock i (r ∷ records) =
     ∙ (ap (λ (n : ℕ). counted (belongs stream_kinds stream r.bytes) + n) (streamed-counted stream clock (i + 1) records)
     ∙ sym (one_long i r (kept stream None (enumerate_from (i + 1) records)) (belongs stream_kinds stream r.bytes)))
 
--- ---- each delivery of the stream is an item, or a fragment before the last of a unit
+-- ---- each delivery of the stream is an item, or a fragment of a unit before its last
 
--- The sources of an item that belong to the stream are its last delivery and those before it. A packet of the clock has none.
+-- Of an item's sources, those that belong to the stream are its last delivery and the earlier ones. A packet of the
+-- clock has none.
 record IsWeighed (m : MadeItem) : Type 0 where
   weight : count_by is_streamed (sources m) ≡ counted (is_item m.entry) + length m.earlier
 

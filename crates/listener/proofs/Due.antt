@@ -21,7 +21,6 @@ numbered_more : {X : Type 0} (n : ℕ) (xs ys : List X) → (rest : List (ℕ ×
 numbered_more {X} n [] ys = (enumerate_from n ys, refl)
 numbered_more {X} n (x ∷ xs) ys = let more = numbered_more (n + 1) xs ys in (more.0, ap {B = List (ℕ × X)} (λ t. (n, x) ∷ t) more.1)
 
--- the deliveries of a longer list of records begin with those of a shorter
 pub deliveries_more : (plan : ListenPlan) (records others : List Record) → (rest : List Delivery) × (deliveries_of plan (records ++ others) ≡ deliveries_of plan records ++ rest)
 deliveries_more plan records others =
     let more = numbered_more 1 records others in
@@ -33,7 +32,6 @@ deliveries_more plan records others =
           ∙ map-append make (filter test (enumerate_from 1 records)) (filter test more.0),
     )
 
--- the entries of a longer list of records begin with those of a shorter
 pub entries_more : (plan : ListenPlan) (records others : List Record) → (rest : List Entry) × (entries_so_far_in plan (records ++ others) ≡ entries_so_far_in plan records ++ rest)
 entries_more plan records others =
     let more = deliveries_more plan records others in
@@ -49,14 +47,14 @@ due_stays plan records others =
     let more = entries_more plan records others in
     subst (λ (es : List Entry). IsPrefix (due_of plan records) (due clock_spot (schedule_plan plan) es)) (sym more.1) (due-grows clock_spot (schedule_plan plan) (entries_so_far_in plan records) more.0)
 
--- what is due of entries is the beginning of what is shown of these and more entries
+-- what is due of `es` is a prefix of what is shown of `es ++ more`
 pub first_of_more : (plan : SchedulePlan) (es more : List Entry) → IsPrefix (due clock_spot plan es) (shown clock_spot plan (es ++ more))
 first_of_more plan es more =
     let a = due-grows clock_spot plan es more in
     let b = due-first clock_spot plan (es ++ more) in
     (a.0 ++ b.0, sym (append_assoc (due clock_spot plan es) a.0 b.0) ∙ (ap (λ (l : List Shown). l ++ b.0) a.1 ∙ b.1))
 
--- once a list has ended, its entries are those so far, and then those that only the end gives up
+-- the entries of a list that has ended are those so far, then those of the fragments that only the end gives up
 pub entries_at_end : (plan : ListenPlan) (records : List Record) → entries_in plan records ≡ entries_so_far_in plan records ++ map made_entry (left_at_end (deliveries_of plan records))
 entries_at_end plan records = map-append made_entry (items_so_far (deliveries_of plan records)) (left_at_end (deliveries_of plan records))
 
@@ -65,7 +63,6 @@ due_first plan records =
     subst (λ (es : List Entry). IsPrefix (due_of plan records) (shown clock_spot (schedule_plan plan) es)) (sym (entries_at_end plan records))
     (first_of_more (schedule_plan plan) (entries_so_far_in plan records) (map made_entry (left_at_end (deliveries_of plan records))))
 
--- nothing is due of no records
 pub due_none : (plan : ListenPlan) → due_of plan [] ≡ []
 unfolding steps
 due_none plan = rw (none_settled plan.look) refl

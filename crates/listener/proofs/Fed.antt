@@ -1,4 +1,4 @@
--- A listener that is fed: its state after a piece of a capture and after each item that it gives.
+-- A listener that is fed bytes: its state after a piece of a capture and after each item that it returns.
 use Rattle.std.proofs.Common.{◌≡◌, ◌↔◌, ◌⊎◌, inl, inr, ℕ, zero, suc, ◌+◌, ◌-◌, ◌<◌, ◌≤◌, Bool, true, false, List, [], ◌∷◌, ◌++◌, length, take, Option, Some, None, IsSome, refl, sym, ap, ◌∙◌, subst, arith, append-nil, append_assoc, length-append}
 use Rattle.std.specs.Prelude.{IfNone, IfSome, Result, Ok, Err, slice_get}
 use Rattle.std.specs.Option.{option_to_list}
@@ -31,12 +31,11 @@ pub if_none : {X P : Type 0} (o : Option X) → IfNone o P → o ≡ None → P
 if_none None p e = p
 if_none (Some x) p e = absurd cc
 
--- a reader that accepts more was not refused
+-- a reader that accepts bytes was not refused
 pub accepted : (refusal : Option Refusal) (n : ℕ) → IfSome refusal (λ r. ◌≡◌ {A = Result ℕ Refusal} (Ok n) (Err r)) → refusal ≡ None
 accepted None n e = refl
 accepted (Some r) n e = absurd cc
 
--- if neither option has a value, one may replace the other
 pub other_quiet : {X Y : Type 0} (P Q : Type 0) (o : Option X) (p : Option Y) → o ≡ None → p ≡ None → (P ↔ (Q ⊎ IsSome o)) → (P ↔ (Q ⊎ IsSome p))
 other_quiet P Q None None first second tells = (
   λ h. elim (tells.0 h) [
@@ -65,19 +64,19 @@ nothing_more xs (Some r) e = absurd (omega (arith, ap length e, length-append xs
 
 -- ---- what was read
 
--- if no record is held, all whole records were given up
+-- if no record is held, all whole records were returned
 pub all_read : (r : Reading) (bytes : List ℕ) (records : List Record) → HasRead r bytes records → held r ≡ None → records ≡ whole_records bytes
 all_read r bytes records read free =
     sym (append-nil records) ∙ (ap (λ (o : Option Record). records ++ option_to_list o) (sym free) ∙ records_are r bytes records read)
 
--- if all whole records were given up, no record is held
+-- if all whole records were returned, no record is held
 pub none_held : (r : Reading) (bytes : List ℕ) → HasRead r bytes (whole_records bytes) → held r ≡ None
 none_held r bytes read = nothing_more (whole_records bytes) (held r) (records_are r bytes (whole_records bytes) read)
 
 pub refused_free : (r : Reading) (refusal : Refusal) → r.refusal ≡ Some refusal → held r ≡ None
 refused_free r refusal e = ap (λ (o : Option Refusal). held_by o r.style r.start r.part) e
 
--- a record that is read has at least one byte
+-- a record that is read takes at least one byte of the piece
 pub held_few : (old new : Reading) (bytes piece : List ℕ) (n : ℕ) → HasRead old bytes (whole_records bytes) → GoesOn old (take n piece) new → length (option_to_list (held new)) ≤ n
 held_few old new bytes piece zero read goes =
     let same : bytes ++ [] ≡ bytes = append-nil bytes in
@@ -90,7 +89,7 @@ held_some old new bytes piece n read goes some = omega (arith, held_few old new 
 
 -- ---- a piece
 
--- a listener with nothing due has heard its bytes
+-- if nothing is due, the listener has heard all bytes that it was fed
 pub heard_here : (bytes : List ℕ) (given : ℕ) (fed : Feeding) → StandsFor bytes given fed → fed.out_of_memory ≡ false → fed.next ≡ None → HasHeard bytes given fed.reader fed.listener
 heard_here bytes given fed st memory quiet =
     let count : given + length (option_to_list fed.next) ≡ given = omega (arith, ap (λ (o : Option Shown). length (option_to_list o)) quiet) in
@@ -100,14 +99,13 @@ heard_here bytes given fed st memory quiet =
       stands = subst (λ (n : ℕ). RecordsStandFor (whole_records bytes) n fed.listener) count st.stands;
     }
 
--- the reader of a fed listener continues
+-- `HasHeard` still holds after the reader has read more bytes
 pub heard_on : (bytes more : List ℕ) (given : ℕ) (fed : Feeding) (new : Reading) → StandsFor bytes given fed → fed.out_of_memory ≡ false → fed.next ≡ None → GoesOn fed.reader more new
     → HasHeard (bytes ++ more) given new fed.listener
 heard_on bytes more given fed new st memory quiet goes =
     let heard = heard_here bytes given fed st memory quiet in
     record { records = heard.records; read = goes bytes heard.records heard.read; stands = heard.stands }
 
--- a record that is borrowed has at least one byte
 pub lent_some : (reader : Reading) (piece : List ℕ) (size : ℕ) → size ≤ length piece → IsNext reader (take size piece) → 0 < size
 lent_some reader piece size within next = omega (arith, next_long reader (take size piece) next, length-take-le size piece within)
 
@@ -123,7 +121,7 @@ lent_nothing size piece next some within quiet = (
   none_due None none due = absurd cc
   none_due (Some x) none due = absurd cc
 
--- the record that was read was given to the listener, and what the listener shows next is due
+-- the state after a record was read and given to the listener, whose next item is due
 pub stands_fed : (bytes : List ℕ) (given : ℕ) (reader : Reading) (mid new : ListenState) (x : Option Shown) (b : Bool) → HasHeard bytes given reader mid → held reader ≡ None
     → ((records : List Record) (given : ℕ) → RecordsStandFor records given mid → x ≡ slice_get (out_of mid records) given)
     → ((records : List Record) (given : ℕ) → RecordsStandFor records given mid → RecordsStandFor records (given + length (option_to_list x)) new)
@@ -138,7 +136,6 @@ stands_fed bytes given reader mid new x b heard free next stands plan closed =
       next = next (whole_records bytes) given st ∙ ap (λ (o : List Shown). slice_get o given) (sym (out_same mid new (whole_records bytes) plan closed));
     }
 
--- a listener after a piece that is refused
 pub stands_refused : (bytes piece : List ℕ) (given : ℕ) (fed : Feeding) (new : Reading) (refusal : Refusal) → StandsFor bytes given fed → fed.out_of_memory ≡ false → GoesOn fed.reader piece new → new.refusal ≡ Some refusal
     → StandsFor (bytes ++ piece) given (record fed { reader = new })
 stands_refused bytes piece given fed new refusal st memory goes refused =
@@ -177,7 +174,7 @@ stands_unfed reader listener read empty stands opened =
       next = ap (λ (o : List Shown). slice_get o 0) (sym nothing) ∙ ap (λ (l : List Record). slice_get (out_of listener l) 0) whole;
     }
 
--- ---- a list of all that was given
+-- ---- a list of all returned items
 
 out_kept : (bytes : List ℕ) (old new : Feeding) → Keeps old new → out new bytes ≡ out old bytes
 out_kept bytes old new keeps = out_same old.listener new.listener (whole_records bytes) keeps.plan keeps.ended
@@ -210,7 +207,7 @@ given_still bytes list old new has stands keeps =
 pub given_all : (bytes : List ℕ) (list : List Shown) (old new : Feeding) → HasGiven bytes list old → None ≡ slice_get (out old bytes) (length list) → Keeps old new → list ≡ out new bytes
 given_all bytes list old new has is keeps = prefix-all list (out old bytes) has.first (sym is) ∙ sym (out_kept bytes old new keeps)
 
--- what is shown of bytes is the beginning of what is shown of more bytes
+-- what is shown of `bytes` is a prefix of what is shown of `bytes ++ more`
 out_on : (bytes more : List ℕ) (old new : Feeding) → HasRead old.reader bytes (whole_records bytes) → is_ended old ≡ false → is_ended new ≡ false → new.listener.plan ≡ old.listener.plan
     → IsPrefix (out old bytes) (out new (bytes ++ more))
 out_on bytes more old new read opened still plan =
@@ -220,7 +217,7 @@ out_on bytes more old new read opened still plan =
 pub prefix_twice : (xs ys zs : List Shown) → IsPrefix xs ys → IsPrefix ys zs → IsPrefix xs zs
 prefix_twice xs ys zs first second = (first.0 ++ second.0, sym (append_assoc xs first.0 second.0) ∙ (ap (λ (l : List Shown). l ++ second.0) first.1 ∙ second.1))
 
--- the list of all that was given is still that list after more bytes were fed
+-- the list of all returned items is unchanged after more bytes were fed
 pub given_on : (bytes more : List ℕ) (list : List Shown) (old new : Feeding) → HasGiven bytes list old → old.out_of_memory ≡ false → is_ended old ≡ false → is_ended new ≡ false → new.listener.plan ≡ old.listener.plan
     → StandsFor (bytes ++ more) (length list) new → HasGiven (bytes ++ more) list new
 given_on bytes more list old new has memory opened still plan stands = record {
@@ -228,21 +225,20 @@ given_on bytes more list old new has memory opened still plan stands = record {
   first = prefix_twice list (out old bytes) (out new (bytes ++ more)) has.first (out_on bytes more old new (has.stands.read memory) opened still plan);
 }
 
--- the list of all that was given is still that list after the capture has ended
+-- the list of all returned items is unchanged after the capture has ended
 pub given_ended : (bytes : List ℕ) (list : List Shown) (old new : Feeding) → HasGiven bytes list old → is_ended old ≡ false → is_ended new ≡ true → new.listener.plan ≡ old.listener.plan
     → StandsFor bytes (length list) new → HasGiven bytes list new
 given_ended bytes list old new has opened ended plan stands =
     let first = out_at_end old.listener new.listener (whole_records bytes) opened ended plan in
     record { stands = stands; first = prefix_twice list (out old bytes) (out new bytes) has.first first }
 
--- at the beginning, the list of all that was given is empty
 pub given_none : (list : List Shown) (fed : Feeding) → list ≡ [] → StandsFor [] 0 fed → HasGiven [] list fed
 given_none list fed empty stands = record {
   stands = subst (λ (l : List Shown). StandsFor [] (length l) fed) (sym empty) stands;
   first = subst (λ (l : List Shown). IsPrefix l (out fed [])) (sym empty) (out fed [], refl);
 }
 
--- If the capture has ended and all was given, the list and the counts are what a listener shows of the bytes.
+-- If the capture has ended and all items were returned, the list and the counts are what a listener shows of the bytes.
 pub heard_whole : (plan : ListenPlan) (bytes : List ℕ) (list : List Shown) (fed : Feeding) (counts : Counts) (refused : Option Refusal) → fed.listener.plan ≡ plan → is_ended fed ≡ true → list ≡ out fed bytes
     → counts ≡ counts_of fed.listener.plan (whole_records bytes) (take (length list) (out fed bytes)) → refused ≡ first_refusal bytes
     → record { shown = list; counts = counts; refused = refused } ≡ heard_of plan bytes
@@ -261,7 +257,7 @@ heard_whole plan bytes list fed counts refused same ended all counted first =
     heard_with : List Shown → Counts → Option Refusal → Heard
     heard_with shown counts refused = record { shown = shown; counts = counts; refused = refused }
 
--- if nothing is due, all items that are counted were given
+-- if nothing is due, all items that are counted were returned
 pub stands_quiet : (bytes : List ℕ) (given : ℕ) (fed : Feeding) → StandsFor bytes given fed → fed.next ≡ None → RecordsStandFor (whole_records bytes) given fed.listener
 stands_quiet bytes given fed st quiet =
     let same : given + length (option_to_list fed.next) ≡ given = ap (λ (o : Option Shown). given + length (option_to_list o)) quiet ∙ none given in

@@ -22,7 +22,7 @@ use Rattle.listener.specs.Items.{items_of, items_so_far, made_entry}
 use Rattle.listener.proofs.Made.{items_few, so_far_few}
 use Rattle.listener.proofs.Places.{at, below, below-next, none-below, all-below}
 
--- if each place is shown once at most, at most this many are shown of the places below n
+-- if each entry is shown at most once, at most `n` of the first `n` entries are shown
 most-below : (n : ℕ) (gs : List Given) → ((i : ℕ) → count_by (at i) gs ≤ 1) → count_by (below n) gs ≤ n
 most-below zero gs each = omega (arith, none-below gs)
 most-below (suc n) gs each = omega (arith, below-next n gs, most-below n gs each, each n)

@@ -18,14 +18,13 @@ numbered {X} n (y ∷ xs) ys =
     let e : n + 1 + length xs ≡ n + suc (length xs) = omega arith in
     ap {B = List (ℕ × X)} (λ t. (n, y) ∷ t) (numbered (n + 1) xs ys ∙ ap {B = List (ℕ × X)} (λ k. enumerate_from (n + 1) xs ++ enumerate_from k ys) e)
 
--- the test of a numbered record
 abbrev picks : ℕ → Option ℕ → ℕ × Record → Bool
 picks stream clock p = is_delivered stream clock p.1.bytes
 
 abbrev made_of : ℕ × Record → Delivery
 made_of p = delivery p.0 p.1
 
--- the deliveries of records, of which the first has this number
+-- the deliveries of records, the first of which has this number
 abbrev deliveries_from : ℕ → Option ℕ → ℕ → List Record → List Delivery
 deliveries_from stream clock n records = map made_of (filter (picks stream clock) (enumerate_from n records))
 
@@ -36,17 +35,14 @@ deliveries_further stream clock records others =
     ∙ (ap (map made_of) (filter-append (picks stream clock) (enumerate_from 1 records) (enumerate_from (1 + length records) others))
     ∙ map-append made_of (filter (picks stream clock) (enumerate_from 1 records)) (filter (picks stream clock) (enumerate_from (1 + length records) others)))
 
--- a record that is delivered is one more delivery
 pub one_more : (stream : ℕ) (clock : Option ℕ) (records : List Record) (r : Record) → is_delivered stream clock r.bytes ≡ true
     → deliveries stream clock (records ++ r ∷ []) ≡ deliveries stream clock records ++ delivery (1 + length records) r ∷ []
 one_more stream clock records r in_it = deliveries_further stream clock records (r ∷ []) ∙ rw in_it refl
 
--- a record that is not delivered adds no delivery
 pub none_more : (stream : ℕ) (clock : Option ℕ) (records : List Record) (r : Record) → is_delivered stream clock r.bytes ≡ false
     → deliveries stream clock (records ++ r ∷ []) ≡ deliveries stream clock records
 none_more stream clock records r out = deliveries_further stream clock records (r ∷ []) ∙ rw out (append-nil (deliveries stream clock records))
 
--- one delivery more if the record is delivered, or none
 pub more_by : (b : Bool) (stream : ℕ) (clock : Option ℕ) (records : List Record) (r : Record) → is_delivered stream clock r.bytes ≡ b
     → length (deliveries stream clock (records ++ r ∷ [])) ≡ length (deliveries stream clock records) + cond b 1 0
 more_by true stream clock records r in_it =
@@ -77,14 +73,13 @@ none_by_clock : (clock : Option ℕ) (bytes : List ℕ) → belongs_to_clock clo
 none_by_clock None bytes e = absurd cc
 none_by_clock (Some id) bytes e = clock_subtype (peeked_of (packet_in bytes)).subtype (first_of_four (is_avtp bytes) _ (peeked_of (packet_in bytes)).sv ((peeked_of (packet_in bytes)).stream_id == id) e)
 
--- a record that is delivered belongs to the stream unless its packet is one of a clock
+-- a record that is delivered belongs to the stream unless its packet is of the clock
 pub of_stream : (stream : ℕ) (clock : Option ℕ) (bytes : List ℕ) → is_delivered stream clock bytes ≡ true → is_delivered stream None bytes ≡ not ((peeked_of (packet_in bytes)).subtype == crf_subtype)
 of_stream stream clock bytes e =
     by_both (belongs stream_kinds stream bytes) (belongs_to_clock clock bytes) ((peeked_of (packet_in bytes)).subtype == crf_subtype) e
     (λ here. no_clock_subtype (peeked_of (packet_in bytes)).subtype (first_of_four (is_avtp bytes) _ (peeked_of (packet_in bytes)).sv ((peeked_of (packet_in bytes)).stream_id == stream) here))
     (none_by_clock clock bytes)
 
--- a record that is not delivered does not belong to the stream
 pub of_none : (stream : ℕ) (clock : Option ℕ) (bytes : List ℕ) → is_delivered stream clock bytes ≡ false → is_delivered stream None bytes ≡ false
 of_none stream clock bytes e = by (belongs stream_kinds stream bytes) (belongs_to_clock clock bytes) e
   where
@@ -94,7 +89,6 @@ of_none stream clock bytes e = by (belongs stream_kinds stream bytes) (belongs_t
 
 -- ---- an entry by its subtype
 
--- an arrival does not change in 64 bits
 pub arrival_kept : (t : ℤ) → IsArrival t → to_z w64 (of_z w64 t) ≡ t
 arrival_kept t a = to_z-of_z (fits_signed_from_nat t a)
   where
@@ -103,7 +97,6 @@ arrival_kept t a = to_z-of_z (fits_signed_from_nat t a)
 
 -- ---- what is returned
 
--- if a choice between an item and none gave an item, the test holds
 pub chosen : {X : Type 0} (b : Bool) (x y : X) → Some x ≡ (if b then Some y else None) → (b ≡ true) × (x ≡ y)
 chosen true x y e = (refl, cc)
 chosen false x y e = absurd (cc)

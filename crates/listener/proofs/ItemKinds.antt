@@ -15,7 +15,7 @@ use Rattle.listener.specs.Items.{MadeItem, events_to, flagged, given_after, give
 use Rattle.listener.specs.Units.{flaw_of, in_stream, last_ones, waiting}
 use Rattle.listener.proofs.Made.{IsOther}
 
--- The item is made of one delivery of a list, which is no packet of H.264.
+-- The item is made of one delivery in `ds`, which is not a packet of H.264.
 pub record IsOneOf (ds : List Delivery) (made : MadeItem) : Type 0 where
   pub before : List Delivery
   pub delivery : Delivery
@@ -30,7 +30,7 @@ pub record IsFlagOf (made : MadeItem) : Type 0 where
   pub delivery : Delivery
   pub same : flagged why delivery ≡ made
 
--- The item is a unit that a delivery of a list completes.
+-- The item is a unit that a delivery in `ds` completes.
 pub record IsWholeOf (ds : List Delivery) (made : MadeItem) : Type 0 where
   pub before : List Delivery
   pub delivery : Delivery
@@ -55,7 +55,6 @@ flag_kinds ds why (x ∷ xs) = All-cons (IsKind ds) (flagged why x) (map (flagge
 one_kind : (ds : List Delivery) (m : MadeItem) → IsKind ds m → All (IsKind ds) (m ∷ [])
 one_kind ds m k = All-cons (IsKind ds) m [] k (All-nil (IsKind ds))
 
--- a packet of the clock is not a packet of H.264
 clock_other : (s : ℕ) → (s == crf_subtype) ≡ true → (s == cvf_subtype) ≡ false
 clock_other s e = by (s == cvf_subtype) refl
   where
@@ -95,12 +94,10 @@ after_kinds ds before (d ∷ rest) is =
     All-append (IsKind ds) (given_by before d) (given_after (before ++ d ∷ []) rest) (given_kinds ds before d rest is)
     (after_kinds ds (before ++ d ∷ []) rest (is ∙ sym (append_assoc before (d ∷ []) rest)))
 
--- each item of a list of deliveries is of one of these kinds
 pub all_kinds : (ds : List Delivery) → All (IsKind ds) (items_of ds)
 all_kinds ds =
     All-append (IsKind ds) (items_so_far ds) (left_at_end ds) (after_kinds ds [] ds refl) (flag_kinds ds BrokenUnit (waiting ds))
 
--- what holds for all of a list holds for each
 pub all_here : {X : Type 0} (P : X → Type 0) (before rest : List X) (x : X) → All P (before ++ x ∷ rest) → P x
 all_here {X} P [] rest x all = All-head P x rest all
 all_here {X} P (y ∷ before) rest x all = all_here P before rest x (All-tail P y (before ++ x ∷ rest) all)

@@ -1,4 +1,4 @@
--- What is known by the packets that came, in terms of the journal, is known to the listener.
+-- If an item's timestamp or clock reference is known by the journal's packets that came, it is known to the listener.
 use Rattle.std.proofs.Common.{◌≡◌, ◌≢◌, inl, inr, ℕ, zero, suc, ◌+◌, ◌%◌, ◌^◌, ◌<◌, Bool, true, false, ℤ, pos, List, [], ◌∷◌, All, Option, Some, None, is_some, refl, sym, ap, ◌∙◌, subst}
 use Rattle.std.specs.Prelude.{if◌then◌else◌, map, slice_get, take, IfSome, option_map, option_and_then}
 use Rattle.std.specs.List.{cons_option, filter_map}
@@ -43,9 +43,8 @@ use Rattle.listener.proofs.TrueHeard.{IsTrueHead, head_true, same_distance, usab
 use Rattle.listener.proofs.TrueItems.{Shows, all_shown, clock_entry, copied_row, copy_entry, sent}
 use Rattle.listener.proofs.TrueList.{IsTrueEntry, audio, entries_true, followed, others, prefix_true}
 
--- ---- the stamps of what came
+-- ---- the stamps of the packets that came
 
--- the stamp that a listener notes for a copy of a packet is the packet's own
 stamp_by : (j : Journal) (lead n arrival : ℕ) (r : Option ℕ) → IsDelivered j lead (record { number = n; arrival = arrival }) → j.stamp n ≡ r
     → option_map (λ timestamp. record { seq = n % 256; mr = j.mr n; block = stamped_block (rule_of j.kind n); rate = j.rate; instant = unfolded timestamp (pos arrival) }) (option_map (λ (instant : ℕ). instant % 2 ^ 32) r)
     ≡ option_map (stamp_at j n) r
@@ -71,7 +70,7 @@ stamps_are shift p lead (OfClock m ∷ os) (d ∷ ds) is heard from shows =
     let none : heads.stamp_of (entry_of d) ≡ None = ap heads.stamp_of (clock_entry shift p m d is from.0 (All-head Shows d ds shows)) in
     more_stamps (entry_of d) (map entry_of ds) None (stamps_in p.times (stream_numbers os)) none (stamps_are shift p lead os ds is heard from.1 (All-tail Shows d ds shows))
 
--- ---- the clock's rows of what came
+-- ---- the rows of the clock's packets that came
 
 more_rows : (e : Entry) (es : List Entry) (o : Option ClockRow) → row_of e ≡ o → filter_map row_of (e ∷ es) ≡ cons_option o (filter_map row_of es)
 more_rows e es o f = rw f refl
@@ -102,7 +101,7 @@ take_entries zero ds = refl
 take_entries (suc k) [] = refl
 take_entries (suc k) (d ∷ ds) = ap (λ (l : List Entry). entry_of d ∷ l) (take_entries k ds)
 
--- The item at a place is made of one delivery of audio.
+-- The item at index `place` is made of one delivery.
 record IsOne (ds : List Delivery) (place : ℕ) (made : MadeItem) : Type 0 where
   delivery : Delivery
   there : slice_get ds place ≡ Some delivery

@@ -1,4 +1,4 @@
--- The rows of the clock's packets that came, one by one.
+-- The rows of the clock's packets that came.
 use Rattle.std.proofs.Common.{◌≡◌, ◌≢◌, ℕ, zero, suc, ◌-◌, ◌<◌, Bool, true, ℤ, List, [], ◌∷◌, None, length, refl, ap, ◌∙◌, subst, arith}
 use Rattle.std.specs.Prelude.{Contains, drop, if◌then◌else◌, slice_index_or}
 use Rattle.time_unfold.specs.Stamps.{last_of}
@@ -11,12 +11,12 @@ use Rattle.stream_journal.specs.FoundLines.{ArePointsAtHand, IsKept}
 use Rattle.stream_journal.specs.Known.{IsCoveredBy}
 use Rattle.stream_journal.proofs.FoundLines.{some_line}
 
--- the row is a copy of the clock's packet m, and gives points
+-- the row is a copy of the clock's packet `m`, and its timestamps are used
 pub record IsUsableRow (c : ClockJournal) (shift : ℤ) (m : ℕ) (row : ClockRow) : Type 0 where
   pub usable : row.usable ≡ true
   pub is : IsRowOf c shift m row
 
--- the rows are copies of these packets, one by one
+-- each row is a copy of the packet whose number is at the same index
 abbrev pub AreRows : ClockJournal → ℤ → List ℕ → List ClockRow → Type 0
 AreRows c shift [] [] = Unit {0}
 AreRows c shift [] (row ∷ rows) = ⊥
@@ -43,7 +43,7 @@ dropped c shift (suc k) [] (row ∷ rows) are = absurd are
 dropped c shift (suc k) (m ∷ ms) [] are = absurd are
 dropped c shift (suc k) (m ∷ ms) (row ∷ rows) are = dropped c shift k ms rows are.1
 
--- There is a row of a packet that came.
+-- One of the rows is a copy of the clock's packet `m`.
 record HasRow (c : ClockJournal) (shift : ℤ) (rows : List ClockRow) (m : ℕ) : Type 0 where
   row : ClockRow
   there : Contains rows row
@@ -66,7 +66,7 @@ kept c shift ms rows m are came =
     let h = row_of c shift (last_of 64 ms) (last_of 64 rows) m came.0 last came.1 came.2 in
     record { row = h.row; kept = rw all h.there; is = h.is }
 
--- a line is found for an instant if two packets came whose points cover it
+-- if the timestamps of two packets that came cover an instant, the listener finds a line for that instant
 pub covered_line : (c : ClockJournal) (shift : ℤ) (rate : ℕ) (ms : List ℕ) (rows : List ClockRow) (instant : ℤ) → IsClock c → AreRows c shift ms rows → IsCoveredBy c shift rate ms instant → clock_spot rows shift instant rate ≢ None
 covered_line c shift rate ms rows instant is are by =
     let hand : ArePointsAtHand c shift rows by.earlier by.later = record {

@@ -1,4 +1,4 @@
--- A listener after one more record, after one more shown item, and after the end.
+-- A listener after one more record, after one more item that it shows, and after the end.
 use Rattle.std.proofs.Common.{◌≡◌, ℕ, ◌+◌, ◌-◌, ◌<◌, ◌≤◌, zero, suc, Bool, true, false, List, [], ◌∷◌, ◌++◌, length, map, take, Option, Some, None, refl, sym, ap, ◌∙◌, subst, arith, length-append, append-nil, if◌then◌else◌, cond, option_to_list}
 use Rattle.std.specs.Prelude.{count_by, slice_get, ◌==◌, not}
 use Rattle.std.proofs.lemmas.List.{length-map, map-append, take-append-le}
@@ -88,13 +88,12 @@ out_open l records e = rw e refl
 pub out_ended : (l : ListenState) (records : List Record) → is_closed l ≡ true → out l records ≡ shown_of l.plan records
 out_ended l records e = rw e refl
 
--- two listeners with the same plan show equal lists, if both are closed or neither is
 pub out_same : (old new : ListenState) (records : List Record) → new.plan ≡ old.plan → is_closed new ≡ is_closed old → out new records ≡ out old records
 out_same old new records plan closed =
     ap (λ (p : ListenPlan). if is_closed new then shown_of p records else due_of p records) plan
     ∙ ap (λ (b : Bool). if b then shown_of old.plan records else due_of old.plan records) closed
 
--- what an open listener shows of records is the beginning of what is shown of more, whether it is closed then or not
+-- what an open listener shows of `records` is a prefix of what it shows of more records, even if it is closed by then
 pub out_further : (old new : ListenState) (records more : List Record) → is_closed old ≡ false → is_closed new ≡ false → new.plan ≡ old.plan → IsPrefix (out old records) (out new (records ++ more))
 out_further old new records more opened still plan =
     let all = records ++ more in
@@ -133,7 +132,7 @@ never {X} false e f = absurd cc
 
 -- ---- a record
 
--- a listener after one more record, whose entries wait or were judged
+-- the listener after one more record, whose entries are `more`
 further : (records : List Record) (r : Record) (given : ℕ) (old new : ListenState) (more : List Entry) (b : Bool) → StandsFor records given old
     → new.plan ≡ old.plan → is_closed old ≡ false → is_closed new ≡ false → new.judge.plan ≡ old.judge.plan → new.judge.closed ≡ false
     → HasUnits (deliveries_of old.plan (records ++ r ∷ [])) new.units
@@ -156,7 +155,6 @@ further records r given old new more b st plan opened still schedule lasting uni
           ∙ ap (counts_of new.plan all) (sym same))));
     }
 
--- the judge of a listener that is open is open
 pub judge_open : (records : List Record) (given : ℕ) (l : ListenState) → StandsFor records given l → is_closed l ≡ false → l.judge.closed ≡ false
 judge_open records given l st opened = by l.judge.closed refl
   where
@@ -167,7 +165,7 @@ judge_open records given l st opened = by l.judge.closed refl
 pub judges_open : (records : List Record) (given : ℕ) (l : ListenState) → StandsFor records given l → is_closed l ≡ false → Judges (entries_so_far_in l.plan records) given l.judge l.units
 judges_open records given l st opened = judges_as _ _ given l.judge l.units (entries_open l records opened) st.judges
 
--- a listener after a record that belongs neither to the stream nor to its clock
+-- the listener after a record that belongs neither to the stream nor to its clock
 pub stands_without : (records : List Record) (r : Record) (given : ℕ) (old new : ListenState) → StandsFor records given old
     → is_closed old ≡ false → is_delivered old.plan.stream old.plan.clock r.bytes ≡ false
     → new.plan ≡ old.plan → is_closed new ≡ false → new.judge ≡ old.judge → new.units ≡ old.units → new.counts ≡ with_record old.counts false
@@ -183,7 +181,7 @@ stands_without records r given old new st opened out_of_it plan still judge unit
     (subst (λ (j : JudgeState). Judges (entries_so_far_in old.plan records ++ []) given j new.units) (sym judge) (subst (λ (u : Gathered). Judges (entries_so_far_in old.plan records ++ []) given old.judge u) (sym units) judges))
     (of_none old.plan.stream old.plan.clock r.bytes out_of_it) counts
 
--- a listener after a record that belongs to the stream or to its clock
+-- the listener after a record that belongs to the stream or to its clock
 pub stands_with : (records : List Record) (r : Record) (given : ℕ) (old new : ListenState) → StandsFor records given old
     → is_closed old ≡ false → is_delivered old.plan.stream old.plan.clock r.bytes ≡ true
     → new.plan ≡ old.plan → is_closed new ≡ false → new.judge.plan ≡ old.judge.plan → new.judge.closed ≡ false
@@ -204,7 +202,7 @@ stands_with records r given old new st opened in_it plan still schedule lasting 
 
 -- ---- an item is shown
 
--- A listener is as before, except that the next item was taken from it.
+-- `new` differs from `old` only in that the next item was taken from it.
 pub record Goes (old new : ListenState) : Type 0 where
   pub plan : new.plan ≡ old.plan
   pub closed : is_closed new ≡ is_closed old
@@ -231,7 +229,6 @@ stands_shown records given old new x st is goes judges counts =
           ∙ ap (λ (p : ListenPlan). counts_of p records (take (given + 1) (out new records))) (sym goes.plan)))));
     }
 
--- a listener after the next item, if there is one
 pub stands_next : (records : List Record) (given : ℕ) (old new : ListenState) (next : Option Shown) (x : Shown) → next ≡ Some x → StandsFor records given old → next ≡ slice_get (out old records) given
     → Goes old new → Judges (entries_by (is_closed old) old.plan records) (given + length (option_to_list next)) new.judge new.units
     → new.counts ≡ with_shown old.counts x → StandsFor records (given + length (option_to_list next)) new
@@ -241,7 +238,7 @@ stands_next records given old new (Some y) x same st is goes judges counts =
 
 -- ---- the end
 
--- the judge after the end: the entries that only the end gives up wait
+-- the judge after the end: the entries of the fragments that only the end gives up are queued
 ended_judges : (plan : ListenPlan) (records : List Record) (given : ℕ) (judge : JudgeState) (old new : Gathered) → left old ≡ [] → map item_entry (left new) ≡ map made_entry (left_at_end (deliveries_of plan records))
     → Judges (entries_so_far_in plan records) given judge old → Judges (entries_in plan records) given judge new
 ended_judges plan records given judge old new none more j = record {
@@ -279,7 +276,7 @@ entries_few : (b : Bool) (plan : ListenPlan) (records : List Record) → length 
 entries_few true plan records = entries-few plan records
 entries_few false plan records = omega (arith, so-far-few plan records, entries-few plan records)
 
--- an entry that the judge took, or that waits, has a record of its own
+-- each entry that the judge took or that is queued has a record of its own
 pub taken_few : (records : List Record) (given : ℕ) (l : ListenState) → StandsFor records given l → taken l.judge + length (left l.units) ≤ l.counts.frames
 taken_few records given l st =
     let j = st.judges in
@@ -297,7 +294,7 @@ pub packets_few : (records : List Record) (given : ℕ) (l : ListenState) → St
 packets_few records given l st =
     omega (arith, ap (λ (c : Counts). c.packets) st.counts, ap (λ (c : Counts). c.frames) st.counts, deliveries-few l.plan.stream None records)
 
--- if one more item is shown, fewer items were shown before than there are records
+-- if one more item is shown, fewer items than records were shown before
 pub shown_few : (records : List Record) (given : ℕ) (l : ListenState) (x : Shown) → StandsFor records given l → Some x ≡ slice_get (out l records) given → l.counts.presented + l.counts.flagged < l.counts.frames
 shown_few records given l x st is =
     let within = slice_get_within (out l records) given x (sym is) in
@@ -331,13 +328,12 @@ stands_begun plan units judge counts schedule lasting stands has none no_counts 
   counts = no_counts;
 }
 
--- ---- what its judge gives
+-- ---- what a listener's judge shows
 
 pub given_out : (records : List Record) (given : ℕ) (l : ListenState) (x : Option Shown) → StandsFor records given l
     → x ≡ slice_get (shown_by (is_closed l) l.judge.plan (entries_by (is_closed l) l.plan records)) given → x ≡ slice_get (out l records) given
 given_out records given l x st is = is ∙ ap (λ (o : List Shown). slice_get o given) (out_judged l records st.plan)
 
--- a listener that rests shows nothing more
 pub nothing_out : (records : List Record) (given : ℕ) (l : ListenState) → StandsFor records given l → Rests l → None ≡ slice_get (out l records) given
 nothing_out records given l st rests =
     let still = judge_open records given l st rests.opened in
@@ -345,7 +341,6 @@ nothing_out records given l st rests =
     (none_in (is_closed l) l.judge l.units _ given st.judges rests.idle.none (λ e. never l.judge.closed e still) (λ e. never (is_closed l) e rests.opened)
     (sym (nothing-due clock_spot st.judges.judged given l.judge st.judges.stands still rests.idle.judge)))
 
--- a record that is skipped leaves the listener at rest
 pub still_rests : (old new : ListenState) → is_closed new ≡ is_closed old → new.judge ≡ old.judge → new.units ≡ old.units → Rests old → Rests new
 still_rests old new closed judge units rests = record {
   opened = closed ∙ rests.opened;
@@ -355,7 +350,7 @@ still_rests old new closed judge units rests = record {
   };
 }
 
--- after an item, at most one item less may still be shown
+-- after an item was shown, at least one item fewer may still be shown
 pub work_less : (old new : Counts) (x : Shown) → new ≡ with_shown old x → old.presented + old.flagged < old.frames
     → new.frames - (new.presented + new.flagged) + 1 ≤ old.frames - (old.presented + old.flagged)
 work_less old new (Present batch) e some = omega (arith, some, ap (λ (c : Counts). c.frames) e, ap (λ (c : Counts). c.presented) e, ap (λ (c : Counts). c.flagged) e)

@@ -36,7 +36,7 @@ last_more {X} n xs x =
 
 -- ---- one more event
 
--- what an event gives up is all that waited, or nothing
+-- an event gives up either all fragments that waited or none
 pub gives_all_or_none : (es : List Event) (e : Event) → (length (given_up (es ++ e ∷ [])) ≡ 0) ⊎ (length (given_up (es ++ e ∷ [])) ≡ length (held es))
 gives_all_or_none es e = by (is_joined (last_stretch (es ++ e ∷ [])))
   where
@@ -69,8 +69,8 @@ lost_holds (x ∷ xs) why e = by (is_within (x ∷ xs)) (is_complete (x ∷ xs))
     by true false p e = absurd cc
     by false c p e = refl
 
--- How many fragments a packet gives up (g), how many are in its unit (s), and how many wait after it (w), if h waited before,
--- given what becomes of the packet.
+-- Counts of fragments when a packet with this outcome is added: `h` waited before, the packet gives up `g`, `s` are in
+-- its unit, and `w` wait after it.
 abbrev Adds : Piece → ℕ → ℕ → ℕ → ℕ → Type 0
 Adds Whole h g s w = (g + (s - 1) ≡ h) × (w ≡ 0)
 Adds Held h g s w = g + w ≡ h + 1
@@ -105,7 +105,7 @@ adds_up es f pk e = by pk e
 
 -- ---- one more delivery
 
--- how many deliveries of some kind the items were made of
+-- how many deliveries that pass a test the items were made of
 abbrev pub tally : (Delivery → Bool) → List MadeItem → ℕ
 tally p ms = sum_by (λ (m : MadeItem). count_by p (sources m)) ms
 
@@ -128,7 +128,6 @@ tally-flagged : (p : Delivery → Bool) (why : Reason) (xs : List Delivery) → 
 tally-flagged p why [] = refl
 tally-flagged p why (x ∷ xs) = omega (arith, tally-cons p (flagged why x) (map (flagged why) xs), count-cons p x xs, tally-flagged p why xs)
 
--- a delivery belongs to the stream
 abbrev pub is_streamed : Delivery → Bool
 is_streamed d = not (d.subtype == crf_subtype)
 
@@ -144,13 +143,12 @@ events_more before d e = ap (map event_of) (stream_more before d e) ∙ map-appe
 pub events_same : (before : List Delivery) (d : Delivery) → (d.subtype == crf_subtype) ≡ true → events (before ++ d ∷ []) ≡ events before
 events_same before d e = ap (map event_of) (stream_same before d e)
 
--- the packets that wait after a delivery of the stream
 waiting_more : (before : List Delivery) (d : Delivery) → (d.subtype == crf_subtype) ≡ false → waiting (before ++ d ∷ []) ≡ last_ones (length (held (events_to before d))) (in_stream before ++ d ∷ [])
 waiting_more before d e =
     ap (λ (es : List Event). last_ones (length (held es)) (in_stream (before ++ d ∷ []))) (events_more before d e)
     ∙ ap (last_ones (length (held (events_to before d)))) (stream_more before d e)
 
--- the packets in the new items, and those that still wait, are the packets that waited before, and the delivery
+-- Of the deliveries that pass a test, as many are in the new items or wait afterwards as waited before or are `d`.
 Keeps : (Delivery → Bool) → List Delivery → Delivery → List MadeItem → Type 0
 Keeps p before d own = tally p (given_up_by before d ++ own) + count_by p (last_ones (length (held (events_to before d))) (in_stream before ++ d ∷ [])) ≡ count_by p (waiting before) + count_by p (d ∷ [])
 
@@ -168,7 +166,6 @@ keeps_cut p before d own e same =
     let nothing = ap (count_by p) (none_last (in_stream before ++ d ∷ [])) in
     omega (arith, up_tally p before d own, up, none, nothing, same)
 
--- if n and m are equal, as many of the last n as of the last m pass a test
 ones : (p : Delivery → Bool) (n m : ℕ) (xs : List Delivery) → n ≡ m → count_by p (last_ones n xs) ≡ count_by p (last_ones m xs)
 ones p n m xs e = ap (λ (k : ℕ). count_by p (last_ones k xs)) e
 
@@ -249,13 +246,13 @@ none_waits : waiting [] ≡ []
 unfolding last_stretch
 none_waits = rw waits_none refl
 
--- each delivery is in the items once
+-- each delivery is in exactly one item
 pub all_made : (p : Delivery → Bool) (ds : List Delivery) → tally p (items_of ds) ≡ count_by p ds
 all_made p ds =
     let nothing = ap (count_by p) none_waits in
     omega (arith, tally-append p (items_so_far ds) (left_at_end ds), tally-flagged p BrokenUnit (waiting ds), after_tally p [] ds, nothing)
 
--- a fact about each delivery holds for each delivery of an item
+-- A fact about an item that follows from a fact about each of its deliveries, for each way to make an item.
 pub record OfEach (P : Delivery → Type 0) (Q : MadeItem → Type 0) : Type 0 where
   pub one : (d : Delivery) → P d → Q (made_of_one d)
   pub flag : (why : Reason) (d : Delivery) → P d → is_streamed d ≡ true → Q (flagged why d)
@@ -376,13 +373,12 @@ after_other before (d ∷ ds) all rest =
 pub so_far_other : (ds : List Delivery) → All IsOther ds → items_so_far ds ≡ map made_of_one ds
 so_far_other ds all = after_other [] ds (All-nil IsOther) all
 
--- each delivery is one item
 pub items_other : (ds : List Delivery) → All IsOther ds → items_of ds ≡ map made_of_one ds
 items_other ds all =
     let none : left_at_end ds ≡ [] = rw (none_held ds all) (ap (map (flagged BrokenUnit)) (none_last (in_stream ds))) in
     rw none (append-nil (items_so_far ds) ∙ so_far_other ds all)
 
--- ---- the place of the item that has a delivery
+-- ---- the index of the item that has a delivery
 
 pub one_in : (p : Delivery → Bool) (ms : List MadeItem) (i : ℕ) (m : MadeItem) → slice_get ms i ≡ Some m → 1 ≤ count_by p (sources m) → 1 ≤ tally p ms
 one_in p [] i m e some = absurd cc
@@ -399,7 +395,7 @@ two_in p (x ∷ ms) zero (suc k) m n e f lt some others =
     omega (arith, tally-cons p x ms, here, some, rest)
 two_in p (x ∷ ms) (suc i) (suc k) m n e f lt some others = let rest = two_in p ms i k m n e f (omega arith) some others in omega (arith, tally-cons p x ms, rest)
 
--- two items that each have a delivery that passes the test are at the same place, if only one delivery passes it
+-- if only one delivery passes the test, two items that each have a delivery that passes it are at the same index
 pub same_place : (p : Delivery → Bool) (ms : List MadeItem) (i k : ℕ) (m n : MadeItem) → tally p ms ≤ 1 → slice_get ms i ≡ Some m → slice_get ms k ≡ Some n → 1 ≤ count_by p (sources m) → 1 ≤ count_by p (sources n) → i ≡ k
 same_place p ms i k m n few e f some others = elim (cases_lt i k) [
   | inl before ↦ let two = two_in p ms i k m n e f before some others in absurd (omega arith)
@@ -409,7 +405,7 @@ same_place p ms i k m n few e f some others = elim (cases_lt i k) [
   ]
 ]
 
--- An item has a delivery that passes the test, and this is its place.
+-- An item that has a delivery which passes the test, and its index.
 pub record HasOne (p : Delivery → Bool) (ms : List MadeItem) : Type 0 where
   pub place : ℕ
   pub item : MadeItem
@@ -425,7 +421,6 @@ find_one p (m ∷ ms) some = elim (cases_lt 0 (count_by p (sources m))) [
       record { place = suc rest.place; item = rest.item; there = rest.there; some = rest.some }
 ]
 
--- the last source of an item is one of its deliveries
 pub last_counts : (p : Delivery → Bool) (m : MadeItem) → p m.last ≡ true → 1 ≤ count_by p (sources m)
 last_counts p m e = let one : count_by p (m.last ∷ []) ≡ 1 = rw e refl in omega (arith, count-append p m.earlier (m.last ∷ []), one)
 

@@ -1,4 +1,4 @@
--- How many items are shown of the places below n, and how many items of a list are presented or flagged.
+-- How many items are shown of the entries below index n, and how many shown items are presented or flagged.
 use Rattle.std.proofs.Common.{◌≡◌, ℕ, suc, ◌+◌, ◌<◌, ◌≤◌, Bool, cond, List, [], ◌∷◌, length, refl, arith, inl, inr}
 use Rattle.std.specs.Prelude.{◌==◌, count_by, nat_lt}
 use Rattle.std.proofs.lemmas.Bool.{cases_lt}
@@ -43,7 +43,7 @@ same k = grind (arith, nat_tests)
 passes : (k n : ℕ) → k < n → counted (nat_lt k n) ≡ 1
 passes k n lt = grind (arith, nat_tests)
 
--- if no place from n on is shown, all that is shown is of places below n
+-- if nothing is shown of the entries from index `n` on, all that is shown is of the entries below `n`
 pub all-below : (n : ℕ) (gs : List Given) → ((i : ℕ) → n ≤ i → count_by (at i) gs ≡ 0) → count_by (below n) gs ≡ length gs
 all-below n [] none = refl
 all-below n (g ∷ gs) none =
@@ -54,7 +54,6 @@ all-below n (g ∷ gs) none =
     let rest = all-below n gs (λ i past. omega (arith, none i past, count-next (at i) g gs)) in
     omega (arith, count-next (below n) g gs, passes (place_of g) n here, rest)
 
--- each item that is shown is presented or flagged
 pub presented-or-flagged : (list : List Shown) → count_by is_present list + count_by is_flag list ≡ length list
 presented-or-flagged [] = refl
 presented-or-flagged (Present batch ∷ list) =

@@ -42,7 +42,6 @@ kept stream clock xs = filter (λ numbered. is_delivered stream clock numbered.1
 abbrev made : List (ℕ × Record) → List Delivery
 made xs = map (λ numbered. delivery numbered.0 numbered.1) xs
 
--- the deliveries of records, of which the first has number n
 abbrev counted : ℕ → Option ℕ → ℕ → List Record → List Delivery
 counted stream clock n records = made (kept stream clock (enumerate_from n records))
 
@@ -80,7 +79,7 @@ rising stream clock n [] i k d e f g before = absurd cc
 rising stream clock n (r ∷ records) i k d e f g before =
     rising_here n r (kept stream clock (enumerate_from (n + 1) records)) (is_delivered stream clock r.bytes) (least stream clock (n + 1) records) (rising stream clock (n + 1) records) i k d e f g before
 
--- the frame numbers of a capture's deliveries rise
+-- the frame numbers of a capture's deliveries increase
 pub deliveries_rise : (plan : ListenPlan) (records : List Record) → Rising (deliveries_of plan records)
 deliveries_rise plan records = rising plan.stream plan.clock 1 records
 
@@ -99,7 +98,7 @@ distinct ds rises i k d e f g same = elim (cases_lt i k) [
 
 -- ---- the item of a delivery
 
--- An item has the frame and the sequence number of its delivery.
+-- An item has the frame number and the sequence number of its delivery.
 record IsItemOf (d : Delivery) (item : Item) : Type 0 where
   frame : item_frame item ≡ d.frame
   seq : item_seq item ≡ d.seq
@@ -119,7 +118,6 @@ shown_so : (place : ℕ) (d : Delivery) (item : Item) (r : Result Accepted Reaso
 shown_so place d item (Ok a) is = refl
 shown_so place d item (Err reason) is = rw (is.frame, is.seq) refl
 
--- if the entry of a delivery is an item, it is the delivery's item
 pub item_by : (d : Delivery) (item : Item) → entry_of d ≡ OfItem item → item_of d ≡ item
 item_by d item e = by (d.subtype == crf_subtype) e
   where
@@ -129,7 +127,7 @@ item_by d item e = by (d.subtype == crf_subtype) e
 
 -- ---- items and their entries
 
--- The item of an entry has the frame and the sequence number of its last delivery.
+-- The item of an entry has the frame number and the sequence number of its last delivery.
 record IsOwn (m : MadeItem) : Type 0 where
   of_last : (item : Item) → m.entry ≡ OfItem item → IsItemOf m.last item
 
@@ -153,7 +151,7 @@ all_there (d ∷ ds) = All-cons (λ (d : Delivery). ⊤) d ds tt (all_there ds)
 all_own : (ds : List Delivery) → All IsOwn (items_of ds)
 all_own ds = items_all (λ d. ⊤) IsOwn ds owns (all_there ds)
 
--- The item is the entry at this place of the list.
+-- The item is that of the entry at index `n`.
 record IsMade (ms : List MadeItem) (n : ℕ) (item : Item) : Type 0 where
   made : MadeItem
   there : slice_get ms n ≡ Some made
@@ -206,7 +204,7 @@ some_at p (y ∷ xs) (suc k) x e is = omega (arith, count-cons p y xs, some_at p
 contained_at : (xs : List Delivery) (d : Delivery) → (c : Contains xs d) → slice_get xs c.0 ≡ Some d
 contained_at xs d (k, within, there) = slice_get-get_or xs k d within ∙ ap Some there
 
--- The list has a delivery that passes a test.
+-- A delivery in the list that passes a test.
 record IsFound (p : Delivery → Bool) (xs : List Delivery) : Type 0 where
   place : ℕ
   found : Delivery
@@ -229,7 +227,6 @@ contains_at xs k d e =
     let within = slice_get_within xs k d e in
     (k, within, one (slice_index_or xs k d) d (sym (slice_get-get_or xs k d within) ∙ e))
 
--- all deliveries of an item are in the list
 abbrev AreIn : List Delivery → MadeItem → Type 0
 AreIn ds m = All (Contains ds) (sources m)
 
@@ -250,7 +247,6 @@ frames_few n ds rises = omega (arith, all_made (of_frame n) ds, one_frame n ds r
 itself : (n : ℕ) → (n == n) ≡ true
 itself n = eq-eqb n n refl
 
--- items with the same frame are at the same place
 same_item_at : (ds : List Delivery) (i k : ℕ) (m n : MadeItem) → Rising ds → slice_get (items_of ds) i ≡ Some m → slice_get (items_of ds) k ≡ Some n → m.last.frame ≡ n.last.frame → i ≡ k
 same_item_at ds i k m n rises e f same =
     same_place (of_frame n.last.frame) (items_of ds) i k m n (frames_few n.last.frame ds rises) e f
@@ -282,7 +278,7 @@ each_in_one_item plan records k d within =
     let ds = deliveries_of plan records in
     in_one_item ds k (slice_index_or ds k d) (deliveries_rise plan records) (slice_get-get_or ds k d within)
 
--- ---- what is shown of a frame is what is shown at its place
+-- ---- what is shown of a frame is what is shown of its item
 
 given_frame : (place : ℕ) (item : Item) (r : Result Accepted Reason) → IfOk r (λ a. a.batch.frame ≡ item_frame item) → frame_of (given_shown (given_by place item r)) ≡ item_frame item
 given_frame place item (Ok a) so = so
@@ -300,7 +296,7 @@ same_tests a b c d to from = elim (cases_lt a b) [
     apart : ¬ (a ≡ b) → (a == b) ≡ (c == d)
     apart other = rw (unequal a b other, unequal c d (λ e. other (from e))) refl
 
--- an item that may be presented
+-- the entry is an item that can be presented
 abbrev pub is_presentable : Entry → Bool
 is_presentable (OfItem (OfPacket packet)) = true
 is_presentable (OfItem (OfUnit whole)) = true
@@ -317,7 +313,7 @@ not_bad clock plan es place (OfPacket packet) is = refl
 not_bad clock plan es place (OfUnit whole) is = refl
 not_bad clock plan es place (OfBad bad) is = absurd is
 
--- what is shown is shown of an item, as its verdict says
+-- each thing that is shown is shown of an item, by the item's verdict
 shown_as : (plan : ListenPlan) (records : List Record) (g : Given) → IsJudged clock_spot (schedule_plan plan) (entries_in plan records) g → IsShownItem plan records (given_shown g)
 shown_as plan records g j =
     let ms = items_in plan records in
@@ -342,7 +338,7 @@ no_other_shown plan records =
     shown_by_each (IsShownItem plan records) (given clock_spot (schedule_plan plan) (entries_in plan records))
     (λ g here. shown_as plan records g (all-judged clock_spot (schedule_plan plan) (entries_in plan records) g here))
 
--- What is shown is at the place of an item, and has the item's frame.
+-- What is shown is at the index of an item, and has the item's frame number.
 pub record IsPlaced (ms : List MadeItem) (g : Given) : Type 0 where
   pub made : MadeItem
   pub there : slice_get ms (place_of g) ≡ Some made

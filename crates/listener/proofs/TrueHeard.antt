@@ -50,7 +50,7 @@ either : (b : Bool) (r : Option ℕ) → (if b then r else r) ≡ r
 either true r = refl
 either false r = refl
 
--- a packet of a stream is stamped if it has the sample to which its timestamp belongs
+-- if a packet has a timestamp, it has the sample to which the timestamp belongs, so the timestamp is usable
 usable_by : (rule : HeadRule) (n count : ℕ) (r : Option ℕ) → 1 ≤ count → is_some r ≡ is_stamped rule n count
     → (if nat_lt (stamped_index rule) count then option_map (λ (instant : ℕ). instant % 2 ^ 32) r else None) ≡ option_map (λ (instant : ℕ). instant % 2 ^ 32) r
 usable_by Own n count r some stamped = rw (some_count count some) refl
@@ -62,7 +62,6 @@ usable_by (Blocks dbc interval) n count (Some instant) some stamped = rw (sym st
 pub usable : (j : Journal) (n frame arrival : ℕ) (bytes : List ℕ) → IsAudio j → n < j.packets → heads.usable_stamp (sent j n frame arrival bytes) ≡ option_map (λ (instant : ℕ). instant % 2 ^ 32) (j.stamp n)
 usable j n frame arrival bytes is known = rw (not_zero j.rate is.rate_from) (usable_by (rule_of j.kind n) n j.count (j.stamp n) is.some (is.stamps n known))
 
--- the stamp of a copy is a stamp of the journal
 stamp_by : (j : Journal) (lead n frame arrival : ℕ) (bytes : List ℕ) (r : Option ℕ) → IsDelivered j lead (record { number = n; arrival = arrival }) → j.stamp n ≡ r
     → IfSome (option_map (λ timestamp. record { seq = n % 256; mr = j.mr n; block = stamped_block (rule_of j.kind n); rate = j.rate; instant = unfolded timestamp (pos arrival) }) (option_map (λ (instant : ℕ). instant % 2 ^ 32) r)) (IsTrue j)
 stamp_by j lead n frame arrival bytes None came e = tt
@@ -76,7 +75,6 @@ true_stamp j lead n frame arrival bytes is came =
 
 -- ---- the head
 
--- the head of packet n in the journal
 abbrev pub IsTrueHead : Journal → ℕ → Head → Type 0
 IsTrueHead j n h = head_of j n ≡ Some h
 
@@ -92,7 +90,7 @@ from_stamp j n far (Some stamp) h = h
 eight : (n : ℕ) → n % 256 % 8 ≡ n % 8
 eight n = omega arith
 
--- a packet's sequence number gives the same distance to its head as its full number
+-- the sequence number of a packet suffices to tell how far its head is
 pub same_distance : (rule : HeadRule) (n count : ℕ) → distance rule (n % 256) count ≡ distance rule n count
 same_distance Own n count = refl
 same_distance Eight n count = rw (eight n) refl
@@ -141,7 +139,7 @@ at_clock SparseAaf j n k instant heard at = at
 at_clock (Am824 interval dbc) j n k instant heard at = at
 at_clock (H264 part) j n k instant heard at = absurd heard
 
--- The samples that are counted from here have their instants in the journal.
+-- The samples that are counted from `spot` are at their instants in the journal.
 abbrev IsTrueSpot : Bool → Journal → ℕ → Spot → Type 0
 IsTrueSpot by j n spot = (k : ℕ) → IsAt by j n k (instant_at spot.line (spot.from +ℤ pos k))
 
@@ -149,7 +147,7 @@ by_line : (j : Journal) (n : ℕ) (h : Head) (o : Option Spot) → IsAudioKind j
 by_line j n h None heard t at = tt
 by_line j n h (Some spot) heard t at = λ k. at_clock j.kind j n k _ heard (spot_sample j n k h spot t at)
 
--- A listener follows the journal's stream, and the journal's clock if it has one.
+-- The listener's plan follows the journal's stream and, if it has a clock, the journal's clock.
 pub record IsFollowed (shift : ℤ) (j : Journal) (plan : SchedulePlan) : Type 0 where
   pub audio : IsAudio j
   pub kind : IsAudioKind j.kind
@@ -161,8 +159,8 @@ pub record IsTruePrefix (shift : ℤ) (j : Journal) (prefix : List Entry) : Type
   pub stamps : All (IsTrue j) (heads.stamps_of prefix)
   pub rows : All (IsTrueRow j.clock shift) (filter_map row_of prefix)
 
--- The samples after a packet's true head are at the journal's instants: on the nominal line of the head, or on the clock's
--- line, whatever copies of the clock's packets the listener has.
+-- The samples that are counted from a packet's true head are at the journal's instants. They are on the nominal line of
+-- the head, or on the clock's line, whatever copies of the clock's packets the listener has.
 spot_true : (shift : ℤ) (j : Journal) (plan : SchedulePlan) (n : ℕ) (prefix : List Entry) (h : Head) (by : Bool) → plan.clock ≡ by → IsFollowed shift j plan → IsTruePrefix shift j prefix → IsTrueHead j n h
     → IfSome (if by then option_map (moved h.first) (clock_spot (filter_map row_of prefix) plan.shift h.instant j.rate) else Some (nominal_spot j.rate h)) (IsTrueSpot by j n)
 spot_true shift j plan n prefix h true on is known t =
@@ -170,7 +168,7 @@ spot_true shift j plan n prefix h true on is known t =
     (subst (λ (x : ℤ). IfSome (clock_spot (filter_map row_of prefix) x h.instant j.rate) (IsSpotAt j h.instant)) (sym (is.shifted on)) (true_spot j shift h.instant (filter_map row_of prefix) is.clock known.rows))
 spot_true shift j plan n prefix h false off is known t = λ k. at_nominal j.kind j n k _ is.kind (record { head = h; is_head = t; at = refl })
 
--- the batch of a copy of packet n
+-- The batch is of a copy of packet `n`, with this frame number.
 pub record IsBatchOf (by : Bool) (p : PacketJournal) (n frame : ℕ) (batch : Presented) : Type 0 where
   pub is : IsOfPacket by p n batch
   pub frame_is : batch.frame ≡ frame
@@ -181,7 +179,6 @@ audio_count SparseAaf count heard = refl
 audio_count (Am824 interval dbc) count heard = refl
 audio_count (H264 part) count heard = absurd heard
 
--- the presented content of an audio packet is its samples
 pub audio_content : (kind : Kind) (p : PacketJournal) (n : ℕ) → IsAudioKind kind → IsContentBy kind p n (carried (p.packet n))
 audio_content DenseAaf p n heard = refl
 audio_content SparseAaf p n heard = refl
@@ -218,7 +215,6 @@ timed_true shift p plan n frame arrival prefix is true_ones came =
     (counted_true shift p plan n frame arrival prefix (heads.head_of plan prefix (sent p.times n frame arrival (carried (p.packet n)))) is true_ones came.known
     (head_true p.times plan n frame arrival (carried (p.packet n)) prefix is.audio came true_ones.stamps))
 
--- The result is a batch, and not a reason.
 pub record IsOk (r : Result Presented Reason) : Type 0 where
   pub batch : Presented
   pub same : r ≡ Ok batch

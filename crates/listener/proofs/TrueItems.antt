@@ -33,7 +33,6 @@ use Rattle.listener.specs.Items.{aaf_item, block_rule, blocks_of, clock_row, ent
 
 -- ---- the item of a copy
 
--- what a listener makes of a copy of packet n
 abbrev pub sent : Journal → ℕ → ℕ → ℕ → List ℕ → Packet
 sent j n frame arrival bytes = record {
   frame = frame;
@@ -59,12 +58,11 @@ same_packet : (frame : ℕ) (a a' : ℤ) (s s' : ℕ) (m m' : Bool) (u u' : Bool
     ≡ OfPacket (record { frame = frame; arrival = a'; seq = s'; mr = m'; tu = u'; stamp = t'; rule = r'; rate = f'; count = c'; bytes = bytes })
 same_packet frame a a' s s' m m' u u' t t' r r' f f' c c' bytes e1 e2 e3 e4 e5 e6 e7 e8 = rw (e1, e2, e3, e4, e5, e6, e7, e8) refl
 
--- The fields of a delivery are those of its bytes.
+-- The fields of a delivery are those in its packet's bytes.
 pub record Shows (d : Delivery) : Type 0 where
   pub subtype : d.subtype ≡ bits 0 0 8 d.packet
   pub seq : d.seq ≡ bits 2 0 8 d.packet
 
--- the fields of a delivery of a record are those of its packet
 shown_one : (i : ℕ) (r : Record) → Shows (delivery i r)
 shown_one i r = record { subtype = refl; seq = refl }
 
@@ -135,7 +133,6 @@ view_copy j (H264 part) stream n arrival view d k heard is s arrived shows = abs
 
 -- ---- each delivery is a copy of a packet of the stream or of its clock
 
--- a delivery is a copy of a packet of the journal
 pub record IsCopied (p : PacketJournal) (lead : ℕ) (d : Delivery) : Type 0 where
   pub origin : Origin
   pub copy : IsFrom p lead origin d
@@ -151,7 +148,7 @@ all_copied p lead (o ∷ os) (d ∷ ds) s from =
 pub deliveries_copied : (p : PacketJournal) (clock : Option ℕ) (lead stream : ℕ) (os : List Origin) (records : List Record) → AreFrom p lead os (deliveries stream clock records) → All (IsCopied p lead) (deliveries stream clock records)
 deliveries_copied p clock lead stream os records from = all_copied p lead os (deliveries stream clock records) (all_shown stream clock records) from
 
--- the item of a copy of packet n
+-- the item of a copy of packet `n` is that packet with its samples
 pub copy_item : (shift : ℤ) (p : PacketJournal) (lead n : ℕ) (d : Delivery) → IsConforming shift p → IsAudioKind p.times.kind → (copy : IsCopyOf p lead n d) → Shows d
     → item_of d ≡ OfPacket (sent p.times n d.frame copy.arrival (carried (p.packet n)))
 copy_item shift p lead n d is heard copy shows = view_copy p.times p.times.kind p.stream n copy.arrival (p.packet n) d refl heard (is.packets n copy.delivered.known) copy.spelled copy.arrived shows
@@ -185,14 +182,14 @@ audio_kind j (Am824 interval dbc) stream n (Am824Data v) d heard is s shows = in
 audio_kind j (Am824 interval dbc) stream n (H264Data v) d heard is s shows = absurd is
 audio_kind j (H264 part) stream n view d heard is s shows = absurd heard
 
--- the entry of a copy of packet n
+-- the entry of a copy of packet `n` is that packet with its samples
 pub copy_entry : (shift : ℤ) (p : PacketJournal) (lead n : ℕ) (d : Delivery) → IsConforming shift p → IsAudioKind p.times.kind → (copy : IsCopyOf p lead n d) → Shows d
     → entry_of d ≡ OfItem (OfPacket (sent p.times n d.frame copy.arrival (carried (p.packet n))))
 copy_entry shift p lead n d is heard copy shows =
     let kind = audio_kind p.times p.times.kind p.stream n (p.packet n) d heard (is.packets n copy.delivered.known) copy.spelled shows in
     rw (not_of_clock d.subtype kind) (ap OfItem (copy_item shift p lead n d is heard copy shows))
 
--- the row of a copy of the clock's packet m
+-- the row is that of the clock's packet `m`, and its timestamps are used
 pub record IsCopiedRow (c : ClockJournal) (shift : ℤ) (m : ℕ) (row : ClockRow) : Type 0 where
   pub usable : row.usable ≡ true
   pub is : IsRowOf c shift m row

@@ -49,7 +49,6 @@ use Rattle.listener.proofs.TrueHeard.{IsBatchOf, IsFollowed, IsTruePrefix, timed
 
 -- ---- entries
 
--- The entry is made of a copy of an audio packet.
 pub record IsStreamEntry (items : List MadeItem) (p : PacketJournal) (lead : ℕ) (e : Entry) : Type 0 where
   pub heard : IsAudioKind p.times.kind
   pub delivery : Delivery
@@ -58,7 +57,7 @@ pub record IsStreamEntry (items : List MadeItem) (p : PacketJournal) (lead : ℕ
   pub listed : Contains items (made_of_one delivery)
   pub same : e ≡ OfItem (OfPacket (sent p.times number delivery.frame copy.arrival (carried (p.packet number))))
 
--- The entry is a unit that was made of copies of all its packets.
+-- The entry is a unit that was made of copies of all packets of the unit.
 pub record IsUnitEntry (items : List MadeItem) (p : PacketJournal) (lead : ℕ) (e : Entry) : Type 0 where
   pub part : ℕ → Part
   pub kind : p.times.kind ≡ H264 part
@@ -68,12 +67,10 @@ pub record IsUnitEntry (items : List MadeItem) (p : PacketJournal) (lead : ℕ) 
   pub is : IsUnitItem p part lead number made
   pub same : e ≡ made.entry
 
--- The entry is a packet that is not presented.
 pub record IsBadEntry (e : Entry) : Type 0 where
   pub bad : Bad
   pub same : e ≡ OfItem (OfBad bad)
 
--- The entry is a packet of the clock.
 pub record IsClockEntry (shift : ℤ) (p : PacketJournal) (e : Entry) : Type 0 where
   pub arrival : ℤ
   pub row : ClockRow
@@ -89,7 +86,7 @@ audio_of SparseAaf j heard is = is.0
 audio_of (Am824 interval dbc) j heard is = is.0
 audio_of (H264 part) j heard is = absurd heard
 
--- a stream of audio that conforms has one rate and one count
+-- a conforming stream of audio has one rate and one number of samples per packet
 pub audio : (p : PacketJournal) → IsAudioKind p.times.kind → Conforms p.times → IsAudio p.times
 audio p heard is = audio_of p.times.kind p.times heard is.kind
 
@@ -97,7 +94,6 @@ shifted_by : (shift added : ℤ) (p : PacketJournal) (clock : Option ℕ) → Fo
 shifted_by shift added p None follows on = absurd cc
 shifted_by shift added p (Some id) follows on = follows.1
 
--- a listener that hears a stream of audio follows it
 pub followed : (shift : ℤ) (p : PacketJournal) (plan : ListenPlan) (records : List Record) → HearsTalker shift p plan records → IsAudioKind p.times.kind → IsFollowed shift p.times (schedule_plan plan)
 followed shift p plan records h heard = record {
   audio = audio p heard h.conforming.times;
@@ -112,7 +108,6 @@ deliveries_are shift p plan records h =
     let copies = deliveries_copied p plan.clock plan.lead p.stream from.origins records from.copies in
     rw h.stream copies
 
--- no delivery is a packet of H.264 if the stream is of audio
 pub others : (shift : ℤ) (p : PacketJournal) (plan : ListenPlan) (records : List Record) → HearsTalker shift p plan records → IsAudioKind p.times.kind → All IsOther (deliveries_of plan records)
 others shift p plan records h heard =
     All-weaker (IsCopied p plan.lead) IsOther (λ d. copied_other shift p plan.lead d h.conforming heard) (deliveries_of plan records) (deliveries_are shift p plan records h)
@@ -123,7 +118,6 @@ true_entry items shift p lead d (OfStream n) is copy shows other listed =
     inl (inl (record { heard = heard; delivery = d; number = n; copy = copy; listed = listed; same = copy_entry shift p lead n d is heard copy shows }))
 true_entry items shift p lead d (OfClock m) is copy shows other listed = inr (inr (record { arrival = d.arrival; row = clock_row d; same = clock_entry shift p m d is copy shows; is_true = copy_row shift p m d is copy }))
 
--- The stream is of H.264.
 pub record IsVideoKind (kind : Kind) : Type 0 where
   pub part : ℕ → Part
   pub same : kind ≡ H264 part
@@ -203,7 +197,6 @@ audio_unit false d unit = refused_unit d (iec_refusal d.packet) (blocks_of d (ie
 same_unit : (a b : WholeUnit) → OfItem (OfUnit a) ≡ OfItem (OfUnit b) → a ≡ b
 same_unit a b e = cc
 
--- a delivery by itself is not a unit
 one_unit : (d : Delivery) (unit : WholeUnit) → entry_of d ≢ OfItem (OfUnit unit)
 one_unit d unit e = audio_unit (d.subtype == aaf_subtype) d unit (item_by d (OfUnit unit) e)
 
@@ -263,17 +256,16 @@ prefix_true items shift p lead es is all = record {
 
 -- ---- verdicts
 
--- An accepted item is heard from a delivery, at its first instant.
+-- The accepted batch is heard from an item, and its instant is the batch's first instant.
 record IsHeardAccepted (by : Bool) (items : List MadeItem) (p : PacketJournal) (lead : ℕ) (a : Accepted) : Type 0 where
   is : IsHeardFrom by items p lead a.batch
   instant : a.instant ≡ first_instant a.batch
 
--- An accepted item is a packet of the journal.
+-- The accepted batch is a packet of the journal, and its instant is the batch's first instant.
 pub record IsTrueAccepted (by : Bool) (p : PacketJournal) (a : Accepted) : Type 0 where
   pub is : IsOfJournal by p a.batch
   pub instant : a.instant ≡ first_instant a.batch
 
--- the item of a copy of packet n is made of that packet
 pub one_copy : (p : PacketJournal) (lead n : ℕ) (d : Delivery) → IsCopyOf p lead n d → IsMadeOf p lead n (made_of_one d)
 one_copy p lead n d copy = record { from = n; to = omega arith; earlier = tt; last = copy }
 
@@ -297,7 +289,6 @@ accepted_one : (by : Bool) (items : List MadeItem) (p : PacketJournal) (lead : �
 accepted_one by items p lead (Ok a) t = All-cons (IsHeardAccepted by items p lead) a [] (record { is = t.0; instant = t.1 }) (All-nil (IsHeardAccepted by items p lead))
 accepted_one by items p lead (Err reason) t = All-nil (IsHeardAccepted by items p lead)
 
--- a fact about all entries holds for the entry at a place, if there is one
 entry_at : (P : Entry → Type 0) (es : List Entry) (n : ℕ) → All P es → IfSome (slice_get es n) P
 entry_at P [] n all = tt
 entry_at P (e ∷ es) zero all = All-head P e es all
@@ -316,7 +307,6 @@ judged_stream items shift p plan es n earlier e is all t =
     (batch_heard plan.clock items p plan.lead t.number t.delivery r t.listed t.copy
     (timed_true shift p plan t.number t.delivery.frame t.copy.arrival prefix (is t.heard) known t.copy.delivered))))
 
--- a unit is presented at its own instant
 judged_unit : (items : List MadeItem) (p : PacketJournal) (plan : SchedulePlan) (es : List Entry) (n : ℕ) (earlier : List Accepted) (e : Entry) → IsUnitEntry items p plan.lead e
     → All (IsHeardAccepted plan.clock items p plan.lead) (accepted_by (judged clock_spot plan es n earlier e))
 unfolding timed
@@ -327,7 +317,6 @@ judged_unit items p plan es n earlier e t =
     (accepted_one plan.clock items p plan.lead (verdict plan (now_at es n) earlier n (Ok (unit_at_once t.is.unit)))
     (verdict_true (IsHeardFrom plan.clock items p plan.lead) plan (now_at es n) earlier n (Ok (unit_at_once t.is.unit)) heard))
 
--- a packet that is not presented is not accepted
 judged_bad : (items : List MadeItem) (p : PacketJournal) (plan : SchedulePlan) (es : List Entry) (n : ℕ) (earlier : List Accepted) (e : Entry) → IsBadEntry e
     → All (IsHeardAccepted plan.clock items p plan.lead) (accepted_by (judged clock_spot plan es n earlier e))
 unfolding timed verdict
@@ -379,7 +368,7 @@ batches_are [] = refl
 batches_are (Presents a ∷ gs) = ap (λ (l : List Presented). a.batch ∷ l) (batches_are gs)
 batches_are (Flags place item reason ∷ gs) = batches_are gs
 
--- what is presented of a capture, with the first instants by which it is ordered
+-- each batch that is presented of a capture is heard from an item, and is ordered by its first instant
 given_heard : (shift : ℤ) (p : PacketJournal) (plan : ListenPlan) (records : List Record) → HearsTalker shift p plan records
     → All (IsHeardAccepted (by_clock plan) (items_in plan records) p plan.lead) (presented (given clock_spot (schedule_plan plan) (entries_in plan records)))
 given_heard shift p plan records h =

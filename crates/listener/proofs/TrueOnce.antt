@@ -1,4 +1,5 @@
--- No packet is presented twice, and two listeners present the same of each packet.
+-- No packet is presented twice. Two listeners present the same samples of a packet, if both use the clock or neither
+-- does.
 use Rattle.std.proofs.Common.{◌≡◌, ℕ, ◌+◌, ◌%◌, ◌<◌, Bool, true, false, ℤ, pos, List, [], ◌∷◌, All, refl, sym, ap, ◌∙◌, subst, inl, inr, arith}
 use Rattle.std.specs.Prelude.{AllPairs, map}
 use Rattle.std.specs.List.{AllByRecursion}
@@ -29,7 +30,7 @@ use Rattle.listener.proofs.TrueUnits.{video}
 
 -- ---- the same packet, the same samples
 
--- if two units have a common last packet, they have a common first one
+-- if two units end with the same packet, they begin with the same packet
 one_start : (part : ℕ → Part) (from other n : ℕ) → AreUnit part from n → AreUnit part other n → from ≡ other
 one_start part from other n (inl a) (inl b) = a.0 ∙ sym b.0
 one_start part from other n (inl a) (inr b) = absurd (let e = sym a.1 ∙ b.last in cc)
@@ -48,7 +49,6 @@ one_content SparseAaf p n a b x y = x ∙ sym y
 one_content (Am824 interval dbc) p n a b x y = x ∙ sym y
 one_content (H264 part) p n a b x y = x.bytes ∙ (ap (λ (k : ℕ). unit_bytes p k n) (one_start part x.from y.from n x.packets y.packets) ∙ sym y.bytes)
 
--- one packet has one content
 pub same_content : (p : PacketJournal) (n : ℕ) (a b : List ℕ) → IsContent p n a → IsContent p n b → a ≡ b
 same_content p n a b x y = one_content p.times.kind p n a b x y
 
@@ -70,7 +70,6 @@ some_samples (H264 part) j is = omega arith
 has_first : (by : Bool) (p : PacketJournal) (n : ℕ) (a : Presented) → Conforms p.times → IsOfPacket by p n a → 0 < a.count
 has_first by p n a is x = rw x.count (some_samples p.times.kind p.times is.kind)
 
--- the first instant of a batch is that of its packet
 pub first_at : (by : Bool) (p : PacketJournal) (n : ℕ) (a : Presented) → Conforms p.times → IsOfPacket by p n a → IsAt by p.times n 0 (sample_instant a 0)
 first_at by p n a is x = x.instants 0 (has_first by p n a is x)
 
@@ -109,7 +108,7 @@ at_nominal SparseAaf j n k instant heard at = at
 at_nominal (Am824 interval dbc) j n k instant heard at = at
 at_nominal (H264 part) j n k instant heard at = absurd heard
 
--- without a clock a packet's first instant is when it is due
+-- without a clock, a packet's first instant is the instant at which it is due
 pub nominal_due : (j : Journal) (n : ℕ) (instant : ℤ) → IsAudioKind j.kind → IsAudio j → n < j.packets → IsAt false j n 0 instant → instant ≡ pos (j.due n)
 nominal_due j n instant heard is known at =
     let x = at_nominal j.kind j n 0 instant heard at in
@@ -118,7 +117,6 @@ nominal_due j n instant heard is known at =
 pub one_due : (a b : ℕ) (z : ℤ) → z ≡ pos a → z ≡ pos b → a ≡ b
 one_due a b z e f = omega (arith, ints)
 
--- packets that are due at the same instant are the same packet
 due_once : (j : Journal) (n m : ℕ) → IsAudio j → n < j.packets → m < j.packets → j.due n ≡ j.due m → n ≡ m
 due_once j n m is here there same = elim (cases_lt n m) [
   | inl before ↦ let later = rising j is n m before there in absurd (omega arith)
@@ -128,14 +126,16 @@ due_once j n m is here there same = elim (cases_lt n m) [
   ]
 ]
 
--- audio packets with the same sequence number and the same first instant are the same packet, with a clock or without
+-- If two audio packets have the same sequence number and the same first instant, they are the same packet, with a clock
+-- or without.
 audio_packet : (by : Bool) (p : PacketJournal) (n m : ℕ) (x : ℤ) → IsAudioKind p.times.kind → Conforms p.times → n < p.times.packets → m < p.times.packets → n % 256 ≡ m % 256 → IsAt by p.times n 0 x → IsAt by p.times m 0 x → n ≡ m
 audio_packet true p n m x heard is here there seq a b = told_apart p.times n m x is heard here there seq a b
 audio_packet false p n m x heard is here there seq a b =
     let sound = audio p heard is in
     due_once p.times n m sound here there (one_due (p.times.due n) (p.times.due m) x (nominal_due p.times n x heard sound here a) (nominal_due p.times m x heard sound there b))
 
--- an access unit has at most 255 packets, so their sequence numbers tell them apart
+-- If two packets are fewer than 255 apart and have the same sequence number, they are the same packet. (An access unit
+-- has at most 255 packets.)
 few_apart : (n m : ℕ) → n % 256 ≡ m % 256 → n < m + 255 → m < n + 255 → n ≡ m
 few_apart n m e low high = omega arith
 
@@ -152,7 +152,7 @@ packet_by SparseAaf by p n m x kind is here there seq a b = audio_packet by p n 
 packet_by (Am824 interval dbc) by p n m x kind is here there seq a b = audio_packet by p n m x (rw kind tt) is here there seq a b
 packet_by (H264 part) by p n m x kind is here there seq a b = video_packet by p part n m x kind (video p part kind is) here there seq a b
 
--- packets with one sequence number and one first instant are one packet
+-- if two packets have the same sequence number and the same first instant, they are the same packet
 pub one_packet : (by : Bool) (p : PacketJournal) (n m : ℕ) (x : ℤ) → Conforms p.times → n < p.times.packets → m < p.times.packets → n % 256 ≡ m % 256 → IsAt by p.times n 0 x → IsAt by p.times m 0 x → n ≡ m
 one_packet by p n m x is here there seq a b = packet_by p.times.kind by p n m x refl is here there seq a b
 

@@ -1,4 +1,4 @@
--- A copy that must be presented is presented, and a further one is flagged as a repeat.
+-- A copy that must be presented is presented, and a further copy is flagged as a repeat.
 use Rattle.std.proofs.Common.{◌≡◌, inl, inr, ℕ, zero, suc, ◌+◌, ◌%◌, Bool, true, false, ℤ, ◌≤ℤ◌, List, [], ◌∷◌, All, length, Some, Ok, refl, sym, ap, ◌∙◌, subst, eq-eqb, arith}
 use Rattle.std.specs.Prelude.{◌==◌, if◌then◌else◌, IfOk, Result, Err, Any, map, slice_get}
 use Rattle.std.specs.List.{list_any}
@@ -138,11 +138,9 @@ record IsTimed (p : PacketJournal) (plan : ListenPlan) (records : List Record) (
   timed_is : timed clock_spot (schedule_plan plan) (prefix_of (schedule_plan plan) (entries_in plan records) place) item ≡ Ok batch
   is : IsBatchOf (by_clock plan) p n made.last.frame batch
 
--- a listener's search finds the line on which the samples of the item are
 abbrev IsKnownHere : ListenPlan → List Record → ℕ → MadeItem → Type 0
 IsKnownHere plan records place made = is_known (schedule_plan plan) (prefix_of (schedule_plan plan) (entries_in plan records) place) made.entry ≡ true
 
--- a listener finds the instants of an audio packet
 audio_timed : (shift : ℤ) (p : PacketJournal) (plan : ListenPlan) (records : List Record) (place n : ℕ) (d : Delivery) → HearsTalker shift p plan records → IsAudioKind p.times.kind → Shows d → IsTimely p plan records place n (made_of_one d)
     → IsKnownHere plan records place (made_of_one d) → IsTimed p plan records place n (made_of_one d)
 audio_timed shift p plan records place n d h heard shows w k =
@@ -170,7 +168,6 @@ one_timed : (shift : ℤ) (p : PacketJournal) (plan : ListenPlan) (records : Lis
 one_timed shift p plan records place n d h shows other w k =
     audio_timed shift p plan records place n d h (audio_other shift p plan.lead n d h.conforming w.copy.last shows other) shows w k
 
--- a listener finds the instant of a unit
 unit_timed : (shift : ℤ) (p : PacketJournal) (plan : ListenPlan) (records : List Record) (place n : ℕ) (made : MadeItem) → HearsTalker shift p plan records → IsWholeOf (deliveries_of plan records) made → IsTimely p plan records place n made
     → IsTimed p plan records place n made
 unfolding timed
@@ -188,7 +185,7 @@ unit_timed shift p plan records place n made h v w =
       is = record { is = unit_packet (by_clock plan) p kind.part plan.lead n made kind.same u; frame_is = u.frame };
     }
 
--- an item that is not presented is not known
+-- an item that cannot be presented is not known
 flag_unknown : (plan : SchedulePlan) (prefix : List Entry) (made : MadeItem) → IsFlagOf made → is_known plan prefix made.entry ≡ true → ⊥
 flag_unknown plan prefix made flag = subst (λ (m : MadeItem). is_known plan prefix m.entry ≡ true → ⊥) flag.same (λ e. cc)
 
@@ -216,7 +213,7 @@ earlier_true : (shift : ℤ) (p : PacketJournal) (plan : ListenPlan) (records : 
 earlier_true shift p plan records place h =
     accepted_true (items_in plan records) shift p (schedule_plan plan) (entries_in plan records) place (followed shift p plan records h) (entries_true shift p plan records h)
 
--- The item at a place is accepted as packet n.
+-- The item at index `place` is accepted as packet `n`.
 pub record IsAcceptedAs (p : PacketJournal) (plan : ListenPlan) (records : List Record) (place n : ℕ) (made : MadeItem) : Type 0 where
   pub item : Item
   pub entry : made.entry ≡ OfItem item
@@ -254,7 +251,7 @@ welcome_shown shift p plan records place n made h w =
     subst (λ (l : List Presented). Any (IsPresentedOf by p n made) l) (sym (batches_are gs))
     (any_batch (IsPresentedOf by p n made) (presented gs) (taken place t.batch) shown (record { frame = t.is.frame_is; is = t.is.is }))
 
--- The item at a place is flagged as a repeat.
+-- The item at index `place` is flagged as a repeat.
 pub record IsFlaggedAs (plan : ListenPlan) (records : List Record) (place : ℕ) (made : MadeItem) : Type 0 where
   pub item : Item
   pub entry : made.entry ≡ OfItem item

@@ -1,4 +1,4 @@
--- A whole unit of copies is one unit of the journal.
+-- A whole unit that was made of copies is one unit of the journal.
 use Rattle.std.proofs.Common.{◌≡◌, ◌⊎◌, ℕ, zero, suc, ◌+◌, ◌-◌, ◌%◌, ◌^◌, ◌<◌, ◌≤◌, Bool, true, false, ℤ, pos, List, [], ◌∷◌, ◌++◌, All, length, map, drop, Option, Some, None, is_some, refl, sym, ap, ◌∙◌, subst, inl, inr, arith, append_assoc, length-append}
 use Rattle.std.specs.Prelude.{◌==◌, if◌then◌else◌, ⊤, ◌+ℤ◌, option_map, IfSome}
 use Rattle.std.specs.List.{flat_map, range_with_len}
@@ -44,7 +44,6 @@ use Rattle.listener.proofs.TrueItems.{Shows}
 
 -- ---- a copy of a packet of H.264
 
--- A copy of a packet of H.264 has these fields.
 pub record IsVideoCopy (p : PacketJournal) (part : ℕ → Part) (n : ℕ) (d : Delivery) : Type 0 where
   pub view : Cvf
   pub is : p.packet n ≡ H264Data view
@@ -74,13 +73,11 @@ pub video_copy : (shift : ℤ) (p : PacketJournal) (part : ℕ → Part) (lead n
 video_copy shift p part lead n d is kind copy shows =
     view_video p part n d (p.packet n) refl (subst (λ (k : Kind). IsPacket k p.times p.stream n (p.packet n)) kind (is.packets n copy.delivered.known)) copy.spelled shows
 
--- a stream of H.264 that conforms keeps the rules of H.264
 pub video : (p : PacketJournal) (part : ℕ → Part) → p.times.kind ≡ H264 part → Conforms p.times → IsVideo p.times part
 video p part kind is = subst (λ (k : Kind). IsOfKind k p.times) kind is.kind
 
--- ---- its fragment
+-- ---- the fragment of a copy
 
--- The fragment is packet n of the journal.
 pub record IsFragmentOf (p : PacketJournal) (part : ℕ → Part) (n : ℕ) (f : Fragment) : Type 0 where
   pub known : n < p.times.packets
   pub part_is : part_of f.part ≡ part n
@@ -125,14 +122,14 @@ fragment_is p part lead n d f copy c e =
 next_of : (n m : ℕ) → m % 256 ≡ (n % 256 + 1) % 256 → n ≤ m + 254 → m ≤ n + 254 → m ≡ suc n
 next_of n m e low high = omega arith
 
--- packets of one access unit are near
+-- packets that are due at the same instant are at most 254 apart
 close : (j : Journal) (part : ℕ → Part) (n m : ℕ) → IsVideo j part → n < j.packets → m < j.packets → j.due n ≡ j.due m → (n ≤ m + 254) × (m ≤ n + 254)
 close j part n m is here there e =
     let low = is.few m n here (sym e) in
     let high = is.few n m there e in
     (omega arith, omega arith)
 
--- two stamps, if both are there, are equal
+-- if two packets both have a stamp, the stamps are equal
 abbrev Agrees : Option ℕ → Option ℕ → Type 0
 Agrees r s = IfSome r (λ (x : ℕ). IfSome s (λ (y : ℕ). x ≡ y))
 
@@ -143,7 +140,6 @@ next_by j part n m (Some x) None kind is here there e f near first second agrees
 next_by j part n m (Some x) (Some y) kind is here there e f near first second agrees =
     close j part n m is here there (sym (is.one_instant n x here e) ∙ (agrees ∙ is.one_instant m y there f))
 
--- the second of two adjacent fragments continues the first
 before_part : (part : NalPart) (q : Part) → part_of part ≡ q → completes part ≡ false → (q ≡ First) ⊎ ((q ≡ Middle) ⊎ (q ≡ Last))
 before_part SingleNal q e h = absurd cc
 before_part FirstNal q e h = inl (sym e)
@@ -177,7 +173,8 @@ next_is p part n m t f g kind is near a b goes here there =
 
 -- ---- adjacent deliveries of the stream
 
--- The deliveries are copies of packets: the first is near packet n, and each later one is near its predecessor.
+-- Each delivery is a copy of a packet. The first packet is near packet `n`, and each later packet is near the one
+-- before it.
 abbrev pub Chain : PacketJournal → ℕ → ℕ → List Delivery → Type 0
 Chain p lead n [] = ⊤
 Chain p lead n (x ∷ xs) = (m : ℕ) × (IsCopyOf p lead m x × (IsNear p.times n m × Chain p lead m xs))
@@ -222,7 +219,7 @@ follow_on shift p part lead n t f (x ∷ xs) (g ∷ fs) is kind a (m, (copy, (ne
     let more = follow_on shift p part lead m t g xs fs is kind b chain (All-tail Shows x xs shows) events (λ front y z rest q. goes (f ∷ front) y z rest (ap (λ (l : List Fragment). f ∷ l) q)) later in
     subst (λ (k : ℕ). IsCopyOf p lead k x × AreCopiesFrom p lead (suc k) xs) same (copy, more)
 
--- the deliveries of a stretch are copies of consecutive packets
+-- the deliveries are copies of consecutive packets
 pub record HasRun (p : PacketJournal) (lead : ℕ) (xs : List Delivery) : Type 0 where
   pub from : ℕ
   pub copies : AreCopiesFrom p lead from xs
@@ -253,7 +250,7 @@ pub copies_all : (p : PacketJournal) (lead n m : ℕ) (xs : List Delivery) (d : 
 copies_all p lead n m [] d e all last = let same : m ≡ n = omega (arith, e) in (subst (λ (k : ℕ). IsCopyOf p lead k d) same last, tt)
 copies_all p lead n m (x ∷ xs) d e all last = (all.0, copies_all p lead (suc n) m xs d (omega (arith, e)) all.1 last)
 
--- the fragments of copies of consecutive packets
+-- each fragment is that of a packet of the journal, and the packets are consecutive from packet `n` on
 abbrev pub AreFragmentsFrom : PacketJournal → (ℕ → Part) → ℕ → List Fragment → Type 0
 AreFragmentsFrom p part n [] = ⊤
 AreFragmentsFrom p part n (f ∷ fs) = IsFragmentOf p part n f × AreFragmentsFrom p part (suc n) fs
@@ -283,9 +280,9 @@ unit_is p part n m f fs to all =
     let body = bodies p part n (f ∷ fs) all in
     rw (all.0.first, long) (ap (λ (b : List ℕ). f.nal ∷ b) body)
 
--- ---- their parts
+-- ---- the parts of a unit's packets
 
--- Packets after packet n up to packet m continue its unit, and packet m ends it.
+-- The packets after packet `n` continue its unit, and packet `m` is the last of it.
 record Goes (part : ℕ → Part) (n m : ℕ) : Type 0 where
   middle : (k : ℕ) → n < k → k < m → part k ≡ Middle
   last : n < m → part m ≡ Last
@@ -314,7 +311,7 @@ single_of FirstNal e h = absurd cc
 single_of MiddleNal e h = absurd cc
 single_of LastNal e h = absurd cc
 
--- the unit still ends with packet m, seen from the packet after packet n
+-- if packet `n + 1` is in the middle of a unit that ends with packet `m`, the unit of packet `n` ends with packet `m`
 next_goes : (part : ℕ → Part) (n m : ℕ) → suc n < m → part (suc n) ≡ Middle → Goes part (suc n) m → Goes part n m
 next_goes part n m before here more = record {
   middle = λ k low high. elim (cases_lt (suc n) k) [
@@ -365,7 +362,6 @@ unit_ends part n m (inr are) = inr are.last
 
 -- ---- the instant
 
--- the packet that ends a unit is stamped
 pub end_stamped : (j : Journal) (part : ℕ → Part) (n : ℕ) → IsVideo j part → n < j.packets → Ends (part n) → is_some (j.stamp n) ≡ true
 end_stamped j part n is known ends = elim is.stamps [
   | inl all ↦ all n known
@@ -386,7 +382,7 @@ unit_instant p part lead n d is copy c ends =
 
 -- ---- a whole unit
 
--- A stretch of the events is a whole unit.
+-- The events end with `run`, which is a stretch and a whole unit.
 record IsWholeRun (es : List Event) (run : List Fragment) : Type 0 where
   ends : EndsWith es run
   some : 1 ≤ length run
@@ -410,7 +406,6 @@ last_run before d whole = whole_run (events_to before d) (last_stretch (events_t
 events_are : (before : List Delivery) (d : Delivery) → map event_of (in_stream before ++ d ∷ []) ≡ events_to before d
 events_are before d = map-append event_of (in_stream before) (d ∷ [])
 
--- the deliveries of the unit are those of the stretch
 last_parts : (before : List Delivery) (d : Delivery) (run : List Fragment) → 1 ≤ length run → last_ones (length run) (in_stream before ++ d ∷ []) ≡ last_ones (length run - 1) (in_stream before) ++ d ∷ []
 last_parts before d run some =
     let n : length run ≡ length run - 1 + 1 = omega (arith, some) in
@@ -425,7 +420,8 @@ run_shows before d n all here =
     All-append Shows (last_ones n (in_stream before)) (d ∷ []) (All-drop Shows (length (in_stream before) - n) (in_stream before) (All-filter is_streamed Shows before all))
     (All-cons Shows d [] here (All-nil Shows))
 
--- a unit that was made of copies of consecutive packets has the bytes and the instant of the journal's unit
+-- if a unit was made of copies of consecutive packets, its packets are one unit of the journal, and its bytes are
+-- theirs
 unit_by_run : (shift : ℤ) (p : PacketJournal) (part : ℕ → Part) (lead n : ℕ) (before : List Delivery) (d : Delivery) (run : List Fragment) → IsConforming shift p → p.times.kind ≡ H264 part → All Shows before → Shows d → (copy : IsMadeOf p lead n (unit_by before d))
     → last_stretch (events_to before d) ≡ run → IsWholeRun (events_to before d) run → AreUnit part copy.from n × (whole_unit (events_to before d) ≡ unit_bytes p copy.from n)
 unit_by_run shift p part lead n before d [] is kind all here copy same r = absurd (let some = r.some in omega arith)
@@ -489,7 +485,7 @@ chained_of shift p part lead (OfClock m ∷ os) (d ∷ ds) is kind shows from ne
     let here = clock_kind shift p m d is from.0 (All-head Shows d ds shows) in
     subst (λ (l : List Delivery). AreChained p lead l) (sym (skip d ds (clock_skipped d here))) (chained_of shift p part lead os ds is kind (All-tail Shows d ds shows) from.1 near)
 
--- The item is made of copies of consecutive packets.
+-- The item was made of copies of consecutive packets.
 pub record IsMade (p : PacketJournal) (lead : ℕ) (made : MadeItem) : Type 0 where
   pub number : ℕ
   pub copies : IsMadeOf p lead number made
@@ -528,13 +524,12 @@ unit_made shift p part lead ds made is kind chain shows w =
     subst (IsMade p lead) w.same
     (whole_made shift p part lead w.before w.delivery w.rest is kind (subst (λ (l : List Delivery). AreChained p lead (in_stream l)) w.is chain) (subst (λ (l : List Delivery). All Shows l) w.is shows) (not_from_false _ w.streamed) w.whole)
 
--- ---- it is one unit of the journal
+-- ---- a whole unit is one unit of the journal
 
--- the unit that a delivery completes
 abbrev unit_in : List Delivery → Delivery → WholeUnit
 unit_in before d = record { frame = d.frame; arrival = d.arrival; seq = d.seq; instant = unfolded (cvf_of d.packet).header.timestamp d.arrival; bytes = whole_unit (events_to before d) }
 
--- The item is the unit that ends with packet n.
+-- The item is the journal's unit that ends with packet `n`.
 pub record IsUnitItem (p : PacketJournal) (part : ℕ → Part) (lead n : ℕ) (made : MadeItem) : Type 0 where
   pub unit : WholeUnit
   pub entry : made.entry ≡ OfItem (OfUnit unit)
@@ -564,7 +559,7 @@ unit_item shift p part lead n ds made is kind shows w copies =
     subst (λ (m : MadeItem). IsMadeOf p lead n m → IsUnitItem p part lead n m) w.same
     (whole_item shift p part lead n w.before w.delivery is kind (all_before Shows w.before (w.delivery ∷ w.rest) all) (all_here Shows w.before w.rest w.delivery all) w.whole) copies
 
--- ---- what is presented of it
+-- ---- what is presented of a unit
 
 at_once : (x instant : ℤ) → instant_at (record { base = instant; num = 1; den = 1 }) x ≡ instant +ℤ x
 at_once x instant =

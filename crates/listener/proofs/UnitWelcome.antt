@@ -1,4 +1,4 @@
--- A unit of H.264 at the beginning of a capture must be presented if its packets came in order.
+-- If the packets of a unit of H.264 came in order at the beginning of a capture, the unit must be presented.
 use Rattle.std.proofs.Common.{◌≡◌, ◌⊎◌, ℕ, zero, suc, ◌+◌, ◌%◌, ◌<◌, ◌≤◌, Bool, true, false, ℤ, pos, ◌≤ℤ◌, List, [], ◌∷◌, ◌++◌, All, drop, length, map, Option, Some, None, refl, sym, ap, ◌∙◌, subst, inl, inr, arith, append-nil, append_assoc, eq-eqb, length-append}
 use Rattle.std.specs.Prelude.{◌-◌, ◌==◌, nat_lt, not, if◌then◌else◌, slice_get, Contains, IfSome, option_map}
 use Rattle.std.specs.List.{flat_map}
@@ -48,7 +48,6 @@ use Rattle.cvf_format.proofs.AssemblyLemmas.{within_so}
 
 -- ---- one copy
 
--- the fragment of a copy
 abbrev fragment_at : Delivery → Fragment
 fragment_at d = fragment_in d (cvf_of d.packet)
 
@@ -65,7 +64,7 @@ part_ends FirstNal e = absurd cc
 part_ends MiddleNal e = absurd cc
 part_ends LastNal e = inr refl
 
--- The fragment of a copy has no flaw.
+-- The delivery is of H.264 and has no flaw.
 record IsGood (d : Delivery) : Type 0 where
   streamed : (d.subtype == crf_subtype) ≡ false
   is_video : (d.subtype == cvf_subtype) ≡ true
@@ -167,7 +166,6 @@ inside_ends part (inl e) (inr f) = absurd (let g = sym e ∙ f in cc)
 inside_ends part (inr e) (inl f) = absurd (let g = sym e ∙ f in cc)
 inside_ends part (inr e) (inr f) = absurd (let g = sym e ∙ f in cc)
 
--- all packets of a unit are due at the same instant
 same_due : (j : Journal) (part : ℕ → Part) (from k left : ℕ) → IsVideo j part → AreUnit part from (k + left) → from ≤ k → k + left < j.packets → j.due k ≡ j.due (k + left)
 same_due j part from k zero is unit low known = let same : k ≡ k + zero = omega arith in ap j.due same
 same_due j part from k (suc left) is unit low known =
@@ -177,12 +175,12 @@ same_due j part from k (suc left) is unit low known =
     let rest = same_due j part from (suc k) left is (subst (λ (i : ℕ). AreUnit part from i) (sym next) unit) (omega (arith, low)) (omega (arith, known)) in
     sym here ∙ (rest ∙ ap j.due next)
 
--- ---- their stretch
+-- ---- the stretch of a unit's fragments
 
 abbrev HasInstant : ℤ → Fragment → Type 0
 HasInstant t f = IfSome f.instant (λ stamp. stamp ≡ t)
 
--- packets of one unit all carry its first byte
+-- the packets from `from` to `n` all have the same first byte
 abbrev SameByte : PacketJournal → ℕ → ℕ → Type 0
 SameByte p from n = (k : ℕ) → from ≤ k → k ≤ n → first_byte (p.packet k) ≡ first_byte (p.packet from)
 
@@ -226,7 +224,7 @@ stretch p part from n f fs is unit byte known high all =
 
 -- ---- the limits
 
--- the beginning of a unit is at most as long as the unit
+-- the fragments at the beginning of a unit have at most as many bytes as the unit
 shorter : (f : Fragment) (fs gs : List Fragment) → length (unit_of (f ∷ fs)) ≤ length (unit_of (f ∷ (fs ++ gs)))
 shorter f fs gs =
     let all = ap length (flat_map-append (λ (h : Fragment). h.body) (f ∷ fs) gs) in
@@ -234,7 +232,7 @@ shorter f fs gs =
 
 -- ---- what a delivery gives
 
--- Deliveries are the beginning of a unit: they make one stretch, which is within the limits.
+-- The deliveries are the beginning of a unit: their fragments make one stretch, which is within the limits.
 record Begins (before : List Delivery) (d : Delivery) : Type 0 where
   good : IsGood d
   others : All IsGood before
@@ -266,7 +264,6 @@ last_empty {X} n = none (0 - n)
     none zero = refl
     none (suc k) = refl
 
--- fragments within the limits are joined
 joined : (run : List Fragment) → 1 < length run → is_within run ≡ true → is_joined run ≡ true
 joined run some within = let test : nat_lt 1 (length run) ≡ true = grind (arith, nat_tests) in rw (test, within) refl
 
@@ -279,7 +276,7 @@ none_given (x ∷ before) d b =
     let none : given_up (events_to (x ∷ before) d) ≡ [] = ap (λ (t : Bool). if t then [] else held (before_last (events_to (x ∷ before) d))) on in
     ap (λ (l : List Fragment). last_ones (length l) (in_stream (x ∷ before))) none ∙ none_last (in_stream (x ∷ before))
 
--- the next delivery of the unit gives its own item
+-- the next delivery of a unit yields only its own item
 gives_own : (before : List Delivery) (d : Delivery) (pk : Piece) → Begins before d → piece (events_to before d) ≡ pk → given_by before d ≡ piece_by before d pk
 gives_own before d pk b is =
     let none : given_up_by before d ≡ [] = ap (map (flagged (lost_for (reason (events_to before d))))) (none_given before d b) in
@@ -355,7 +352,7 @@ begin_at p part lead from n all before d rest b same =
     at_end [] x all = All-head IsGood x [] all
     at_end (y ∷ xs) x all = at_end xs x (All-tail IsGood y (xs ++ x ∷ []) all)
 
--- the part of a delivery
+-- the fragment of the delivery at index k is the part of packet `from` + k
 part_at : (p : PacketJournal) (part : ℕ → Part) (lead from n : ℕ) (all before : List Delivery) (d : Delivery) (rest : List Delivery) → IsBegin p part lead from n all → all ≡ (before ++ d ∷ []) ++ rest → part_of (fragment_at d).part ≡ part (from + length before)
 part_at p part lead from n all before d rest b same =
     let split : fragments_at all ≡ run_at before d ++ fragments_at rest = ap fragments_at same ∙ map-append fragment_at (before ++ d ∷ []) rest in
@@ -363,7 +360,7 @@ part_at p part lead from n all before d rest b same =
     fragments_last p part from (fragments_at before) (fragment_at d) (subst (λ (l : List Fragment). AreFragmentsFrom p part from l) (more_run before d) here)
     ∙ ap (λ (k : ℕ). part (from + k)) (length-map before fragment_at)
 
--- each delivery except the last waits
+-- each delivery except the last yields no item
 waits : (p : PacketJournal) (part : ℕ → Part) (lead from n : ℕ) (all before : List Delivery) (d x : Delivery) (rest : List Delivery) → IsBegin p part lead from n all → all ≡ (before ++ d ∷ []) ++ x ∷ rest → given_by before d ≡ []
 waits p part lead from n all before d x rest b same =
     let begin = begin_at p part lead from n all before d (x ∷ rest) b same in
@@ -404,7 +401,6 @@ first_given ds earlier last rest same none unit = rw (same, so_far_more earlier 
 in_its_stream : (xs : List Delivery) → length xs - length xs ≡ 0
 in_its_stream xs = omega arith
 
--- the unit is made of all deliveries before its last one
 earlier_are : (earlier : List Delivery) (last : Delivery) → Begins earlier last → (unit_by earlier last).earlier ≡ earlier
 earlier_are earlier last b =
     let run = run_is earlier last b in
@@ -494,7 +490,7 @@ unit_welcome shift p plan records part from n earlier last rest h kind same u ea
 
 -- ---- a unit whose packets came in order, wherever in the capture
 
--- the events of a unit's deliveries come after those of the deliveries before
+-- the events up to `last` are those of `front`, then those of the unit's packets
 events_after : (before front earlier : List Delivery) (last : Delivery) → in_stream before ≡ front ++ earlier → Begins earlier last → events_to before last ≡ map event_of front ++ map packet (run_at earlier last)
 events_after before front earlier last split b =
     let own : events before ≡ map event_of front ++ map event_of earlier = ap (map event_of) split ∙ map-append event_of front earlier in
@@ -522,7 +518,7 @@ whole_after p part lead from n before front earlier last split b begin =
     unit_last (inl e) = inl e.1
     unit_last (inr are) = inr are.last
 
--- a delivery that completes a unit gives up some fragments, and then gives the unit
+-- a delivery that completes a unit yields the fragments that are given up because of it, and then the unit
 given_after_all : (before : List Delivery) (last : Delivery) → IsGood last → piece (events_to before last) ≡ Whole → given_by before last ≡ given_up_by before last ++ unit_by before last ∷ []
 given_after_all before last good whole =
     ap (λ (t : Bool). if t then made_of_one last ∷ [] else given_up_by before last ++ own_by before last) good.streamed
@@ -557,7 +553,7 @@ shows_after ds before front earlier last rest same split all =
     let run : All Shows earlier = All-back Shows front earlier (subst (λ (l : List Delivery). All Shows l) split streamed) in
     All-append Shows earlier (last ∷ []) run (All-cons Shows last [] (All-head Shows last rest (All-back Shows before (last ∷ rest) there)) (All-nil Shows))
 
--- An item of the list is made of these deliveries.
+-- The unit that `last` completes is an item, and its earlier deliveries are `earlier`.
 pub record IsMadeUnit (items : List MadeItem) (before earlier : List Delivery) (last : Delivery) : Type 0 where
   pub listed : Contains items (unit_by before last)
   pub of : (unit_by before last).earlier ≡ earlier

@@ -1,4 +1,4 @@
--- The time at which the first entry of a capture is judged, and the room that it finds.
+-- The time at which the first entry of a capture is judged, and the room that there is for it.
 use Rattle.std.proofs.Common.{◌≡◌, ℕ, ◌+◌, ◌≤◌, Bool, true, false, ℤ, pos, ◌≤ℤ◌, List, [], ◌∷◌, Option, Some, None, refl, ap, arith}
 use Rattle.std.specs.Prelude.{◌==◌, nat_le, nat_lt, if◌then◌else◌, slice_get}
 use Rattle.std.specs.Int.{int_max}
@@ -18,13 +18,11 @@ use Rattle.crf_format.specs.Crf.{crf_subtype}
 use Rattle.iec61883_format.specs.Iec.{iec_of, iec_refusal}
 use Rattle.listener.specs.Items.{aaf_item, blocks_of, clock_row, entry_of, iec_item, item_of, refused_or, samples_of}
 
--- the time when the first entry is judged
 pub first_time : (es : List Entry) (e : Entry) → slice_get es 0 ≡ Some e → now_at es 0 ≡ int_max (pos 0) (arrival_of e)
 unfolding latest
 first_time [] e at = absurd cc
 first_time (x ∷ es) e at = let same : x ≡ e = cc in ap (λ (y : Entry). int_max (pos 0) (arrival_of y)) same
 
--- nothing waits before the first entry
 pub nothing : (clock : Clock) (plan : SchedulePlan) (es : List Entry) → accepted clock plan es 0 ≡ []
 unfolding accepted
 nothing clock plan es = refl
@@ -35,7 +33,7 @@ has_room plan now size some fits = by (nat_le plan.buffer 0) (nat_lt plan.room (
     by : (a b : Bool) → a ≡ false → b ≡ false → (if a then true else b) ≡ false
     by a b e f = rw (e, f) refl
 
--- the item of a delivery arrives when the delivery does
+-- the item of a delivery has the delivery's arrival, even if its reader refuses it
 refused_arrival : (d : Delivery) (o : Option Refusal) (item : Item) → item_arrival item ≡ d.arrival → item_arrival (refused_or d o item) ≡ d.arrival
 refused_arrival d None item e = e
 refused_arrival d (Some refusal) item e = refl

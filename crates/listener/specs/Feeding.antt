@@ -8,8 +8,8 @@ use Rattle.listener.specs.declared.listener.ListenFault.{ListenFault}
 use Rattle.listener.specs.declared.listener.ListenFault.TheVariants.{Refused, Memory}
 use Rattle.listener.specs.Listening.{ListenState, StandsFor as RecordsStandFor, is_closed, out as out_of, work as listener_work}
 
--- A listener that is fed: its reader, the listener of the records that were read, what is due next, and whether memory has run
--- out.
+-- A listener that is fed bytes: its reader; the listener of the records that were read; the item that is due next; and
+-- whether memory has run out.
 pub record Feeding : Type 0 where
   pub reader : Reading
   pub listener : ListenState
@@ -33,8 +33,8 @@ is_ended fed = is_closed fed.listener
 abbrev pub out : Feeding → List ℕ → List Shown
 out fed bytes = out_of fed.listener (whole_records bytes)
 
--- The listener was fed these bytes, and has given `given` of the items that it shows of them. After `Memory` these are the
--- bytes fed before, without the record for which memory ran out.
+-- The listener was fed `bytes`, and has returned `given` of the items that it shows of them. If memory has run out,
+-- `bytes` ends before the record for which it ran out.
 pub record StandsFor (bytes : List ℕ) (given : ℕ) (fed : Feeding) : Type 0 where
   pub read : fed.out_of_memory ≡ false → HasRead fed.reader bytes (whole_records bytes)
   pub stands : RecordsStandFor (whole_records bytes) (given + length (option_to_list fed.next)) fed.listener
@@ -42,7 +42,8 @@ pub record StandsFor (bytes : List ℕ) (given : ℕ) (fed : Feeding) : Type 0 w
 
 -- ---- what a piece adds
 
--- the bytes that a listener was fed, after a piece for which `feed` returns this
+-- The bytes that a listener was fed after one more call of `feed`. The parameters are the bytes before the call, the
+-- piece, and what `feed` returned.
 abbrev pub bytes_after : List ℕ → List ℕ → Result ℕ ListenFault → List ℕ
 bytes_after bytes piece (Ok n) = bytes ++ take n piece
 bytes_after bytes piece (Err (Refused refusal)) = bytes ++ piece
@@ -54,7 +55,7 @@ is_memory (Ok n) = false
 is_memory (Err (Refused refusal)) = false
 is_memory (Err Memory) = true
 
--- at most this many items may still be given
+-- at most this many items may still be returned
 abbrev pub work : Feeding → ℕ
 work fed = listener_work fed.listener + length (option_to_list fed.next)
 

@@ -14,8 +14,8 @@ use Rattle.packet_journal.specs.Deliveries.{Delivery}
 use Rattle.listener.specs.Items.{lost_for}
 use Rattle.listener.specs.Units.{events}
 
--- How far the units of a stream are: their assembly; why the last fragments were given up, and how many of them were taken; and
--- the last delivery's own item.
+-- The state of a stream's units: their assembly; why the last fragments were given up, and how many of them were taken
+-- since; and the last delivery's own item.
 pub record Gathered : Type 0 where
   pub assembly : Assembly
   pub why : LostFor
@@ -30,10 +30,11 @@ lost_item reason mark = OfBad (record { frame = mark.frame; arrival = mark.arriv
 abbrev pub item_entry : Item → Entry
 item_entry item = OfItem item
 
--- the items that the last delivery gave and that were not taken yet
+-- the items of the last delivery that were not taken yet
 abbrev pub left : Gathered → List Item
 left u = map (lost_item (lost_for u.why)) (drop u.taken u.assembly.lost) ++ option_to_list u.own
 
--- The units were given these deliveries, and hold the fragments that wait.
+-- The units are those of the deliveries `ds`, and their assembly holds the fragments that wait for the rest of their
+-- unit.
 pub record HasUnits (ds : List Delivery) (u : Gathered) : Type 0 where
   pub assembly : StandsFor u.assembly (events ds)

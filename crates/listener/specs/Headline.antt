@@ -17,17 +17,18 @@ use Rattle.listener.specs.Laws.{Agree, AreOther, HearsTalker, IsFurther, IsHeard
 
 -- What is shown of the records of a capture keeps the headline.
 pub record KeepsHeadline (shift : ℤ) (p : PacketJournal) (plan : ListenPlan) (records : List Record) (shown : List Shown) : Type 0 where
-  -- each batch that is presented is the packet that its item was made of, with that packet's bytes, and each of its samples is
-  -- at the talker's own nanosecond
+  -- each batch that is presented is the packet that its item was made of: it has that packet's bytes, and each of its
+  -- samples is at the talker's own nanosecond
   pub genuine : All (IsHeardFrom (by_clock plan) (items_in plan records) p plan.lead) (presented_of shown)
   -- no packet is presented twice
   pub once : AllPairs (AreOther (by_clock plan) p) (presented_of shown)
-  -- first instants never fall, and batches with equal ones are in the order of the items
+  -- first instants never decrease, and batches with equal first instants are in the order of the items
   pub in_order : AllPairs ComesBefore (presented_of shown)
-  -- an item is presented if its timestamp or clock reference is known, it came in time and found room, and it is the first of
-  -- its packet
+  -- an item is presented if its timestamp or clock reference is known, it came in time, it found room, and no copy of
+  -- its packet was accepted before
   pub known : (place n : ℕ) (made : MadeItem) → IsWelcome p plan records place n made → Any (IsPresentedOf (by_clock plan) p n made) (presented_of shown)
-  -- a further item of a packet that is known and came in time is flagged as a repeat
+  -- a further copy of a packet that was accepted is flagged as a repeat, if its timestamp or clock reference is known
+  -- and it came in time
   pub repeats : (place n : ℕ) (made : MadeItem) → IsFurther p plan records place n made → shown_of_frame made.last.frame shown ≡ Flag made.last.frame made.last.seq Repeat ∷ []
   -- each delivery of the stream and of its clock is in one item
   pub each_made : All (IsInOneItem (items_in plan records)) (deliveries_of plan records)
@@ -36,8 +37,8 @@ pub record KeepsHeadline (shift : ℤ) (p : PacketJournal) (plan : ListenPlan) (
       → shown_of_frame made.last.frame shown ≡ shown_by made.last (verdict_of plan records place item) ∷ []
   -- nothing else is shown
   pub no_other : All (IsShownItem plan records) shown
-  -- any other listener that hears the talker, if both or neither use its clock: for each packet that both present, both have
-  -- the same bytes, and each sample at the same nanosecond
+  -- If another listener hears the talker, and both or neither use its clock, they agree: for each packet that both
+  -- present, both have the same bytes, and each sample at the same nanosecond.
   pub agrees : (other : ListenPlan) (others : List Record) → HearsTalker shift p other others → by_clock other ≡ by_clock plan → All (λ a. All (Agree (by_clock plan) p a) (presented_of (shown_of other others))) (presented_of shown)
   -- whenever an item is judged, at most `buffer` batches wait, of at most `room` bytes together
   pub buffer : (place : ℕ) → length (waiting_at clock_spot (schedule_plan plan) (entries_in plan records) place) ≤ plan.buffer

@@ -25,9 +25,9 @@ use Rattle.packet_journal.specs.Deliveries.{Delivery}
 use Rattle.listener.specs.Units.{event_of, events, flaw_of, in_stream, last_ones, waiting}
 use Rattle.packet_journal.specs.Packets.{audio_sample_type}
 
--- A packet of AAF (IEEE 1722-2016, 7). Its timestamp counts if it is valid. In sparse mode a packet without a timestamp is
--- counted from the last packet before it whose sequence number is a multiple of 8. The code of a user-specified rate gives no
--- rate.
+-- A packet of AAF (IEEE 1722-2016, 7). Its timestamp is used if it is valid. In sparse mode, a packet without a
+-- timestamp is counted from the last packet before it whose sequence number is a multiple of 8. The code of a
+-- user-specified rate gives no rate.
 abbrev pub samples_of : Delivery → Aaf → Item
 samples_of d v = OfPacket (record {
   frame = d.frame;
@@ -48,9 +48,9 @@ abbrev pub block_rule : ℕ → Option ℕ → HeadRule
 block_rule dbc None = Own
 block_rule dbc (Some interval) = Blocks dbc interval
 
--- A packet of IEC 61883-6, each of whose data blocks is a sample. Its timestamp counts if it is valid, and belongs to the block
--- whose block count is a multiple of the interval. A packet without that block is counted from the last such block before it. A
--- no-data packet has no samples.
+-- A packet of IEC 61883-6, each of whose data blocks is a sample. Its timestamp is used if it is valid, and belongs to
+-- the block whose block count is a multiple of the interval. A packet without that block is counted from the last such
+-- block before it. A no-data packet has no samples.
 abbrev pub blocks_of : Delivery → Iec → Item
 blocks_of d v = OfPacket (record {
   frame = d.frame;
@@ -74,7 +74,7 @@ malformed d refusal = OfBad (record {
   reason = Malformed refusal.field;
 })
 
--- the item of a delivery that its reader may refuse
+-- the item of a delivery: the malformed item if its reader refuses it, else this item
 abbrev pub refused_or : Delivery → Option Refusal → Item → Item
 refused_or d None item = item
 refused_or d (Some refusal) item = malformed d refusal
@@ -93,8 +93,8 @@ item_of d = if d.subtype == aaf_subtype then aaf_item d else iec_item d
 
 -- ---- the media clock
 
--- The timestamps of a packet of the media clock (IEEE 1722-2016, 10). They count if the packet is of the type for audio samples
--- and its times are certain.
+-- The timestamps of a packet of the media clock (IEEE 1722-2016, 10). They are used if the packet is of the type for
+-- audio samples and its times are certain.
 abbrev pub points_of : Crf → ClockRow
 points_of v = record {
   usable = (v.kind == audio_sample_type) && not v.tu;
@@ -121,12 +121,13 @@ clock_row d = points_or_none (crf_refusal d.packet) (crf_of d.packet)
 
 -- ---- items
 
--- A delivery of the clock is never shown, whether it has valid timestamps or not; a delivery of audio is an item.
+-- The entry of a delivery: of the clock, its timestamps; of audio, an item. A delivery of the clock is never shown,
+-- whether it has valid timestamps or not.
 abbrev pub entry_of : Delivery → Entry
 entry_of d = if d.subtype == crf_subtype then OfClock d.arrival (clock_row d) else OfItem (item_of d)
 
--- An entry of a schedule, with the deliveries that it was made of: the last one, whose frame number and sequence number it has,
--- and those before it, in order.
+-- An entry of a schedule, with the deliveries that it was made of: the earlier ones, in order, and the last one. The
+-- entry has the last one's frame number and sequence number.
 pub record MadeItem : Type 0 where
   pub entry : Entry
   pub earlier : List Delivery
@@ -140,7 +141,8 @@ sources made = made.earlier ++ made.last ∷ []
 abbrev pub made_of_one : Delivery → MadeItem
 made_of_one d = record { entry = entry_of d; earlier = []; last = d }
 
--- A delivery that is shown on its own, and not presented: a fragment that is in no unit, or a packet that cannot be in one.
+-- The item of a delivery that is flagged by itself: a fragment that is in no unit, or a packet that cannot be in a
+-- unit.
 abbrev pub flagged : Reason → Delivery → MadeItem
 flagged reason d = record {
   entry = OfItem (OfBad (record { frame = d.frame; arrival = d.arrival; seq = d.seq; reason = reason }));
@@ -148,7 +150,7 @@ flagged reason d = record {
   last = d;
 }
 
--- the reason with which fragments are flagged, for each cause to give them up
+-- the reason with which fragments are flagged, for each cause of giving them up
 abbrev pub lost_for : LostFor → Reason
 lost_for Broken = BrokenUnit
 lost_for Long = LongUnit
@@ -159,13 +161,14 @@ lost_for Long = LongUnit
 abbrev pub events_to : List Delivery → Delivery → List Event
 events_to before d = events before ++ event_of d ∷ []
 
--- the waiting fragments that a delivery gives up
+-- the flagged items of the fragments that are given up because of a delivery
 abbrev pub given_up_by : List Delivery → Delivery → List MadeItem
 given_up_by before d =
     map (flagged (lost_for (reason (events_to before d)))) (last_ones (length (given_up (events_to before d))) (in_stream before))
 
--- The unit that a delivery completes: its frame number, its arrival, its sequence number and its presentation time are those of
--- that delivery, the last of the unit. The other deliveries of the unit are the last of the stream before it.
+-- The unit that a delivery completes. Its frame number, arrival, sequence number and presentation time are those of
+-- that delivery, which is the last of the unit. The unit's other deliveries are the stream's last ones before that
+-- delivery.
 abbrev pub unit_by : List Delivery → Delivery → MadeItem
 unit_by before d = record {
   entry = OfItem (OfUnit (record {
@@ -191,27 +194,28 @@ abbrev pub video_by : List Delivery → Delivery → Option Reason → List Made
 video_by before d None = piece_by before d (piece (events_to before d))
 video_by before d (Some reason) = flagged reason d ∷ []
 
--- the item that a delivery of the stream makes, if it makes one: a fragment that waits makes none
+-- the item that a delivery of the stream makes, or none if the delivery is a fragment that waits for the rest of its
+-- unit
 abbrev pub own_by : List Delivery → Delivery → List MadeItem
 own_by before d = if d.subtype == cvf_subtype then video_by before d (flaw_of d) else made_of_one d ∷ []
 
--- The items that a delivery gives after those before it. A delivery of the clock gives its timestamps. A delivery of the stream
--- gives the fragments that it gives up, in order, and then its own item.
+-- The items that a delivery yields after `before`. A delivery of the clock yields its timestamps. A delivery of the
+-- stream yields the fragments that are given up because of it, in order, and then its own item.
 abbrev pub given_by : List Delivery → Delivery → List MadeItem
 given_by before d = if d.subtype == crf_subtype then made_of_one d ∷ [] else given_up_by before d ++ own_by before d
 
--- the items that these deliveries give, one after another
+-- the items that further deliveries yield, one after another, after the deliveries before them
 abbrev pub given_after : List Delivery → List Delivery → List MadeItem
 given_after before [] = []
 given_after before (d ∷ ds) = given_by before d ++ given_after (before ++ d ∷ []) ds
 
 -- ---- items
 
--- the items that deliveries give while more may follow
+-- the items of a list of deliveries while more may follow
 abbrev pub items_so_far : List Delivery → List MadeItem
 items_so_far ds = given_after [] ds
 
--- the fragments that only the end of a list of deliveries gives up
+-- the flagged items of the fragments that are given up only because the list of deliveries ends
 abbrev pub left_at_end : List Delivery → List MadeItem
 left_at_end ds = map (flagged BrokenUnit) (waiting ds)
 

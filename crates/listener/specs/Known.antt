@@ -1,4 +1,4 @@
--- When the timestamp or clock reference of an item is known, in terms of the journal: by which packets came.
+-- When the timestamp or clock reference of an item is known, in terms of the journal's packets that came.
 use Rattle.std.specs.Prelude.{◌≡◌, ℕ, ◌+◌, List, [], ◌∷◌, is_some, take}
 use Rattle.pcap_frames.specs.Capture.{Record}
 use Rattle.sample_schedule.specs.declared.entry.Entry.TheVariants.{Item as OfItem}
@@ -19,13 +19,13 @@ clock_numbers [] = []
 clock_numbers (OfStream n ∷ os) = clock_numbers os
 clock_numbers (OfClock m ∷ os) = m ∷ clock_numbers os
 
--- the packets that have come when the delivery at a place is judged: all up to it, and `look` more
+-- the packets that have come when the delivery at index `place` is judged: all up to it, and the next `look`
 abbrev pub came_by : ListenPlan → ℕ → List Origin → List Origin
 came_by plan place origins = take (place + plan.look + 1) origins
 
--- The delivery at a place is a copy of an audio packet whose samples can be timed by the packets that came up to it and `look`
--- more. The packet has a timestamp, or the packet that it is counted from is among the last 16 + `look` that came; and if the
--- listener has the clock, two adjacent CRF timestamps of packets among the last 64 that came cover that timestamp.
+-- The delivery at index `place` is a copy of an audio packet whose samples can be timed when it is judged. The packet
+-- has a timestamp, or the packet that it is counted from is among the last 16 + `look` that came. If the listener has
+-- the clock, two adjacent CRF timestamps cover that timestamp, and their packets are among the last 64 that came.
 pub record IsKnownCopy (p : PacketJournal) (plan : ListenPlan) (records : List Record) (place : ℕ) (c : Copy) : Type 0 where
   pub origins : List Origin
   pub from : AreFrom p plan.lead origins (deliveries_of plan records)
@@ -36,8 +36,8 @@ pub record IsKnownUnit (made : MadeItem) : Type 0 where
   pub unit : WholeUnit
   pub is : made.entry ≡ OfItem (OfUnit unit)
 
--- The item at a place is made of a copy of an audio packet whose samples can be timed by the packets that came, or it is a
--- whole unit of H.264.
+-- The item at index `place` is made of a copy of an audio packet whose samples can be timed by the packets that came,
+-- or it is a whole unit of H.264.
 abbrev pub IsKnownItem : Kind → PacketJournal → ListenPlan → List Record → ℕ → Copy → MadeItem → Type 0
 IsKnownItem DenseAaf p plan records place c made = IsKnownCopy p plan records place c
 IsKnownItem SparseAaf p plan records place c made = IsKnownCopy p plan records place c

@@ -26,15 +26,16 @@ use Rattle.listener.specs.Heard.{entries_in, items_in, schedule_plan}
 use Rattle.listener.specs.Items.{MadeItem, sources}
 use Rattle.listener.specs.Known.{IsKnownItem}
 
--- The listener has no clock, or it has the talker's clock and adds to the clock's timestamps the shift that makes them the
--- journal's.
+-- The listener has no clock, or it has the talker's clock and adds to the clock's timestamps the shift that makes them
+-- the timestamps of the journal.
 abbrev pub FollowsClock : ℤ → PacketJournal → ℤ → Option ℕ → Type 0
 FollowsClock shift p added None = ⊤
 FollowsClock shift p added (Some id) = (id ≡ p.clock) × (added ≡ shift)
 
--- Records deliver the stream of a talker that keeps the rules, audio or H.264, to a listener that times samples by their
--- timestamps and the nominal rate, or by the talker's clock. Any packet may be missing, come again, or come in any order. H.264
--- has one more condition: two adjacent fragments, at least one of them without a timestamp, are of packets at most 254 apart.
+-- The records deliver a stream of audio or H.264 to a listener, and the stream's talker keeps the rules. The listener
+-- times samples by their timestamps and the nominal rate, or by the talker's clock. Any packet may be missing, repeated
+-- or out of order. H.264 has one more condition: if two fragments are adjacent and at least one of them has no
+-- timestamp, their packets are at most 254 apart.
 pub record HearsTalker (shift : ℤ) (p : PacketJournal) (plan : ListenPlan) (records : List Record) : Type 0 where
   pub conforming : IsConforming shift p
   pub stream : plan.stream ≡ p.stream
@@ -51,16 +52,16 @@ presented_of [] = []
 presented_of (Present batch ∷ rest) = batch ∷ presented_of rest
 presented_of (Flag frame seq reason ∷ rest) = presented_of rest
 
--- how many samples a batch of a stream has: as many as its packets, or one for a unit of H.264
+-- how many samples a batch of a stream has: as many as a packet of audio, or one for a unit of H.264
 abbrev pub sample_count : Kind → ℕ → ℕ
 sample_count DenseAaf count = count
 sample_count SparseAaf count = count
 sample_count (Am824 interval dbc) count = count
 sample_count (H264 part) count = 1
 
--- The batch is packet n of the journal: it has the packet's sequence number, its count and its samples' bytes, and each of its
--- samples is at its instant in the journal, by the talker's clock or without. For H.264 it is the unit that ends with packet n,
--- with the bytes that all packets of the unit carry, at their one instant.
+-- The batch is packet n of the journal: it has the packet's sequence number, number of samples and bytes. Each sample
+-- is at its instant in the journal, by the talker's clock if `by` is true. For H.264, the batch is the unit that ends
+-- with packet n: it has the bytes that all packets of the unit carry, and their one instant.
 pub record IsOfPacket (by : Bool) (p : PacketJournal) (n : ℕ) (batch : Presented) : Type 0 where
   pub known : n < p.times.packets
   pub seq : batch.seq ≡ n % 256
@@ -73,7 +74,7 @@ pub record IsOfJournal (by : Bool) (p : PacketJournal) (batch : Presented) : Typ
   pub number : ℕ
   pub is : IsOfPacket by p number batch
 
--- No packet of the journal is both of these batches.
+-- the two batches are not the same packet of the journal
 abbrev pub AreOther : Bool → PacketJournal → Presented → Presented → Type 0
 AreOther by p a b = (n : ℕ) → IsOfPacket by p n a → ¬ IsOfPacket by p n b
 
@@ -87,13 +88,13 @@ pub record AreSame (a b : Presented) : Type 0 where
   pub bytes : a.bytes ≡ b.bytes
   pub instants : (k : ℕ) → k < a.count → sample_instant a k ≡ sample_instant b k
 
--- if one packet is both of these batches, they have the same samples
+-- if the two batches are the same packet of the journal, they have the same samples
 abbrev pub Agree : Bool → PacketJournal → Presented → Presented → Type 0
 Agree by p a b = (n : ℕ) → IsOfPacket by p n a → IsOfPacket by p n b → AreSame a b
 
 -- ---- the items of a capture
 
--- Exactly one item was made of this delivery, perhaps with others.
+-- Exactly one item was made of this delivery, alone or together with other deliveries.
 pub record IsInOneItem (items : List MadeItem) (d : Delivery) : Type 0 where
   pub place : ℕ
   pub item : MadeItem
@@ -101,7 +102,7 @@ pub record IsInOneItem (items : List MadeItem) (d : Delivery) : Type 0 where
   pub in_it : Contains (sources item) d
   pub only : (k : ℕ) (other : MadeItem) → slice_get items k ≡ Some other → Contains (sources other) d → k ≡ place
 
--- how many fragments the whole units among the items have before their last ones
+-- how many fragments are in the whole units among the items, without the last fragment of each unit
 abbrev pub fragments_in : List MadeItem → ℕ
 fragments_in items = sum_by (λ (made : MadeItem). length made.earlier) items
 
@@ -110,8 +111,8 @@ abbrev pub AreCopiesFrom : PacketJournal → ℕ → ℕ → List Delivery → T
 AreCopiesFrom p lead n [] = ⊤
 AreCopiesFrom p lead n (d ∷ ds) = IsCopyOf p lead n d × AreCopiesFrom p lead (suc n) ds
 
--- The item was made of copies of consecutive packets, of which packet n is the last; an audio item is made of a copy of packet
--- n alone. Two packets may have equal bytes, so this names the number of each copy's packet.
+-- The item was made of copies of consecutive packets, of which packet n is the last. An audio item is made of a copy of
+-- packet n alone. Two packets may have equal bytes, so each copy's packet is named by its number.
 pub record IsMadeOf (p : PacketJournal) (lead n : ℕ) (made : MadeItem) : Type 0 where
   pub from : ℕ
   pub to : from + length made.earlier ≡ n
@@ -126,8 +127,8 @@ pub record IsUnitFrom (p : PacketJournal) (part : ℕ → Part) (lead n : ℕ) (
   pub bytes : unit.bytes ≡ unit_bytes p copies.from n
   pub instant : unit.instant ≡ pos (p.times.due n)
 
--- Deliveries are copies of all packets of one unit, in their order, of which packet n is the last. Each packet carries the
--- unit's first byte, and the unit is within the limits.
+-- The deliveries are copies of all packets of one unit, in their order, and packet n is the last of them. Each packet
+-- carries the unit's first byte, and the unit is within the limits.
 pub record AreOfUnit (p : PacketJournal) (part : ℕ → Part) (lead from n : ℕ) (earlier : List Delivery) (last : Delivery) : Type 0 where
   pub to : from + length earlier ≡ n
   pub packets : AreUnit part from n
@@ -139,16 +140,16 @@ pub record AreOfUnit (p : PacketJournal) (part : ℕ → Part) (lead from n : �
 
 -- ---- what must be presented
 
--- what a listener has accepted before the item at a place
+-- what a listener has accepted before it judges the item at an index
 abbrev pub accepted_before : ListenPlan → List Record → ℕ → List Accepted
 accepted_before plan records i = accepted clock_spot (schedule_plan plan) (entries_in plan records) i
 
--- the time at which the item at a place is judged: the greatest arrival up to it
+-- the time at which the item at an index is judged: the greatest arrival up to it
 abbrev pub time_of : ListenPlan → List Record → ℕ → ℤ
 time_of plan records i = now_at (entries_in plan records) i
 
--- The item at a place is packet n: its timestamp or clock reference is known by the packets that came, and its first
--- instant, by the clock or without, has not passed.
+-- The item at index `place` is packet n. Its timestamp or clock reference is known from the packets that came. Its
+-- first instant has not passed when the item is judged.
 pub record IsTimely (p : PacketJournal) (plan : ListenPlan) (records : List Record) (place n : ℕ) (made : MadeItem) : Type 0 where
   pub there : slice_get (items_in plan records) place ≡ Some made
   pub copy : IsMadeOf p plan.lead n made
@@ -157,8 +158,8 @@ pub record IsTimely (p : PacketJournal) (plan : ListenPlan) (records : List Reco
   pub at : IsAt (by_clock plan) p.times n 0 instant
   pub in_time : time_of plan records place ≤ℤ instant
 
--- The item at a place is a copy of packet n that must be presented: it is timely and the first copy, and the buffer has room
--- for it.
+-- The item at index `place` is a copy of packet n that must be presented: it is timely and the first copy, and the
+-- buffer has room for it.
 pub record IsWelcome (p : PacketJournal) (plan : ListenPlan) (records : List Record) (place n : ℕ) (made : MadeItem) : Type 0 where
   pub timely : IsTimely p plan records place n made
   -- no copy of the packet was accepted before
@@ -168,7 +169,7 @@ pub record IsWelcome (p : PacketJournal) (plan : ListenPlan) (records : List Rec
   pub content : IsContent p n bytes
   pub room : is_full (schedule_plan plan) (standing (time_of plan records place) (accepted_before plan records place)) (length bytes) ≡ false
 
--- The item at a place is a further copy of packet n: it is timely, and a copy was accepted before.
+-- The item at index `place` is a further copy of packet n: it is timely, and a copy was accepted before.
 pub record IsFurther (p : PacketJournal) (plan : ListenPlan) (records : List Record) (place n : ℕ) (made : MadeItem) : Type 0 where
   pub timely : IsTimely p plan records place n made
   pub before : Any (λ a. IsOfPacket (by_clock plan) p n a.batch) (accepted_before plan records place)
@@ -197,16 +198,17 @@ frame_of (Flag frame seq reason) = frame
 abbrev pub shown_of_frame : ℕ → List Shown → List Shown
 shown_of_frame frame list = filter (λ s. frame_of s == frame) list
 
--- the verdict of the item at a place
+-- the verdict on an item at an index
 abbrev pub verdict_of : ListenPlan → List Record → ℕ → Item → Result Accepted Reason
 verdict_of plan records place item = verdict_in clock_spot (schedule_plan plan) (entries_in plan records) place item
 
--- What is shown of an item with this last delivery, given its verdict: it is presented if accepted, else flagged with the reason.
+-- What is shown of an item, given its last delivery and its verdict: it is presented if accepted, else flagged with the
+-- reason.
 abbrev pub shown_by : Delivery → Result Accepted Reason → Shown
 shown_by d (Ok a) = Present a.batch
 shown_by d (Err reason) = Flag d.frame d.seq reason
 
--- The verdict of one of the items says that this is shown.
+-- `s` is what is shown of one of the items, by its verdict.
 pub record IsShownItem (plan : ListenPlan) (records : List Record) (s : Shown) : Type 0 where
   pub place : ℕ
   pub made : MadeItem

@@ -10,9 +10,9 @@ use Rattle.listener.specs.declared.plan.ListenPlan.{ListenPlan}
 use Rattle.listener.specs.Gathering.{Gathered, HasUnits, item_entry, left}
 use Rattle.listener.specs.Heard.{counts_of, deliveries_of, due_of, entries_in, entries_so_far_in, schedule_plan, shown_of}
 
--- A listener: its plan; the units that its stream's deliveries make, and the items of the last one that wait to be judged; the
--- judge of them; whether no more records follow; and its counts: of records, of those of the stream, and of items presented and
--- flagged.
+-- A listener: its plan; the units of its stream, with the items of the last delivery that wait to be judged; the judge
+-- of the items; whether no more records follow; and its counts of records, of the stream's records, and of items
+-- presented and flagged.
 pub record ListenState : Type 0 where
   pub plan : ListenPlan
   pub units : Gathered
@@ -32,13 +32,13 @@ out listener records = if is_closed listener then shown_of listener.plan records
 abbrev pub entries_by : Bool → ListenPlan → List Record → List Entry
 entries_by ended plan records = if ended then entries_in plan records else entries_so_far_in plan records
 
--- everything that the listener shows so far was given
+-- all that the listener shows so far was returned
 pub record IsIdle (listener : ListenState) : Type 0 where
   pub judge : IsIdleJudge listener.judge
   pub none : left listener.units ≡ []
 
--- The judge was given the first of these entries, and has given `given` of the items that it shows of them; the other entries
--- wait.
+-- The judge has taken the first of `entries`, and has returned `given` of the items that it shows of them. The other
+-- entries wait.
 pub record Judges (entries : List Entry) (given : ℕ) (judge : JudgeState) (units : Gathered) : Type 0 where
   pub judged : List Entry
   pub stands : JudgeStandsFor clock_spot judged given judge
@@ -54,11 +54,11 @@ pub record StandsFor (records : List Record) (given : ℕ) (listener : ListenSta
   pub within : given ≤ length (out listener records)
   pub counts : listener.counts ≡ counts_of listener.plan records (take given (out listener records))
 
--- at most this many items may still be shown: a listener shows at most as many items as it was given records
+-- at most this many items may still be shown: a listener shows at most one item for each record
 abbrev pub work : ListenState → ℕ
 work listener = listener.counts.frames - (listener.counts.presented + listener.counts.flagged)
 
--- the plan, how many records were given, and whether more may follow are unchanged
+-- the plan, the number of records, and whether more may follow are unchanged
 pub record Keeps (old new : ListenState) : Type 0 where
   pub plan : new.plan ≡ old.plan
   pub frames : new.counts.frames ≡ old.counts.frames

@@ -33,7 +33,7 @@ flaw_of d = flaw_or (cvf_refusal d.packet) (cvf_of d.packet)
 abbrev pub mark_of : Delivery → Mark
 mark_of d = record { frame = d.frame; seq = d.seq; arrival = d.arrival }
 
--- a unit or a fragment, with its presentation time if it is stamped (IEEE 1722-2016, 8)
+-- the fragment or whole unit in a packet, with its presentation time if it has a timestamp (IEEE 1722-2016, 8)
 abbrev pub fragment_in : Delivery → Cvf → Fragment
 fragment_in d v = record {
   mark = mark_of d;
@@ -45,7 +45,8 @@ fragment_in d v = record {
 
 -- ---- events
 
--- what a delivery of H.264 does to units: it adds a packet to them, or, if it has a flaw, ends the current one
+-- what a delivery of H.264 does to units: a packet without a flaw is added to them, and a packet with a flaw ends the
+-- current unit
 abbrev pub event_by : Delivery → Option Reason → Event
 event_by d None = packet (fragment_in d (cvf_of d.packet))
 event_by d (Some reason) = cut
@@ -63,7 +64,7 @@ in_stream ds = filter (λ (d : Delivery). not (d.subtype == crf_subtype)) ds
 abbrev pub events : List Delivery → List Event
 events ds = map event_of (in_stream ds)
 
--- the last n of a list
+-- the last n elements of a list
 abbrev pub last_ones : {X : Type 0} → ℕ → List X → List X
 last_ones n xs = drop (length xs - n) xs
 

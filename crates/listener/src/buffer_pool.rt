@@ -29,8 +29,9 @@ impl BufferPool {
         }
     }
 
-    /// An empty buffer with room for this many bytes: one of the pool's, or else a new one. One that is too small is freed, and
-    /// so is one that has more than about twice the room, so that small packets do not hold the memory of large ones.
+    /// An empty buffer with room for this many bytes: one of the pool's, or else a new one. A buffer of the pool that
+    /// is too small is freed. A buffer with more than about twice the room is freed, too: small packets must not hold
+    /// the memory of large ones.
     #[inline(always)]
     pub fn take(&mut self, alloc: Global, size: usize) -> Result<Vec<u8>, NoMemory>
         ensures empty { IfOk result (λ buffer. buffer.items ≡ []) }

@@ -96,20 +96,23 @@ fn hear(alloc: Global, listener: &mut Listener, bytes: &[u8]) -> Result<Heard, N
     })
 }
 
-/// What a listener shows of a whole capture: the schedule of the stream's packets in its whole records, which are those before
-/// the first refusal; the counts; and the first refusal. A `Listener` that is fed with the bytes and ended shows the same.
+/// What a listener shows of a whole capture: the schedule of the stream's packets in its whole records, which are those
+/// before the first refusal; the counts; and the first refusal. A `Listener` that is fed the bytes and then ended shows
+/// the same.
 ///
-/// A record belongs to the stream if it is a readable Ethernet frame of AVTP, its packet is of a kind that is read (AAF, IEEE
-/// 1722-2016, 7; CVF of H.264, 8; IEC 61883-6), and its stream id is valid and the wanted one. A packet that its reader refuses
-/// is flagged as malformed. Adjacent fragments of H.264 are put together into one unit, which has the frame number and the
-/// presentation time of its last packet; a fragment that is in no whole unit is flagged as broken or too long. A record belongs
-/// to the media clock if all of this holds for a packet of CRF (IEEE 1722-2016, 10) with the clock's id. Record times are taken
-/// as nanoseconds of gPTP. The plan must be within the limits that `ListenPlan` names.
+/// A record belongs to the stream if it is a readable Ethernet frame of AVTP, its packet is of a kind that is read
+/// (AAF, IEEE 1722-2016, 7; CVF of H.264, 8; IEC 61883-6), and its stream id is valid and the wanted one. A packet that
+/// its reader refuses is flagged as malformed. Adjacent fragments of H.264 are put together into one unit, which has
+/// the frame number and the presentation time of its last packet. A fragment that is in no whole unit is flagged as
+/// broken or too long. A record belongs to the media clock if it is a readable Ethernet frame of AVTP with a packet of
+/// CRF (IEEE 1722-2016, 10), and its stream id is valid and the clock's. Record times are read as nanoseconds of gPTP.
+/// The plan must be within the limits that `ListenPlan` names.
 ///
-/// Whatever the capture loses, repeats or reorders of the packets of a talker that keeps the rules and of its clock, what is
-/// shown keeps the headline: each packet that came in time, found room and has a known timestamp or clock reference is presented
-/// once, in order, at the talker's own nanoseconds, so any two listeners with the same clock agree; every other packet that came
-/// is flagged with its one reason. A unit of H.264 that is presented is one of the talker's units, whole.
+/// If the talker keeps the rules, what is shown keeps the headline, whatever the capture loses, repeats or reorders of
+/// the packets of the talker and of its clock. Each packet that came in time, found room and has a known timestamp or
+/// clock reference is presented once, in order, at the talker's own nanoseconds. So any two listeners with the same
+/// clock agree. Every other packet that came is flagged with its one reason. A unit of H.264 that is presented is one
+/// of the talker's units, whole.
 ///
 /// The capture has at most 2^62 bytes. If memory runs out, returns `NoMemory` and shows nothing.
 pub fn whole(alloc: Global, plan: &ListenPlan, bytes: &[u8]) -> Result<Heard, NoMemory>

@@ -9,7 +9,7 @@ ghost use Rattle.listener.specs.Items.{no_points as none_given, points_of as poi
 use clock_track::Points;
 use crf_format::{CrfView, read_crf};
 
-/// The type of a clock's packets that count audio samples (IEEE 1722-2016, 10).
+/// The CRF type of audio samples (IEEE 1722-2016, 10).
 const AUDIO_SAMPLE: u8 = 1;
 
 fn points_of<'a>(view: &CrfView<'a>) -> Points<'a>
@@ -40,8 +40,8 @@ fn no_points<'a>() -> Points<'a>
     }
 }
 
-/// The timestamps of a packet of a media clock (IEEE 1722-2016, 10), borrowed: they count if the packet is well formed and of
-/// the type for audio samples, and its times are certain.
+/// The timestamps of a packet of a media clock (IEEE 1722-2016, 10), borrowed. They are used only if the packet is well
+/// formed and of the type for audio samples, and its times are certain.
 pub fn clock_points(packet: &[u8]) -> Points<'_>
     ensures exact { row_of result ≡ points_or_none (crf_refusal packet.now) (crf_of packet.now) }
     ensures notable { IsNotable (row_of result) }

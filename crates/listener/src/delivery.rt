@@ -44,7 +44,7 @@ pub(crate) struct AvtpPacket<'a> {
     pub bytes: &'a [u8],
 }
 
-/// The packet of a readable Ethernet frame of AVTP, if it reaches to the end of a stream id.
+/// The packet in a readable Ethernet frame of AVTP, if the packet is long enough for a stream id.
 #[inline(always)]
 fn avtp_packet(frame: &[u8]) -> Option<AvtpPacket<'_>>
     ensures { option_map avtp_shape result ≡ (if is_avtp frame.now then Some (record { peeked = peeked_of (packet_in frame.now); bytes = packet_in frame.now }) else None) }
@@ -84,9 +84,9 @@ fn is_of_clock(clock: Option<u64>, peeked: Peeked) -> bool
     }
 }
 
-/// The packet in a record's bytes, if the record belongs to the stream with this id: it is a readable Ethernet frame of AVTP,
-/// with a packet of IEC 61883, AAF or CVF, and with a stream id that is valid and equal to this one. The packet need not be
-/// well formed. A listener of the stream takes the same records.
+/// The packet in a record's bytes, if the record belongs to the stream with this id. It does if it is a readable
+/// Ethernet frame of AVTP, its packet is of IEC 61883, AAF or CVF, and its stream id is valid and equal to this one.
+/// The packet need not be well formed. A listener of the stream takes the same records.
 #[inline(always)]
 pub fn packet_of_stream(stream: u64, frame: &[u8]) -> Option<StreamPacket<'_>>
     ensures { option_map stream_packet_shape result ≡ (if belongs stream_kinds stream frame.now then Some (stream_packet frame.now) else None) }
@@ -101,9 +101,9 @@ pub fn packet_of_stream(stream: u64, frame: &[u8]) -> Option<StreamPacket<'_>>
     })
 }
 
-/// The record as a delivery of the plan's stream or of its clock, if it belongs to one of them: it is a readable Ethernet frame
-/// of AVTP, with a packet of IEC 61883, AAF or CVF for the stream or of CRF for the clock, and its stream id is valid and the
-/// wanted one.
+/// The record as a delivery of the plan's stream or of its clock, if it belongs to one of them. The record must be a
+/// readable Ethernet frame of AVTP. Its packet must be of IEC 61883, AAF or CVF for the stream, and of CRF for the
+/// clock. Its stream id must be valid and the plan's id of the stream or of the clock.
 pub fn delivery_of<'a>(
     plan: &ListenPlan,
     frame: u64,

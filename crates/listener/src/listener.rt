@@ -36,11 +36,12 @@ pub enum ListenFault {
     Memory,
 }
 
-/// A listener that takes a capture's bytes in pieces of any length, and shows of its records what a `RecordListener` shows.
+/// A listener that takes a capture's bytes in pieces of any length, and shows of the capture's records what a
+/// `RecordListener` shows.
 ///
-/// After each call the caller takes all that is due with `next_out` before it feeds more. Memory is reserved when the listener is
-/// made. Later each packet's samples are copied once, into the batch that is shown, and only a record that is cut between pieces
-/// is copied before.
+/// After each call the caller takes all that is due with `next_out` before it feeds more. Memory is reserved when the
+/// listener is made. Later each packet's samples are copied once, into the batch that is shown. Only a record that is
+/// cut between pieces is copied before that.
 #[derive(Drop)]
 pub struct Listener {
     reader: Reader,
@@ -82,13 +83,13 @@ impl Listener {
         })
     }
 
-    /// Takes bytes up to the end of one record or of the piece, and returns how many. At most 2^62 bytes may be taken, and the
-    /// listener must not have been ended.
+    /// Takes bytes up to the end of one record or of the piece, and returns how many it took. In all, at most 2^62
+    /// bytes may be taken, and the listener must not have been ended.
     ///
-    /// Without a fault, returns `Ok(0)` exactly if the piece is empty or something is due. `Refused` is the capture's first
-    /// refusal, and is returned as soon as the bytes so far show it; what was accepted stays, and may be ended. `Memory` is
-    /// returned if there is no memory for the samples of the record that was read; the record makes no item then, and every later
-    /// `feed` and `end` returns `Memory`.
+    /// Without a fault, returns `Ok(0)` exactly if the piece is empty or something is due. `Refused` is the capture's
+    /// first refusal, and is returned as soon as the bytes so far show it. The records before it are kept, and the
+    /// listener may still be ended. `Memory` is returned if there is no memory for the samples of the record that was
+    /// read. That record makes no item, and every later `feed` and `end` returns `Memory`.
     pub fn feed(&mut self, alloc: Global, piece: &[u8]) -> Result<usize, ListenFault>
         requires open { is_ended self.old ≡ false }
         requires bounded { taken self.old.reader + length piece.now ≤ 2 ^ 62 }
@@ -143,9 +144,9 @@ impl Listener {
         }
     }
 
-    /// The next item that is shown of the bytes so far: before `end` only of what is due, after it of all. Returns `None` exactly
-    /// if all of that was given. Of a talker that keeps the rules, what is given is as the headline says
-    /// (`listener_laws::bytes_are_given_truly`). Allocates nothing.
+    /// The next item that is shown of the bytes so far. Before `end`, only items that are due are returned; after it,
+    /// all. Returns `None` exactly if all of them were returned. If the talker keeps the rules, what is returned is as
+    /// the headline says (`listener_laws::bytes_are_given_truly`). Allocates nothing.
     pub fn next_out(&mut self) -> Option<Shown>
         ensures given { (bytes : List ℕ) (given : ℕ) → StandsFor bytes given self.old → result ≡ slice_get (out self.old bytes) given }
         ensures stands { (bytes : List ℕ) (given : ℕ) → StandsFor bytes given self.old → StandsFor bytes (given + length (option_to_list result)) self.new }
@@ -169,11 +170,11 @@ impl Listener {
         self.listener.give_back(samples);
     }
 
-    /// Ends the capture after the bytes so far, and makes the rest due. Nothing may be due before, and the listener must not
-    /// have been ended. Allocates nothing.
+    /// Ends the capture after the bytes so far, and makes all remaining items due. Nothing may be due before the call,
+    /// and the listener must not have been ended. Allocates nothing.
     ///
-    /// `Refused` is the capture's first field that is cut off or refused, if there is one; only the records before it are
-    /// shown. After `Memory` by `feed` it returns `Memory` and changes nothing.
+    /// `Refused` is the capture's first field that is cut off or refused, if there is one; only the records before it
+    /// are shown. If `feed` returned `Memory`, `end` returns `Memory` and changes nothing.
     pub fn end(&mut self) -> Result<(), ListenFault>
         requires open { is_ended self.old ≡ false }
         requires quiet { IsQuiet self.old }
@@ -194,7 +195,7 @@ impl Listener {
         }
     }
 
-    /// How many batches wait for their instants: at most as many as the buffer takes, with at most as many bytes as its room.
+    /// How many batches wait for their instants: at most the plan's `buffer`, with together at most `room` bytes.
     pub fn held(&self) -> u32
         ensures held { result ≡ length self.now.listener.judge.waiting }
         ensures batches { result ≤ self.now.listener.plan.buffer }
@@ -203,7 +204,8 @@ impl Listener {
         self.listener.held()
     }
 
-    /// The numbers of records so far, of those that belong to the stream, and of the batches and flags that were given.
+    /// How many records were read so far, how many of them belong to the stream, and how many batches and flags were
+    /// returned.
     pub fn counts(&self) -> Counts
         ensures { (bytes : List ℕ) (given : ℕ) → StandsFor bytes given self.now → result ≡ counts_of self.now.listener.plan (whole_records bytes) (take given (out self.now bytes)) }
     {

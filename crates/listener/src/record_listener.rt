@@ -31,22 +31,24 @@ use sample_schedule::{Judge, Shown};
 use std::alloc::Global;
 use std::marker::Model;
 
-/// A listener that takes a capture's records one at a time, in the capture's order, and shows each item of the stream once:
-/// presented, or flagged with the first reason why not. It shows an item as soon as no later record can change that.
+/// A listener that takes a capture's records one at a time, in the capture's order, and shows each item of the stream
+/// once: presented, or flagged with the first reason why not. It shows an item as soon as no later record can change
+/// that.
 ///
-/// After each record, and after `close`, the caller takes all that is due with `next_out` before it gives more. A record may give
-/// up to 4,097 items, because it may give up fragments of H.264; `next_out` judges them one after another. Memory is reserved
-/// when the listener is made. Later each packet's samples, and each whole unit, are copied once, into the batch that is shown.
+/// After each record, and after `close`, the caller takes all that is due with `next_out` before it takes the next
+/// record. One record may yield as many as 4,097 items, because it may end a unit of H.264 that is not whole.
+/// `next_out` judges them one after another. Memory is reserved when the listener is made. Later each packet's samples,
+/// and each whole unit, are copied once, into the batch that is shown.
 #[derive(Drop)]
 pub struct RecordListener {
     plan: ListenPlan,
     units: Units,
     judge: Judge,
     ended: bool,
-    /// The judge was told that nothing follows.
+    /// The judge was closed.
     closed: bool,
-    /// All that is due was given, and neither a record of the stream or its clock nor the end came since. After a record of
-    /// another stream the judge is not called.
+    /// All that is due was returned. Since then, no record of the stream or of its clock was taken, and the listener
+    /// was not closed. After a record of another stream the judge is not called.
     idle: bool,
     counts: Counts,
     pool: BufferPool,
@@ -92,11 +94,11 @@ impl RecordListener {
         })
     }
 
-    /// Takes the next record. All that is due of the earlier records must have been given, fewer than 2^62 records taken, and
-    /// the listener not closed. The record's time is from 0 to 2^62 ns.
+    /// Takes the next record. All that is due of the earlier records must have been returned, fewer than 2^62 records
+    /// may have been taken, and the listener must not be closed. The record's time is from 0 to 2^62 ns.
     ///
-    /// A record that belongs neither to the stream nor to its clock is counted and skipped. Returns `NoMemory` if there is no
-    /// memory for the packet's samples or the unit; the listener is then unchanged.
+    /// A record that belongs neither to the stream nor to its clock is counted and skipped. Returns `NoMemory` if there
+    /// is no memory for the packet's samples or the unit; the listener is then unchanged.
     pub fn take_record(&mut self, alloc: Global, held: &RecordView<'_>) -> Result<(), NoMemory>
         requires open { is_closed self.old ≡ false }
         requires idle { IsIdle self.old }
@@ -128,9 +130,9 @@ impl RecordListener {
         }
     }
 
-    /// The next item that is shown of the records so far: before `close` only of what is due, after it of all. Returns `None`
-    /// exactly if all of that was shown. Of a talker that keeps the rules, what is given is as the headline says
-    /// (`listener_laws::records_are_given_truly`). Allocates nothing.
+    /// The next item that is shown of the records so far. Before `close`, only items that are due are returned; after
+    /// it, all. Returns `None` exactly if all of them were returned. If the talker keeps the rules, what is returned is
+    /// as the headline says (`listener_laws::records_are_given_truly`). Allocates nothing.
     #[inline(always)]
     pub fn next_out(&mut self) -> Option<Shown>
         ensures given { (records : List Record) (given : ℕ) → StandsFor records given self.old → result ≡ slice_get (out self.old records) given }
@@ -182,7 +184,7 @@ impl RecordListener {
         self.pool.give_back(samples);
     }
 
-    /// Ends the list of records. Nothing may be due of the records so far. Allocates nothing.
+    /// Ends the list of records. All that is due of the records so far must have been returned. Allocates nothing.
     pub fn close(&mut self)
         requires open { is_closed self.old ≡ false }
         requires idle { IsIdle self.old }
@@ -197,7 +199,7 @@ impl RecordListener {
         self.idle = false;
     }
 
-    /// How many batches wait for their instants: at most as many as the buffer takes, with at most as many bytes as its room.
+    /// How many batches wait for their instants: at most the plan's `buffer`, with together at most `room` bytes.
     pub fn held(&self) -> u32
         ensures held { result ≡ length self.now.judge.waiting }
         ensures batches { result ≤ self.now.plan.buffer }
@@ -206,7 +208,8 @@ impl RecordListener {
         self.judge.held()
     }
 
-    /// The numbers of the records so far, of those that belong to the stream, and of the batches and flags that were shown.
+    /// How many records were taken so far, how many of them belong to the stream, and how many batches and flags were
+    /// shown.
     pub fn counts(&self) -> Counts
         ensures { result ≡ self.now.counts }
     {
@@ -214,8 +217,8 @@ impl RecordListener {
     }
 }
 
-/// Takes a delivery. The judge gets the timestamps of a clock packet, or the first item that a packet of the stream gives; the
-/// other items wait.
+/// Takes a delivery. If it is of the clock, the judge gets its timestamps. If it is of the stream, the judge gets the
+/// first item that it yields; its other items are queued.
 #[inline(always)]
 fn take_delivery(
     alloc: Global,
@@ -245,8 +248,8 @@ fn take_delivery(
     Ok(())
 }
 
-/// The next item that is shown. Waiting items are judged one after another until one is due. Once none waits and no more
-/// records follow, the judge is closed.
+/// The next item that is shown. Queued items are judged one after another until one is due. If none is queued and no
+/// more records follow, the judge is closed.
 #[inline(always)]
 fn next_shown(units: &mut Units, judge: &mut Judge, ended: bool, closed: &mut bool) -> Option<Shown>
     requires closed { closed.old ≡ judge.old.closed }
@@ -271,8 +274,8 @@ fn next_shown(units: &mut Units, judge: &mut Judge, ended: bool, closed: &mut bo
     }
 }
 
-/// Gives the next waiting item to the judge, or closes the judge if no item waits and no more records follow. Returns whether
-/// it did either.
+/// Gives the next queued item to the judge. If none is queued and no more records follow, closes the judge. Returns
+/// whether it did either.
 #[inline(always)]
 fn judge_next(units: &mut Units, judge: &mut Judge, ended: bool, closed: &mut bool) -> bool
     requires idle { IsIdleJudge judge.old }

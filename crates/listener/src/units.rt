@@ -26,8 +26,8 @@ use std::alloc::Global;
 use std::marker::Model;
 use time_unfold::unfold;
 
-/// Puts the units of a stream together, and holds the items that the last delivery gave until they are taken: the fragments
-/// that it gave up, and then its own item. Memory for the fragments is reserved at the start.
+/// Puts the units of a stream together, and queues the items of the last delivery: the fragments that were given up
+/// because of it, and then its own item. Memory for the fragments is reserved at the start.
 #[derive(Drop)]
 pub struct Units {
     assembler: Assembler,
@@ -167,7 +167,7 @@ fn own_item(
 }
 
 impl Units {
-    /// Begins before the first delivery, and reserves the memory for the fragments of a unit.
+    /// The state before the first delivery. Reserves the memory for the fragments of a unit.
     pub fn new(alloc: Global) -> Result<Self, NoMemory>
         ensures stands { IfOk result (HasUnits []) }
         ensures none { IfOk result (λ units. left units ≡ []) }
@@ -193,7 +193,7 @@ impl Units {
         self.own = Some(item);
     }
 
-    /// Like `cut`, and returns the first resulting item; the others are queued.
+    /// Ends the current unit before a delivery with this item. Returns the first resulting item; the others are queued.
     #[inline(always)]
     fn cut_first(&mut self, item: Item) -> Option<Item>
         requires { IsItem item }
@@ -237,8 +237,8 @@ impl Units {
         Ok(())
     }
 
-    /// Takes the next delivery of the stream, after all items of the earlier ones were taken. Returns the first item that it
-    /// gives, if any; the others, which only H.264 has, are queued.
+    /// Takes the next delivery of the stream. All items of the earlier deliveries must have been taken. Returns its
+    /// first item, if it has any. The others, which only H.264 has, are queued.
     ///
     /// Returns `NoMemory` if there is no memory for a packet's samples or for a unit; then nothing changes.
     #[inline(always)]
@@ -302,7 +302,7 @@ impl Units {
         Ok(())
     }
 
-    /// Ends the stream: the fragments that wait are given up.
+    /// Ends the stream: the fragments of a unit that is not whole are given up.
     pub fn end(&mut self)
         ensures gives { (ds : List Delivery) → HasUnits ds self.old → map item_entry (left self.new) ≡ map made_entry (left_at_end ds) }
     {
@@ -312,7 +312,7 @@ impl Units {
         self.own = None;
     }
 
-    /// The next item that the last delivery, or the end, gave. Allocates nothing.
+    /// The next item of the last delivery or of the end. Allocates nothing.
     #[inline(always)]
     pub fn next(&mut self) -> Option<Item>
         ensures stands { (ds : List Delivery) → HasUnits ds self.old → HasUnits ds self.new }

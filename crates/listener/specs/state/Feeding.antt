@@ -8,21 +8,21 @@ use Rattle.sample_schedule.specs.declared.shown.Shown.{Shown}
 use Rattle.listener.specs.Listening.{IsIdle, ListenState, StandsFor as RecordsStandFor}
 use Rattle.listener.specs.Feeding.{Feeding, IsQuiet, out, StandsFor}
 
--- A list has all items that were given from these bytes.
+-- `list` holds all items that the listener has returned of these bytes.
 pub record HasGiven (bytes : List ℕ) (list : List Shown) (fed : Feeding) : Type 0 where
   pub stands : StandsFor bytes (length list) fed
   pub first : IsPrefix list (out fed bytes)
 
 -- ---- between two calls
 
--- The reader has taken these bytes, each record that it returned was given to the listener, and this many items were shown.
+-- The reader has taken `bytes`, each record that it returned was given to the listener, and `given` items were shown.
 pub record HasHeard (bytes : List ℕ) (given : ℕ) (reader : Reading) (listener : ListenState) : Type 0 where
   pub records : List Record
   pub read : HasRead reader bytes records
   pub stands : RecordsStandFor records given listener
 
--- The invariant of every listener: it was fed some bytes; unless they were refused, it counted at most as many records as
--- bytes; if nothing is due, everything was given; and nothing is due after memory has run out.
+-- The invariant of every listener. It was fed some bytes. Unless they were refused, it counted at most as many records
+-- as bytes. If nothing is due, all that is shown so far was returned. After memory has run out, nothing is due.
 pub record IsSound (fed : Feeding) : Type 0 where
   pub bytes : List ℕ
   pub given : ℕ

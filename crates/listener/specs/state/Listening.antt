@@ -17,7 +17,7 @@ use Rattle.listener.specs.Listening.{ListenState, is_closed, IsIdle, Judges, Sta
 abbrev pub with_record : Counts → Bool → Counts
 with_record counts in_stream = record counts { frames = counts.frames + 1; packets = counts.packets + cond in_stream 1 0 }
 
--- the counts with one more item shown, or with one less
+-- the counts with one more item shown, or with one item less
 abbrev pub with_shown : Counts → Shown → Counts
 with_shown counts (Present batch) = record counts { presented = counts.presented + 1 }
 with_shown counts (Flag frame seq reason) = record counts { flagged = counts.flagged + 1 }
@@ -26,7 +26,7 @@ abbrev pub without_shown : Counts → Shown → Counts
 without_shown counts (Present batch) = record counts { presented = counts.presented - 1 }
 without_shown counts (Flag frame seq reason) = record counts { flagged = counts.flagged - 1 }
 
--- all that is due was given, and more records may follow
+-- all that is due was returned, and more records may follow
 pub record Rests (listener : ListenState) : Type 0 where
   pub opened : is_closed listener ≡ false
   pub idle : IsIdle listener
@@ -35,7 +35,7 @@ pub record Rests (listener : ListenState) : Type 0 where
 abbrev pub shown_by : Bool → SchedulePlan → List Entry → List Shown
 shown_by ended plan entries = if ended then shown clock_spot plan entries else due clock_spot plan entries
 
--- The judge is closed if no more records follow and it was open, and is unchanged otherwise.
+-- If no more records follow and the judge was open, it is now closed. Otherwise it is unchanged.
 pub record Closes (ended did : Bool) (old new : JudgeState) : Type 0 where
   pub stands : (entries : List Entry) (given : ℕ) → JudgeStandsFor clock_spot entries given old → JudgeStandsFor clock_spot entries given new
   pub plan : new.plan ≡ old.plan
@@ -52,7 +52,8 @@ pub record JudgesNext (ended did : Bool) (units_old units_new : Gathered) (old n
   pub less : did ≡ true → length (left units_new) + cond new.closed 0 1 < length (left units_old) + cond old.closed 0 1
   pub none : did ≡ false → ((left units_old ≡ []) × (left units_new ≡ [])) × ((new ≡ old) × (ended ≡ true → new.closed ≡ true))
 
--- The invariant of every listener: some records were given to it, and it has shown a number of the items that it shows of them.
+-- The invariant of every listener: it has taken some records, and has shown a number of the items that it shows of
+-- them.
 pub record IsSound (listener : ListenState) : Type 0 where
   pub records : List Record
   pub given : ℕ

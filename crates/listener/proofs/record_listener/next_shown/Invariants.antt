@@ -6,7 +6,8 @@ use Rattle.listener.specs.Gathering.{HasUnits, left}
 use Rattle.listener.specs.Listening.{Judges}
 use Rattle.listener.proofs.record_listener.next_shown.Given as goal
 
--- the state of the judge is still that after the entries; some waiting items were judged, or it was closed
+-- The state of the judge is still that after the entries. Since the call began, some queued items were judged, or the
+-- judge was closed.
 abbrev pub invariant-loop-next : goal.invariant-loop-next
 invariant-loop-next l =
     record {

@@ -14,7 +14,6 @@ use Rattle.listener.proofs.units.Units.push.Goals as goal
 same : (c : goal.Joined-self-own_item) → fragment_of c.mark_of-mark.result c.stamp_of-stamp.result c.args.view.now ≡ fragment_in (delivery_shape c.args.delivery.now) (cvf_shape c.args.view.now)
 same c = rw (c.mark_of-mark.ensures, c.stamp_of-stamp.ensures) refl
 
--- what the packet adds to units that hold this assembly
 pushes : (c : goal.Joined-self-own_item) (old : Gathered) → old.assembly ≡ c.self.inside.assembler
     → Pushes (delivery_shape c.args.delivery.now) (cvf_shape c.args.view.now) old (record { assembly = c.push-pushed.new.self; why = c.push-pushed.result.why; taken = 0; own = c.own_item.result })
 pushes c old is =
