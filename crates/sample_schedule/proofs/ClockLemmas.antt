@@ -21,7 +21,7 @@ without-clock clock plan prefix noted p head h none =
     let off : plan.clock ≡ false = subst (HasClock plan prefix) none h.clock in
     rw off refl
 
--- if a line of the clock covers the stamp that a packet is counted from, the clock gives where its samples are
+-- the clock's answer for the instant of a packet's head gives the spot of the packet's samples
 spot-is : (clock : Clock) (plan : SchedulePlan) (prefix : List Entry) (state : ClockState) (rate : ℕ) (head : Head) (spot : Option Spot) → IsClockOf plan clock → HasNotedClock plan prefix state → spot ≡ clock_spot (filter_map row_of prefix) state.shift head.instant rate
     → option_map (moved head.first) spot ≡ spot_of clock plan prefix rate head
 spot-is clock plan prefix state rate head spot asks here is =

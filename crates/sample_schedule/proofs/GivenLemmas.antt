@@ -1,4 +1,4 @@
--- A list of all that a judge has given.
+-- The list of all that a judge has returned.
 use Rattle.std.proofs.Common.{◌≡◌, ℕ, zero, suc, ◌+◌, ◌-◌, ◌≤◌, true, false, List, [], ◌∷◌, ◌++◌, length, take, drop, Some, None, refl, sym, ap, ◌∙◌, subst, append_assoc, append-nil, arith}
 use Rattle.std.specs.Prelude.{slice_get}
 use Rattle.std.proofs.lemmas.List.{length-append}
@@ -15,7 +15,7 @@ use Rattle.sample_schedule.proofs.Growing.{due-first, due-grows}
 use Rattle.sample_schedule.proofs.JudgeLemmas.{out-ended, out-keeps, out-open}
 use Rattle.sample_schedule.proofs.StageLemmas.{take-more, next-entry}
 
--- ---- the front of a list
+-- ---- the beginning of a list
 
 pub get-after : (xs t : List Shown) → slice_get (xs ++ t) (length xs) ≡ slice_get t 0
 get-after [] t = refl
@@ -38,7 +38,7 @@ prefix-all xs zs p e = of p.0 p.1
     of [] same = sym (append-nil xs) ∙ same
     of (y ∷ t) same = absurd (let h : Some y ≡ None = sym (get-after xs (y ∷ t)) ∙ ap (λ (l : List Shown). slice_get l (length xs)) same ∙ e in cc)
 
--- ---- what a judge gives is put into a list
+-- ---- what a judge returns is put into a list
 
 pub given-more : (clock : Clock) (entries : List Entry) (list : List Shown) (x : Shown) (old new : JudgeState) → HasGiven clock entries list old → Some x ≡ slice_get (out clock old entries) (length list) → StandsFor clock entries (length list + 1) new → Keeps old new → HasGiven clock entries (list ++ x ∷ []) new
 given-more clock entries list x old new h is st keeps =
@@ -61,7 +61,7 @@ given-on clock entries list old new h st keeps =
 
 -- ---- the whole list
 
--- Between two entries: the judge was given the first of all entries, and the list has all that it shows of these.
+-- Between two entries: the judge has taken the entries before `left`, and `list` has all that it shows of them.
 pub record Between (plan : SchedulePlan) (all left : List Entry) (list : List Shown) (judge : JudgeState) : Type 0 where
   pub same : judge.plan ≡ plan
   pub opened : judge.closed ≡ false
@@ -70,7 +70,7 @@ pub record Between (plan : SchedulePlan) (all left : List Entry) (list : List Sh
   pub stands : (clock : Clock) → IsClockOf plan clock → StandsFor clock (take (taken judge) all) (length list) judge
   pub shown : (clock : Clock) → IsClockOf plan clock → list ≡ due clock plan (take (taken judge) all)
 
--- one more entry was taken
+-- the judge took one more entry, but has not yet returned what this makes due
 pub between-next : (clock : Clock) (plan : SchedulePlan) (all left rest : List Entry) (e : Entry) (list : List Shown) (old new : JudgeState) → IsClockOf plan clock → Between plan all left list old → left ≡ e ∷ rest → new.plan ≡ old.plan → new.closed ≡ false → taken new ≡ taken old + 1
     → ((entries : List Entry) (given : ℕ) → StandsFor clock entries given old → StandsFor clock (entries ++ e ∷ []) given new) → HasGiven clock (take (taken old + 1) all) list new
 between-next clock plan all left rest e list old new asks b more same opened counts stands =
@@ -96,7 +96,6 @@ none-left zero (x ∷ xs) le e = absurd cc
 none-left (suc n) [] le e = refl
 none-left (suc n) (x ∷ xs) le e = ap (λ (l : List Entry). x ∷ l) (none-left n xs (omega arith) e)
 
--- the list has ended
 pub ends : (clock : Clock) (plan : SchedulePlan) (all left : List Entry) (list : List Shown) (old new : JudgeState) → IsClockOf plan clock → Between plan all left list old → left ≡ [] → new.plan ≡ old.plan → new.closed ≡ true
     → ((entries : List Entry) (given : ℕ) → StandsFor clock entries given old → StandsFor clock entries given new) → HasGiven clock all list new
 ends clock plan all left list old new asks b none same ended stands =
@@ -127,7 +126,7 @@ between-first plan all left list judge same opened none is empty stands =
       shown = λ clock asks. empty ∙ sym (due-none clock plan) ∙ ap (due clock plan) (sym nothing);
     }
 
--- an entry was taken, and all that this shows was given
+-- the judge took one more entry, and has returned all that this made due
 pub between-more : (plan : SchedulePlan) (all left rest : List Entry) (e : Entry) (list more : List Shown) (old mid new : JudgeState) → Between plan all left list old → left ≡ e ∷ rest → mid.plan ≡ old.plan → mid.closed ≡ false → taken mid ≡ taken old + 1
     → ((clock : Clock) (entries : List Entry) (given : ℕ) → StandsFor clock entries given old → StandsFor clock (entries ++ e ∷ []) given mid)
     → ((clock : Clock) (entries : List Entry) → HasGiven clock entries list mid → HasGiven clock entries more new) → ((clock : Clock) (entries : List Entry) → HasGiven clock entries list mid → more ≡ out clock new entries) → Keeps mid new

@@ -1,4 +1,4 @@
--- A list that continues: what is certain of its first entries stays.
+-- What is certain of a list's first entries does not change when the list continues.
 use Rattle.std.proofs.Common.{◌≡◌, ℕ, zero, suc, ◌+◌, ◌-◌, ◌<◌, ◌≤◌, List, [], ◌∷◌, ◌++◌, length, take, map, Option, Some, None, refl, sym, ap, ◌∙◌, append_assoc, arith}
 use Rattle.std.specs.Prelude.{slice_get, option_and_then}
 use Rattle.std.proofs.lemmas.List.{length-append}
@@ -68,7 +68,7 @@ steps-stay clock plan es more (suc n) le =
     let last : step clock plan (es ++ more) n ≡ step clock plan es n = step-stays clock plan es more n (omega arith) in
     rw (before, last) refl
 
--- ---- fewer steps come first
+-- ---- the steps of fewer entries come first
 
 steps-first : (clock : Clock) (plan : SchedulePlan) (es : List Entry) (n k : ℕ) → IsPrefix (steps clock plan es n) (steps clock plan es (n + k))
 unfolding steps

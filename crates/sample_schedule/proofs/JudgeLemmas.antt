@@ -30,7 +30,7 @@ use Rattle.sample_schedule.proofs.LawLemmas.{all-after, now-grows}
 use Rattle.sample_schedule.proofs.OrderLemmas.{all-weaker, due-waiting, le_false, le_true, left-waiting, length-put_behind, lt_false, lt_true, waiting-more}
 use Rattle.sample_schedule.proofs.StageLemmas.{accepted-next, max_above, now-next, step-is}
 
--- ---- items of a list by their place
+-- ---- items of a list by their index
 
 get-at : (S : List Given) (ps : List Accepted) (a : Accepted) (X : List Accepted) (F T : List Given) (n : ℕ) → n ≡ length S + length ps → slice_get (map shown_of ((S ++ (map Presents (ps ++ a ∷ X) ++ F)) ++ T)) n ≡ Some (present a)
 get-at [] [] a X F T zero e = refl
@@ -100,7 +100,7 @@ between-none t (x ∷ xs) = by_lt_z x.instant t
     (λ h. rw (le_false t x.instant h) (between-none t xs))
     (λ h. rw (le_true t x.instant h, lt_false x.instant t h) (between-none t xs))
 
--- ---- the entry that is judged next
+-- ---- the current entry
 
 record Current (entries : List Entry) (place : ℕ) (pending : Pending) (ahead : List Pending) : Type 0 where
   entry : Entry
@@ -127,7 +127,7 @@ is-item (OfClock arrival row) item e = absurd cc
 
 -- ---- what the state of a judge means
 
--- what waited before the entry that is being judged
+-- the batches that waited before the current entry
 abbrev before_of : Clock → List Entry → JudgeState → List Accepted
 before_of clock entries s = by_instant (standing (latest (take s.place entries)) (accepted clock s.plan entries s.place))
 
@@ -143,7 +143,8 @@ all-taken clock entries given s st =
     let a = length-append (option_to_list s.current) s.ahead in
     omega arith
 
--- once nothing is due any more, what has passed was presented, and what waits has not passed
+-- When nothing more is due, the batches whose instants have passed were presented, and the instants of the waiting
+-- batches have not passed.
 record Settled (clock : Clock) (entries : List Entry) (front : List Accepted) (s : JudgeState) : Type 0 where
   passed : front ≡ by_instant (between (latest (take s.place entries)) s.time (earlier_of clock entries s))
   waiting : s.waiting ≡ by_instant (standing s.time (earlier_of clock entries s))
@@ -175,7 +176,6 @@ begun-current s p e = rw e (omega arith)
 begun-none : (s : JudgeState) → s.current ≡ None → begun s ≡ s.place
 begun-none s e = rw e (omega arith)
 
--- the entry that is being judged
 being-judged : (clock : Clock) (entries : List Entry) (given : ℕ) (s : JudgeState) (p : Pending) → StandsFor clock entries given s → s.current ≡ Some p → Current entries s.place p s.ahead
 being-judged clock entries given s p st e = current-of entries s.place p s.ahead (st.left ∙ ap (λ (o : Option Pending). option_to_list o ++ s.ahead) e)
 
@@ -185,7 +185,7 @@ now-judged clock entries given s p st e = st.now ∙ ap (λ (n : ℕ). latest (t
 now-rises : (clock : Clock) (entries : List Entry) (given : ℕ) (s : JudgeState) (p : Pending) → StandsFor clock entries given s → s.current ≡ Some p → latest (take s.place entries) ≤ℤ s.time
 now-rises clock entries given s p st e = rw (now-judged clock entries given s p st e) (now-grows entries s.place)
 
--- What is shown begins with the steps up to the entry that is being judged.
+-- What is shown begins with the steps up to the current entry.
 record Begins (clock : Clock) (entries : List Entry) (n : ℕ) (s : JudgeState) : Type 0 where
   rest : List Given
   out : out clock s entries ≡ map shown_of (steps clock s.plan entries n ++ rest)
@@ -221,7 +221,7 @@ steps-next : (clock : Clock) (plan : SchedulePlan) (entries : List Entry) (n : �
 unfolding steps
 steps-next clock plan entries n e at = ap (λ (l : List Given). steps clock plan entries n ++ l) (step-is clock plan entries n e at)
 
--- ---- a batch is given that the entry makes due
+-- ---- a batch is returned that the entry makes due
 
 pub record Gives (clock : Clock) (entries : List Entry) (given : ℕ) (shown : Shown) (old new : JudgeState) : Type 0 where
   pub next : slice_get (out clock old entries) given ≡ Some shown
@@ -261,7 +261,7 @@ gives-due clock entries given s p first rest st e waits early =
       };
     }
 
--- ---- the entry is judged
+-- ---- the current entry is judged
 
 judged-on : (clock : Clock) (entries : List Entry) (given after : ℕ) (s : JudgeState) (p : Pending) (waiting : List Accepted) → StandsFor clock entries given s → s.current ≡ Some p
     → waiting ≡ by_instant (standing s.time (accepted clock s.plan entries (suc s.place))) → after ≡ length (steps clock s.plan entries (suc s.place))
@@ -285,7 +285,7 @@ judged-on clock entries given after s p waiting st e waits count =
       count = rw next (let c = count in omega arith);
     }
 
--- what is known when the entry is judged is all that was taken
+-- the entries that are known when the current entry is judged are all that were taken
 known : (clock : Clock) (entries : List Entry) (given : ℕ) (s : JudgeState) (p : Pending) → StandsFor clock entries given s → s.current ≡ Some p → length s.ahead ≤ s.plan.look → prefix_of s.plan entries s.place ≡ entries
 known clock entries given s p st e behind =
     let all = all-taken clock entries given s st in
@@ -304,7 +304,7 @@ at-item clock entries given s item st e =
     let c = being-judged clock entries given s (PendingItem item) st e in
     c.at ∙ ap Some (is-item c.entry item c.is)
 
--- the items that wait when a verdict is made
+-- if nothing is due, the waiting batches are the accepted items whose instants have not passed
 pub waits-judged : (clock : Clock) (entries : List Entry) (given : ℕ) (s : JudgeState) (p : Pending) → StandsFor clock entries given s → s.current ≡ Some p → starts_due s.time s.waiting ≡ false → s.waiting ≡ by_instant (standing s.time (accepted clock s.plan entries s.place))
 waits-judged clock entries given s p st e undue = (settled-by clock entries given s st (not_over-current s p e) (now-rises clock entries given s p st e) undue).waiting
 
@@ -333,7 +333,7 @@ gives-flag clock entries given s item reason st e behind undue v =
       stands = judged-on clock entries given (given + 1) s P s.waiting st e (done.waiting ∙ ap (λ (l : List Accepted). by_instant (standing s.time l)) (sym same)) (omega arith);
     }
 
--- no item is shown, and what is accepted is what was accepted before and perhaps the item
+-- if the current entry gets no flag, all that was due up to it was returned
 none-shown : (clock : Clock) (entries : List Entry) (given : ℕ) (s : JudgeState) (p : Pending) (e : Entry) → StandsFor clock entries given s → s.current ≡ Some p → starts_due s.time s.waiting ≡ false → slice_get entries s.place ≡ Some e
     → flag_by s.place (Some e) (judged clock s.plan entries s.place (earlier_of clock entries s) e) ≡ [] → (given ≡ length (steps clock s.plan entries (suc s.place)))
 none-shown clock entries given s p e st is undue at no_flag =
@@ -463,7 +463,7 @@ nothing : by_instant [] ≡ []
 unfolding by_instant
 nothing = refl
 
--- the state of a judge while no entry is being judged and more may follow
+-- the state of a judge without a current entry, while more entries may follow
 pub record Idle (clock : Clock) (entries : List Entry) (given : ℕ) (s : JudgeState) : Type 0 where
   pub count : given ≡ length (steps clock s.plan entries s.place)
   pub waiting : s.waiting ≡ before_of clock entries s
@@ -623,7 +623,7 @@ due-given clock entries given s new first st some waits early same = of s.curren
 pub last-given : (clock : Clock) (entries : List Entry) (given : ℕ) (s new : JudgeState) (first : Accepted) → StandsFor clock entries given s → s.closed ≡ true → s.current ≡ None → s.ahead ≡ [] → s.waiting ≡ first ∷ new.waiting → new ≡ record s { waiting = new.waiting } → Gives clock entries given (present first) s new
 last-given clock entries given s new first st ended idle none waits same = subst (Gives clock entries given (present first) s) (sym same) (gives-last clock entries given s first new.waiting st ended idle none waits)
 
--- what a judge holds if nothing is due
+-- while more entries may follow and nothing is due, the waiting batches are those of the schedule
 pub held-so : (clock : Clock) (entries : List Entry) (given : ℕ) (s : JudgeState) → StandsFor clock entries given s → s.closed ≡ false → s.current ≡ None → s.waiting ≡ waiting clock s.plan entries
 held-so clock entries given s st opened idle =
     let n : s.place ≡ settled s.plan entries = sym (begun-none s idle) ∙ st.settles opened in

@@ -175,7 +175,7 @@ as-judged clock plan es i item at =
     alone (shown_at i gs) g (length-filter (λ h. place_of h == i) gs ∙ (each-once clock plan es i ∙ ap times_due at))
     (in_filter (λ h. place_of h == i) gs g (given_in clock plan es i item _ at refl) (eq-eqb (place_of g) i here))
 
--- whatever is shown is an item of the list, as its verdict says
+-- What is shown is an item of the list, as its verdict says.
 pub record IsJudged (clock : Clock) (plan : SchedulePlan) (es : List Entry) (g : Given) : Type 0 where
   pub item : Item
   pub there : slice_get es (place_of g) ≡ Some (OfItem item)

@@ -1,4 +1,4 @@
--- Keys, and the batches that they are of.
+-- Keys and their batches.
 use Rattle.std.proofs.Common.{◌≡◌, ◌≢◌, ℕ, suc, ◌+◌, ◌-◌, ◌||◌, Bool, true, false, cond, ℤ, List, [], ◌∷◌, Option, Some, None, length, refl, ap, sym, ◌∙◌, subst, arith}
 use Rattle.std.specs.Prelude.{int_lt, slice_get}
 use Rattle.std.specs.List.{AllByRecursion, cons_option, list_any}
@@ -37,7 +37,7 @@ held-put s (x ∷ xs) k a p e i =
     (λ h. rw (lt_false k.instant x.instant h) (held-cons s x (put_key xs k) b p.0.there ∙ ap (λ (l : List Accepted). b ∷ l) (held-put s xs k a p.1 e i)
     ∙ sym (ap (λ (l : List Accepted). put_behind l a) first ∙ ap (λ (c : Bool). cond c (a ∷ b ∷ held s xs) (b ∷ put_behind (held s xs) a)) (lt_false a.instant b.instant (omega (arith, ints))))))
 
--- a key with an instant and a sequence number is that of a batch with them
+-- a key with this instant and sequence number is found exactly if a batch with them is found
 pub held-copies : (t : ℤ) (seq : ℕ) (s : Slab Accepted) (ks : List Key) → AllByRecursion (IsKey s) ks → list_any (is_key t seq) ks ≡ list_any (is_copy t seq) (held s ks)
 held-copies t seq s [] p = refl
 held-copies t seq s (x ∷ xs) p =
@@ -58,7 +58,7 @@ none-due now s (x ∷ xs) e = absurd (let h : Some x ≡ None = e in cc)
 
 -- ---- slots
 
--- no key has an empty slot
+-- no key has the number of an empty slot
 not-taken : (s : Slab Accepted) (slot : ℕ) (ks : List Key) → get s slot ≡ None → AllByRecursion (IsKey s) ks → AllByRecursion (λ k. k.slot ≢ slot) ks
 not-taken s slot [] none p = tt
 not-taken s slot (k ∷ ks) none p =
@@ -82,9 +82,9 @@ own-put (x ∷ xs) k o p = elim (int_lt k.instant x.instant) as (λ v. HaveOwnSl
   | false ↦ (all-put_key (λ other. other.slot ≢ x.slot) xs k o.0 (λ e. p.0 (sym e)), own-put xs k o.1 p.1)
 ]
 
--- ---- one more waits
+-- ---- one more batch waits
 
--- a batch was put into a free slot, and its key after those that are not later
+-- A batch was put into a free slot, and its key after all keys whose instants are not later.
 pub record IsPut (s t : Slab Accepted) (ks ls : List Key) (k : Key) (a : Accepted) : Type 0 where
   pub free : get s k.slot ≡ None
   pub slot : Updates s t k.slot (Some a)
@@ -117,7 +117,7 @@ put-waiting s t ks ls k a bytes is more w =
       count = omega arith;
     }
 
--- ---- the first is taken
+-- ---- the first batch is taken
 
 pub take-list : (s t : Slab Accepted) (k : Key) (ks : List Key) (a : Accepted) (bytes : ℕ) → IsWaiting (k ∷ ks) s bytes → get s k.slot ≡ Some a → Updates s t k.slot None → held s (k ∷ ks) ≡ a ∷ held t ks
 take-list s t k ks a bytes w e u = held-cons s k ks a e ∙ ap (λ (l : List Accepted). a ∷ l) (sym (held-same s t k.slot None ks u w.own.0))

@@ -28,7 +28,7 @@ one-row (Some r) = refl
 rows-more : (entries : List Entry) (e : Entry) (o : Option ClockRow) → row_of e ≡ o → filter_map row_of (entries ++ e ∷ []) ≡ filter_map row_of entries ++ option_to_list o
 rows-more entries e o is = filter_map-append row_of entries (e ∷ []) ∙ ap (λ (l : List ClockRow). filter_map row_of entries ++ l) (one-row (row_of e) ∙ ap option_to_list is)
 
--- an entry of the stream leaves a clock as it is
+-- an item leaves the clock unchanged
 clock-stays : (plan : SchedulePlan) (entries : List Entry) (e : Entry) (clock : Option ClockState) → HasClock plan entries clock → row_of e ≡ None → HasClock plan (entries ++ e ∷ []) clock
 clock-stays plan entries e None h is = h
 clock-stays plan entries e (Some clock) h is = record {
@@ -45,7 +45,7 @@ notes-stamp plan entries e stamp old new h item is notes room same = record {
   clock = subst (HasClock plan (entries ++ e ∷ [])) (sym same) (clock-stays plan entries e old.clock h.clock item);
 }
 
--- an entry without a stamp leaves the stamps as they are
+-- an entry without a stamp leaves the stamps unchanged
 pub notes-none : (plan : SchedulePlan) (entries : List Entry) (e : Entry) (old new : Noted) → HasNoted plan entries old → stamp_of e ≡ None → new.stamps ≡ old.stamps → HasClock plan (entries ++ e ∷ []) new.clock → HasNoted plan (entries ++ e ∷ []) new
 notes-none plan entries e old new h is same clock = record {
   stamps = subst (λ (k : LastStamps). KeepsLast k (stamps_of (entries ++ e ∷ []))) (sym same) (subst (KeepsLast old.stamps) (sym (stamps-more entries e None is ∙ append-nil (stamps_of entries))) h.stamps);
@@ -56,14 +56,14 @@ notes-none plan entries e old new h is same clock = record {
 pub notes-item : (plan : SchedulePlan) (entries : List Entry) (e : Entry) (noted : Noted) → HasNoted plan entries noted → row_of e ≡ None → stamp_of e ≡ None → HasNoted plan (entries ++ e ∷ []) noted
 notes-item plan entries e noted h item is = notes-none plan entries e noted noted h is refl (clock-stays plan entries e noted.clock h.clock item)
 
--- without a clock, no packet of a clock is noted
+-- if there is no clock, nothing is noted for it
 pub clock-none : (plan : SchedulePlan) (entries more : List Entry) (clock : Option ClockState) → HasClock plan entries clock → clock ≡ None → HasClock plan more clock
 clock-none plan entries more clock h is = subst (HasClock plan more) (sym is) (subst (HasClock plan entries) is h)
 
 pub clock-some : (plan : SchedulePlan) (entries : List Entry) (clock : Option ClockState) (there : ClockState) → HasClock plan entries clock → clock ≡ Some there → HasNotedClock plan entries there
 clock-some plan entries clock there h is = subst (HasClock plan entries) is h
 
--- a packet of the clock, which the clock notes if there is one
+-- the clock notes a packet of the clock
 pub notes-row : (plan : SchedulePlan) (entries : List Entry) (e : Entry) (row : ClockRow) (old new : ClockState) → HasNotedClock plan entries old → row_of e ≡ Some row → ((rows : List ClockRow) → StandsForRows old rows → StandsForRows new (rows ++ row ∷ [])) → new.shift ≡ old.shift
     → HasNotedClock plan (entries ++ e ∷ []) new
 notes-row plan entries e row old new h is notes same = record {

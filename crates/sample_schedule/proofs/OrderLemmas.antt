@@ -24,7 +24,7 @@ all-put_behind P (b ∷ bs) a p q = elim (int_lt a.instant b.instant) as (λ v. 
   | false ↦ (p.0, all-put_behind P bs a p.1 q)
 ]
 
--- ---- the items of a list by first instant that have passed, and those that have not
+-- ---- the items of a sorted list that have passed, and those that have not
 
 due_of-put_behind : (t : ℤ) (ys : List Accepted) (x : Accepted) → due_of t (put_behind ys x) ≡ cond (int_lt x.instant t) (put_behind (due_of t ys) x) (due_of t ys)
 due_of-put_behind t [] x = by_lt_z x.instant t (λ h. rw (lt_true _ _ h) refl) (λ h. rw (lt_false _ _ h) refl)
@@ -71,7 +71,7 @@ left_of-fold t ys (x ∷ xs) =
     (λ h. rw (left_of-fold t (put_behind ys x) xs, left_of-put_behind t ys x, le_false t x.instant h) refl)
     (λ h. rw (left_of-fold t (put_behind ys x) xs, left_of-put_behind t ys x, le_true t x.instant h) refl)
 
--- the items that have passed since an earlier instant
+-- of the items that had not passed at `from`, those that have passed at `to` are between the two
 passed-standing : (from to : ℤ) (xs : List Accepted) → passed to (standing from xs) ≡ between from to xs
 passed-standing from to [] = refl
 passed-standing from to (x ∷ xs) =
@@ -98,7 +98,6 @@ pub left-waiting : (from to : ℤ) (xs : List Accepted) → from ≤ℤ to → l
 unfolding by_instant
 left-waiting from to xs le = left_of-fold to [] (standing from xs) ∙ ap (λ (l : List Accepted). fold put_behind [] l) (standing-standing from to xs le)
 
--- one more standing item
 pub waiting-more : (now : ℤ) (xs : List Accepted) (a : Accepted) → int_le now a.instant ≡ true → by_instant (standing now (xs ++ a ∷ [])) ≡ put_behind (by_instant (standing now xs)) a
 unfolding by_instant
 waiting-more now xs a stands =
@@ -152,7 +151,7 @@ pub any-by_instant : (p : Accepted → Bool) (xs : List Accepted) → list_any p
 unfolding by_instant
 any-by_instant p xs = any-fold p [] xs
 
--- an item that the test accepts is standing, so it is found among the standing ones
+-- if all items that pass the test are standing, the test finds the same among the standing items
 pub any-standing : (p : Accepted → Bool) (now : ℤ) → ((a : Accepted) → p a ≡ true → int_le now a.instant ≡ true) → (xs : List Accepted) → list_any p (standing now xs) ≡ list_any p xs
 any-standing p now asks [] = refl
 any-standing p now asks (x ∷ xs) =

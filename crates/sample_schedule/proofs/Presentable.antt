@@ -1,4 +1,4 @@
--- What is counted from a head can be presented.
+-- Samples that are counted from a head can be presented.
 use Rattle.std.proofs.Common.{◌≡◌, inl, inr, ℕ, ◌+◌, ◌*◌, ◌^◌, ◌≤◌, ℤ, pos, neg_ℤ, ◌+ℤ◌, ◌*ℤ◌, ◌≤ℤ◌, ◌<ℤ◌, arith}
 use Rattle.std.proofs.Math.Nat.{mul-le-mul_left}
 use Rattle.std.proofs.lemmas.Int.{ints, by_lt_z}
@@ -71,13 +71,13 @@ presentable p head is some_rate some near =
       instants = λ j within. in_range head.instant (head.first +ℤ pos j) p.rate fast near.from near.to (λ h. near.own (omega (arith, ints))) (omega (arith, ints)) (omega (arith, ints));
     }
 
--- the limits, in terms of the numbers that the code computes
+-- the packet's samples can be presented, in terms of the numbers that the code computes
 pub counted_presentable : (p : Packet) (head : Head) (base first : ℤ) (den : ℕ) → base ≡ head.instant → den ≡ p.rate → first ≡ head.first → IsPacket p → 1 ≤ p.rate → 1 ≤ p.count → IsCountable head → IsPresentable (record { frame = p.frame; seq = p.seq; line = record { base = base; num = 1000000000; den = den }; from = first; count = p.count; bytes = p.bytes })
 counted_presentable p head base first den e f g is some_rate some near = rw (e, f, g) (presentable p head is some_rate some near)
 
 -- ---- on a line of a clock
 
--- samples after the first of a line are not before it
+-- a sample after the first of a line is not before it
 not_before : (base k : ℤ) (num den : ℕ) → 1 ≤ den → pos 0 ≤ℤ k → base ≤ℤ instant_at (record { base = base; num = num; den = den }) k
 not_before base k num den some natural =
     let steps = k *ℤ pos num in

@@ -17,7 +17,7 @@ pub record Presented : Type 0 where
 abbrev pub sample_instant : Presented → ℕ → ℤ
 sample_instant batch j = instant_at batch.line (batch.from +ℤ pos j)
 
--- A unit is a batch whose line has one nanosecond a sample; any other batch is samples.
+-- the batch is a unit of H.264 and not samples: its line has one nanosecond a sample
 abbrev pub is_unit : Presented → Bool
 is_unit batch = batch.line.num == 1 && batch.line.den == 1
 

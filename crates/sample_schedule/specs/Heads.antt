@@ -30,7 +30,7 @@ abbrev pub stamp_of_packet : Packet → Option Stamp
 stamp_of_packet p =
     option_map (λ timestamp. record { seq = p.seq; mr = p.mr; block = stamped_block p.rule; rate = p.rate; instant = unfolded timestamp p.arrival }) (usable_stamp p)
 
--- the stamp that is noted for an entry, which only a packet of audio can have
+-- the stamp that is noted for an entry; only a packet of audio can have one
 abbrev pub stamp_of : Entry → Option Stamp
 stamp_of (OfItem (OfPacket p)) = stamp_of_packet p
 stamp_of (OfItem (OfUnit u)) = None
@@ -43,11 +43,12 @@ stamps_of entries = filter_map stamp_of entries
 
 -- ---- how far back the head of a packet without a usable stamp is
 
--- how far back the stamp is that a packet without a usable timestamp is counted from, if its format has such a rule
+-- for a packet without a usable timestamp, how far back the stamp is that it is counted from, if its format has a rule
+-- for this
 abbrev pub distance_back : Packet → Option Distance
 distance_back p = distance p.rule p.seq p.count
 
--- the stamp that packet p needs to be counted from one that is `far` back
+-- the stamp that is wanted for packet p if its samples are counted from a stamp `far` back
 abbrev pub want_of : SchedulePlan → Packet → Distance → Want
 want_of plan p far = record {
   seq = (p.seq + 256 - far.packets) % 256;
@@ -62,7 +63,8 @@ want_of plan p far = record {
 
 -- ---- the head
 
--- the head of a packet by its own timestamp: where its first sample is, counted from the stamped one
+-- the head of a packet by its own timestamp: the timestamp's instant, and its first sample's number counted from the
+-- stamped sample
 abbrev pub head_at : Packet → ℕ → Head
 head_at p timestamp = record { instant = unfolded timestamp p.arrival; first = neg_ℤ (pos (stamped_index p.rule)) }
 
@@ -77,6 +79,7 @@ head_back plan prefix p =
     option_map (λ (stamp : Stamp). record { instant = stamp.instant; first = pos far.samples })
     (found (plan.look + 16) (want_of plan p far) (stamps_of prefix))) (distance_back p)
 
--- the head of a packet: by its own timestamp if that is usable, else by another packet's that is found for it
+-- the head of a packet: by its own timestamp if that is usable, else by the timestamp that is found for it in another
+-- packet
 abbrev pub head_of : SchedulePlan → List Entry → Packet → Option Head
 head_of plan prefix p = option_or (own_head p) (head_back plan prefix p)

@@ -3,7 +3,8 @@ use Rattle.std.specs.Prelude.{◌≡◌, ℕ, ◌+◌, ◌*◌, ◌^◌, ◌<◌
 use Rattle.sample_schedule.specs.Batches.{Presented, sample_instant}
 use Rattle.sample_schedule.specs.declared.instants.Instant.{Instant}
 
--- the fraction of the instant of sample j that rounding drops, in units of 1 / den nanoseconds of the line
+-- `rest` is the fraction that rounding drops from the instant of sample j, in units of 1 / `den` nanoseconds of the
+-- line
 pub record IsRestOf (batch : Presented) (j : ℕ) (instant : ℤ) (rest : ℕ) : Type 0 where
   pub steps : (batch.from +ℤ pos j) *ℤ pos batch.line.num ≡ (instant -ℤ batch.line.base) *ℤ pos batch.line.den +ℤ pos rest
   pub below : rest < batch.line.den

@@ -24,8 +24,9 @@ pending_of (OfClock arrival row) = PendingClock arrival
 
 -- ---- the judge
 
--- A judge: how many entries are judged, the greatest arrival up to the current one, what was noted from all entries, the accepted
--- batches that wait for their instant, the current entry, the entries after it, and whether the list has ended.
+-- A judge: how many entries are judged; the greatest arrival up to the current entry; what was noted from all entries;
+-- the accepted batches that wait for their instants; the current entry; the entries after it; and whether the list has
+-- ended.
 pub record JudgeState : Type 0 where
   pub plan : SchedulePlan
   pub place : ℕ
@@ -40,7 +41,7 @@ pub record JudgeState : Type 0 where
 abbrev pub begun : JudgeState → ℕ
 begun judge = judge.place + length (option_to_list judge.current)
 
--- how many entries the judge was given
+-- how many entries the judge has taken
 abbrev pub taken : JudgeState → ℕ
 taken judge = begun judge + length judge.ahead
 
@@ -48,7 +49,7 @@ taken judge = begun judge + length judge.ahead
 abbrev pub work : JudgeState → ℕ
 work judge = 2 * (length (option_to_list judge.current) + length judge.ahead) + length judge.waiting
 
--- There is no current entry: all that is due of the entries so far was given.
+-- There is no current entry: all that is due of the entries so far was returned.
 abbrev pub IsIdle : JudgeState → Type 0
 IsIdle judge = judge.current ≡ None
 
@@ -66,17 +67,19 @@ none_left (Some p) ahead = false
 abbrev pub is_over : JudgeState → Bool
 is_over judge = if judge.closed then none_left judge.current judge.ahead else false
 
--- The judge was given these entries, and has given `given` of the items that it shows of them, timed by the clock of its plan.
+-- The judge has taken `entries`, and has returned `given` of the items that it shows of them, timed by the clock of its
+-- plan.
 pub record StandsFor (clock : Clock) (entries : List Entry) (given : ℕ) (judge : JudgeState) : Type 0 where
   pub asks : IsClockOf judge.plan clock
-  -- the judge has the entries that are not judged, and has noted the stamps and clock packets of all entries
+  -- the judge holds the entries that are not judged, and has noted the stamps and clock packets of all entries
   pub within : judge.place ≤ length entries
   pub left : map pending_of (drop judge.place entries) ≡ option_to_list judge.current ++ judge.ahead
   pub noted : HasNoted judge.plan entries judge.noted
   pub now : judge.time ≡ latest (take (begun judge) entries)
-  -- while more entries may follow, those entries are judged whose prefix is complete
+  -- while more entries may follow, exactly those entries are judged or current that have `look` entries after them
   pub settles : judge.closed ≡ false → begun judge ≡ settled judge.plan entries
-  -- of the batches that waited before the current entry, those whose instant has passed were presented, and the others wait
+  -- of the batches that waited before the current entry, those whose instants have passed were presented, and the
+  -- others wait
   pub passed : List Accepted
   pub waiting : passed ++ judge.waiting ≡ by_instant (standing (latest (take judge.place entries)) (accepted clock judge.plan entries judge.place))
   pub early : is_over judge ≡ false → AllByRecursion (λ a. a.instant <ℤ judge.time) passed

@@ -11,31 +11,31 @@ use Rattle.sample_schedule.specs.Order.{standing}
 use Rattle.sample_schedule.specs.Schedule.{Given, Presents, Flags, accepted, given, now_at, prefix_of}
 use Rattle.sample_schedule.specs.Verdicts.{Clock, timed, verdict}
 
--- the place in the list of entries of an item that is presented or flagged
+-- the index, in the list of entries, of an item that is presented or flagged
 abbrev pub place_of : Given → ℕ
 place_of (Presents a) = a.place
 place_of (Flags place item reason) = place
 
--- how often the item at place i is shown in the schedule
+-- how often the item at index i is shown in the schedule
 abbrev pub times_shown : Clock → SchedulePlan → List Entry → ℕ → ℕ
 times_shown clock plan entries i = count_by (λ g. place_of g == i) (given clock plan entries)
 
--- how often an entry has to be shown: an item once; a packet of the clock, or a place without an entry, never
+-- how often an entry has to be shown: an item once; a packet of the clock never, nor an index without an entry
 abbrev pub times_due : Option Entry → ℕ
 times_due None = 0
 times_due (Some (OfItem item)) = 1
 times_due (Some (OfClock arrival row)) = 0
 
--- the part of a schedule that is about the item at place i
+-- the part of a schedule that is about the item at index i
 abbrev pub shown_at : ℕ → List Given → List Given
 shown_at i list = filter (λ g. place_of g == i) list
 
--- the verdict of the item at place i of a list, in the schedule of the list
+-- the verdict on the item at index i of a list, in the schedule of the list
 abbrev pub verdict_in : Clock → SchedulePlan → List Entry → ℕ → Item → Result Accepted Reason
 verdict_in clock plan entries i item =
     verdict plan (now_at entries i) (accepted clock plan entries i) i (timed clock plan (prefix_of plan entries i) item)
 
--- what a verdict does with the item at a place: it is presented if accepted, else flagged with the reason
+-- what a verdict does with the item at an index: it is presented if accepted, else flagged with the reason
 abbrev pub given_by : ℕ → Item → Result Accepted Reason → Given
 given_by place item (Ok a) = Presents a
 given_by place item (Err reason) = Flags place item reason
@@ -46,11 +46,12 @@ presented [] = []
 presented (Presents a ∷ rest) = a ∷ presented rest
 presented (Flags place item reason ∷ rest) = presented rest
 
--- a has an earlier first instant than b, or the same instant and a lower place
+-- a has an earlier first instant than b, or the same first instant and a lower index
 abbrev pub IsBefore : Accepted → Accepted → Type 0
 IsBefore a b = (a.instant <ℤ b.instant) ⊎ ((a.instant ≡ b.instant) × (a.place < b.place))
 
--- two accepted items are not copies of the same packet: at equal first instants their sequence numbers differ
+-- two accepted items are not copies of the same packet: if their first instants are equal, their sequence numbers
+-- differ
 abbrev pub IsNoCopy : Accepted → Accepted → Type 0
 IsNoCopy a b = a.instant ≡ b.instant → a.batch.seq ≢ b.batch.seq
 

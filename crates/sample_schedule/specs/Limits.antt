@@ -1,4 +1,4 @@
--- The conditions of a schedule: a plan within its limits, and entries as the formats give them.
+-- The conditions of a schedule: a plan within its limits, and entries as the formats yield them.
 use Rattle.std.specs.Prelude.{◌≡◌, ◌+◌, ◌%◌, ◌^◌, ◌≤◌, pos, neg_ℤ, ◌≤ℤ◌, ◌<ℤ◌, length}
 use Rattle.clock_track.specs.Limits.{IsNotable}
 use Rattle.time_unfold.specs.Limits.{IsRule}
@@ -23,7 +23,7 @@ pub record IsPlan (plan : SchedulePlan) : Type 0 where
   pub shift_from : neg_ℤ (pos 1000000000) ≤ℤ plan.shift
   pub shift_to : plan.shift ≤ℤ pos 1000000000
 
--- A packet of audio as the formats give it: samples of equally many bytes, and a rate that is 0 or from 8,000 to
+-- A packet of audio as the formats yield it: samples of equally many bytes, and a rate that is 0 or from 8,000 to
 -- 192,000 Hz.
 pub record IsPacket (p : Packet) : Type 0 where
   pub arrival : IsArrival p.arrival
@@ -33,19 +33,19 @@ pub record IsPacket (p : Packet) : Type 0 where
   pub rate_to : p.rate ≤ 192000
   pub rule : IsRule p.rule
 
--- a unit of H.264 as the formats give it, with its instant from -2^62 up to 2^62 + 2^31 ns
+-- a unit of H.264 as the formats yield it, with an instant from -2^62 to 2^62 + 2^31 ns
 pub record IsUnit (u : WholeUnit) : Type 0 where
   pub arrival : IsArrival u.arrival
   pub from : neg_ℤ (pos (2 ^ 62)) ≤ℤ u.instant
   pub to : u.instant <ℤ pos (2 ^ 62 + 2 ^ 31)
 
--- an item as the formats give it: a packet of audio, a unit of H.264, or one that could not be read
+-- an item as the formats yield it: a packet of audio, a unit of H.264, or a packet that could not be read
 abbrev pub IsItem : Item → Type 0
 IsItem (OfPacket p) = IsPacket p
 IsItem (OfUnit u) = IsUnit u
 IsItem (OfBad b) = IsArrival b.arrival
 
--- an entry as the formats give it: an item, or a packet of the clock that the clock can note
+-- an entry as the formats yield it: an item, or a packet of the clock that the clock can note
 abbrev pub IsEntry : Entry → Type 0
 IsEntry (OfItem item) = IsItem item
 IsEntry (OfClock arrival row) = IsArrival arrival × IsNotable row

@@ -9,7 +9,7 @@ use Rattle.sample_schedule.specs.declared.plan.SchedulePlan.{SchedulePlan}
 use Rattle.sample_schedule.specs.Heads.{stamps_of}
 use Rattle.sample_schedule.specs.Verdicts.{row_of}
 
--- the plan has a clock that adds the plan's shift to timestamps and has noted the clock packets of the list
+-- The plan has a clock. The clock adds the plan's shift to timestamps, and has noted the clock packets of the list.
 pub record HasNotedClock (plan : SchedulePlan) (entries : List Entry) (clock : ClockState) : Type 0 where
   pub asked : plan.clock ≡ true
   pub shift : clock.shift ≡ plan.shift

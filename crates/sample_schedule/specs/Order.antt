@@ -2,7 +2,7 @@
 use Rattle.std.specs.Prelude.{false, if◌then◌else◌, ℤ, int_lt, int_le, List, [], ◌∷◌, filter, fold}
 use Rattle.sample_schedule.specs.declared.accepted.Accepted.{Accepted}
 
--- the accepted items whose first instant has not passed
+-- the accepted items whose first instants have not passed
 abbrev pub standing : ℤ → List Accepted → List Accepted
 standing now accepted = filter (λ a. int_le now a.instant) accepted
 
@@ -10,7 +10,7 @@ standing now accepted = filter (λ a. int_le now a.instant) accepted
 abbrev pub between : ℤ → ℤ → List Accepted → List Accepted
 between from to accepted = filter (λ a. if int_le from a.instant then int_lt a.instant to else false) accepted
 
--- a list that is sorted by first instant, with one more item after all that are not later
+-- a list that is sorted by first instant, with one more item after all items that are not later
 abbrev pub put_behind : List Accepted → Accepted → List Accepted
 put_behind [] a = a ∷ []
 put_behind (b ∷ bs) a = if int_lt a.instant b.instant then a ∷ b ∷ bs else b ∷ put_behind bs a
@@ -19,12 +19,12 @@ put_behind (b ∷ bs) a = if int_lt a.instant b.instant then a ∷ b ∷ bs else
 unfoldable pub by_instant : List Accepted → List Accepted
 by_instant accepted = fold put_behind [] accepted
 
--- the items at the front of a list, sorted by first instant, whose instants have passed
+-- the items at the beginning of a list, sorted by first instant, whose instants have passed
 abbrev pub due_of : ℤ → List Accepted → List Accepted
 due_of now [] = []
 due_of now (a ∷ rest) = if int_lt a.instant now then a ∷ due_of now rest else []
 
--- a list, sorted by first instant, without the items at its front whose instants have passed
+-- a list, sorted by first instant, without the items at its beginning whose instants have passed
 abbrev pub left_of : ℤ → List Accepted → List Accepted
 left_of now [] = []
 left_of now (a ∷ rest) = if int_lt a.instant now then left_of now rest else a ∷ rest

@@ -38,13 +38,13 @@ seq_of (OfPacket p) = p.seq
 seq_of (OfUnit u) = u.seq
 seq_of (OfBad b) = b.seq
 
--- the greatest arrival of a list of entries; arrivals are not below 0
+-- the greatest arrival of a list of entries, or 0 if no arrival is above 0
 unfoldable pub latest : List Entry → ℤ
 latest entries = fold int_max (pos 0) (map arrival_of entries)
 
 -- ---- what is accepted
 
--- the entries that are known when entry i is judged: those up to it, and `look` more
+-- the entries that are known when entry i is judged: all up to it, and the next `look`
 abbrev pub prefix_of : SchedulePlan → List Entry → ℕ → List Entry
 prefix_of plan entries i = take (i + plan.look + 1) entries
 
@@ -52,19 +52,19 @@ prefix_of plan entries i = take (i + plan.look + 1) entries
 abbrev pub now_at : List Entry → ℕ → ℤ
 now_at entries i = latest (take (suc i) entries)
 
--- the verdict of an entry at place i, given what was accepted before it; a packet of the clock has none
+-- the verdict on an entry at index i, given what was accepted before it; a packet of the clock has none
 abbrev pub judged : Clock → SchedulePlan → List Entry → ℕ → List Accepted → Entry → Option (Result Accepted Reason)
 judged clock plan entries i earlier (OfItem item) =
     Some (verdict plan (now_at entries i) earlier i (timed clock plan (prefix_of plan entries i) item))
 judged clock plan entries i earlier (OfClock arrival row) = None
 
--- the verdict of the entry at place i, given what was accepted before it; none if that is a packet of the clock, or if
--- the list is not that long
+-- the verdict on entry i, given what was accepted before it; none if entry i is a packet of the clock, or if the list
+-- is not that long
 unfoldable pub verdict_at : Clock → SchedulePlan → List Entry → ℕ → List Accepted → Option (Result Accepted Reason)
 verdict_at clock plan entries i earlier =
     option_and_then (judged clock plan entries i earlier) (slice_get entries i)
 
--- the item that a verdict accepts, if it does
+-- the item that a verdict accepts, if it accepts one
 abbrev pub accepted_by : Option (Result Accepted Reason) → List Accepted
 accepted_by None = []
 accepted_by (Some (Ok a)) = a ∷ []
@@ -78,7 +78,7 @@ accepted clock plan entries (suc i) =
 
 -- ---- what is shown
 
--- an item of the schedule: presented, or flagged at its place
+-- an item of the schedule: presented, or flagged at its index
 pub data Given : Type 0 where
   Presents : Accepted → Given
   Flags : ℕ → Item → Reason → Given
@@ -92,13 +92,13 @@ abbrev pub shown_of : Given → Shown
 shown_of (Presents a) = present a
 shown_of (Flags place item reason) = Flag (frame_of item) (seq_of item) reason
 
--- the flag of entry i, if it is an item that its verdict refuses
+-- the flag of entry i, if it is an item that is not accepted
 abbrev pub flag_by : ℕ → Option Entry → Option (Result Accepted Reason) → List Given
 flag_by i (Some (OfItem item)) (Some (Err reason)) = Flags i item reason ∷ []
 flag_by i e v = []
 
--- Step i presents the batches that were accepted before entry i and whose first instant passed between the previous entry and
--- this one, and then flags entry i if it is refused. (At step 0 nothing was accepted before.)
+-- Step i presents those of the batches accepted before entry i whose first instants passed between the previous entry
+-- and entry i. Then it flags entry i if it is an item that is not accepted. (At step 0 nothing was accepted before.)
 unfoldable pub step : Clock → SchedulePlan → List Entry → ℕ → List Given
 step clock plan entries i =
     let earlier = accepted clock plan entries i in
@@ -110,13 +110,13 @@ unfoldable pub steps : Clock → SchedulePlan → List Entry → ℕ → List Gi
 steps clock plan entries zero = []
 steps clock plan entries (suc i) = steps clock plan entries i ++ step clock plan entries i
 
--- The accepted items that no step presented, because their first instants have not passed: they are presented after the last
--- entry.
+-- The accepted items that no step presented, because their first instants have not passed. They are presented after the
+-- last entry.
 abbrev pub rest_of : Clock → SchedulePlan → List Entry → List Given
 rest_of clock plan entries =
     map Presents (by_instant (standing (latest entries) (accepted clock plan entries (length entries))))
 
--- the whole schedule: all steps, and then the rest
+-- the whole schedule: all steps, and then the accepted items that no step presented
 unfoldable pub given : Clock → SchedulePlan → List Entry → List Given
 given clock plan entries = steps clock plan entries (length entries) ++ rest_of clock plan entries
 
@@ -132,7 +132,7 @@ settled plan entries = length entries - plan.look
 abbrev pub due : Clock → SchedulePlan → List Entry → List Shown
 due clock plan entries = map shown_of (steps clock plan entries (settled plan entries))
 
--- the accepted items that wait while more entries may follow, sorted by first instant and then by place
+-- the accepted items that wait while more entries may follow, sorted by first instant and then by index
 abbrev pub waiting : Clock → SchedulePlan → List Entry → List Accepted
 waiting clock plan entries =
     by_instant (standing (latest (take (settled plan entries) entries)) (accepted clock plan entries (settled plan entries)))

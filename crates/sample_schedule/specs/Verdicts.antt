@@ -1,4 +1,4 @@
--- The verdict of an item: it is accepted, or it has a reason why not.
+-- The verdict on an item: it is accepted, or it is refused for a reason.
 use Rattle.std.specs.Prelude.{◌≡◌, ℕ, ◌+◌, ◌==◌, nat_lt, nat_le, Bool, true, false, if◌then◌else◌, ℤ, pos, ◌+ℤ◌, int_lt, List, length, sum_by, Option, Some, None, option_map, Result, Ok, Err}
 use Rattle.std.specs.List.{filter_map, list_any}
 use Rattle.clock_track.specs.declared.clock_row.ClockRow.{ClockRow}
@@ -28,25 +28,26 @@ pub use Rattle.sorted_keys.specs.Keys.{same_instant}
 abbrev pub Clock : Type 0
 Clock = List ClockRow → ℤ → ℤ → ℕ → Option Spot
 
--- If the plan has a clock, `clock` is that of the clock's packets; if not, it may be any, because it is not used.
+-- If the plan has a clock, `clock` answers by the clock's packets. If it has none, `clock` may be any function, because
+-- it is not used.
 abbrev pub IsClockOf : SchedulePlan → Clock → Type 0
 IsClockOf plan clock = plan.clock ≡ true → clock ≡ clock_spot
 
--- the row that a clock notes for an entry: that of a packet of the clock, and none for an item
+-- what the clock keeps of an entry: the row of a packet of the clock, and nothing of an item
 abbrev pub row_of : Entry → Option ClockRow
 row_of (OfItem item) = None
 row_of (OfClock arrival row) = Some row
 
--- the spot n samples after this one
+-- the spot n samples after a spot
 abbrev pub moved : ℤ → Spot → Spot
 moved n spot = record spot { from = spot.from +ℤ n }
 
--- the spot of a packet's first sample on the nominal line of its head, whose sample 0 is the stamped one
+-- the spot of a packet's first sample on the nominal line of its head; sample 0 of that line is the stamped sample
 abbrev pub nominal_spot : ℕ → Head → Spot
 nominal_spot rate head = record { line = nominal_line head.instant rate; from = head.first }
 
--- the spot of the first sample that is counted from a head: on the head's nominal line, or if the plan has a clock, on a line
--- of the clock, if one covers the head
+-- The spot of the first sample that is counted from a head. If the plan has a clock, it is on the clock's line that
+-- covers the head, if one does. Otherwise it is on the head's nominal line.
 abbrev pub spot_of : Clock → SchedulePlan → List Entry → ℕ → Head → Option Spot
 spot_of clock plan prefix rate head =
     if plan.clock
@@ -68,15 +69,15 @@ abbrev pub ok_or_reason : Reason → Option Presented → Result Presented Reaso
 ok_or_reason reason None = Err reason
 ok_or_reason reason (Some batch) = Ok batch
 
--- the samples of a packet counted from its head: `Untimed` if it has none, `NoClock` if the clock does not cover the
+-- the samples of a packet counted from its head: `Untimed` if it has no head, `NoClock` if the clock does not cover the
 -- head
 abbrev pub counted_from : Clock → SchedulePlan → List Entry → Packet → Option Head → Result Presented Reason
 counted_from clock plan prefix p None = Err Untimed
 counted_from clock plan prefix p (Some head) =
     ok_or_reason NoClock (option_map (samples_at p) (spot_of clock plan prefix p.rate head))
 
--- What can be presented of an item, given the prefix of the list that is known when it is judged; or the first reason why
--- nothing can, apart from reasons of time.
+-- What can be presented of an item, or the first reason why nothing can, apart from reasons of time. The prefix of the
+-- list is what is known when the item is judged.
 unfoldable pub timed : Clock → SchedulePlan → List Entry → Item → Result Presented Reason
 timed clock plan prefix (OfPacket p) =
     if p.tu then Err Uncertain else
@@ -105,8 +106,8 @@ abbrev pub is_full : SchedulePlan → List Accepted → ℕ → Bool
 is_full plan waiting size =
     if nat_le plan.buffer (length waiting) then true else nat_lt plan.room (total_bytes waiting + size)
 
--- The first of these decides: the first instant has passed (late), the item came before (repeat), the buffer is full. If none
--- holds, the item is accepted.
+-- The first of these that holds decides: the first instant has passed (late); the item came before (repeat); the buffer
+-- is full. If none holds, the item is accepted.
 abbrev pub decided : Bool → Bool → Bool → ℕ → Presented → Result Accepted Reason
 decided late repeat full place batch =
     if late then Err Late else
@@ -114,7 +115,8 @@ decided late repeat full place batch =
     if full then Err Full else
     Ok (record { place = place; instant = first_instant batch; batch = batch })
 
--- The verdict of the item at a place. `now` is the greatest arrival up to it, and `earlier` are the items accepted before.
+-- The verdict on the item at index `place`. `now` is the greatest arrival up to it, and `earlier` are the items
+-- accepted before.
 unfoldable pub verdict : SchedulePlan → ℤ → List Accepted → ℕ → Result Presented Reason → Result Accepted Reason
 verdict plan now earlier place (Err reason) = Err reason
 verdict plan now earlier place (Ok batch) =

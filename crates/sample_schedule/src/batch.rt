@@ -36,8 +36,8 @@ impl Batch {
     ghost use Rattle.std.specs.Prelude.{◌≡◌, ◌≤◌};
     ghost use Rattle.sample_schedule.specs.Batches.{is_unit, sample_instant};
 
-    /// The instant of sample `j`, in nanoseconds of gPTP. `j` is at most the number of samples; at that number it is the
-    /// instant of the first sample after them.
+    /// The instant of sample `j`, in nanoseconds of gPTP. `j` is at most the number of samples. For that number, it is
+    /// the instant of the first sample after the batch.
     pub fn instant(&self, j: u32) -> i64
         requires { j ≤ self.now.count }
         ensures { result ≡ sample_instant self.now j }

@@ -102,8 +102,8 @@ fn head_back(plan: &SchedulePlan, noted: &Noted, packet: &Packet) -> Option<Head
     })
 }
 
-/// The head of a packet that has samples and a rate: by its own timestamp if that is usable, or by the stamp that is found for it
-/// among those of a prefix of the list.
+/// The head of a packet that has samples and a rate: by its own timestamp if that is usable, or by the stamp that is
+/// found for it among the noted stamps.
 pub fn head_of(plan: &SchedulePlan, noted: &Noted, packet: &Packet) -> Option<Head>
     requires plan { IsPlan plan.now }
     requires packet { IsPacket packet.now }

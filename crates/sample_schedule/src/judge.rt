@@ -28,26 +28,26 @@ use clock_track::Points;
 use std::alloc::Global;
 use std::marker::Model;
 
-/// A judge takes the entries of a stream one at a time, in capture order, and shows each item of the stream once, presented or
-/// flagged with the first reason that holds.
+/// A judge takes the entries of a stream one at a time, in capture order, and shows each item of the stream once,
+/// presented or flagged with the first reason that holds.
 ///
-/// An item is judged once `look` later entries are known, so a packet without a timestamp may be counted from one that was
-/// captured after it. A stamp is noted when its entry comes, and the entry is judged when it leaves the delay line. Before an
-/// entry is judged, everything that its arrival makes due is given, so the judge holds only what waits. All memory is reserved
-/// when the judge is made.
+/// An item is judged once `look` later entries are known, so a packet without a timestamp may be counted from one that
+/// was captured after it. A stamp is noted when its entry arrives, and the entry is judged when it leaves the delay
+/// line. Before an entry is judged, everything that its arrival makes due is returned. So the judge holds only batches
+/// whose instants have not passed. All memory is reserved when the judge is made.
 #[derive(Drop)]
 pub struct Judge {
     plan: SchedulePlan,
     /// How many entries are judged.
     place: u64,
-    /// The greatest arrival of these and of the current entry.
+    /// The greatest arrival of the judged entries and of the current entry.
     time: i64,
     noted: Noted,
     /// The accepted batches, which wait for their instants.
     waiting: Waiting,
     /// The current entry. It is judged once everything that its arrival makes due is given.
     current: Option<Pending>,
-    /// The entries after it, which wait for later ones.
+    /// The entries after the current one: the delay line.
     ahead: HeapCircularBuffer<Pending>,
     /// No further entry follows.
     closed: bool,
@@ -130,8 +130,8 @@ impl Judge {
         }
     }
 
-    /// Takes the next item of the stream. Nothing may be due of the entries so far, and the judge must not be closed. At most
-    /// 2^62 entries may be taken. Allocates nothing.
+    /// Takes the next item of the stream. All that is due of the entries so far must have been returned, and the judge
+    /// must not be closed. At most 2^62 entries may be taken. Allocates nothing.
     #[inline(always)]
     pub fn step(&mut self, item: Item)
         requires open { self.old.closed ≡ false }
@@ -147,8 +147,8 @@ impl Judge {
         self.put(Pending::Item(item));
     }
 
-    /// Takes a packet of the stream's clock, given its arrival and its points: an entry that is never shown. The conditions are
-    /// those of `step`. If the plan has no clock, only the arrival counts. Allocates nothing.
+    /// Takes a packet of the stream's clock, given its arrival and its points. It is an entry that is never shown. The
+    /// conditions are those of `step`. If the plan has no clock, only the arrival counts. Allocates nothing.
     pub fn step_clock(&mut self, arrival: i64, points: &Points<'_>)
         requires open { self.old.closed ≡ false }
         requires idle { IsIdle self.old }
@@ -286,8 +286,8 @@ impl Judge {
         }
     }
 
-    /// The next item that is shown of the entries so far: before `close` only of those that are judged, after it of all. Returns
-    /// `None` exactly if all of that was given. Allocates nothing.
+    /// The next item that is shown of the entries so far. Before `close`, it is one of what the judged entries make
+    /// due; after it, of all. Returns `None` exactly if all of these were returned. Allocates nothing.
     pub fn next_out(&mut self) -> Option<Shown>
         ensures given { (clock : Clock) (entries : List EntryValue) (given : ℕ) → StandsFor clock entries given self.old → result ≡ slice_get (out clock self.old entries) given }
         ensures stands { (clock : Clock) (entries : List EntryValue) (given : ℕ) → StandsFor clock entries given self.old → StandsFor clock entries (given + length (option_to_list result)) self.new }
@@ -306,7 +306,7 @@ impl Judge {
         }
     }
 
-    /// Ends the list of entries. Nothing may be due of the entries so far. Allocates nothing.
+    /// Ends the list of entries. All that is due of the entries so far must have been returned. Allocates nothing.
     pub fn close(&mut self)
         requires open { self.old.closed ≡ false }
         requires idle { IsIdle self.old }
@@ -319,8 +319,8 @@ impl Judge {
         self.closed = true;
     }
 
-    /// How many batches wait: at most as many as the buffer takes, with at most as many bytes as its room. If nothing is due,
-    /// these are the accepted batches of the judged entries that were not given; after `close` there are none.
+    /// How many batches wait: at most the plan's `buffer`, with together at most `room` bytes. If nothing is due, these
+    /// are the accepted batches of the judged entries that were not returned. After `close` there are none.
     pub fn held(&self) -> u32
         ensures held { result ≡ length self.now.waiting }
         ensures batches { result ≤ self.now.plan.buffer }

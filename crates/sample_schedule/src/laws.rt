@@ -19,13 +19,13 @@ ghost use Rattle.sample_schedule.specs.Order.{between, by_instant, due_of, left_
 ghost use Rattle.sample_schedule.specs.Schedule.{accepted, due, given, settled, shown, steps, waiting};
 ghost use Rattle.sample_schedule.specs.Verdicts.{Clock, is_copy, moved, samples_at, total_bytes};
 
-/// At every entry at most `buffer` batches wait, of at most `room` bytes together.
+/// Whenever an entry is judged, at most `buffer` batches wait, with together at most `room` bytes.
 pub fn waiting_is_bounded()
     ensures batches { (clock : Clock) (plan : SchedulePlan) (entries : List Entry) (i : ℕ) → length (waiting_at clock plan entries i) ≤ plan.buffer }
     ensures bytes { (clock : Clock) (plan : SchedulePlan) (entries : List Entry) (i : ℕ) → total_bytes (waiting_at clock plan entries i) ≤ plan.room }
 {}
 
-/// What is presented is what is accepted, sorted by first instant and then by place.
+/// What is presented is what is accepted, sorted by first instant and then by index.
 pub fn accepted_are_presented()
     ensures { (clock : Clock) (plan : SchedulePlan) (entries : List Entry) → presented (given clock plan entries) ≡ by_instant (accepted clock plan entries (length entries)) }
 {}
@@ -41,7 +41,8 @@ pub fn each_item_is_shown_as_judged()
     ensures { (clock : Clock) (plan : SchedulePlan) (entries : List Entry) (i : ℕ) (item : Item) → slice_get entries i ≡ Some (Entry.Item item) → shown_at i (given clock plan entries) ≡ given_by i item (verdict_in clock plan entries i item) ∷ [] }
 {}
 
-/// First instants of the presented batches never fall, and batches with equal ones are in the order of the items.
+/// First instants of the presented batches never decrease, and batches with equal first instants are in the order of
+/// the items.
 pub fn presented_in_order()
     ensures { (clock : Clock) (plan : SchedulePlan) (entries : List Entry) → Pairwise IsBefore (presented (given clock plan entries)) }
 {}
@@ -52,7 +53,7 @@ pub fn copies_are_not_presented()
     ensures { (clock : Clock) (plan : SchedulePlan) (entries : List Entry) → Pairwise IsNoCopy (presented (given clock plan entries)) }
 {}
 
-/// What is certain of a list stays when the list grows: what is due of the longer list begins with it.
+/// What is certain of a list does not change when the list grows: what is due of the longer list begins with it.
 pub fn due_stays()
     ensures { (clock : Clock) (plan : SchedulePlan) (entries more : List Entry) → IsPrefix (due clock plan entries) (due clock plan (entries ++ more)) }
 {}
@@ -71,12 +72,13 @@ pub fn what_is_not_due_waits()
     ensures unjudged { (plan : SchedulePlan) (entries : List Entry) → length entries ≤ settled plan entries + plan.look }
 {}
 
-/// If a copy comes in time, the item that it repeats is found among the waiting batches, just as among all accepted ones.
+/// If a copy arrives in time, the item that it repeats still waits: it is found among the waiting items exactly if it
+/// is found among all accepted items.
 pub fn copies_wait()
     ensures { (now instant : ℤ) (seq : ℕ) (earlier : List Accepted) → now ≤ℤ instant → list_any (is_copy instant seq) (standing now earlier) ≡ list_any (is_copy instant seq) earlier }
 {}
 
-/// As time moves on, the waiting batches split into those that are due, first, and those that still wait.
+/// As time moves on, the waiting batches split: the first of them are due, and the others still wait.
 pub fn what_waits_is_due_or_held()
     ensures due { (from to : ℤ) (earlier : List Accepted) → due_of to (by_instant (standing from earlier)) ≡ by_instant (between from to earlier) }
     ensures held { (from to : ℤ) (earlier : List Accepted) → from ≤ℤ to → left_of to (by_instant (standing from earlier)) ≡ by_instant (standing to earlier) }

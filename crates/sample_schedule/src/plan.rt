@@ -5,7 +5,7 @@
 pub struct SchedulePlan {
     /// The most batches that wait for their instant, 1 to 65,536.
     pub buffer: u32,
-    /// The most bytes that they have together, 1 to 1,073,741,824.
+    /// The most bytes of these batches together, 1 to 1,073,741,824.
     pub room: u32,
     /// How many later items are read before an item is judged, 0 to 64.
     pub look: u32,

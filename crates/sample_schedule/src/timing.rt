@@ -143,8 +143,8 @@ fn timed_unit(unit: Unit) -> Batch
     }
 }
 
-/// What can be presented of an item, given what was noted from the prefix that is known when it is judged; or the first reason
-/// why nothing can, apart from reasons of time.
+/// What can be presented of an item, or the first reason why nothing can, apart from reasons of time. `noted` is what
+/// was noted from the entries that are known when the item is judged.
 #[tactic(auto, unfolding(crate::specs::Verdicts::timed))]
 #[inline(always)]
 pub fn timed(plan: &SchedulePlan, noted: &Noted, item: Item) -> Result<Batch, Reason>

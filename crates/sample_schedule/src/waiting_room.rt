@@ -30,13 +30,13 @@ fn size(accepted: &Accepted) -> u64
     accepted.batch.bytes.as_slice().len() as u64
 }
 
-/// Accepted batches that wait for their instants, sorted by first instant and then by place. Small keys are in that order; the
-/// batches are kept in slots, and are not moved while they wait.
+/// Accepted batches that wait for their instants, sorted by first instant and then by index. Small keys are in that
+/// order. The batches themselves are in slots, and are not moved while they wait.
 #[derive(Drop)]
 pub struct Waiting {
     keys: SortedKeys,
     batches: Slab<Accepted>,
-    /// The bytes of all that wait.
+    /// The number of bytes of all waiting batches.
     bytes: u64,
 }
 
@@ -74,7 +74,7 @@ impl Waiting {
         self.batches.len()
     }
 
-    /// The number of their sample bytes.
+    /// The number of bytes of all waiting batches.
     pub fn bytes(&self) -> u64
         ensures { result ≡ total_bytes self.now.list }
     {
@@ -100,7 +100,7 @@ impl Waiting {
             || self.bytes().saturating_add(size as u64) > u64::from(plan.room)
     }
 
-    /// Puts a batch after all that are not later. Allocates nothing.
+    /// Puts a batch after all batches whose instants are not later. Allocates nothing.
     #[inline(always)]
     pub fn put_behind(&mut self, accepted: Accepted)
         requires room { length self.old.list < self.old.room }

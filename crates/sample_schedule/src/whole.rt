@@ -33,7 +33,7 @@ pub fn take_entry(judge: &mut Judge, entry: Entry)
     }
 }
 
-/// Puts all that the judge gives into a list.
+/// Puts all that the judge returns into a list.
 pub fn give_all(judge: &mut Judge, list: &mut Vec<Shown>) -> Result<(), NoMemory>
     ensures given { OnOk result ((clock : Clock) (entries : List EntryValue) → HasGiven clock entries list.old.items judge.old → HasGiven clock entries list.new.items judge.new) }
     ensures all { OnOk result ((clock : Clock) (entries : List EntryValue) → HasGiven clock entries list.old.items judge.old → list.new.items ≡ out clock judge.new entries) }
@@ -46,14 +46,16 @@ pub fn give_all(judge: &mut Judge, list: &mut Vec<Shown>) -> Result<(), NoMemory
     Ok(())
 }
 
-/// The schedule of a list of entries, in capture order: each item of the stream is shown once, presented or flagged with the
-/// first reason that holds. A batch is presented as soon as the arrival of an entry is after its first instant; batches that
-/// are left after the last entry are presented then, by first instant and then by place in the list.
+/// The schedule of a list of entries, in capture order: each item of the stream is shown once, presented or flagged
+/// with the first reason that holds. A batch is presented as soon as the arrival of an entry is after its first
+/// instant. Batches that are left after the last entry are presented then, by first instant and then by index in the
+/// list.
 ///
-/// An item is judged once `look` later entries are known or the list has ended, so a packet without a timestamp may be counted
-/// from one that was captured after it: from the last usable timestamp that fits, of the last `look + 16`.
+/// An item is judged once `look` later entries are known or the list has ended. So a packet without a timestamp may be
+/// counted from one that was captured after it. It is counted from the last usable timestamp that fits, of the last
+/// `look + 16`.
 ///
-/// If the plan has a clock, samples are on its lines, as given by the clock packets that are known when the item is judged; if it
+/// If the plan has a clock, samples are on the lines of the clock packets that are known when the item is judged. If it
 /// has none, packets of a clock count only by their arrival.
 ///
 /// If there is no memory, returns `NoMemory` and shows nothing.

@@ -23,24 +23,25 @@ abbrev pub IsPending : Pending → Type 0
 IsPending (PendingItem item) = IsItem item
 IsPending (PendingClock arrival) = IsArrival arrival
 
--- A list has exactly the items that the judge has given so far, of those that it shows of the entries.
+-- `list` has exactly the items that the judge has returned so far, of those that it shows of `entries`.
 pub record HasGiven (clock : Clock) (entries : List Entry) (list : List Shown) (judge : JudgeState) : Type 0 where
   pub stands : StandsFor clock entries (length list) judge
   pub first : IsPrefix list (out clock judge entries)
 
--- the greatest arrival, including that of the entry that is judged next
+-- the greatest arrival, including that of the entry that becomes current
 abbrev pub now_with : ℤ → Option Pending → ℤ
 now_with now None = now
 now_with now (Some pending) = int_max now (pending_arrival pending)
 
--- An entry was put after those that wait for later ones, and if these exceed the look-ahead, the first of them is judged next.
+-- An entry was put at the end of the delay line. If the line then exceeds the look-ahead, its first entry becomes
+-- current.
 pub record Puts (pending : Pending) (old new : JudgeState) : Type 0 where
   pub same : new ≡ record old { time = now_with old.time new.current; current = new.current; ahead = new.ahead }
   pub line : option_to_list new.current ++ new.ahead ≡ old.ahead ++ pending ∷ []
   pub fits : length old.ahead < old.plan.look → length new.ahead ≡ length old.ahead + 1
   pub full : old.plan.look ≤ length old.ahead → length new.ahead ≡ length old.ahead
 
--- The invariant of every judge: what is kept is that of the entries, and fits the memory that is reserved.
+-- The invariant of every judge: its parts are within the limits of the plan and of the memory that is reserved.
 pub record IsSound (judge : JudgeState) (capacity : ℕ) (held : Held) : Type 0 where
   pub plan : IsPlan judge.plan
   pub current : IfSome judge.current IsPending

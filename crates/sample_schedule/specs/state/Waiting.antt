@@ -14,7 +14,7 @@ batch_of batches key = get batches key.slot
 abbrev pub held : Slab Accepted → List Key → List Accepted
 held batches keys = filter_map (batch_of batches) keys
 
--- the batch of the key is in its slot
+-- the key's slot holds a batch with the key's instant and sequence number
 pub record IsKey (batches : Slab Accepted) (key : Key) : Type 0 where
   pub batch : Accepted
   pub there : batch_of batches key ≡ Some batch
@@ -26,7 +26,7 @@ abbrev pub HaveOwnSlots : List Key → Type 0
 HaveOwnSlots [] = ⊤
 HaveOwnSlots (key ∷ rest) = AllByRecursion (λ other. other.slot ≢ key.slot) rest × HaveOwnSlots rest
 
--- the keys of the batches that are kept, and the bytes of these
+-- the keys are those of the batches that are kept, and `bytes` is how many bytes these batches have
 pub record IsWaiting (keys : List Key) (batches : Slab Accepted) (bytes : ℕ) : Type 0 where
   pub there : AllByRecursion (IsKey batches) keys
   pub own : HaveOwnSlots keys

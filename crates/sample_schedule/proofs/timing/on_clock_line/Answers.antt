@@ -5,7 +5,7 @@ use Rattle.sample_schedule.specs.Verdicts.{samples_at}
 use Rattle.sample_schedule.proofs.Presentable.{presentable-clock}
 use Rattle.sample_schedule.proofs.timing.on_clock_line.Goals as goal
 
--- neither number is large
+-- the sum of `number` and `first` fits 64 bits
 sum_is : (number : ℕ) (first : ℤ) → pos number <ℤ pos 65535 → neg_ℤ (pos 65535) ≤ℤ first → first ≤ℤ pos (7 * 65535) → to_z w64 (of_z w64 (to_z w64 number +ℤ to_z w64 (of_z w64 first))) ≡ pos number +ℤ first
 sum_is number first to first_from first_to = omega (arith, ints)
 

@@ -1,4 +1,4 @@
--- Nothing was given before what is given last.
+-- If the list has ended and all entries are judged, the next item is the first waiting batch.
 use Rattle.std.proofs.Common.{List, ap, ◌∙◌}
 use Rattle.std.specs.Prelude.{slice_get}
 use Rattle.sample_schedule.specs.declared.shown.Shown.{Shown}

@@ -1,4 +1,4 @@
--- The delay line takes the entry, and gives the first if it is full.
+-- The delay line takes the entry, and returns its first one if it is full.
 use Rattle.std.proofs.Common.{ℕ, ◌^◌, ◌<◌, ap, sym, subst, ◌∙◌}
 use Rattle.circular_buffer.specs.Buffer.{Buffer}
 use Rattle.sample_schedule.specs.declared.pending.Pending.{Pending}

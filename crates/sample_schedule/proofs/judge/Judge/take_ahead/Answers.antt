@@ -1,4 +1,4 @@
--- The front of what waits for further entries is judged next.
+-- The first entry of the delay line becomes the current one.
 use Rattle.std.proofs.Common.{refl, ap, sym, subst, ◌∙◌}
 use Rattle.sample_schedule.specs.Judge.{JudgeState, StandsFor}
 use Rattle.sample_schedule.proofs.JudgeLemmas.{advances}
