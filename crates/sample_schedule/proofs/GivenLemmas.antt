@@ -61,7 +61,8 @@ given-on clock entries list old new h st keeps =
 
 -- ---- the whole list
 
--- Between two entries: the judge has taken the entries before `left`, and `list` has all that it shows of them.
+-- Between two entries: the judge has taken the entries before `left`, and `list` has all that the judge shows of these
+-- entries.
 pub record Between (plan : SchedulePlan) (all left : List Entry) (list : List Shown) (judge : JudgeState) : Type 0 where
   pub same : judge.plan ≡ plan
   pub opened : judge.closed ≡ false

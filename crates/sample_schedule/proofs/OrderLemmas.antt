@@ -151,7 +151,7 @@ pub any-by_instant : (p : Accepted → Bool) (xs : List Accepted) → list_any p
 unfolding by_instant
 any-by_instant p xs = any-fold p [] xs
 
--- if all items that pass the test are standing, the test finds the same among the standing items
+-- if each item that passes the test is standing, a standing item passes it exactly if any item does
 pub any-standing : (p : Accepted → Bool) (now : ℤ) → ((a : Accepted) → p a ≡ true → int_le now a.instant ≡ true) → (xs : List Accepted) → list_any p (standing now xs) ≡ list_any p xs
 any-standing p now asks [] = refl
 any-standing p now asks (x ∷ xs) =

@@ -63,8 +63,8 @@ want_of plan p far = record {
 
 -- ---- the head
 
--- the head of a packet by its own timestamp: the timestamp's instant, and its first sample's number counted from the
--- stamped sample
+-- the head of a packet by its own timestamp: the timestamp's instant, and the number of the packet's first sample if
+-- the stamped sample is number 0
 abbrev pub head_at : Packet → ℕ → Head
 head_at p timestamp = record { instant = unfolded timestamp p.arrival; first = neg_ℤ (pos (stamped_index p.rule)) }
 

@@ -46,8 +46,8 @@ moved n spot = record spot { from = spot.from +ℤ n }
 abbrev pub nominal_spot : ℕ → Head → Spot
 nominal_spot rate head = record { line = nominal_line head.instant rate; from = head.first }
 
--- The spot of the first sample that is counted from a head. If the plan has a clock, it is on the clock's line that
--- covers the head, if one does. Otherwise it is on the head's nominal line.
+-- The spot of the first sample that is counted from a head. If the plan has no clock, the spot is on the head's nominal
+-- line. If it has one, the spot is on the clock's line that covers the head, and `None` if no line covers it.
 abbrev pub spot_of : Clock → SchedulePlan → List Entry → ℕ → Head → Option Spot
 spot_of clock plan prefix rate head =
     if plan.clock

@@ -42,7 +42,7 @@ fn stamp_of_packet(packet: &Packet) -> Option<Stamp>
     }
 }
 
-/// The stamp of an item that other packets can be counted from, if it has a usable one.
+/// The usable stamp of an item, if it has one. Other packets can be counted from it.
 pub fn stamp_of(item: &Item) -> Option<Stamp>
     requires { IsItem item.now }
     ensures value { result ≡ stamp_of_entry (OfItem item.now) }

@@ -45,7 +45,7 @@ pub struct Judge {
     noted: Noted,
     /// The accepted batches, which wait for their instants.
     waiting: Waiting,
-    /// The current entry. It is judged once everything that its arrival makes due is given.
+    /// The current entry. It is judged once everything that its arrival makes due is returned.
     current: Option<Pending>,
     /// The entries after the current one: the delay line.
     ahead: HeapCircularBuffer<Pending>,
@@ -286,8 +286,8 @@ impl Judge {
         }
     }
 
-    /// The next item that is shown of the entries so far. Before `close`, it is one of what the judged entries make
-    /// due; after it, of all. Returns `None` exactly if all of these were returned. Allocates nothing.
+    /// The next item that is shown of the entries so far. Before `close`, only what the judged entries make due is
+    /// returned; after it, all items. Returns `None` exactly if all of these were returned. Allocates nothing.
     pub fn next_out(&mut self) -> Option<Shown>
         ensures given { (clock : Clock) (entries : List EntryValue) (given : ℕ) → StandsFor clock entries given self.old → result ≡ slice_get (out clock self.old entries) given }
         ensures stands { (clock : Clock) (entries : List EntryValue) (given : ℕ) → StandsFor clock entries given self.old → StandsFor clock entries (given + length (option_to_list result)) self.new }

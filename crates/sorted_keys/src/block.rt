@@ -19,7 +19,7 @@ pub const FULL: usize = 512;
 
 pub const HALF: usize = FULL / 2;
 
-/// How many of the sorted keys are not later than the instant: mostly all of them.
+/// How many of the sorted keys are not later than the instant. Usually it is all of them.
 #[inline(always)]
 fn place_behind(keys: &VecDeque<Key>, instant: i64) -> usize
     requires { KeysAreInOrder keys.now.items }
@@ -58,7 +58,7 @@ fn insert_key(keys: &mut VecDeque<Key>, place: usize, key: Key)
     };
 }
 
-/// Moves all keys after the first `count` to the front of `others`, which must have room.
+/// Moves all keys after the first `count` to the beginning of `others`, which must have room.
 fn move_behind(keys: &mut VecDeque<Key>, count: usize, others: &mut VecDeque<Key>)
     requires count { count ≤ length keys.old.items }
     requires room { length keys.old.items + length others.old.items ≤ count + deque_capacity others.old }
@@ -124,7 +124,7 @@ impl Block {
         self.keys.front().copied()
     }
 
-    /// Whether the first key is not later than the instant, or there is none.
+    /// Whether the first key is not later than the instant, or there is no key.
     pub fn starts_by(&self, instant: i64) -> bool
         ensures { result ≡ starts_by_of instant self.now }
     {
@@ -192,7 +192,7 @@ impl Block {
         self.keys.pop_front()
     }
 
-    /// Moves the upper half of the keys into a block that has none.
+    /// Moves the upper half of the keys into `upper`, which has no keys.
     pub fn split(&mut self, upper: &mut Block)
         requires full { length self.old ≡ 512 }
         requires empty { upper.old ≡ [] }

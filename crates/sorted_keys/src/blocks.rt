@@ -14,7 +14,7 @@ use avtp_base::NoMemory;
 use std::alloc::Global;
 use std::collections::VecDeque;
 
-/// The place of the block that a key with this instant goes into. Mostly there is one block.
+/// The index of the block that a key with this instant goes into. Usually there is one block.
 #[inline(always)]
 pub fn block_for(blocks: &VecDeque<Block>, instant: i64) -> usize
     requires { AreBlocks blocks.now.items }
@@ -36,7 +36,7 @@ fn find_block(blocks: &VecDeque<Block>, instant: i64) -> usize
         .saturating_sub(1)
 }
 
-/// Puts a key into its block, and returns the place of that block, which may be full now.
+/// Puts a key into its block, and returns the index of that block, which may be full now.
 pub fn put_into(blocks: &mut VecDeque<Block>, key: Key) -> usize
     requires { AreBlocks blocks.old.items }
     ensures all { all_keys blocks.new.items ≡ put_key (all_keys blocks.old.items) key }
@@ -60,7 +60,7 @@ pub fn insert_block(blocks: &mut VecDeque<Block>, place: usize, block: Block)
     };
 }
 
-/// Splits a full block: its upper half goes into a block that had no keys, which follows it.
+/// Splits a full block. Its upper half goes into `upper`, a block without keys, which is inserted after it.
 pub fn split(blocks: &mut VecDeque<Block>, place: usize, mut upper: Block)
     requires blocks { AreBlocksBut place blocks.old.items }
     requires full { length (slice_index_or blocks.old.items place []) ≡ 512 }

@@ -1,6 +1,6 @@
 //! The keys of batches that wait.
 
-/// The key of a batch: the instant of its first sample, its sequence number, and the slot that it is kept in.
+/// The key of a batch: the instant of its first sample, its sequence number, and the slot of the batch.
 #[derive(Clone, Copy)]
 pub struct Key {
     pub instant: i64,

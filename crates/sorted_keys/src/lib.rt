@@ -1,5 +1,5 @@
-//! Keys of the batches that wait for their instants. They are sorted in blocks, so that a batch that comes out of order moves
-//! few others.
+//! Keys of the batches that wait for their instants. They are sorted in blocks, so that few keys are moved if a batch
+//! arrives out of order.
 #![tactic(auto)]
 
 mod block;

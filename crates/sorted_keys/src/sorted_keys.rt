@@ -13,12 +13,12 @@ use std::alloc::Global;
 use std::collections::VecDeque;
 use std::marker::Model;
 
-/// Keys sorted by instant, and then by the order in which they came. They are in blocks of fewer than 512, so that a key that
-/// comes out of order moves few others.
+/// Keys sorted by instant, and then by the order in which they were put. They are in blocks of fewer than 512 keys, so
+/// that few keys are moved if one is put out of order.
 #[derive(Drop)]
 pub struct SortedKeys {
     blocks: VecDeque<Block>,
-    /// Blocks with no keys.
+    /// Spare blocks without keys.
     spare: Vec<Block>,
 }
 

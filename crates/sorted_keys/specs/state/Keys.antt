@@ -6,20 +6,20 @@ use Rattle.sorted_keys.specs.declared.key.Key.{Key}
 
 -- ---- a sorted list
 
--- no key is earlier than one before it
+-- the keys are sorted: no key is earlier than a key before it
 abbrev pub KeysAreInOrder : List Key → Type 0
 KeysAreInOrder [] = ⊤
 KeysAreInOrder (key ∷ rest) = AllByRecursion (λ other. key.instant ≤ℤ other.instant) rest × KeysAreInOrder rest
 
 -- ---- a block
 
--- The first `place` keys are not later than the instant, and those after them are.
+-- The first `place` keys are not later than the instant, and the keys after them are later.
 pub record IsPlace (instant : ℤ) (keys : List Key) (place : ℕ) : Type 0 where
   pub within : place ≤ length keys
   pub not_later : AllByRecursion (λ key. key.instant ≤ℤ instant) (take place keys)
   pub later : AllByRecursion (λ key. instant <ℤ key.instant) (drop place keys)
 
--- the first key is not later than the instant, or there is none
+-- the first key is not later than the instant, or there is no key
 abbrev pub starts_by : ℤ → List Key → Bool
 starts_by instant [] = true
 starts_by instant (key ∷ rest) = int_le key.instant instant
@@ -34,22 +34,22 @@ starts_before instant (key ∷ rest) = int_lt key.instant instant
 abbrev pub all_keys : List (List Key) → List Key
 all_keys blocks = flat_map (λ block. block) blocks
 
--- there is a first block, and it has keys if there are others
+-- there is a first block, and it has keys if there are other blocks
 abbrev pub IsStarted : List (List Key) → Type 0
 IsStarted [] = ⊥
 IsStarted (block ∷ []) = ⊤
 IsStarted ([] ∷ next ∷ rest) = ⊥
 IsStarted ((key ∷ keys) ∷ next ∷ rest) = ⊤
 
--- Sorted keys in blocks, each of which has fewer than 512 and so room for one more. Each block after the first has at least
--- 256, so there are few blocks.
+-- Sorted keys in blocks. Each block has fewer than 512 keys, and so room for one more. Each block after the first has
+-- at least 256 keys, so there are few blocks.
 pub record AreBlocks (blocks : List (List Key)) : Type 0 where
   pub in_order : KeysAreInOrder (all_keys blocks)
   pub started : IsStarted blocks
   pub filled : AllByRecursion (λ block. 256 ≤ length block) (drop 1 blocks)
   pub short : AllByRecursion (λ block. length block < 512) blocks
 
--- Sorted keys in blocks, of which the one at this place may be full.
+-- Sorted keys in blocks. The block at index `place` may be full.
 pub record AreBlocksBut (place : ℕ) (blocks : List (List Key)) : Type 0 where
   pub in_order : KeysAreInOrder (all_keys blocks)
   pub started : IsStarted blocks
@@ -58,25 +58,26 @@ pub record AreBlocksBut (place : ℕ) (blocks : List (List Key)) : Type 0 where
   pub most : length (slice_index_or blocks place []) ≤ 512
   pub others : AllByRecursion (λ block. length block < 512) (slice_set blocks place [])
 
--- Sorted keys in blocks, of which the first may have no keys although there are others.
+-- Sorted keys in blocks. The first block may have no keys even if there are other blocks.
 pub record AreTaken (blocks : List (List Key)) : Type 0 where
   pub in_order : KeysAreInOrder (all_keys blocks)
   pub some : 1 ≤ length blocks
   pub filled : AllByRecursion (λ block. 256 ≤ length block) (drop 1 blocks)
   pub short : AllByRecursion (λ block. length block < 512) blocks
 
--- A key with this instant goes into the block at this place: no key in the blocks before it is later than the instant, and all
--- keys in the blocks after it are later.
+-- A key with this instant goes into the block at this index: no key in the blocks before it is later than the instant,
+-- and all keys in the blocks after it are later.
 abbrev pub IsBlockFor : ℤ → List (List Key) → ℕ → Type 0
 IsBlockFor instant [] place = ⊥
 IsBlockFor instant (block ∷ rest) zero = AllByRecursion (λ key. instant <ℤ key.instant) (all_keys rest)
 IsBlockFor instant (block ∷ rest) (suc place) = AllByRecursion (λ key. key.instant ≤ℤ instant) block × IsBlockFor instant rest place
 
--- how many keys always find room in this many blocks: each is at least half full, except the first, which may have one key
+-- how many keys always fit in this many blocks: each block is at least half full, except the first, which may have one
+-- key
 abbrev pub room_of : ℕ → ℕ
 room_of blocks = 256 * (blocks - 1)
 
--- the blocks of keys, and the spare blocks without keys, fit the places that are reserved
+-- the blocks of keys and the spare blocks without keys fit the list that is reserved for them
 pub record HaveRoom (blocks spare : List (List Key)) (places : ℕ) : Type 0 where
   pub kept : AreBlocks blocks
   pub empty : AllByRecursion (λ block. block ≡ []) spare
