@@ -15,7 +15,7 @@ pub record AreRead (p : PacketJournal) (lead : ℕ) : Type 0 where
   pub clock : (m : ℕ) (r : Record) → CarriesClock p m r → belongs clock_kinds p.clock r.bytes ≡ true
   pub clock_copy : (m frame : ℕ) (r : Record) → CarriesClock p m r → IsClockCopyOf p m (delivery frame r)
 
--- the listener has the talker's clock, if the origin is one of its packets
+-- if the origin is a packet of the clock, the listener has the talker's clock
 abbrev pub HearsOrigin : PacketJournal → Option ℕ → Origin → Type 0
 HearsOrigin p clock (OfStream n) = Unit {0}
 HearsOrigin p clock (OfClock m) = clock ≡ Some p.clock
@@ -28,7 +28,7 @@ delivered : (p : PacketJournal) (clock : Option ℕ) (lead : ℕ) (o : Origin) (
 delivered p clock lead (OfStream n) r are hears carries = rw (are.stream n r carries) refl
 delivered p clock lead (OfClock m) r are hears carries = rw (hears, are.clock m r carries) (or_true (belongs stream_kinds p.stream r.bytes))
 
--- all records are kept
+-- if each record carries a packet, no record is left out
 kept_all : (p : PacketJournal) (clock : Option ℕ) (lead i : ℕ) (os : List Origin) (rs : List Record) → AreRead p lead → AllByRecursion (HearsOrigin p clock) os → AllCarryFrom p lead os rs
     → filter (λ (x : ℕ × Record). is_delivered p.stream clock x.1.bytes) (enumerate_from i rs) ≡ enumerate_from i rs
 kept_all p clock lead i [] [] are hears all = refl
@@ -36,11 +36,11 @@ kept_all p clock lead i [] (r ∷ rs) are hears all = absurd all
 kept_all p clock lead i (o ∷ os) [] are hears all = absurd all
 kept_all p clock lead i (o ∷ os) (r ∷ rs) are hears all = rw (delivered p clock lead o r are hears.0 all.0) (ap {B = List (ℕ × Record)} (λ l. (i, r) ∷ l) (kept_all p clock lead (i + 1) os rs are hears.1 all.1))
 
--- the deliveries of all these records, counted from i
+-- the deliveries of all these records, numbered from `i`
 abbrev pub numbered : ℕ → List Record → List Delivery
 numbered i rs = map (λ (x : ℕ × Record). delivery x.0 x.1) (enumerate_from i rs)
 
--- a listener gets each of these records
+-- if each record carries a packet, each record is a delivery
 pub all_delivered : (p : PacketJournal) (clock : Option ℕ) (lead : ℕ) (os : List Origin) (rs : List Record) → AreRead p lead → AllByRecursion (HearsOrigin p clock) os → AllCarryFrom p lead os rs → deliveries p.stream clock rs ≡ numbered 1 rs
 all_delivered p clock lead os rs are hears all = ap (map (λ (x : ℕ × Record). delivery x.0 x.1)) (kept_all p clock lead 1 os rs are hears all)
 

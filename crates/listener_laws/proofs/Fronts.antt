@@ -37,7 +37,7 @@ presented_more [] ys = refl
 presented_more (Present batch ∷ xs) ys = ap (λ (l : List Presented). batch ∷ l) (presented_more xs ys)
 presented_more (Flag frame seq reason ∷ xs) ys = presented_more xs ys
 
--- what is presented at the beginning of a list is the beginning of what is presented
+-- what is presented of a prefix of a list is a prefix of what is presented of the list
 presented_front : (xs ys : List Shown) → IsPrefix xs ys → IsPrefix (presented_of xs) (presented_of ys)
 presented_front xs ys (rest, e) = (presented_of rest, sym (presented_more xs rest) ∙ ap presented_of e)
 
@@ -62,7 +62,7 @@ front_pairs R xs ys (rest, e) all = pairs_before R xs rest (subst (λ (l : List 
 pub longer_front : (xs ys zs : List Shown) → IsPrefix xs ys → IsPrefix ys zs → IsPrefix xs zs
 longer_front xs ys zs (a, e) (b, f) = (a ++ b, sym (append_assoc xs a b) ∙ (ap (λ (l : List Shown). l ++ b) e ∙ f))
 
--- ---- the items that the first records judge
+-- ---- the items that are judged by the first records
 
 get_front : {X : Type 0} (n : ℕ) (xs ys zs : List X) → n < length xs → slice_get (xs ++ ys) n ≡ slice_get (xs ++ zs) n
 get_front {X} n [] ys zs lt = absurd (omega arith)
@@ -73,7 +73,7 @@ as_many : (ms : List MadeItem) → length (map made_entry ms) ≡ length ms
 as_many [] = refl
 as_many (m ∷ ms) = ap suc (as_many ms)
 
--- an item that the first records judge is the same if more records follow
+-- an item that is judged by the first records is unchanged if more records follow
 item_stays : (plan : ListenPlan) (records others : List Record) (place : ℕ) → IsSettled plan records place → slice_get (items_in plan (records ++ others)) place ≡ slice_get (items_in plan records) place
 item_stays plan records others place settled =
     let ds = deliveries_of plan records in
@@ -90,7 +90,7 @@ verdict_stays clock plan es more i item lt =
     let known : take (i + plan.look + 1) (es ++ more) ≡ take (i + plan.look + 1) es = take-first (i + plan.look + 1) es more (omega arith) in
     rw (before, now, known) refl
 
--- the verdict of an item that the first records judge is the same if more records follow
+-- the verdict on an item that is judged by the first records is unchanged if more records follow
 judged_as_before : (plan : ListenPlan) (records others : List Record) (place : ℕ) (item : Item) → IsSettled plan records place → verdict_of plan (records ++ others) place item ≡ verdict_of plan records place item
 judged_as_before plan records others place item settled =
     let sp = schedule_plan plan in
@@ -113,12 +113,12 @@ front_shown plan records others place made item settled at is =
     item_shown plan (records ++ others) place made item (item_stays plan records others place settled ∙ at) is
     ∙ ap (λ (r : Result Accepted Reason). shown_by made.last r ∷ []) (judged_as_before plan records others place item settled)
 
--- ---- what must be presented is
+-- ---- each item that must be presented is presented
 
 any_later : (P : Presented → Type 0) (x : Presented) (xs : List Presented) → Any P xs → Any P (x ∷ xs)
 any_later P x xs (k, a, within, there, holds) = (suc k, a, let lt = within in omega arith, there, holds)
 
--- the batch that is shown for a frame is among the presented ones
+-- the batch that is shown for a frame is among the presented batches
 found_in : (P : Presented → Type 0) (frame : ℕ) (list : List Shown) (batch : Presented) → shown_of_frame frame list ≡ Present batch ∷ [] → P batch → Any P (presented_of list)
 found_in P frame [] batch e holds = absurd cc
 found_in P frame (Present b ∷ rest) batch e holds = by (b.frame == frame) e (λ f. found_in P frame rest batch f holds)

@@ -1,4 +1,4 @@
--- A listener accepts only packets that came, of a capture of audio.
+-- Of a capture of audio, a listener accepts only packets that came.
 use Rattle.std.proofs.Common.{◌≡◌, ◌≢◌, ◌⊎◌, ℕ, zero, suc, ◌+◌, ◌*◌, ◌<◌, ◌≤◌, Bool, true, false, ℤ, ◌≤ℤ◌, List, [], ◌∷◌, ◌++◌, All, length, filter, take, Some, Ok, refl, sym, ap, ◌∙◌, subst, inl, inr, arith, append-nil, length-append}
 use Rattle.std.specs.Prelude.{Any, Err, IfOk, Result, int_le, slice_get}
 use Rattle.std.specs.List.{AllByRecursion}
@@ -44,7 +44,7 @@ pub record IsPacketAt (by : Bool) (p : PacketJournal) (k : ℕ) (a : Accepted) :
   pub at : IsAt by p.times k 0 a.instant
   pub is : IsOfPacket by p k a.batch
 
--- what a verdict accepts is the batch, at its first instant
+-- The accepted batch has property `P`, and is accepted at its first instant.
 pub record IsAcceptedOf (P : Presented → Type 0) (a : Accepted) : Type 0 where
   pub is : P a.batch
   pub instant : a.instant ≡ first_instant a.batch
@@ -60,8 +60,8 @@ unfolding verdict
 verdict_so P plan now earlier place (Err reason) is = tt
 verdict_so P plan now earlier place (Ok batch) is = decided_so P _ _ _ place batch is
 
--- Delivery j is a copy of a packet of the clock, and nothing is accepted; or it is a copy of packet k of the stream, and the
--- packet is accepted, or nothing is.
+-- What delivery j adds to the accepted items: nothing if it is a copy of a packet of the clock; nothing or packet k if
+-- it is a copy of packet k of the stream.
 abbrev pub IsTakenAt : PacketJournal → ListenPlan → List Record → ℕ → Origin → Type 0
 IsTakenAt p plan records j (OfClock m) = accepted_before plan records (suc j) ≡ accepted_before plan records j
 IsTakenAt p plan records j (OfStream k) =
@@ -115,7 +115,7 @@ pub taken_at : (shift : ℤ) (p : PacketJournal) (plan : ListenPlan) (records : 
 taken_at shift p plan records j (OfStream k) d h kind at copy = stream_taken shift p plan records j k d h kind at copy
 taken_at shift p plan records j (OfClock m) d h kind at copy = clock_taken shift p plan records j m d h kind at copy
 
--- ---- all up to a place
+-- ---- all deliveries up to an index
 
 more_taken : (os : List Origin) (j : ℕ) (o : Origin) → slice_get os j ≡ Some o → take (suc j) os ≡ take j os ++ o ∷ []
 more_taken [] j o e = absurd cc
@@ -127,26 +127,26 @@ numbers_more [] rest = refl
 numbers_more (OfStream n ∷ os) rest = ap (λ (l : List ℕ). n ∷ l) (numbers_more os rest)
 numbers_more (OfClock m ∷ os) rest = numbers_more os rest
 
--- An accepted item is a packet for which Q holds.
+-- The accepted item is a packet for which Q holds.
 pub record IsSomeOf (Q : ℕ → Type 0) (by : Bool) (p : PacketJournal) (a : Accepted) : Type 0 where
   pub k : ℕ
   pub holds : Q k
   pub is : IsPacketAt by p k a
 
--- a packet for which Q holds is accepted, and it is counted if it still waits
+-- One packet for which Q holds is accepted. If its instant is at `t` or later, the count grows.
 pub record IsMore (Q : ℕ → Type 0) (by : Bool) (p : PacketJournal) (t : ℤ) (count next : ℕ) (xs ys : List Accepted) : Type 0 where
   pub a : Accepted
   pub more : ys ≡ xs ++ a ∷ []
   pub some : IsSomeOf Q by p a
   pub counts : t ≤ℤ a.instant → count < next
 
--- A delivery makes ys of the accepted items xs, and `next` of the count of those that may still wait: nothing more is accepted,
--- or one packet is.
+-- One delivery changes the accepted items from `xs` to `ys`, and the count from `count` to `next`. It adds nothing or
+-- one packet.
 pub record IsStep (Q : ℕ → Type 0) (by : Bool) (p : PacketJournal) (t : ℤ) (count next : ℕ) (xs ys : List Accepted) : Type 0 where
   pub grows : count ≤ next
   pub is : (ys ≡ xs) ⊎ IsMore Q by p t count next xs ys
 
--- What is accepted of the first packets: only these, and no more of them wait than are counted.
+-- All accepted items `xs` are packets for which Q holds, and at most `count` of them still wait at `t`.
 pub record AreTaken (Q : ℕ → Type 0) (by : Bool) (p : PacketJournal) (t : ℤ) (count : ℕ) (xs : List Accepted) : Type 0 where
   pub all : AllByRecursion (IsSomeOf Q by p) xs
   pub few : length (standing t xs) ≤ count
@@ -173,26 +173,25 @@ all_taken Q by p t count xs (suc i) none each =
     let here = each i (omega arith) in
     step_taken Q by p t (count i) (count (suc i)) (xs i) (xs (suc i)) (all_taken Q by p t count xs i none (λ j lt. each j (omega arith))) here.grows here.is
 
--- nothing is accepted before the first item
 pub none_first : (plan : ListenPlan) (records : List Record) → accepted_before plan records 0 ≡ []
 unfolding accepted
 none_first plan records = refl
 
 -- ---- a delivery of audio
 
--- Q holds for the packet that a delivery is a copy of, if it is one of the stream
+-- if the origin is a packet of the stream, Q holds for that packet
 abbrev pub HoldsOf : (ℕ → Type 0) → Origin → Type 0
 HoldsOf Q (OfStream k) = Q k
 HoldsOf Q (OfClock m) = Unit {0}
 
--- the delivery at place j is a copy of the packet of an origin, for which Q holds
+-- Delivery j is a copy of the packet that its origin names, and Q holds for that packet.
 pub record IsAtPlace (p : PacketJournal) (plan : ListenPlan) (records : List Record) (Q : ℕ → Type 0) (os : List Origin) (j : ℕ) : Type 0 where
   pub o : Origin
   pub at : slice_get os j ≡ Some o
   pub holds : HoldsOf Q o
   pub taken : IsTakenAt p plan records j o
 
--- how many of the stream's packets among the first ones pass a test
+-- how many of the stream's packets among the first `j` origins pass a test
 abbrev pub passing : (ℕ → Bool) → List Origin → ℕ → ℕ
 passing waits os j = length (filter waits (stream_numbers (take j os)))
 
@@ -222,7 +221,7 @@ audio_step p plan records Q waits t os j test here =
     let sum = passing_more waits os j here.o here.at in
     record { grows = omega arith; is = taken_is p plan records Q waits t (passing waits os j) (passing waits os (suc j)) j here.o test sum here.holds here.taken }
 
--- ---- what was accepted stays
+-- ---- what was accepted stays accepted
 
 any_later : (P : Accepted → Type 0) (x : Accepted) (xs : List Accepted) → Any P xs → Any P (x ∷ xs)
 any_later P x xs (k, a, within, there, holds) = (suc k, a, let lt = within in omega arith, there, holds)
@@ -236,7 +235,6 @@ pub any_last : (P : Accepted → Type 0) (xs : List Accepted) (a : Accepted) →
 any_last P [] a holds = (0, a, omega arith, refl, holds)
 any_last P (x ∷ xs) a holds = any_later P x (xs ++ a ∷ []) (any_last P xs a holds)
 
--- what was accepted stays accepted
 pub stays : (P : Accepted → Type 0) (plan : ListenPlan) (records : List Record) (j c : ℕ) → Any P (accepted_before plan records j) → Any P (accepted_before plan records (j + c))
 unfolding accepted
 stays P plan records j zero any = let same : j ≡ j + 0 = omega arith in subst (λ (m : ℕ). Any P (accepted_before plan records m)) same any
@@ -257,7 +255,7 @@ light Q by p t most (x ∷ xs) short all =
     let sum = sum_by-cons (λ (a : Accepted). length a.batch.bytes) x (standing t xs) in
     omega arith))
 
--- a packet of audio has at most as many bytes as the longest
+-- a presented packet of audio has at most `most` bytes, if all packets of the stream have
 pub audio_short : (by : Bool) (p : PacketJournal) (most k : ℕ) (b : Presented) → IsAudioKind p.times.kind → ((m : ℕ) → m < p.times.packets → length (carried (p.packet m)) ≤ most) → IsOfPacket by p k b → length b.bytes ≤ most
 audio_short by p most k b kind short is =
     let same : b.bytes ≡ carried (p.packet k) = same_content p k b.bytes (carried (p.packet k)) is.bytes (audio_content p.times.kind p k kind) in

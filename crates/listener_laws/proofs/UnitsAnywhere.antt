@@ -54,7 +54,7 @@ use Rattle.listener_laws.proofs.Anywhere.{accepted_later, fits, not_full, some_a
 use Rattle.listener_laws.proofs.Completed.{gives_unit, unit_there}
 use Rattle.listener_laws.proofs.Taken.{AreTaken, IsAcceptedOf, IsMore, IsPacketAt, IsStep, all_taken, light as bytes_light, none_first, none_is, verdict_so}
 
--- ---- the items before a place
+-- ---- the items before an index
 
 place_in : (front : List MadeItem) (m : MadeItem) (back : List MadeItem) → slice_get (front ++ m ∷ back) (length front) ≡ Some m
 place_in [] m back = refl
@@ -63,14 +63,14 @@ place_in (x ∷ front) m back = place_in front m back
 entry_in : (plan : ListenPlan) (records : List Record) (front : List MadeItem) (m : MadeItem) (back : List MadeItem) → items_in plan records ≡ front ++ m ∷ back → slice_get (entries_in plan records) (length front) ≡ Some m.entry
 entry_in plan records front m back e = entry_at (items_in plan records) (length front) m (ap (λ (l : List MadeItem). slice_get l (length front)) e ∙ place_in front m back)
 
--- what an item adds to what is accepted
+-- what an item adds to the accepted items
 next_is : (plan : ListenPlan) (records : List Record) (front : List MadeItem) (m : MadeItem) (back : List MadeItem) → items_in plan records ≡ front ++ m ∷ back
     → accepted_before plan records (length (front ++ m ∷ [])) ≡ accepted_before plan records (length front) ++ accepted_by (judged clock_spot (schedule_plan plan) (entries_in plan records) (length front) (accepted_before plan records (length front)) m.entry)
 next_is plan records front m back e =
     let long : length (front ++ m ∷ []) ≡ suc (length front) = omega (arith, length-append front (m ∷ [])) in
     ap (accepted_before plan records) long ∙ accepted-next clock_spot (schedule_plan plan) (entries_in plan records) (length front) m.entry (entry_in plan records front m back e)
 
--- a fragment that is in no unit adds nothing
+-- a fragment that is in no unit adds no accepted item
 flag_none : (plan : ListenPlan) (records : List Record) (front : List MadeItem) (why : Reason) (d : Delivery) (back : List MadeItem) → items_in plan records ≡ front ++ flagged why d ∷ back
     → accepted_before plan records (length (front ++ flagged why d ∷ [])) ≡ accepted_before plan records (length front)
 unfolding timed verdict
@@ -85,7 +85,7 @@ flags_none plan records front why (d ∷ ds) back e =
     ∙ (flags_none plan records (front ++ flagged why d ∷ []) why ds back (e ∙ sym (append_assoc front (flagged why d ∷ []) (more ++ back)))
     ∙ flag_none plan records front why d (more ++ back) e)
 
--- a packet of the clock adds nothing
+-- a packet of the clock adds no accepted item
 clock_none : (plan : ListenPlan) (records : List Record) (front : List MadeItem) (d : Delivery) (back : List MadeItem) → items_in plan records ≡ front ++ made_of_one d ∷ back → (d.subtype == crf_subtype) ≡ true
     → accepted_before plan records (length (front ++ made_of_one d ∷ [])) ≡ accepted_before plan records (length front)
 clock_none plan records front d back e clock =
@@ -99,8 +99,8 @@ clock_none plan records front d back e clock =
 instant_is : (kind : Kind) (part : ℕ → Part) (by : Bool) (p : PacketJournal) (n : ℕ) (x : ℤ) → kind ≡ H264 part → IsAtBy kind by p.times n 0 x → x ≡ pos (p.times.due n)
 instant_is kind part by p n x e is = (subst (λ (k : Kind). IsAtBy k by p.times n 0 x) e is).1
 
--- what is asked of the packets that a delivery is a copy of: Q holds for them, and those that end a unit which still waits are
--- counted
+-- What is required of each packet that `d` is a copy of: Q holds for it, and if it ends a unit that still waits at `t`,
+-- the count grows.
 pub record IsAsked (p : PacketJournal) (part : ℕ → Part) (lead : ℕ) (Q : ℕ → Type 0) (t : ℤ) (count next : ℕ) (d : Delivery) : Type 0 where
   pub holds : (k : ℕ) → IsCopyOf p lead k d → Q k
   pub counts : (k : ℕ) → IsCopyOf p lead k d → Ends (part k) → t ≤ℤ pos (p.times.due k) → count < next
@@ -138,11 +138,11 @@ unit_more shift p plan records part Q t count next front back before d h kind w 
 
 -- ---- a delivery
 
--- the items that the first deliveries give
+-- the items that a listener has accepted of the first deliveries
 abbrev pub given_to : ListenPlan → List Record → List Delivery → List Accepted
 given_to plan records before = accepted_before plan records (length (items_so_far before))
 
--- the items of a capture: those of the deliveries before a delivery, its own, and the others
+-- the items of a capture: those of the deliveries before `d`, those of `d`, and the others
 split_items : (before : List Delivery) (d : Delivery) (rest : List Delivery) → items_of (before ++ d ∷ rest) ≡ items_so_far before ++ (given_by before d ++ (given_after (before ++ d ∷ []) rest ++ left_at_end (before ++ d ∷ rest)))
 split_items before d rest =
     let left = left_at_end (before ++ d ∷ rest) in
@@ -151,7 +151,7 @@ split_items before d rest =
     ∙ (append_assoc (items_so_far before) (given_by before d ++ more) left
     ∙ ap (λ (l : List MadeItem). items_so_far before ++ l) (append_assoc (given_by before d) more left))
 
--- two steps, of which the first adds nothing
+-- if the first of two steps adds nothing, both together add what the second adds
 after_none : (Q : ℕ → Type 0) (by : Bool) (p : PacketJournal) (t : ℤ) (count next : ℕ) (xs ys zs : List Accepted) → ys ≡ xs → (zs ≡ ys) ⊎ IsMore Q by p t count next ys zs → (zs ≡ xs) ⊎ IsMore Q by p t count next xs zs
 after_none Q by p t count next xs ys zs e is = subst (λ (l : List Accepted). (zs ≡ l) ⊎ IsMore Q by p t count next l zs) e is
 
@@ -205,9 +205,9 @@ delivery_more shift p plan records part Q t count next before d rest h kind is a
         subst (λ (l : List MadeItem). (accepted_before plan records (length l) ≡ accepted_before plan records (length front)) ⊎ IsMore Q (by_clock plan) p t count next (accepted_before plan records (length front)) (accepted_before plan records (length l))) (append_assoc front flags own)
         (after_none Q (by_clock plan) p t count next (accepted_before plan records (length front)) (accepted_before plan records (length (front ++ flags))) (accepted_before plan records (length ((front ++ flags) ++ own))) none last)
 
--- ---- the unit is there
+-- ---- the unit is among the items
 
--- a unit is what a delivery completes
+-- if the last packet of a whole item is of H.264, the item is a unit that this packet completes
 completes : (ds before : List Delivery) (last : Delivery) → last.subtype ≡ cvf_subtype → IsKind ds (unit_by before last) → IsWholeOf ds (unit_by before last)
 completes ds before last video (inl one) = let same = ap (λ (m : MadeItem). m.last) one.same in absurd (other_not (ap (λ (d : Delivery). d.subtype) same ∙ video) one.other)
   where
@@ -223,7 +223,7 @@ delivery_in : (front : List Delivery) (d : Delivery) (back : List Delivery) → 
 delivery_in [] d back = refl
 delivery_in (x ∷ front) d back = delivery_in front d back
 
--- a delivery has one place
+-- a delivery is at only one index of a capture
 one_place : (ds front other : List Delivery) (d : Delivery) (back rest : List Delivery) → Rising ds → ds ≡ front ++ d ∷ back → ds ≡ other ++ d ∷ rest → other ≡ front
 unfolding Rising
 one_place ds front other d back rest rises e f =
@@ -238,7 +238,7 @@ one_place ds front other d back rest rises e f =
     ] in
     sym (take-append_seam other (d ∷ rest)) ∙ (ap (λ (l : List Delivery). take (length other) l) (sym f) ∙ (ap (λ (k : ℕ). take k ds) long ∙ (ap (λ (l : List Delivery). take (length front) l) e ∙ take-append_seam front (d ∷ back))))
 
--- the unit of these deliveries is whole
+-- The delivery `last` completes a unit.
 record IsThere (ds before : List Delivery) (last : Delivery) : Type 0 where
   streamed : (last.subtype == crf_subtype) ≡ false
   video : last.subtype ≡ cvf_subtype
@@ -263,7 +263,7 @@ last_video shift p plan records part n before last rest h kind split copy =
     let shows = all_here Shows before rest last (subst (λ (l : List Delivery). All Shows l) split (are_heard shift p plan records h).shows) in
     (video_copy shift p part plan.lead n last h.conforming kind copy shows).subtype
 
--- ---- when it is judged
+-- ---- when the unit is judged
 
 early_from : (due : ℕ) (x : ℤ) (es : List Entry) → x ≤ℤ pos due → All (λ (e : Entry). arrival_of e ≤ℤ pos due) es → fold int_max x (map arrival_of es) ≤ℤ pos due
 early_from due x [] early all = early
@@ -302,9 +302,9 @@ time_early plan records before last rest due split t early =
     let all : All P so_far = all_before P so_far (left_at_end upto) (items_all (λ (d : Delivery). d.arrival ≤ℤ pos due) P upto (each_early due) early) in
     rw entries (latest_early due (map made_entry so_far) (All-map Q made_entry so_far all))
 
--- ---- it is welcome
+-- ---- the unit is welcome
 
--- the deliveries before a place
+-- the deliveries before index `j`
 front_of : (ds : List Delivery) (j : ℕ) (d : Delivery) → slice_get ds j ≡ Some d → (rest : List Delivery) × ((take (suc j) ds ≡ take j ds ++ d ∷ []) × (ds ≡ take j ds ++ d ∷ rest))
 front_of [] j d at = absurd cc
 front_of (x ∷ ds) zero d at = let same : x ≡ d = cc in (ds, (ap (λ (y : Delivery). y ∷ []) same, ap (λ (y : Delivery). y ∷ ds) same))
@@ -368,7 +368,7 @@ unit_timely shift p plan records part from n before last h kind c =
       in_time = time_early plan records before last c.rest (p.times.due n) c.there t c.in_time;
     }
 
--- what the fragments that the last packet gives up add to what is accepted
+-- the fragments that the last packet gives up add nothing to the accepted items
 upto_unit : (plan : ListenPlan) (records : List Record) (before : List Delivery) (last : Delivery) (rest : List Delivery) → deliveries_of plan records ≡ before ++ last ∷ rest → IsThere (deliveries_of plan records) before last
     → accepted_before plan records (unit_place before last) ≡ given_to plan records before
 upto_unit plan records before last rest split t =
@@ -423,7 +423,7 @@ unit_further_here shift p plan records part earlier from n made before last h ki
 
 -- ---- one copy, one packet
 
--- a packet that ends a unit has the unit's instant in its timestamp
+-- if a packet ends a unit, its timestamp has the unit's instant
 due_of : (p : PacketJournal) (part : ℕ → Part) (lead n : ℕ) (d : Delivery) (r : Option ℕ) → IsVideo p.times part → (copy : IsCopyOf p lead n d) → IsVideoCopy p part n d → p.times.stamp n ≡ r → is_some r ≡ true → unfolded (cvf_of d.packet).header.timestamp d.arrival ≡ pos (p.times.due n)
 due_of p part lead n d None is copy c e some = absurd cc
 due_of p part lead n d (Some x) is copy c e some =
@@ -441,7 +441,7 @@ part_seen shift p part lead n d is kind copy shows =
     let c = video_copy shift p part lead n d is kind copy shows in
     sym (ap (λ (w : Cvf). part_of w.part) c.same) ∙ c.packet.part_is
 
--- a delivery that ends a unit is a copy of one packet
+-- if a delivery ends a unit, it is a copy of only one packet
 pub one_end : (shift : ℤ) (p : PacketJournal) (part : ℕ → Part) (lead n k : ℕ) (d : Delivery) → IsConforming shift p → p.times.kind ≡ H264 part → Shows d → Ends (part n) → IsCopyOf p lead n d → IsCopyOf p lead k d → n ≡ k
 one_end shift p part lead n k d is kind shows ends a b =
     let sound = video p part kind is.times in

@@ -12,14 +12,16 @@ use Rattle.listener.specs.Heard.{deliveries_of, due_of, items_in, shown_of}
 use Rattle.listener.specs.Items.{MadeItem, items_so_far}
 use Rattle.listener.specs.Laws.{AreOther, ComesBefore, IsFurther, IsHeardFrom, IsPresentedOf, IsWelcome, by_clock, presented_of, shown_by, shown_of_frame, verdict_of}
 
--- the item at a place is judged by these records alone: `look` more items follow it, whatever records come
+-- the item at index `place` is judged by these records alone: at least `look` items follow it, whatever other records
+-- come
 abbrev pub IsSettled : ListenPlan → List Record → ℕ → Type 0
 IsSettled plan records place = place + plan.look < length (items_so_far (deliveries_of plan records))
 
--- What is due of the first records is the beginning of what is shown, whatever records follow, and it is as the headline says.
--- Each batch is the talker's packet that its item was made of, with its bytes and at its instants; no packet is presented
--- twice; and first instants never fall. Of the items that are judged by the first records, those that must be presented are
--- presented, further copies are flagged as repeats, and each item is shown once, as its verdict says.
+-- What is due of the first records is a prefix of what is shown, whatever records follow, and it is as the headline
+-- says. Each batch is the talker's packet that its item was made of, with its bytes and at its instants. No packet is
+-- presented twice, and first instants never decrease. Some items are judged by the first records alone. Of these, each
+-- item that must be presented is presented, each further copy is flagged as a repeat, and each item is shown once, as
+-- its verdict says.
 pub record IsTrueFront (p : PacketJournal) (plan : ListenPlan) (records others : List Record) : Type 0 where
   pub begins : IsPrefix (due_of plan records) (shown_of plan (records ++ others))
   pub genuine : All (IsHeardFrom (by_clock plan) (items_in plan records) p plan.lead) (presented_of (due_of plan records))
