@@ -24,7 +24,7 @@ pub struct Captured {
     pub stamp: Option<u64>,
     /// Bytes of the packet that are changed, each at its offset.
     pub changes: &'static [(usize, u8)],
-    /// The most bytes of the frame that are captured, and the number of zero bytes after them.
+    /// How many bytes of the frame are captured at most, and how many zero bytes follow them.
     pub len: usize,
     pub zeros: usize,
 }

@@ -20,8 +20,8 @@ fn numbers_are_drawn_from_a_seed(rt: HostRuntime) {
     }
 }
 
-/// The number of packets; the number of copies that are delivered; a place among these; and the arrivals and packets from that
-/// place on.
+/// The number of packets; the number of copies that are delivered; an index among the copies; and the arrivals and
+/// packet numbers from that index on.
 const ROWS: [(u32, usize, usize, &[(i64, u64)]); 6] = [
     (0, 0, 0, &[]),
     (1, 1, 0, &[(1_002_480_000, 0)]),

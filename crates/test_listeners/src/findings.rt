@@ -24,14 +24,14 @@ const NOTHING: Findings = Findings {
 /// The most streams that are tracked.
 const MOST: u64 = 1024;
 
-/// A packet: its sequence number, its restart bit, and whether it has both a reserved bit and a wrong timestamp; and the step
-/// and the hold that are found.
+/// A packet (its sequence number, its restart bit, and whether it has both a reserved bit and a wrong timestamp), and
+/// the step and the hold that are found.
 type Noted = (u8, bool, bool, Option<u8>, Option<u32>);
 
 /// Separate streams, each with its packets in order.
 const STREAMS: [&[Noted]; 4] = [
-    // Each finding alone, and all together. The first change of the restart bit ends a value that began with the stream. The
-    // next value lasts for four packets, and the one after it for one.
+    // Each finding alone, and all together. The first change of the restart bit ends a value that began with the
+    // stream. The next value lasts for four packets, and the value after that for one packet.
     &[
         (0, false, false, None, None),
         (1, true, false, None, None),

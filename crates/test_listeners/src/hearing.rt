@@ -61,7 +61,7 @@ pub fn heard(alloc: Global, plan: &ListenPlan, bytes: &[u8]) -> Result<Heard, Fa
     Ok(whole(alloc, plan, bytes)?)
 }
 
-/// The line of an item: the numbers of its frame and of its packet, and the first instant if it is presented, or else the
+/// The line of an item: its frame number, its sequence number, and its first instant if it is presented, or else the
 /// reason.
 pub fn line_of(alloc: Global, shown: &Shown) -> Result<String, NoMemory> {
     match shown {

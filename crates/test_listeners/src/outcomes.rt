@@ -3,8 +3,8 @@
 use soak_run::soak;
 use std::test::Fail;
 
-/// A number of packets; and the numbers of their deliveries, and of those that are presented, late, repeated, without a
-/// timestamp, and without room.
+/// A number of packets and the number of their deliveries. Then how many deliveries are presented, late, repeats,
+/// without a known timestamp, and without room.
 type Row = (u32, [u64; 6]);
 
 /// The numbers for at most ten packets were worked out by hand. The others come from another program that follows the rules of

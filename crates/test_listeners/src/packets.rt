@@ -94,8 +94,8 @@ fn packets_come_in_order_once_and_within_the_buffer(rt: HostRuntime) -> Result<(
     check_rows(&rt, rt.alloc(), &ROWS)
 }
 
-/// Changed bytes of a packet, how many bytes of its frame are captured, and why the packet is flagged, or nothing if it does
-/// not belong to the stream. A packet begins at byte 18 of its frame.
+/// Changed bytes of a packet; how many bytes of its frame are captured; and the packet's flag, which is empty if the
+/// packet does not belong to the stream. A packet begins at byte 18 of its frame.
 const CHANGED: [(&[(usize, u8)], usize, &str); 24] = [
     (&[(3, 0x01)], 66, "1/0 Uncertain, "),
     (&[(21, 0)], 66, "1/0 Empty, "),
@@ -113,12 +113,12 @@ const CHANGED: [(&[(usize, u8)], usize, &str); 24] = [
     (&[], 38, "1/0 Malformed(StreamDataLength), "),
     (&[], 40, "1/0 Malformed(FormatFlags), "),
     (&[], 65, "1/0 Malformed(StreamDataLength), "),
-    // no valid stream ID, another one, and other subtypes
+    // no valid stream ID, another stream ID, and other subtypes
     (&[(1, 0x01)], 66, ""),
     (&[(11, 0x02)], 66, ""),
     (&[(0, 0x05)], 66, ""),
     (&[(0, 0x04)], 66, ""),
-    // fewer than the first 12 bytes of a packet, or than the header of a frame
+    // cut in the first 12 bytes of the packet, or in the header of the frame
     (&[], 29, ""),
     (&[], 18, ""),
     (&[], 17, ""),

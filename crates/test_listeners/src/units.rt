@@ -159,7 +159,7 @@ fn bytes_of(heard: &Heard) -> Option<&[u8]> {
     }
 }
 
-/// Long fragments: the first and the middle ones have 65,529 zero bytes of a unit, the last ones 447 and 448.
+/// Long fragments. The first and the middle ones have 65,529 zero bytes of a unit; the two last ones have 447 and 448.
 const LONG_FIRST: Captured =
     captured!(SINGLE, changes: &[(20, 0xff), (21, 0xff), (28, 0x7c), (29, 0x85)], len: 48, zeros: 65_529);
 
@@ -172,8 +172,8 @@ const LONG_LAST: Captured =
 const LONGER_LAST: Captured =
     captured!(LONG_LAST, changes: &[(20, 0x01), (21, 0xc6), (28, 0x7c), (29, 0x45)], zeros: 448);
 
-/// The first, the middle and the last fragment of a unit; how many middle fragments there are; how many bytes are presented, if
-/// the unit is; and how many fragments are flagged because the unit is too long.
+/// The first, the middle and the last fragment of a unit; how many middle fragments there are; how many bytes are
+/// presented, if the unit is presented; and how many fragments are flagged because the unit is too long.
 type Long = ([Captured; 3], u16, Option<usize>, usize);
 
 const LONG: [Long; 3] = [
