@@ -18,7 +18,7 @@ pub const PLAN: SchedulePlan = SchedulePlan {
     shift: 0,
 };
 
-/// When each of six samples of 48 kHz is due, counted from the first.
+/// When each of six samples of 48 kHz is due, in nanoseconds after the first.
 pub const STEPS: [i64; 6] = [0, 20_833, 41_666, 62_500, 83_333, 104_166];
 
 /// What is shown of a frame.
@@ -40,7 +40,7 @@ pub struct Case {
     pub shown: &'static [Seen],
 }
 
-/// Whether a listener may be given this plan.
+/// Whether the plan is within its limits.
 fn is_plan(plan: &SchedulePlan) -> bool
     ensures { IsTrue result → IsPlan plan.now }
 {

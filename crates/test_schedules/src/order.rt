@@ -14,8 +14,8 @@ fn drawn(draws: &mut Draws, n: u16) -> (u32, Captured) {
     (instant, Captured::Unit((n % 256) as u8, arrival, instant))
 }
 
-/// 4,000 units are drawn, and about 1,000 wait at a time. Returns all of them sorted by instant and then by place, and as they
-/// are shown.
+/// Draws 4,000 units, of which about 1,000 wait at a time. Returns all units sorted by instant and then by index, and
+/// as they are shown.
 fn sorted_and_shown(alloc: Global) -> Result<[Vec<Seen>; 2], NoMemory> {
     let mut draws = Draws::seeded(10);
     let mut captured = Vec::new(alloc);

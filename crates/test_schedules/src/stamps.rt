@@ -106,7 +106,7 @@ fn packets_are_shown_by_their_timestamps(rt: HostRuntime) {
     }
 }
 
-/// Data blocks with counts from 18 on, two after the stamped block 16.
+/// Data blocks with counts from 18 on, which is two after the stamped block 16.
 const BEHIND: Captured = Blocks(1, 18, None, 4_998_041_666);
 
 const COUNTED: [Case; 7] = [
