@@ -8,7 +8,7 @@ use clock_track::{Clock, ClockAnswer, ClockRow, line_over};
 use std::alloc::Global;
 use time_unfold::Line;
 
-/// The event with an offset of a 48 kHz clock, counted from the later one of two timestamps.
+/// The answer for event `offset` of a 48 kHz clock, counted from the later of two timestamps.
 const fn event(offset: u64) -> ClockAnswer {
     ClockAnswer::OnLine {
         line: Line {
@@ -20,7 +20,8 @@ const fn event(offset: u64) -> ClockAnswer {
     }
 }
 
-/// The frequency of a clock, and its answer for a sample of a 48 kHz stream that is stamped with an instant.
+/// The frequency and the pull of a clock, and its answer for a sample of a 48 kHz stream that is stamped with
+/// `instant`.
 #[derive(Clone, Copy)]
 struct Stamped {
     base_frequency: u32,
@@ -36,7 +37,8 @@ const STAMPED: Stamped = Stamped {
     answer: ClockAnswer::NoClock,
 };
 
-/// A clock packet with one timestamp, 96 events after the one before. It has none if its frequency or pull has no meaning.
+/// A clock packet with one timestamp, 96 events after the one before. The timestamp is not usable if the frequency or
+/// the pull has no meaning.
 fn packet(alloc: Global, seq: u8, row: &Stamped, timestamp: u64) -> Result<ClockRow, NoMemory>
     ensures { IfOk result IsNotable }
 {
@@ -53,7 +55,7 @@ fn packet(alloc: Global, seq: u8, row: &Stamped, timestamp: u64) -> Result<Clock
     })
 }
 
-/// The answer of the clock that keeps the two timestamps, and that of the list of both.
+/// The answer of a clock that keeps two timestamps, and the answer that is found in the list of both.
 fn answers(alloc: Global, row: &Stamped) -> Result<[ClockAnswer; 2], NoMemory> {
     let first = packet(alloc, 255, row, 1_002_000_000)?;
     let second = packet(alloc, 0, row, 1_004_000_000)?;
@@ -65,8 +67,9 @@ fn answers(alloc: Global, row: &Stamped) -> Result<[ClockAnswer; 2], NoMemory> {
     Ok([kept, line_over(&[first, second], 0, instant, 48_000)])
 }
 
-/// Two points are 2 ms apart, as 96 events of 48 kHz: they cover from 10,416.7 ns before the later one. At 40 kHz 96 events
-/// take 2.4 ms, more than 8/7 of 2 ms. The last two clocks are pulled by 1000/1001 and by 1/8.
+/// The two timestamps are 2 ms apart, as 96 events of 48 kHz are. They cover the 2 ms that begin 10,416.7 ns before the
+/// later one. At 40 kHz, 96 events take 2.4 ms, more than 8/7 of 2 ms, so no instant is covered. The last two clocks
+/// are pulled by 1000/1001 and by 1/8.
 #[test]
 fn a_sample_stands_by_the_pair_that_covers_it(rt: HostRuntime) {
     for row in [

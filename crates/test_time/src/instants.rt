@@ -9,7 +9,8 @@ struct Unfolded {
     instant: i64,
 }
 
-/// The last nanosecond before the half circle's end, and the first after it; across a wrap; before the epoch.
+/// The last timestamp that is read as later than the arrival, and the next one, which is read as earlier; a timestamp
+/// after a wrap; an instant before the epoch.
 const UNFOLDED: [Unfolded; 4] = [
     Unfolded {
         timestamp: 3_557_549_055,

@@ -44,8 +44,9 @@ struct Search {
     found: Option<Stamp>,
 }
 
-/// A stamp fits arrivals up to 60 packets' time, 7,500,000 ns, earlier or later than expected: around 1,000,125,000, and around
-/// 970,125,000 for the first stamp, which is no longer kept.
+/// A stamp fits if the packet arrives at most 7,500,000 ns, the time of 60 packets, earlier or later than expected. The
+/// packet is expected at about 1,000,125,000 by the last two stamps. It is expected at 970,125,000 by the first stamp,
+/// which is no longer kept.
 const SEARCHES: [Search; 6] = [
     Search {
         arrival: 1_000_125_000,
@@ -73,7 +74,8 @@ const SEARCHES: [Search; 6] = [
     },
 ];
 
-/// What the second packet of a sparse 48 kHz stream finds among two kept stamps, and in the list of all.
+/// What the second packet of a sparse 48 kHz stream finds: among two kept stamps, and among the last two of the list of
+/// all stamps.
 fn found(alloc: Global, arrival: u32) -> Result<[Option<Stamp>; 2], NoMemory> {
     let want = Want {
         seq: 0,
