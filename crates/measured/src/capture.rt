@@ -7,7 +7,7 @@ use avtp_header::{ETHERTYPE, StreamHeader, subtype};
 use pcap_frames::{FrameView, Order, Style, Tag, Unit, write_frame, write_header, write_record};
 use std::alloc::Global;
 
-/// The id of the first stream. The ids of the others follow it.
+/// The id of the first stream. The other streams have the next ids.
 pub const STREAM: u64 = 0x0200_0000_0001_0000;
 
 const STYLE: Style = Style {
@@ -97,7 +97,7 @@ fn record(n: u32, streams: u32) -> Option<[u8; 82]>
     Some(record)
 }
 
-/// A capture of a number of packets, of a number of streams.
+/// A capture of `packets` packets of `streams` streams.
 pub fn capture(alloc: Global, streams: u32, packets: u32) -> Option<Vec<u8>>
     requires some { 1 ≤ streams }
     requires most { streams ≤ 65536 }

@@ -1,16 +1,16 @@
 //! Parts of the library by themselves, so that `bench/run` can measure them.
 //!
-//! `measured rounds CAPACITY ITEMS` hands items through a ring from one thread to another, and `measured lines TIMESTAMPS
-//! LOOK-UPS` looks up lines of a media clock whose window is full of packets with this many timestamps. Both print how
-//! many items or lines there were.
+//! `measured rounds CAPACITY ITEMS` hands items through a ring from one thread to another, and `measured lines
+//! TIMESTAMPS LOOK-UPS` looks up lines of a media clock whose window is full of packets with this many timestamps. Both
+//! print how many items arrived or lines were found.
 //!
-//! `measured judge ORDER WAITING LOOK CLOCK ITEMS` judges packets that come in an order of their instants (rising,
-//! falling, random, middle or equal), with a look-ahead, and with a clock or without. `measured listener STREAMS PACKETS`
-//! feeds a listener a capture of this many streams and packets, of which it hears one stream. Both print how many packets
-//! are presented, and in how many nanoseconds.
+//! `measured judge ORDER WAITING LOOK CLOCK ITEMS` judges packets whose instants are in an order (rising, falling,
+//! random, middle or equal), with a look-ahead, and with a clock or without. `measured listener STREAMS PACKETS` feeds
+//! a listener a capture of this many streams and packets, of which it hears one stream. Both print how many packets are
+//! presented, and in how many nanoseconds.
 //!
-//! `measured samples BATCHES TIMES` prints the samples of this many batches several times, to a sink that keeps nothing,
-//! and prints how many bytes of text that is, and in how many nanoseconds.
+//! `measured samples BATCHES TIMES` prints the samples of this many batches several times, to a sink that keeps
+//! nothing. It prints how many bytes of text that is, and in how many nanoseconds.
 #![tactic(auto)]
 
 mod capture;
@@ -53,7 +53,7 @@ fn words_of(rt: &HostRuntime) -> Option<Vec<String>> {
     env::args(rt).ok()?.skip(1).collect(rt.alloc()).ok()
 }
 
-/// Runs the measurement that the arguments name. `None` if they name none, or if there is not enough memory.
+/// Runs the measurement that the arguments name. `None` if they name no measurement, or if there is not enough memory.
 fn measured<T: Threads + Sync + Clock>(rt: &T, alloc: Global, words: &[String]) -> Option<String> {
     match words.get(0)?.as_str() {
         "judge" => judged(rt, alloc, words)?.text(alloc),

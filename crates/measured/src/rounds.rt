@@ -9,7 +9,7 @@ use sample_schedule::{Reason, Shown};
 use std::alloc::Global;
 use std::thread::Threads;
 
-/// Gives flags of the frames 1, 2, 3 and so on.
+/// Returns flags of the frames 1, 2, 3 and so on.
 #[derive(Drop)]
 struct Flags {
     given: u64,
@@ -42,7 +42,7 @@ impl Receiver for Flags {
     }
 }
 
-/// Counts the items that it is given.
+/// Counts the items that it presents.
 #[derive(Drop)]
 struct Counted {
     items: u64,
@@ -61,7 +61,7 @@ impl Presenter for Counted {
     }
 }
 
-/// Hands items over through a ring of a capacity of 1 to 256, and returns how many came.
+/// Hands items over through a ring of a capacity of 1 to 256, and returns how many arrived.
 pub fn rounds<T: Threads + Sync>(rt: &T, alloc: Global, capacity: u32, count: u32) -> Option<u64>
     requires some { 1 ≤ capacity }
     requires most { capacity ≤ 256 }

@@ -8,7 +8,7 @@ use clock_track::ClockRow;
 use sample_schedule::{Entry, HeadRule, Item, Packet};
 use std::alloc::Global;
 
-/// The order of the instants of packets that come one after the other.
+/// The order of the instants of packets that arrive one after the other.
 #[derive(Clone, Copy)]
 pub enum Order {
     Rising,
@@ -45,7 +45,7 @@ impl Stream {
         if self.waiting > 4_096 { 1_000 } else { 125_000 }
     }
 
-    /// The place of packet n among those that wait with it, in the order of their instants.
+    /// The index of packet n, by instant, among the packets of its group.
     fn place(&self, n: u32) -> u32
         requires { 1 ≤ self.now.waiting }
         ensures { result < self.now.waiting }
@@ -68,7 +68,8 @@ impl Stream {
         1_000_000_000 + n * self.step()
     }
 
-    /// The instant of packet n. The packets of each group of `waiting` packets are due while those of the next group come.
+    /// The instant of packet n. Packets are in groups of `waiting`. The packets of a group are due while those of the
+    /// next group arrive.
     fn instant(&self, n: u32) -> u64
         requires some { 1 ≤ self.now.waiting }
         requires most { self.now.waiting ≤ 65536 }
