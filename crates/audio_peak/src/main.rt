@@ -23,7 +23,7 @@ fn main(rt: HostRuntime) -> ExitCode {
     }
 }
 
-/// The peak of the capture whose name is the first word, or `None` if it cannot be read.
+/// The peak of the capture that the first argument names, or `None` if the capture cannot be read.
 fn peak_of_file(rt: &HostRuntime) -> Option<u16> {
     let words: Vec<String> = env::args(rt).ok()?.skip(1).collect(rt.alloc()).ok()?;
     let bytes = fs::read(rt, words.get(0)?.as_str()).ok()?;
