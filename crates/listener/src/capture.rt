@@ -96,9 +96,9 @@ fn hear(alloc: Global, listener: &mut Listener, bytes: &[u8]) -> Result<Heard, N
     })
 }
 
-/// What a listener shows of a whole capture: the schedule of the stream's packets in its whole records, which are those
-/// before the first refusal; the counts; and the first refusal. A `Listener` that is fed the bytes and then ended shows
-/// the same.
+/// What a listener shows of a whole capture: the schedule of the stream's packets in the capture's whole records, which
+/// are those before the first refusal; the counts; and the first refusal. A `Listener` that is fed the bytes and then
+/// ended shows the same.
 ///
 /// A record belongs to the stream if it is a readable Ethernet frame of AVTP, its packet is of a kind that is read
 /// (AAF, IEEE 1722-2016, 7; CVF of H.264, 8; IEC 61883-6), and its stream id is valid and the wanted one. A packet that

@@ -60,8 +60,8 @@ pub fn carried_packets_are_heard()
     records_of_both_are_delivered();
 }
 
-/// A listener without a clock follows the talker. A listener with the talker's clock follows the talker, too, if its
-/// shift makes the clock's timestamps those of the journal.
+/// A listener without a clock follows the talker. A listener with the talker's clock follows the talker, too, if the
+/// listener's shift makes the clock's timestamps those of the journal.
 pub fn clocks_are_followed()
     ensures without { (shift added : ℤ) (p : PacketJournal) → FollowsClock shift p added None }
     ensures with_it { (shift : ℤ) (p : PacketJournal) → FollowsClock shift p shift (Some p.clock) }
@@ -90,9 +90,9 @@ pub fn units_are_whole()
 /// What is presented is true, whatever a capture loses, repeats or reorders of the packets of a talker that keeps the
 /// rules and of its clock, and wherever the media clock restarts. Each batch that is presented is one of the talker's
 /// packets or units, with its bytes, and is the packet that its own item was made of. Each of its samples is at the
-/// nanosecond of gPTP that the talker gave it, or at the one that is counted from the timestamp to which the sample
-/// belongs. Samples are counted at the nominal rate; for a listener with the clock, they are on the line through the
-/// two CRF timestamps that cover that timestamp.
+/// nanosecond of gPTP that the talker gave it, or that is counted from the timestamp to which the sample belongs.
+/// Samples are counted at the nominal rate. For a listener with the clock, they are on the line through the two CRF
+/// timestamps that cover that timestamp.
 pub fn presented_are_true()
     ensures origin { (shift : ℤ) (p : PacketJournal) (plan : ListenPlan) (records : List Record) → HearsTalker shift p plan records → All (IsHeardFrom (by_clock plan) (items_in plan records) p plan.lead) (presented_of (shown_of plan records)) }
     ensures packet { (shift : ℤ) (p : PacketJournal) (plan : ListenPlan) (records : List Record) → HearsTalker shift p plan records → All (IsOfJournal (by_clock plan) p) (presented_of (shown_of plan records)) }
@@ -138,16 +138,16 @@ pub fn first_fragments_are_welcome()
         → AreOfUnit p part plan.lead from n earlier last → last.arrival ≤ℤ pos (p.times.due n) → 1 ≤ plan.buffer → length (unit_bytes p from n) ≤ plan.room → IsWelcome p plan records 0 n (unit_by earlier last) }
 {}
 
-/// If a packet was accepted before, a further copy of it is flagged as a repeat, provided that its timestamp is known
-/// and it came in time. It is flagged whether there is room or not. Nothing else is shown of its frame.
+/// If a packet was accepted before, a further copy of it is flagged as a repeat, provided that the copy's timestamp is
+/// known and the copy came in time. It is flagged whether there is room or not. Nothing else is shown of its frame.
 pub fn further_copies_are_repeats()
     ensures { (shift : ℤ) (p : PacketJournal) (plan : ListenPlan) (records : List Record) (place n : ℕ) (made : MadeItem) → HearsTalker shift p plan records → IsFurther p plan records place n made → shown_of_frame made.last.frame (shown_of plan records) ≡ Flag made.last.frame made.last.seq Repeat ∷ [] }
 {}
 
 /// All that is promised of a talker that keeps the rules, whatever a capture loses, repeats or reorders of its packets,
-/// and wherever its clock restarts. Each sample whose packet came in time, found room and has a known timestamp or
-/// clock reference is presented, at the talker's own nanosecond. So any two listeners agree. Every other packet that
-/// came is flagged with its one reason. Samples are presented in order, once, within fixed buffers.
+/// and wherever its clock restarts. Each sample is presented at the talker's own nanosecond if its packet came in time,
+/// found room and has a known timestamp or clock reference. So any two listeners agree. Every other packet that came is
+/// flagged with its one reason. Samples are presented in order, once, within fixed buffers.
 pub fn headline_holds()
     ensures { (shift : ℤ) (p : PacketJournal) (plan : ListenPlan) (records : List Record) → HearsTalker shift p plan records → KeepsHeadline shift p plan records (shown_of plan records) }
 {}

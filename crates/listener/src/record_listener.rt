@@ -35,10 +35,10 @@ use std::marker::Model;
 /// once: presented, or flagged with the first reason why not. It shows an item as soon as no later record can change
 /// that.
 ///
-/// After each record, and after `close`, the caller takes all that is due with `next_out` before it takes the next
-/// record. One record may yield as many as 4,097 items, because it may end a unit of H.264 that is not whole.
-/// `next_out` judges them one after another. Memory is reserved when the listener is made. Later each packet's samples,
-/// and each whole unit, are copied once, into the batch that is shown.
+/// After each record, and after `close`, the caller takes all that is due with `next_out`. One record may yield as many
+/// as 4,097 items, because it may end a unit of H.264 that is not whole. `next_out` judges them one after another.
+/// Memory is reserved when the listener is made. Later each packet's samples, and each whole unit, are copied once,
+/// into the batch that is shown.
 #[derive(Drop)]
 pub struct RecordListener {
     plan: ListenPlan,

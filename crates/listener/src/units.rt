@@ -31,7 +31,7 @@ use time_unfold::unfold;
 #[derive(Drop)]
 pub struct Units {
     assembler: Assembler,
-    /// Why the last fragments were given up, how many these are, and how many of them were taken.
+    /// Why the last fragments were given up, how many they are, and how many of them were taken.
     why: Lost,
     lost: u32,
     taken: u32,
@@ -211,8 +211,8 @@ impl Units {
         self.next()
     }
 
-    /// Adds a packet, which begins a unit, continues one, or is lost. Memory for a unit that the packet may complete is allocated
-    /// first. If there is none, returns `NoMemory`, and nothing changes.
+    /// Adds a packet, which begins a unit, continues one, or is lost. Memory for a unit that the packet may complete is
+    /// allocated first. If there is no memory, returns `NoMemory`, and nothing changes.
     fn push(
         &mut self,
         alloc: Global,

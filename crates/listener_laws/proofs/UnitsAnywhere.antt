@@ -142,7 +142,7 @@ unit_more shift p plan records part Q t count next front back before d h kind w 
 abbrev pub given_to : ListenPlan → List Record → List Delivery → List Accepted
 given_to plan records before = accepted_before plan records (length (items_so_far before))
 
--- the items of a capture: those of the deliveries before `d`, those of `d`, and the others
+-- the items of a capture: those of the deliveries before `d`, those of `d`, and those of the later deliveries
 split_items : (before : List Delivery) (d : Delivery) (rest : List Delivery) → items_of (before ++ d ∷ rest) ≡ items_so_far before ++ (given_by before d ++ (given_after (before ++ d ∷ []) rest ++ left_at_end (before ++ d ∷ rest)))
 split_items before d rest =
     let left = left_at_end (before ++ d ∷ rest) in
@@ -368,7 +368,7 @@ unit_timely shift p plan records part from n before last h kind c =
       in_time = time_early plan records before last c.rest (p.times.due n) c.there t c.in_time;
     }
 
--- the fragments that the last packet gives up add nothing to the accepted items
+-- the fragments that are given up because of `last` add nothing to the accepted items
 upto_unit : (plan : ListenPlan) (records : List Record) (before : List Delivery) (last : Delivery) (rest : List Delivery) → deliveries_of plan records ≡ before ++ last ∷ rest → IsThere (deliveries_of plan records) before last
     → accepted_before plan records (unit_place before last) ≡ given_to plan records before
 upto_unit plan records before last rest split t =

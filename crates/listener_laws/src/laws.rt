@@ -27,8 +27,8 @@ ghost use Rattle.listener_laws.specs.Fronts.{IsTrueFront};
 use listener::laws::{headline_holds, units_are_true};
 
 /// If the first records of a capture are a talker's, what is due of them is as the headline says, whatever records
-/// follow. What is shown of the whole capture begins with it, even if the capture is cut short or records of other
-/// talkers follow.
+/// follow. What is shown of the whole capture begins with what is due of them, even if the capture is cut short or
+/// records of other talkers follow.
 pub fn fronts_are_true()
     ensures { (shift : ℤ) (p : PacketJournal) (plan : ListenPlan) (records others : List Record) → HearsTalker shift p plan records → IsTrueFront p plan records others }
 {}
@@ -40,8 +40,8 @@ pub fn shorter_captures_are_heard()
 {}
 
 /// What a listener returns from a talker's records is as the headline says. Once the records have ended, it returns all
-/// of it. Before that, it returns what is due, of which `fronts_are_true` holds. `RecordListener::next_out` returns
-/// exactly these items, one by one.
+/// that is shown of them. Before that, it returns what is due, as `fronts_are_true` says. `RecordListener::next_out`
+/// returns exactly these items, one by one.
 pub fn records_are_given_truly()
     ensures ended { (shift : ℤ) (p : PacketJournal) (listener : ListenState) (records : List Record) → is_closed listener ≡ true → HearsTalker shift p listener.plan records → KeepsHeadline shift p listener.plan records (out listener records) }
     ensures due { (shift : ℤ) (p : PacketJournal) (listener : ListenState) (records others : List Record) → is_closed listener ≡ false → HearsTalker shift p listener.plan records → (out listener records ≡ due_of listener.plan records) × IsTrueFront p listener.plan records others }
@@ -51,8 +51,8 @@ pub fn records_are_given_truly()
 }
 
 /// What a listener returns from the bytes of a talker's capture, in pieces of any length, is as the headline says. Once
-/// the capture has ended, it returns all of it. Before that, it returns what is due, of which `fronts_are_true` holds.
-/// `Listener::next_out` returns exactly these items, one by one.
+/// the capture has ended, it returns all that is shown of it. Before that, it returns what is due, as `fronts_are_true`
+/// says. `Listener::next_out` returns exactly these items, one by one.
 pub fn bytes_are_given_truly()
     ensures ended { (shift : ℤ) (p : PacketJournal) (fed : Feeding) (bytes : List ℕ) → is_ended fed ≡ true → HearsTalker shift p fed.listener.plan (whole_records bytes) → KeepsHeadline shift p fed.listener.plan (whole_records bytes) (out_of fed bytes) }
     ensures due { (shift : ℤ) (p : PacketJournal) (fed : Feeding) (bytes : List ℕ) (others : List Record) → is_ended fed ≡ false → HearsTalker shift p fed.listener.plan (whole_records bytes) → (out_of fed bytes ≡ due_of fed.listener.plan (whole_records bytes)) × IsTrueFront p fed.listener.plan (whole_records bytes) others }
@@ -60,32 +60,32 @@ pub fn bytes_are_given_truly()
     records_are_given_truly();
 }
 
-/// A copy of an audio packet must be presented under four conditions: it can be timed by the packets that came; nothing
-/// up to it was captured after its first instant; no copy of it came before; and the buffer has room for it. This holds
-/// anywhere in a capture, whatever the capture loses, repeats or reorders, and for listeners with the talker's clock or
-/// without.
+/// A copy of an audio packet must be presented under four conditions: it can be timed by the packets that came; no
+/// delivery up to it was captured after the packet's first instant; no copy of the packet came before; and the buffer
+/// has room for it. This holds anywhere in a capture, whatever the capture loses, repeats or reorders, and for
+/// listeners with the talker's clock or without.
 pub fn copies_anywhere_are_welcome()
     ensures { (shift : ℤ) (p : PacketJournal) (plan : ListenPlan) (records : List Record) (place n : ℕ) (d : Delivery) → HearsTalker shift p plan records → IsAudioKind p.times.kind → MustBePresented p plan records place n d → IsWelcome p plan records place n (made_of_one d) }
 {}
 
 /// If an audio packet that must be presented comes again anywhere later, the copy must be flagged as a repeat, provided
-/// that nothing up to it was captured after the packet's first instant.
+/// that no delivery up to the copy was captured after the packet's first instant.
 pub fn copies_anywhere_are_further()
     ensures { (shift : ℤ) (p : PacketJournal) (plan : ListenPlan) (records : List Record) (earlier place n : ℕ) (made : MadeItem) (d : Delivery) → HearsTalker shift p plan records → IsAudioKind p.times.kind → IsWelcome p plan records earlier n made → earlier < place
         → ComesInTime p plan records place n d → IsFurther p plan records place n (made_of_one d) }
 {}
 
 /// A unit of H.264 must be presented under four conditions: one copy of each of its packets came, in order, with no
-/// other packet of the stream between them; nothing up to the last was captured after the unit is due; its last packet
-/// did not come before; and the buffer has room for it. It is made of exactly these copies. This holds anywhere in a
-/// capture, whatever the capture loses, repeats or reorders.
+/// other packet of the stream between them; no delivery up to the last copy was captured after the unit is due; the
+/// unit's last packet did not come before; and the buffer has room for the unit. The unit is made of exactly these
+/// copies. This holds anywhere in a capture, whatever the capture loses, repeats or reorders.
 pub fn units_anywhere_are_welcome()
     ensures { (shift : ℤ) (p : PacketJournal) (plan : ListenPlan) (records : List Record) (part : ℕ → Part) (from n : ℕ) (before : List Delivery) (last : Delivery) → HearsTalker shift p plan records → p.times.kind ≡ H264 part
         → UnitMustBePresented p plan records part from n before last → IsWelcome p plan records (unit_place before last) n (unit_by before last) }
 {}
 
-/// If the same unit comes whole again anywhere later, it must be flagged as a repeat, provided that nothing up to its
-/// last packet was captured after the unit is due.
+/// If the same unit comes whole again anywhere later, it must be flagged as a repeat, provided that no delivery up to
+/// its last packet was captured after the unit is due.
 pub fn units_anywhere_are_further()
     ensures { (shift : ℤ) (p : PacketJournal) (plan : ListenPlan) (records : List Record) (part : ℕ → Part) (earlier from n : ℕ) (made : MadeItem) (before : List Delivery) (last : Delivery) → HearsTalker shift p plan records → p.times.kind ≡ H264 part → IsWelcome p plan records earlier n made
         → earlier < unit_place before last → UnitComesInTime p plan records part from n before last → IsFurther p plan records (unit_place before last) n (unit_by before last) }
