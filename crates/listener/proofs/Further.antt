@@ -51,7 +51,7 @@ more_by false stream clock records r out =
     let none : length (deliveries stream clock records) ≡ length (deliveries stream clock records) + 0 = omega arith in
     ap length (none_more stream clock records r out) ∙ none
 
--- ---- which deliveries are the stream's
+-- ---- which deliveries are of the stream
 
 no_clock_subtype : (s : ℕ) → list_any (λ kind. s == kind) stream_kinds ≡ true → (s == crf_subtype) ≡ false
 no_clock_subtype s e = grind (arith, nat_tests)

@@ -274,7 +274,7 @@ none_lost a s = ap length (sym (s.lost ∙ nothing_lost))
 pub begun_left : (a : Assembly) → StandsFor a [] → left (record { assembly = a; why = Broken; taken = 0; own = None }) ≡ []
 begun_left a s = rw (s.lost ∙ nothing_lost) refl
 
--- ---- what each kind of delivery gives
+-- ---- the items of each kind of delivery
 
 pub audio_taken : (ds : List Delivery) (d : Delivery) (item : Item) (old new : Gathered) → ¬ (d.subtype ≡ crf_subtype) → ¬ (d.subtype ≡ cvf_subtype) → item ≡ item_of d → HasUnits ds old → Cuts item old new → Gives ds d new
 audio_taken ds d item old new streamed other is has c =

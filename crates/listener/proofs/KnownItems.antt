@@ -87,7 +87,7 @@ rows_are shift p lead (OfClock m ∷ os) (d ∷ ds) is heard from shows =
     subst (λ (l : List ClockRow). AreRows p.times.clock shift (m ∷ clock_numbers os) l) (sym (more_rows (entry_of d) (map entry_of ds) _ (ap row_of (clock_entry shift p m d is from.0 (All-head Shows d ds shows)))))
     (record { usable = c.usable; is = c.is }, rows_are shift p lead os ds is heard from.1 (All-tail Shows d ds shows))
 
--- ---- the part of a capture that came
+-- ---- the first deliveries of a capture
 
 taken_from : (p : PacketJournal) (lead k : ℕ) (os : List Origin) (ds : List Delivery) → AreFrom p lead os ds → AreFrom p lead (take k os) (take k ds)
 taken_from p lead zero os ds from = tt

@@ -130,7 +130,7 @@ never : {X : Type 0} (b : Bool) → b ≡ true → b ≡ false → X
 never {X} true e f = absurd cc
 never {X} false e f = absurd cc
 
--- ---- a record
+-- ---- one more record
 
 -- the listener after one more record, whose entries are `more`
 further : (records : List Record) (r : Record) (given : ℕ) (old new : ListenState) (more : List Entry) (b : Bool) → StandsFor records given old

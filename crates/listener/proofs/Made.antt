@@ -24,7 +24,7 @@ use Rattle.packet_journal.specs.Deliveries.{Delivery}
 use Rattle.listener.specs.Items.{MadeItem, events_to, flagged, given_after, given_by, given_up_by, items_of, items_so_far, left_at_end, lost_for, made_of_one, own_by, piece_by, sources, unit_by, video_by}
 use Rattle.listener.specs.Units.{event_of, events, flaw_of, fragment_in, in_stream, last_ones, waiting}
 
--- ---- the last of a list
+-- ---- the last elements of a list
 
 pub none_last : {X : Type 0} (xs : List X) → last_ones 0 xs ≡ []
 none_last {X} xs = let all : length xs - 0 ≡ length xs = omega arith in rw all (drop-length xs)

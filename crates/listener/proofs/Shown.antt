@@ -34,7 +34,7 @@ use Rattle.cvf_format.specs.Stretches.{last_stretch}
 use Rattle.listener.proofs.ItemKinds.{at_place}
 use Rattle.listener.proofs.Made.{OfEach, all_made, count-cons, find_one, items_all, last_all, last_counts, same_place, tally}
 
--- ---- each record is one delivery at most
+-- ---- each record is at most one delivery
 
 abbrev kept : ℕ → Option ℕ → List (ℕ × Record) → List (ℕ × Record)
 kept stream clock xs = filter (λ numbered. is_delivered stream clock numbered.1.bytes) xs

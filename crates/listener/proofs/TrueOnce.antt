@@ -28,7 +28,7 @@ use Rattle.listener.specs.Laws.{Agree, AreOther, AreSame, HearsTalker, IsOfPacke
 use Rattle.listener.proofs.TrueList.{IsTrueAccepted, audio, batches_are, given_true}
 use Rattle.listener.proofs.TrueUnits.{video}
 
--- ---- the same packet, the same samples
+-- ---- copies of one packet have the same samples
 
 -- if two units end with the same packet, they begin with the same packet
 one_start : (part : ℕ → Part) (from other n : ℕ) → AreUnit part from n → AreUnit part other n → from ≡ other
@@ -59,7 +59,7 @@ same_samples by p n a b is x y = record {
   instants = λ k lt. one_instant p.times is by n k (sample_instant a k) (sample_instant b k) x.known (x.instants k lt) (y.instants k (subst (λ (c : ℕ). k < c) (x.count ∙ sym y.count) lt));
 }
 
--- ---- once
+-- ---- no packet is presented twice
 
 some_samples : (kind : Kind) (j : Journal) → IsOfKind kind j → 0 < sample_count kind j.count
 some_samples DenseAaf j is = let some = is.0.some in omega arith
@@ -100,7 +100,7 @@ presented_once shift p plan records h =
     subst (λ (l : List Presented). AllPairs (AreOther (by_clock plan) p) l) (sym (batches_are gs))
     (each_once (by_clock plan) p (presented gs) h.conforming.times (given_true shift p plan records h) (presented-distinct clock_spot (schedule_plan plan) es))
 
--- ---- one number
+-- ---- a batch is at most one packet
 
 at_nominal : (kind : Kind) (j : Journal) (n k : ℕ) (instant : ℤ) → IsAudioKind kind → IsAtBy kind false j n k instant → IsAtNominal j n k instant
 at_nominal DenseAaf j n k instant heard at = at

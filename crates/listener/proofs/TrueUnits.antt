@@ -117,7 +117,7 @@ fragment_is p part lead n d f copy c e =
       instant = ap (λ (g : Fragment). g.instant) own ∙ stamp_by p.times lead n copy.arrival d.arrival c.view.header.tv c.view.header.timestamp (p.times.stamp n) copy.delivered copy.arrived refl header.stamped header.timestamp;
     }
 
--- ---- the packet after a packet
+-- ---- the next packet
 
 next_of : (n m : ℕ) → m % 256 ≡ (n % 256 + 1) % 256 → n ≤ m + 254 → m ≤ n + 254 → m ≡ suc n
 next_of n m e low high = omega arith

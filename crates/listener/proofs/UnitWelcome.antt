@@ -230,7 +230,7 @@ shorter f fs gs =
     let all = ap length (flat_map-append (λ (h : Fragment). h.body) (f ∷ fs) gs) in
     omega (arith, all, length-append (flat_map (λ (h : Fragment). h.body) (f ∷ fs)) (flat_map (λ (h : Fragment). h.body) gs))
 
--- ---- what a delivery gives
+-- ---- the items of a delivery
 
 -- The deliveries are the beginning of a unit: their fragments make one stretch, which is within the limits.
 record Begins (before : List Delivery) (d : Delivery) : Type 0 where
@@ -488,7 +488,7 @@ unit_welcome shift p plan records part from n earlier last rest h kind same u ea
       room = rw none (has_room sp (time_of plan records 0) (length (unit_bytes p from n)) some fits);
     }
 
--- ---- a unit whose packets came in order, wherever in the capture
+-- ---- a unit whose packets came in order, anywhere in a capture
 
 -- the events up to `last` are those of `front`, then those of the unit's packets
 events_after : (before front earlier : List Delivery) (last : Delivery) → in_stream before ≡ front ++ earlier → Begins earlier last → events_to before last ≡ map event_of front ++ map packet (run_at earlier last)

@@ -34,7 +34,7 @@ abbrev pub out : Feeding → List ℕ → List Shown
 out fed bytes = out_of fed.listener (whole_records bytes)
 
 -- The listener was fed `bytes`, and has returned `given` of the items that it shows of them. If memory has run out,
--- `bytes` ends before the record for which it ran out.
+-- `bytes` are those fed before the call of `feed` for which it ran out.
 pub record StandsFor (bytes : List ℕ) (given : ℕ) (fed : Feeding) : Type 0 where
   pub read : fed.out_of_memory ≡ false → HasRead fed.reader bytes (whole_records bytes)
   pub stands : RecordsStandFor (whole_records bytes) (given + length (option_to_list fed.next)) fed.listener

@@ -155,7 +155,7 @@ abbrev pub lost_for : LostFor → Reason
 lost_for Broken = BrokenUnit
 lost_for Long = LongUnit
 
--- ---- what a delivery gives
+-- ---- the items of a delivery
 
 -- the events of the stream up to a delivery
 abbrev pub events_to : List Delivery → Delivery → List Event
@@ -209,7 +209,7 @@ abbrev pub given_after : List Delivery → List Delivery → List MadeItem
 given_after before [] = []
 given_after before (d ∷ ds) = given_by before d ++ given_after (before ++ d ∷ []) ds
 
--- ---- items
+-- ---- the items of all deliveries
 
 -- the items of a list of deliveries while more may follow
 abbrev pub items_so_far : List Delivery → List MadeItem

@@ -23,7 +23,7 @@ get-first n [] ys lt = absurd (omega arith)
 get-first zero (x ∷ xs) ys lt = refl
 get-first (suc n) (x ∷ xs) ys lt = get-first n xs ys (omega arith)
 
--- ---- the first entries are judged as before
+-- ---- the verdicts on the first entries are unchanged
 
 judged-stays : (clock : Clock) (plan : SchedulePlan) (es more : List Entry) (i : ℕ) (earlier : List Accepted) (e : Entry) → i < settled plan es → judged clock plan (es ++ more) i earlier e ≡ judged clock plan es i earlier e
 judged-stays clock plan es more i earlier (OfItem item) lt =

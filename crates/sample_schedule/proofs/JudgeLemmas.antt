@@ -76,7 +76,7 @@ map-more : (xs ys : List Entry) → map pending_of (xs ++ ys) ≡ map pending_of
 map-more [] ys = refl
 map-more (x ∷ xs) ys = ap (λ (l : List Pending). pending_of x ∷ l) (map-more xs ys)
 
--- ---- what of a list is due
+-- ---- which items of a list are due
 
 left-passed : (t : ℤ) (ps ws : List Accepted) → AllByRecursion (λ a. a.instant <ℤ t) ps → left_of t (ps ++ ws) ≡ left_of t ws
 left-passed t [] ws h = refl
@@ -333,7 +333,7 @@ gives-flag clock entries given s item reason st e behind undue v =
       stands = judged-on clock entries given (given + 1) s P s.waiting st e (done.waiting ∙ ap (λ (l : List Accepted). by_instant (standing s.time l)) (sym same)) (omega arith);
     }
 
--- if the current entry gets no flag, all that was due up to it was returned
+-- if nothing is due and the current entry gets no flag, all that is shown up to this entry was returned
 none-shown : (clock : Clock) (entries : List Entry) (given : ℕ) (s : JudgeState) (p : Pending) (e : Entry) → StandsFor clock entries given s → s.current ≡ Some p → starts_due s.time s.waiting ≡ false → slice_get entries s.place ≡ Some e
     → flag_by s.place (Some e) (judged clock s.plan entries s.place (earlier_of clock entries s) e) ≡ [] → (given ≡ length (steps clock s.plan entries (suc s.place)))
 none-shown clock entries given s p e st is undue at no_flag =
@@ -543,7 +543,7 @@ takes clock entries given e s noted new st opened idle notes puts =
       count = st.count ∙ ap (λ (l : List Given). length l + length st.passed) (sym (steps-stay clock s.plan entries (e ∷ []) s.place judged'));
     })
 
--- ---- the first and the last call
+-- ---- a new judge, and the end of the list
 
 pub stands-first : (clock : Clock) (plan : SchedulePlan) (noted : Noted) → IsClockOf plan clock → HasNoted plan [] noted → StandsFor clock [] 0 (record { plan = plan; place = 0; time = pos 0; noted = noted; waiting = []; current = None; ahead = []; closed = false })
 unfolding latest by_instant accepted steps

@@ -152,7 +152,7 @@ flag_in clock plan es n item reason at e =
     (subst (λ (m : ℕ). In (steps clock plan es m) (Flags n item reason)) last
     (flag_stays clock plan es (suc n) (length es - suc n) (Flags n item reason) (becomes_flagged clock plan es n item reason at e)))
 
--- ---- once, and as its verdict says
+-- ---- each item is shown once, as its verdict says
 
 pub ok-presented : (clock : Clock) (plan : SchedulePlan) (es : List Entry) (i : ℕ) (item : Item) (a : Accepted) → slice_get es i ≡ Some (OfItem item) → verdict_in clock plan es i item ≡ Ok a → In (presented (given clock plan es)) a
 ok-presented clock plan es i item a at is =

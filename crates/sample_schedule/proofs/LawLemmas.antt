@@ -80,7 +80,7 @@ now-grows entries n = elim (slice_get entries n) as (λ e. slice_get entries n �
   | Some x ↦ λ e. rw (now-next entries n x e) (max_above (latest (take n entries)) (arrival_of x))
 ] refl
 
--- ---- what waits is bounded
+-- ---- the waiting batches are bounded
 
 pub record Bounded (plan : SchedulePlan) (waiting : List Accepted) : Type 0 where
   pub batches : length waiting ≤ plan.buffer
@@ -304,7 +304,7 @@ ordered : (clock : Clock) (plan : SchedulePlan) (entries : List Entry) (n : ℕ)
 ordered clock plan entries zero = ordered-first clock plan entries
 ordered clock plan entries (suc n) = ordered-next clock plan entries n (ordered clock plan entries n)
 
--- ---- no copies
+-- ---- no copy is presented
 
 not_copy : (a : Accepted) (y : Accepted) → is_copy a.instant a.batch.seq y ≡ false → IsNoCopy y a
 not_copy a y other e f = let t : is_copy a.instant a.batch.seq y ≡ true = rw (e, f, le_true a.instant a.instant (omega (arith, ints))) (eq-eqb a.batch.seq a.batch.seq refl) in cc
@@ -345,7 +345,7 @@ presented-distinct clock plan entries = rw (accepted-presented clock plan entrie
 pub presented-ordered : (clock : Clock) (plan : SchedulePlan) (entries : List Entry) → Pairwise IsBefore (presented (given clock plan entries))
 presented-ordered clock plan entries = rw (accepted-presented clock plan entries) (ordered clock plan entries (length entries)).sorted
 
--- ---- each item once
+-- ---- each item is shown once
 
 -- 1 if the numbers are equal, else 0
 abbrev hit : ℕ → ℕ → ℕ

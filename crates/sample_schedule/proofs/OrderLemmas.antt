@@ -11,7 +11,7 @@ use Rattle.sample_schedule.specs.Verdicts.{total_bytes}
 -- ---- tests
 pub use Rattle.sorted_keys.proofs.Comparing.{le_false, le_true, lt_false, lt_true}
 
--- ---- what holds for all
+-- ---- what holds for all items of a list
 
 pub all-weaker : (P Q : Accepted → Type 0) → ((a : Accepted) → P a → Q a) → (xs : List Accepted) → AllByRecursion P xs → AllByRecursion Q xs
 all-weaker P Q w [] p = tt

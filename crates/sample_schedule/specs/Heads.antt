@@ -41,7 +41,7 @@ stamp_of (OfClock arrival row) = None
 abbrev pub stamps_of : List Entry → List Stamp
 stamps_of entries = filter_map stamp_of entries
 
--- ---- how far back the head of a packet without a usable stamp is
+-- ---- the head of a packet without a usable stamp
 
 -- for a packet without a usable timestamp, how far back the stamp is that it is counted from, if its format has a rule
 -- for this

@@ -76,7 +76,8 @@ pub record StandsFor (clock : Clock) (entries : List Entry) (given : ℕ) (judge
   pub left : map pending_of (drop judge.place entries) ≡ option_to_list judge.current ++ judge.ahead
   pub noted : HasNoted judge.plan entries judge.noted
   pub now : judge.time ≡ latest (take (begun judge) entries)
-  -- while more entries may follow, exactly those entries are judged or current that have `look` entries after them
+  -- while more entries may follow, exactly those entries are judged or current that have at least `look` entries after
+  -- them
   pub settles : judge.closed ≡ false → begun judge ≡ settled judge.plan entries
   -- of the batches that waited before the current entry, those whose instants have passed were presented, and the
   -- others wait

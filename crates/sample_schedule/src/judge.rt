@@ -224,7 +224,7 @@ impl Judge {
         }
     }
 
-    /// Gives what the current entry makes due, and then its flag, if it has one.
+    /// Returns what the current entry makes due, and then its flag, if it has one.
     #[inline(always)]
     fn give_or_judge(&mut self) -> Option<Shown>
         ensures given { (clock : Clock) (entries : List EntryValue) (given : ℕ) → StandsFor clock entries given self.old → IfSome result (λ shown. slice_get (out clock self.old entries) given ≡ Some shown) }
@@ -265,7 +265,7 @@ impl Judge {
         }
     }
 
-    /// Once all entries of an ended list are judged, gives the first waiting batch.
+    /// Once all entries of an ended list are judged, returns the first waiting batch.
     #[inline(always)]
     fn give_last(&mut self) -> Option<Shown>
         requires idle { IsIdle self.old }

@@ -77,7 +77,7 @@ in_order-put (x ∷ xs) k s = by_lt_z k.instant x.instant
     (λ h. rw (lt_true k.instant x.instant h) ((omega (arith, ints), not-earlier k.instant x.instant xs (omega (arith, ints)) s.0), s))
     (λ h. rw (lt_false k.instant x.instant h) (all-put_key (λ o. x.instant ≤ℤ o.instant) xs k s.0 h, in_order-put xs k s.1))
 
--- if `n` is the index for the key's instant, inserting the key at `n` gives `put_key`
+-- if `n` is the index for the key's instant, inserting the key at `n` is the same as `put_key`
 pub placed : (ks : List Key) (n : ℕ) (k : Key) → IsPlace k.instant ks n → insert ks n k ≡ put_key ks k
 placed ks n k is = at ks n k is.not_later is.later
   where

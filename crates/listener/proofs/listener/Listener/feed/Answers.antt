@@ -11,7 +11,7 @@ use Rattle.listener.proofs.Fed.{accepted, heard_here, heard_on, held_few, held_s
 use Rattle.listener.proofs.listener.Listener.feed.Goals as goal
 use Rattle.avtp_base.proofs.Results.{not_some}
 
--- ---- a record that is lent
+-- ---- a record that is borrowed from the piece
 
 pub take_lent-requires-clause-few : goal.take_lent-requires-clause-few
 take_lent-requires-clause-few c =
@@ -61,7 +61,7 @@ returns-in-Ok-clause-uncertain c quiet bytes given stands =
     let accepted = c.in-Ok.ensures.passed.refusal ∙ holds_accepted _ _ _ _ c.in-Some.ensures.next.whole in
     uncertain c.take_lent.new.reader (bytes ++ take c.in-Some.size c.args.piece.now) _ accepted (c.in-Ok.ensures.passed.read bytes (whole_records bytes) (st.read c.if-self.false))
 
--- ---- a record that is fed
+-- ---- a record that the reader holds
 
 pub take_held-requires-clause-few : goal.take_held-requires-clause-few
 take_held-requires-clause-few c some =
