@@ -17,8 +17,8 @@ use Rattle.listener.specs.Laws.{Agree, AreOther, HearsTalker, IsFurther, IsHeard
 
 -- What is shown of the records of a capture keeps the headline.
 pub record KeepsHeadline (shift : ℤ) (p : PacketJournal) (plan : ListenPlan) (records : List Record) (shown : List Shown) : Type 0 where
-  -- each batch that is presented is the packet that its item was made of: it has that packet's bytes, and each of its
-  -- samples is at the talker's own nanosecond
+  -- Each batch that is presented is the packet that its item was made of, with that packet's bytes. Each of its samples
+  -- is at the talker's own nanosecond.
   pub genuine : All (IsHeardFrom (by_clock plan) (items_in plan records) p plan.lead) (presented_of shown)
   -- no packet is presented twice
   pub once : AllPairs (AreOther (by_clock plan) p) (presented_of shown)
@@ -37,9 +37,9 @@ pub record KeepsHeadline (shift : ℤ) (p : PacketJournal) (plan : ListenPlan) (
       → shown_of_frame made.last.frame shown ≡ shown_by made.last (verdict_of plan records place item) ∷ []
   -- nothing else is shown
   pub no_other : All (IsShownItem plan records) shown
-  -- If another listener hears the talker, and both or neither use its clock, they agree: for each packet that both
+  -- If another listener hears the talker, and both or neither use its clock, they agree. For each packet that both
   -- present, both have the same bytes, and each sample at the same nanosecond.
   pub agrees : (other : ListenPlan) (others : List Record) → HearsTalker shift p other others → by_clock other ≡ by_clock plan → All (λ a. All (Agree (by_clock plan) p a) (presented_of (shown_of other others))) (presented_of shown)
-  -- whenever an item is judged, at most `buffer` batches wait, of at most `room` bytes together
+  -- whenever an item is judged, at most `buffer` batches wait, with together at most `room` bytes
   pub buffer : (place : ℕ) → length (waiting_at clock_spot (schedule_plan plan) (entries_in plan records) place) ≤ plan.buffer
   pub room : (place : ℕ) → total_bytes (waiting_at clock_spot (schedule_plan plan) (entries_in plan records) place) ≤ plan.room

@@ -119,8 +119,8 @@ pub record IsMadeOf (p : PacketJournal) (lead n : ℕ) (made : MadeItem) : Type 
   pub earlier : AreCopiesFrom p lead from made.earlier
   pub last : IsCopyOf p lead n made.last
 
--- The unit of an item is the journal's unit that ends with packet n: the item was made of one copy of each packet of that unit,
--- in their order, and has the unit's bytes and its instant.
+-- The unit of an item is the journal's unit that ends with packet n. The item was made of one copy of each packet of
+-- that unit, in their order, and has the unit's bytes and its instant.
 pub record IsUnitFrom (p : PacketJournal) (part : ℕ → Part) (lead n : ℕ) (made : MadeItem) (unit : WholeUnit) : Type 0 where
   pub copies : IsMadeOf p lead n made
   pub packets : AreUnit part copies.from n

@@ -96,17 +96,17 @@ fn hear(alloc: Global, listener: &mut Listener, bytes: &[u8]) -> Result<Heard, N
     })
 }
 
-/// What a listener shows of a whole capture: the schedule of the stream's packets in the capture's whole records, which
-/// are those before the first refusal; the counts; and the first refusal. A `Listener` that is fed the bytes and then
-/// ended shows the same.
+/// What a listener shows of a whole capture: the schedule of the stream's packets; the counts; and the first refusal.
+/// Only the whole records before the first refusal are heard. A `Listener` that is fed the bytes and then ended shows
+/// the same.
 ///
-/// A record belongs to the stream if it is a readable Ethernet frame of AVTP, its packet is of a kind that is read
-/// (AAF, IEEE 1722-2016, 7; CVF of H.264, 8; IEC 61883-6), and its stream id is valid and the wanted one. A packet that
-/// its reader refuses is flagged as malformed. Adjacent fragments of H.264 are put together into one unit, which has
-/// the frame number and the presentation time of its last packet. A fragment that is in no whole unit is flagged as
+/// A record belongs to the stream if it is a readable Ethernet frame of AVTP with a packet of a kind that is read (AAF,
+/// IEEE 1722-2016, 7; CVF of H.264, 8; IEC 61883-6). The packet's stream id must be valid and the wanted one. A packet
+/// that its reader refuses is flagged as malformed. Adjacent fragments of H.264 are put together into one unit, which
+/// has the frame number and the presentation time of its last packet. A fragment that is in no whole unit is flagged as
 /// broken or too long. A record belongs to the media clock if it is a readable Ethernet frame of AVTP with a packet of
-/// CRF (IEEE 1722-2016, 10), and its stream id is valid and the clock's. Record times are read as nanoseconds of gPTP.
-/// The plan must be within the limits that `ListenPlan` names.
+/// CRF (IEEE 1722-2016, 10). The packet's stream id must be valid and the clock's. Record times are read as nanoseconds
+/// of gPTP. The plan must be within the limits that `ListenPlan` names.
 ///
 /// If the talker keeps the rules, what is shown keeps the headline, whatever the capture loses, repeats or reorders of
 /// the packets of the talker and of its clock. Each packet that came in time, found room and has a known timestamp or

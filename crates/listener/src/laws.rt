@@ -77,9 +77,9 @@ pub fn units_are_true()
         → (n : ℕ) × IsUnitFrom p part plan.lead n made unit }
 {}
 
-/// A unit is made if all its packets came. If one copy of each packet of a unit of the talker came, in their order and
-/// with no other packet of the stream between them, the unit is among the items, made of exactly these copies. Each
-/// packet must carry the unit's first byte, and the unit must be within the limits of units.
+/// A unit is made if all its packets came. Suppose that one copy of each packet of a unit of the talker came, in their
+/// order and with no other packet of the stream between them. Then the unit is among the items, made of exactly these
+/// copies. Each packet must carry the unit's first byte, and the unit must be within the limits of units.
 pub fn units_are_whole()
     ensures made { (shift : ℤ) (p : PacketJournal) (plan : ListenPlan) (records : List Record) (part : ℕ → Part) (from n : ℕ) (before front earlier : List Delivery) (last : Delivery) (rest : List Delivery) → HearsTalker shift p plan records → p.times.kind ≡ H264 part
         → deliveries_of plan records ≡ before ++ last ∷ rest → in_stream before ≡ front ++ earlier → AreOfUnit p part plan.lead from n earlier last → Contains (items_in plan records) (unit_by before last) }
@@ -87,12 +87,12 @@ pub fn units_are_whole()
         → deliveries_of plan records ≡ before ++ last ∷ rest → in_stream before ≡ front ++ earlier → AreOfUnit p part plan.lead from n earlier last → (unit_by before last).earlier ≡ earlier }
 {}
 
-/// What is presented is true, whatever a capture loses, repeats or reorders of the packets of a talker that keeps the
-/// rules and of its clock, and wherever the media clock restarts. Each batch that is presented is one of the talker's
-/// packets or units, with its bytes, and is the packet that its own item was made of. Each of its samples is at the
-/// nanosecond of gPTP that the talker gave it, or that is counted from the timestamp to which the sample belongs.
-/// Samples are counted at the nominal rate. For a listener with the clock, they are on the line through the two CRF
-/// timestamps that cover that timestamp.
+/// What is presented is true. A capture may lose, repeat or reorder the packets of a talker that keeps the rules and of
+/// its clock, and the media clock may restart anywhere. Each batch that is presented is one of the talker's packets or
+/// units, with its bytes, and is the packet that its own item was made of. Each of its samples is at the nanosecond of
+/// gPTP that the talker gave it, or that is counted from the timestamp to which the sample belongs. Samples are counted
+/// at the nominal rate. For a listener with the clock, they are on the line through the two CRF timestamps that cover
+/// that timestamp.
 pub fn presented_are_true()
     ensures origin { (shift : ℤ) (p : PacketJournal) (plan : ListenPlan) (records : List Record) → HearsTalker shift p plan records → All (IsHeardFrom (by_clock plan) (items_in plan records) p plan.lead) (presented_of (shown_of plan records)) }
     ensures packet { (shift : ℤ) (p : PacketJournal) (plan : ListenPlan) (records : List Record) → HearsTalker shift p plan records → All (IsOfJournal (by_clock plan) p) (presented_of (shown_of plan records)) }
@@ -123,23 +123,23 @@ pub fn listeners_agree()
     ensures { (shift : ℤ) (p : PacketJournal) (plan other : ListenPlan) (records others : List Record) → HearsTalker shift p plan records → HearsTalker shift p other others → by_clock other ≡ by_clock plan → All (λ a. All (Agree (by_clock plan) p a) (presented_of (shown_of other others))) (presented_of (shown_of plan records)) }
 {}
 
-/// A copy of a packet is presented under four conditions: its timestamp is known (and with a clock, two CRF timestamps
-/// that cover it); it came in time; it found room; and no copy of the packet was accepted before. It does not matter
-/// how many other packets are late, lost or untimed. What is presented has the frame number of that copy.
+/// A copy of a packet is presented if it came in time, it found room, and no copy of the packet was accepted before.
+/// Its timestamp must be known, and with a clock, two CRF timestamps that cover it. It does not matter how many other
+/// packets are late, lost or untimed. What is presented has the frame number of that copy.
 pub fn known_and_in_time_is_presented()
     ensures { (shift : ℤ) (p : PacketJournal) (plan : ListenPlan) (records : List Record) (place n : ℕ) (made : MadeItem) → HearsTalker shift p plan records → IsWelcome p plan records place n made → Any (IsPresentedOf (by_clock plan) p n made) (presented_of (shown_of plan records)) }
 {}
 
-/// The first deliveries of an H.264 stream must be presented as one unit under five conditions: they are all packets of
-/// one unit of the talker, in their order; the last arrives at the unit's presentation time or before; each carries the
-/// unit's first byte; the unit is within the limits of units; and its bytes fit the room.
+/// The first deliveries of an H.264 stream must be presented as one unit if they are all packets of one unit of the
+/// talker, in their order. The last must arrive at the unit's presentation time or before. Each must carry the unit's
+/// first byte. The unit must be within the limits of units, and its bytes must fit the room.
 pub fn first_fragments_are_welcome()
     ensures { (shift : ℤ) (p : PacketJournal) (plan : ListenPlan) (records : List Record) (from n : ℕ) (part : ℕ → Part) (earlier : List Delivery) (last : Delivery) (rest : List Delivery) → HearsTalker shift p plan records → p.times.kind ≡ H264 part → deliveries_of plan records ≡ earlier ++ last ∷ rest
         → AreOfUnit p part plan.lead from n earlier last → last.arrival ≤ℤ pos (p.times.due n) → 1 ≤ plan.buffer → length (unit_bytes p from n) ≤ plan.room → IsWelcome p plan records 0 n (unit_by earlier last) }
 {}
 
-/// If a packet was accepted before, a further copy of it is flagged as a repeat, provided that the copy's timestamp is
-/// known and the copy came in time. It is flagged whether there is room or not. Nothing else is shown of its frame.
+/// If a packet was accepted before, a further copy of it is flagged as a repeat. The copy's timestamp must be known,
+/// and the copy must have come in time. It is flagged whether there is room or not. Nothing else is shown of its frame.
 pub fn further_copies_are_repeats()
     ensures { (shift : ℤ) (p : PacketJournal) (plan : ListenPlan) (records : List Record) (place n : ℕ) (made : MadeItem) → HearsTalker shift p plan records → IsFurther p plan records place n made → shown_of_frame made.last.frame (shown_of plan records) ≡ Flag made.last.frame made.last.seq Repeat ∷ [] }
 {}

@@ -31,7 +31,7 @@ use sample_schedule::{Judge, Shown};
 use std::alloc::Global;
 use std::marker::Model;
 
-/// A listener that takes a capture's records one at a time, in the capture's order, and shows each item of the stream
+/// A listener that takes a capture's records one at a time, in the capture's order. It shows each item of the stream
 /// once: presented, or flagged with the first reason why not. It shows an item as soon as no later record can change
 /// that.
 ///

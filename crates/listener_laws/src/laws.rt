@@ -60,39 +60,39 @@ pub fn bytes_are_given_truly()
     records_are_given_truly();
 }
 
-/// A copy of an audio packet must be presented under four conditions: it can be timed by the packets that came; no
-/// delivery up to it was captured after the packet's first instant; no copy of the packet came before; and the buffer
-/// has room for it. This holds anywhere in a capture, whatever the capture loses, repeats or reorders, and for
-/// listeners with the talker's clock or without.
+/// A copy of an audio packet must be presented if it can be timed by the packets that came, no copy of the packet came
+/// before, and the buffer has room for it. No delivery up to the copy may have been captured after the packet's first
+/// instant. This holds anywhere in a capture, whatever the capture loses, repeats or reorders, and for listeners with
+/// the talker's clock or without.
 pub fn copies_anywhere_are_welcome()
     ensures { (shift : ℤ) (p : PacketJournal) (plan : ListenPlan) (records : List Record) (place n : ℕ) (d : Delivery) → HearsTalker shift p plan records → IsAudioKind p.times.kind → MustBePresented p plan records place n d → IsWelcome p plan records place n (made_of_one d) }
 {}
 
-/// If an audio packet that must be presented comes again anywhere later, the copy must be flagged as a repeat, provided
-/// that no delivery up to the copy was captured after the packet's first instant.
+/// If an audio packet that must be presented comes again anywhere later, the copy must be flagged as a repeat. No
+/// delivery up to the copy may have been captured after the packet's first instant.
 pub fn copies_anywhere_are_further()
     ensures { (shift : ℤ) (p : PacketJournal) (plan : ListenPlan) (records : List Record) (earlier place n : ℕ) (made : MadeItem) (d : Delivery) → HearsTalker shift p plan records → IsAudioKind p.times.kind → IsWelcome p plan records earlier n made → earlier < place
         → ComesInTime p plan records place n d → IsFurther p plan records place n (made_of_one d) }
 {}
 
-/// A unit of H.264 must be presented under four conditions: one copy of each of its packets came, in order, with no
-/// other packet of the stream between them; no delivery up to the last copy was captured after the unit is due; the
-/// unit's last packet did not come before; and the buffer has room for the unit. The unit is made of exactly these
+/// A unit of H.264 must be presented if one copy of each of its packets came, in order, with no other packet of the
+/// stream between them. No delivery up to the last copy may have been captured after the unit is due. The unit's last
+/// packet must not have come before, and the buffer must have room for the unit. The unit is made of exactly these
 /// copies. This holds anywhere in a capture, whatever the capture loses, repeats or reorders.
 pub fn units_anywhere_are_welcome()
     ensures { (shift : ℤ) (p : PacketJournal) (plan : ListenPlan) (records : List Record) (part : ℕ → Part) (from n : ℕ) (before : List Delivery) (last : Delivery) → HearsTalker shift p plan records → p.times.kind ≡ H264 part
         → UnitMustBePresented p plan records part from n before last → IsWelcome p plan records (unit_place before last) n (unit_by before last) }
 {}
 
-/// If the same unit comes whole again anywhere later, it must be flagged as a repeat, provided that no delivery up to
-/// its last packet was captured after the unit is due.
+/// If the same unit comes whole again anywhere later, it must be flagged as a repeat. No delivery up to its last packet
+/// may have been captured after the unit is due.
 pub fn units_anywhere_are_further()
     ensures { (shift : ℤ) (p : PacketJournal) (plan : ListenPlan) (records : List Record) (part : ℕ → Part) (earlier from n : ℕ) (made : MadeItem) (before : List Delivery) (last : Delivery) → HearsTalker shift p plan records → p.times.kind ≡ H264 part → IsWelcome p plan records earlier n made
         → earlier < unit_place before last → UnitComesInTime p plan records part from n before last → IsFurther p plan records (unit_place before last) n (unit_by before last) }
 {}
 
-/// The headline alone demands that a copy or a unit that must be presented is presented, and that a further copy of it
-/// is flagged as a repeat. It demands this anywhere in a capture, with a clock or without.
+/// The headline alone demands that a copy or a unit that must be presented is presented. It also demands that a further
+/// copy of it is flagged as a repeat. Both hold anywhere in a capture, with a clock or without.
 pub fn headline_demands()
     ensures presented { (shift : ℤ) (p : PacketJournal) (plan : ListenPlan) (records : List Record) (shown : List Shown) (place n : ℕ) (d : Delivery) → KeepsHeadline shift p plan records shown → HearsTalker shift p plan records → IsAudioKind p.times.kind → MustBePresented p plan records place n d
         → Any (IsPresentedOf (by_clock plan) p n (made_of_one d)) (presented_of shown) }

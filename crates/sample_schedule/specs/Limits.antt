@@ -11,8 +11,8 @@ use Rattle.sample_schedule.specs.declared.item.Packet.{Packet}
 use Rattle.sample_schedule.specs.declared.item.Unit.{Unit as WholeUnit}
 use Rattle.sample_schedule.specs.declared.plan.SchedulePlan.{SchedulePlan}
 
--- A plan within its limits: a buffer of 1 to 65,536 batches and 1 to 1,073,741,824 bytes, at most 64 entries looked
--- ahead, a lead of at most a second, and a shift of at most a second either way.
+-- A plan within its limits. The buffer has 1 to 65,536 batches and 1 to 1,073,741,824 bytes. At most 64 entries are
+-- looked ahead. The lead is at most a second, and the shift is at most a second either way.
 pub record IsPlan (plan : SchedulePlan) : Type 0 where
   pub some_buffer : 1 ≤ plan.buffer
   pub buffer : plan.buffer ≤ 65536

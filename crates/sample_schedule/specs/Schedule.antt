@@ -58,8 +58,8 @@ judged clock plan entries i earlier (OfItem item) =
     Some (verdict plan (now_at entries i) earlier i (timed clock plan (prefix_of plan entries i) item))
 judged clock plan entries i earlier (OfClock arrival row) = None
 
--- the verdict on entry i, given what was accepted before it; none if entry i is a packet of the clock, or if the list
--- is not that long
+-- The verdict on entry i, given what was accepted before it. There is none if entry i is a packet of the clock, or if
+-- the list is not that long.
 unfoldable pub verdict_at : Clock → SchedulePlan → List Entry → ℕ → List Accepted → Option (Result Accepted Reason)
 verdict_at clock plan entries i earlier =
     option_and_then (judged clock plan entries i earlier) (slice_get entries i)

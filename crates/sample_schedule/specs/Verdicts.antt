@@ -23,8 +23,8 @@ pub use Rattle.sorted_keys.specs.Keys.{same_instant}
 
 -- ---- where the samples of an item are
 
--- The answer of a media clock: where on its lines an instant is, given the clock's packets so far, the shift of their
--- timestamps, and the rate of the stream. `None` if no line covers the instant.
+-- The answer of a media clock: where on its lines an instant is. The answer depends on the clock's packets so far, the
+-- shift of their timestamps, and the rate of the stream. It is `None` if no line covers the instant.
 abbrev pub Clock : Type 0
 Clock = List ClockRow → ℤ → ℤ → ℕ → Option Spot
 

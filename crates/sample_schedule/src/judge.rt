@@ -28,7 +28,7 @@ use clock_track::Points;
 use std::alloc::Global;
 use std::marker::Model;
 
-/// A judge takes the entries of a stream one at a time, in capture order, and shows each item of the stream once,
+/// A judge takes the entries of a stream one at a time, in capture order. It shows each item of the stream once,
 /// presented or flagged with the first reason that holds.
 ///
 /// An item is judged once `look` later entries are known, so a packet without a timestamp may be counted from one that

@@ -72,7 +72,7 @@ pub fn what_is_not_due_waits()
     ensures unjudged { (plan : SchedulePlan) (entries : List Entry) → length entries ≤ settled plan entries + plan.look }
 {}
 
-/// If a copy arrives in time, the item that it repeats still waits: it is found among the waiting items exactly if it
+/// If a copy arrives in time, the item that it repeats still waits. It is found among the waiting items exactly if it
 /// is found among all accepted items.
 pub fn copies_wait()
     ensures { (now instant : ℤ) (seq : ℕ) (earlier : List Accepted) → now ≤ℤ instant → list_any (is_copy instant seq) (standing now earlier) ≡ list_any (is_copy instant seq) earlier }

@@ -13,7 +13,7 @@ use std::alloc::Global;
 use std::collections::VecDeque;
 use std::marker::Model;
 
-/// A block with this many keys is split in halves, so all blocks but the first are at least half full, and `with_room`
+/// A block with this many keys is split in halves. So all blocks but the first are at least half full, and `with_room`
 /// can reserve them all.
 pub const FULL: usize = 512;
 

@@ -51,8 +51,8 @@ fn packets_are_judged_once_the_look_ahead_is_known(rt: HostRuntime) -> Result<()
     check_rows(&rt, rt.alloc(), &ROWS)
 }
 
-/// Changed bytes of a clock packet that leave it no valid timestamp, and whether the packet still belongs to the clock:
-/// another version, uncertain times, another type, no interval; no valid id, another id.
+/// Changed bytes of a clock packet that leave it no valid timestamp, and whether the packet still belongs to the clock.
+/// The changes are another version, uncertain times, another type and no interval; then no valid id and another id.
 const POINTLESS: [(&[(usize, u8)], bool); 6] = [
     (&[(1, 0x90)], true),
     (&[(1, 0x81)], true),

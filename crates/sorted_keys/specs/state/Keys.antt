@@ -65,7 +65,7 @@ pub record AreTaken (blocks : List (List Key)) : Type 0 where
   pub filled : AllByRecursion (λ block. 256 ≤ length block) (drop 1 blocks)
   pub short : AllByRecursion (λ block. length block < 512) blocks
 
--- A key with this instant goes into the block at this index: no key in the blocks before it is later than the instant,
+-- A key with this instant goes into the block at this index. No key in the blocks before it is later than the instant,
 -- and all keys in the blocks after it are later.
 abbrev pub IsBlockFor : ℤ → List (List Key) → ℕ → Type 0
 IsBlockFor instant [] place = ⊥
