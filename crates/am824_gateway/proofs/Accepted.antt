@@ -1,4 +1,4 @@
--- What holds for each item that may be presented holds for all that a listener presents.
+-- If P holds for each item that may be presented, it holds for all that a listener presents.
 use Rattle.std.proofs.Common.{◌≡◌, ℕ, zero, suc, Bool, true, false, ℤ, ◌≤ℤ◌, List, [], ◌∷◌, ◌++◌, length, map, Option, Some, None, Result, Ok, Err, refl, sym, subst, arith}
 use Rattle.std.specs.Prelude.{fold, int_lt, option_and_then, slice_get}
 use Rattle.std.specs.List.{AllByRecursion}
@@ -71,7 +71,7 @@ batches_all : (P : Presented → Type 0) (xs : List Accepted) → AllByRecursion
 batches_all P [] all = tt
 batches_all P (x ∷ xs) all = (all.0, batches_all P xs all.1)
 
--- what holds for each item that may be presented holds for all that is presented
+-- if P holds for each item that may be presented, it holds for all that is presented
 pub presented_all : (P : Presented → Type 0) (plan : ListenPlan) (records : List Record) → HoldsOfItems (schedule_plan plan) (entries_in plan records) P → AllByRecursion P (presented_of (shown_of plan records))
 presented_all P plan records holds =
     let es = entries_in plan records in
@@ -87,7 +87,7 @@ front_all P [] ys all = tt
 front_all P (Present batch ∷ xs) ys all = (all.0, front_all P xs ys all.1)
 front_all P (Flag frame seq reason ∷ xs) ys all = front_all P xs ys all
 
--- what holds for all that is presented holds for what is due
+-- if P holds for all that is presented, it holds for all that is due
 pub due_all : (P : Presented → Type 0) (plan : ListenPlan) (records : List Record) → AllByRecursion P (presented_of (shown_of plan records)) → AllByRecursion P (presented_of (due_of plan records))
 due_all P plan records all =
     let first = due_first plan records in

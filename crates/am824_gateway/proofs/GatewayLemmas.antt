@@ -65,7 +65,7 @@ within_by to shape batch first block rest true t is e others =
       others late.1,
     )
 
--- a piece that is cut lies within the batch
+-- if no piece is late, each piece lies within its batch and fits one packet
 pub all_within : (to : To) (shape : Shape) (batch : Presented) (most first block : ℕ) → IsShape shape → list_any (is_late batch) (pieces_from to shape batch most first block) ≡ false
     → AllByRecursion (IsWithin to shape batch) (pieces_from to shape batch most first block)
 all_within to shape batch zero first block is e = tt
@@ -158,7 +158,7 @@ in_range batch i p is h = rw (is.at) (p.instants i.j h)
 
 -- ---- turns
 
--- the turn of frame i, given the piece that it carries
+-- if frame i carries the piece p, its turn has this arrival, number and size
 pub turn_is : (to : To) (shape : Shape) (id n : ℕ) (batch : Presented) (frames : List SentFrame) (i size : ℕ) (arrival : ℤ) (p : Piece) → slice_get frames i ≡ Some (piece_frame to shape id n batch p)
     → p.first + p.count ≤ batch.count → length batch.bytes ≡ batch.count * (value_in to * shape.channels) → arrival ≡ arrival_at (sample_instant batch p.first) → size ≡ frame_size to shape p
     → option_map turn_of (slice_get frames i) ≡ Some (record { arrival = arrival; number = n; clock = false; size = size })
@@ -166,7 +166,7 @@ turn_is to shape id n batch frames i size arrival p frame inside whole at sized 
     let long : length (piece_frame to shape id n batch p).bytes ≡ size = length_frame to shape id n batch p inside whole ∙ sym sized in
     rw (frame, at, ← long) refl
 
--- the frame of a turn, given its bytes
+-- frame i is the frame with this turn and these bytes
 pub frame_is : (to : To) (shape : Shape) (id n : ℕ) (batch : Presented) (frames : List SentFrame) (i : ℕ) (turn : Turn) (bytes : List ℕ) (p : Piece) → slice_get frames i ≡ Some (piece_frame to shape id n batch p)
     → option_map turn_of (slice_get frames i) ≡ Some turn → bytes ≡ (piece_frame to shape id n batch p).bytes → slice_get frames i ≡ Some (frame_in turn bytes)
 frame_is to shape id n batch frames i turn bytes p frame is made =
@@ -174,7 +174,7 @@ frame_is to shape id n batch frames i turn bytes p frame is made =
     let turned : turn_of (piece_frame to shape id n batch p) ≡ turn = cc in
     frame ∙ (rw (← turned, made) refl)
 
--- the length of a turn's frame
+-- the size that a turn states is the size of its frame
 pub size_is : (to : To) (shape : Shape) (id n : ℕ) (batch : Presented) (frames : List SentFrame) (i : ℕ) (turn : Turn) (p : Piece) → slice_get frames i ≡ Some (piece_frame to shape id n batch p)
     → option_map turn_of (slice_get frames i) ≡ Some turn → p.first + p.count ≤ batch.count → length batch.bytes ≡ batch.count * (value_in to * shape.channels) → turn.size ≡ frame_size to shape p
 size_is to shape id n batch frames i turn p frame is inside whole =
@@ -182,7 +182,7 @@ size_is to shape id n batch frames i turn p frame is inside whole =
     let turned : turn_of (piece_frame to shape id n batch p) ≡ turn = cc in
     sym (ap (λ (t : Turn). t.size) turned) ∙ length_frame to shape id n batch p inside whole
 
--- the number of a turn's packet
+-- the number that a turn states is the number of its packet
 pub number_is : (to : To) (shape : Shape) (id n : ℕ) (batch : Presented) (frames : List SentFrame) (i : ℕ) (turn : Turn) (p : Piece) → slice_get frames i ≡ Some (piece_frame to shape id n batch p)
     → option_map turn_of (slice_get frames i) ≡ Some turn → n ≡ turn.number
 number_is to shape id n batch frames i turn p frame is =
@@ -192,7 +192,7 @@ number_is to shape id n batch frames i turn p frame is =
 
 -- ---- what a gateway holds
 
--- piece i exists if frame i does
+-- if frame i exists, piece i exists
 pub known : (current : Option Current) (pieces : List Piece) (c : Current) (i : ℕ) → current ≡ Some c → i < length (frames_in current pieces) → i < length pieces
 known None pieces c i e h = absurd cc
 known (Some d) pieces c i e h = omega (arith, h, length_frames d.stream.to d.stream.shape d.stream.id d.first d.batch pieces)
@@ -203,7 +203,7 @@ within_at current pieces c i p e cut h is =
     let cut : IsCut c pieces = rw e at cut in
     subst (IsWithin c.stream.to c.stream.shape c.batch) (sym is) (at (IsWithin c.stream.to c.stream.shape c.batch) pieces i p h cut.within)
 
--- a batch is still cut if piece i is the only one
+-- a batch that is cut into `pieces` is also cut into piece i alone
 pub cut_one : (current : Option Current) (pieces : List Piece) (c : Current) (i : ℕ) (p : Piece) → current ≡ Some c → IsCutFrom current pieces → i < length pieces → p ≡ slice_index_or pieces i p → IsCut c (p ∷ [])
 cut_one current pieces c i p e cut h is =
     let all : IsCut c pieces = rw e at cut in
@@ -214,7 +214,7 @@ short [] i turn e = absurd cc
 short (x ∷ xs) zero turn e = omega arith
 short (x ∷ xs) (suc i) turn e = let rest = short xs i turn e in omega arith
 
--- piece i exists if it has a turn
+-- if frame i has a turn, piece i exists
 pub known_by : (current : Option Current) (pieces : List Piece) (c : Current) (i : ℕ) (turn : Turn) → current ≡ Some c → option_map turn_of (slice_get (frames_in current pieces) i) ≡ Some turn → i < length pieces
 known_by current pieces c i turn e is = known current pieces c i e (short (frames_in current pieces) i turn is)
 

@@ -8,13 +8,14 @@ use Rattle.am824_gateway.specs.declared.scan.To.TheVariants.{Aaf, Am824}
 use Rattle.am824_gateway.specs.Packets.{packet_of, timestamp_at}
 use Rattle.am824_gateway.specs.state.Streams.{no_samples, stated_of}
 
--- bytes that were written over a list as long as they are
+-- if `xs` is written over a whole list, the list is `xs`
 pub put_all : (o new xs : List ℕ) (n : ℕ) → length o ≡ n → new ≡ take 0 o ++ (xs ++ drop (0 + n) o) → new ≡ xs
 put_all o new xs n size e =
     let none : drop (0 + n) o ≡ [] = drop_of_length-le o {i = 0 + n} (omega arith) in
     e ∙ rw none (append-nil xs)
 
--- the numbers of a packet of AM824
+-- If the sequence number, the timestamp, the length and the block count are written into the headers of an AM824 packet
+-- without samples, the headers are those of packet n.
 pub am824_headers : (shape : Shape) (id n : ℕ) (instant : ℤ) (p : Piece) (samples o1 o2 o3 o4 o5 : List ℕ) (seq timestamp stated : ℕ)
     → o1 ≡ packet_bytes (packet_of Am824 shape id 0 (pos 0) no_samples [])
     → o2 ≡ take 20 o1 ++ ((seq ∷ []) ++ drop 21 o1) → o3 ≡ take 30 o2 ++ (big_bytes 4 timestamp ++ drop 34 o2)
@@ -27,7 +28,8 @@ am824_headers shape id n instant p samples o1 o2 o3 o4 o5 seq timestamp stated e
     let block : p.block % 256 ≡ p.block = omega arith in
     rw (e5, e4, e3, e2, e1, s, t, l, third, block) refl
 
--- the numbers of a packet of PCM
+-- If the sequence number, the timestamp and the length are written into the headers of a PCM packet without samples,
+-- the headers are those of packet n.
 pub aaf_headers : (shape : Shape) (id n : ℕ) (instant : ℤ) (p : Piece) (samples o1 o2 o3 o4 : List ℕ) (seq timestamp stated : ℕ)
     → o1 ≡ packet_bytes (packet_of Aaf shape id 0 (pos 0) no_samples [])
     → o2 ≡ take 20 o1 ++ ((seq ∷ []) ++ drop 21 o1) → o3 ≡ take 30 o2 ++ (big_bytes 4 timestamp ++ drop 34 o2)

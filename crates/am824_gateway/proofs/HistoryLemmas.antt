@@ -1,4 +1,4 @@
--- What a gateway gives for one more batch.
+-- What a gateway gives out for one more batch.
 use Rattle.std.proofs.Common.{◌≡◌, ℕ, List, [], ◌∷◌, ◌++◌, Option, Some, None, refl, ap, ◌∙◌, sym, append_assoc}
 use Rattle.std.proofs.lemmas.List.{append-nil}
 use Rattle.sample_schedule.specs.Batches.{Presented}
@@ -9,11 +9,10 @@ use Rattle.am824_gateway.specs.declared.skip.Skip.{Skip}
 use Rattle.am824_gateway.specs.Packets.{frames_after, frames_with}
 use Rattle.am824_gateway.specs.Pieces.{Given, given_by, given_with, skip_by, unless}
 
--- the frames of one batch, after what was given out
+-- the frames of one batch, if the gateway has given out `given` before
 abbrev frames_of : To → Shape → ℕ → Given → Presented → List SentFrame
 frames_of to shape id given batch = unless (skip_by to shape given batch) (frames_with to shape id given batch) []
 
--- the frames of a batch, and then of the others
 first_batch : (skip : Option Skip) (here given skipped : List SentFrame) → unless skip (here ++ given) skipped ≡ unless skip here [] ++ unless skip given skipped
 first_batch None here given skipped = refl
 first_batch (Some skip) here given skipped = refl

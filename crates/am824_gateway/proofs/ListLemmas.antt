@@ -5,7 +5,7 @@ use Rattle.std.proofs.Math.Seq.{take-append_seam}
 use Rattle.std.proofs.lemmas.List.{length-append, length-drop, length-take-le, take_all}
 use Rattle.am824_gateway.specs.Labels.{labelled, unlabelled}
 
--- a list of three bytes is its three bytes, one by one
+-- a list of three bytes consists of its elements 0, 1 and 2
 pub three : (xs : List ℕ) → length xs ≡ 3 → slice_index_or xs 0 0 ∷ slice_index_or xs 1 0 ∷ slice_index_or xs 2 0 ∷ [] ≡ xs
 three [] e = absurd cc
 three (x ∷ []) e = absurd cc
@@ -16,7 +16,7 @@ three (x ∷ y ∷ z ∷ w ∷ rest) e = absurd (omega arith)
 pub length-part : (i n : ℕ) (xs : List ℕ) → i + n ≤ length xs → length (take n (drop i xs)) ≡ n
 length-part i n xs h = length-take-le n (drop i xs) (simp length-drop (omega arith))
 
--- three bytes in a list, one by one
+-- three bytes of a list, from index i on, are the elements 0, 1 and 2 of that part
 pub three_in : (i j : ℕ) (xs : List ℕ) → j ≡ i + 3 → j ≤ length xs
     → slice_index_or (take (j - i) (drop i xs)) 0 0 ∷ slice_index_or (take (j - i) (drop i xs)) 1 0 ∷ slice_index_or (take (j - i) (drop i xs)) 2 0 ∷ [] ≡ take 3 (drop i xs)
 three_in i j xs e h =
@@ -27,7 +27,7 @@ three_in i j xs e h =
 seam : (xs ys : List ℕ) (n : ℕ) → n ≡ length xs → take n (xs ++ ys) ≡ xs
 seam xs ys n e = rw e (take-append_seam xs ys)
 
--- after a part is written, the list begins with the earlier parts and this one
+-- if `q` is written directly after `a`, the list begins with `a ++ q`
 written : (a q d new : List ℕ) (n : ℕ) → new ≡ a ++ (q ++ d) → n ≡ length a + length q → take n new ≡ a ++ q
 written a q d new n e size =
     let whole : new ≡ (a ++ q) ++ d = e ∙ sym (append_assoc a q d) in
@@ -54,7 +54,7 @@ unlabelled_more k out quadlets new room value e is =
     let made = written (take (3 * k) out) (take 3 (drop (4 * k + 1) quadlets)) (drop (3 * k + 3) out) new (3 * (k + 1)) is (omega arith) in
     made ∙ (rw (next, e) refl)
 
--- writing a part leaves the length as it was
+-- writing `q` into a list does not change the list's length
 pub length_same : (a q d out new : List ℕ) (i j : ℕ) → a ≡ take i out → d ≡ drop j out → j ≡ i + length q → j ≤ length out → new ≡ a ++ (q ++ d) → length new ≡ length out
 length_same a q d out new i j ea ed ej h is =
     let first : length a ≡ i = rw ea (length-take-le i out (omega arith)) in
@@ -64,6 +64,6 @@ length_same a q d out new i j ea ed ej h is =
     let all = ap (λ (l : List ℕ). length l) is in
     omega arith
 
--- once all is written, the list is what was to be written
+-- if the first n elements of a list of length n are `made`, the list is `made`
 pub all_written : (n : ℕ) (out made : List ℕ) → length out ≡ n → take n out ≡ made → out ≡ made
 all_written n out made size e = sym (take_all n out (omega arith)) ∙ e

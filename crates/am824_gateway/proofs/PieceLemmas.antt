@@ -21,17 +21,17 @@ use Rattle.am824_gateway.specs.state.Cutting.{IsOnePiece}
 
 -- ---- how long a piece is
 
--- a further sample is at its nominal instant
+-- if sample k passes the test, the count goes on with sample k + 1
 pub goes_on : (test : ℕ → Bool) (k more : ℕ) → 1 ≤ more → test k ≡ true → going_on test k more ≡ going_on test (k + 1) (more - 1)
 goes_on test k zero some e = absurd (omega arith)
 goes_on test k (suc more) some e = (let next : k + 1 ≡ suc k = omega arith in let less : suc more - 1 ≡ more = omega arith in rw (e, next, less) refl)
 
--- the next sample is not at its nominal instant
+-- if sample k fails the test, the count stops at k
 pub stops : (test : ℕ → Bool) (k more : ℕ) → test k ≡ false → going_on test k more ≡ k
 stops test k zero e = refl
 stops test k (suc more) e = rw e refl
 
--- there is no next sample
+-- if no sample is left, the count stops at k
 pub is_full : (test : ℕ → Bool) (k more : ℕ) → more ≡ 0 → going_on test k more ≡ k
 is_full test k zero e = refl
 is_full test k (suc more) e = absurd (omega arith)
@@ -44,14 +44,14 @@ counted test k (suc more) = by (test k) refl (counted test (suc k) more)
     by true e next = rw e (omega (arith, next.0), omega (arith, next.1))
     by false e next = rw e (omega arith, omega arith)
 
--- the test of a sample, given its instant
+-- the code's comparison of instants is the test `is_nominal` of sample k
 pub test_is : (rate first k j offset : ℕ) (batch : Presented) (now start : ℤ) (b : Bool) → b ≡ int_eq now (start +ℤ pos offset) → now ≡ sample_instant batch j → j ≡ first + k → start ≡ sample_instant batch first
     → offset ≡ nominal_offset rate k → is_nominal rate batch first k ≡ b
 test_is rate first k j offset batch now start b e at place begun off = sym (e ∙ (rw (at, place, begun, off) refl))
 
 -- ---- the pieces
 
--- the pieces of a batch are the first one and then the rest
+-- the pieces from sample `first` on are one that begins there, and then the pieces from its end on
 pub first_piece : (to : To) (shape : Shape) (batch : Presented) (most first block : ℕ) → 1 ≤ most → first < batch.count
     → pieces_from to shape batch most first block
     ≡ record { first = first; count = piece_count to shape batch first; block = block }
@@ -67,7 +67,7 @@ pub no_piece : (to : To) (shape : Shape) (batch : Presented) (most first block :
 no_piece to shape batch zero first block h = refl
 no_piece to shape batch (suc most) first block h = (let test : nat_lt first batch.count ≡ false = grind (arith, nat_tests) in rw test refl)
 
--- the block count after one more piece
+-- the block count after `pieces` and one more piece p
 pub block_more : (interval block : ℕ) (pieces : List Piece) (p : Piece) → p.block ≡ block_after interval block pieces → block_after interval block (pieces ++ p ∷ []) ≡ next_block interval p.block p.count
 block_more interval block [] p e = refl
 block_more interval block (q ∷ pieces) p e = block_more interval (next_block interval q.block q.count) pieces p e
@@ -84,7 +84,7 @@ late_more batch (q ∷ pieces) p = ap (λ (b : Bool). is_late batch q || b) (lat
     by true b c = refl
     by false b c = refl
 
--- one step of the loop that cuts
+-- after one step of the loop that cuts, the pieces so far and the pieces still to be cut are all pieces
 pub step : (to : To) (shape : Shape) (batch : Presented) (pieces : List Piece) (first next count : ℕ) (all : List Piece) → first < batch.count → length pieces ≤ first
     → count ≡ piece_count to shape batch first → pieces ++ pieces_from to shape batch (batch.count - length pieces) first next ≡ all
     → (pieces ++ record { first = first; count = count; block = next } ∷ []) ++ pieces_from to shape batch (batch.count - (length pieces + 1)) (first + count) (next_block (interval_of shape.rate) next count) ≡ all
@@ -99,7 +99,7 @@ step to shape batch pieces first next count all inside few is e =
 most_of : (count most d : ℕ) → count ≤ most / d → count * d ≤ most
 most_of count most d h = (let times = mul-le-mul_right d h in let whole = div-mul-le_self most d in omega (arith, times, whole))
 
--- a piece fits a packet
+-- a piece of at most `most_frames` sample frames fits in a packet
 pub fits : (to : To) (channels count : ℕ) → count ≤ most_frames to channels → count * (value_out to * channels) ≤ most_bytes to
 fits to channels count h = most_of count (most_bytes to) (value_out to * channels) h
 

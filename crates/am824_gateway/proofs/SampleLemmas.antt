@@ -44,7 +44,7 @@ no_offset : (rate : ℕ) → nominal_offset rate 0 ≡ 0
 no_offset zero = refl
 no_offset (suc rate) = omega arith
 
--- each sample of a piece is where it is counted from the piece's first sample
+-- each sample of a piece is at its nominal instant, counted from the piece's first sample
 pub counted_at : (to : To) (shape : Shape) (batch : Presented) (first k : ℕ) → k < piece_count to shape batch first → sample_instant batch first +ℤ pos (nominal_offset shape.rate k) ≡ sample_instant batch (first + k)
 counted_at to shape batch first zero h =
     let none = no_offset shape.rate in
@@ -56,7 +56,7 @@ counted_at to shape batch first (suc k) h =
 
 -- ---- values
 
--- part k of some parts of the bytes, as a part of all bytes
+-- part k of the `count` parts from part `first` on is part `first + k` of all bytes
 part_of : (s first count k : ℕ) (bytes : List ℕ) → k < count → take s (drop (k * s) (take (count * s) (drop (first * s) bytes))) ≡ part s (first + k) bytes
 part_of s first count k bytes h =
     let rest : ℕ = (count - k) * s in
@@ -72,7 +72,7 @@ part_of s first count k bytes h =
 groups : (count k ch : ℕ) → k < count → k * ch + ch + (count - k - 1) * ch ≡ count * ch
 groups count k ch h = (let split : k + 1 + (count - k - 1) ≡ count = omega (arith, h) in subst (λ (n : ℕ). k * ch + ch + (count - k - 1) * ch ≡ n * ch) split (omega arith))
 
--- a sample of a piece has the values of the batch's sample
+-- sample k of a piece, as it is sent, has the values of sample `p.first + k` of the batch
 same_values : (to : To) (shape : Shape) (batch : Presented) (p : Piece) (k : ℕ) → k < p.count → p.first + p.count ≤ batch.count → length batch.bytes ≡ batch.count * (value_in to * shape.channels)
     → values_out to shape.channels (part (value_out to * shape.channels) k (samples_of to shape batch p)) ≡ values_in to shape.channels (part (value_in to * shape.channels) (p.first + k) batch.bytes)
 same_values Am824 shape batch p k h inside size =

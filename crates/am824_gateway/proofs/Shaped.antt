@@ -56,7 +56,7 @@ use Rattle.am824_gateway.proofs.Timely.{HasRate, IsOfPacket, all_rated, of_packe
 
 -- ---- the scan
 
--- a stream of this shape can be converted, as far as this content of a record is concerned
+-- a record with this content has no fault, if the stream has this shape
 abbrev pub IsFine : To → Option Shape → Content → Type 0
 IsFine to shape Silent = ⊤
 IsFine to shape Video = ⊥
@@ -83,7 +83,7 @@ all_fine to stream first frame (r ∷ records) none =
 
 -- ---- deliveries
 
--- a delivery is of the clock, or its content allows the stream to be converted
+-- the delivery is a CRF packet, or its content has no fault
 abbrev IsFineDelivery : To → Option Shape → Delivery → Type 0
 IsFineDelivery to shape d = ((d.subtype == crf_subtype) ≡ true) ⊎ IsFine to shape (packet_content (record { subtype = d.subtype; bytes = d.packet }))
 
@@ -167,7 +167,7 @@ three_bytes Int32 b e = absurd cc
 three_bytes Int24 b e = refl
 three_bytes Int16 b e = absurd cc
 
--- the payload has the stated length
+-- the payload of a PCM packet that its reader accepts has the stated length
 payload_long : (bytes : List ℕ) → aaf_refusal bytes ≡ None → length (aaf_of bytes).payload ≡ bits 20 0 16 bytes
 payload_long bytes accepted =
     let kind = or_else-none (kind_refusal aaf_subtype bytes) (or_else (first_row (sample_rows bytes)) (first_row (length_rows bytes))) accepted in
@@ -178,7 +178,7 @@ payload_long bytes accepted =
     let rest = length-drop 24 bytes in
     omega (arith, long, front, rest)
 
--- the length of a payload of three-byte samples, given the stated length
+-- a payload of three-byte samples has three bytes for each channel of each sample frame
 sized : (long pc c ch w k stated : ℕ) → long ≡ stated → c * (ch * w) ≡ stated → w ≡ 3 → ch ≡ k → pc ≡ c → long ≡ pc * (3 * k)
 sized long pc c ch w k stated same whole three channels count = rw (same, ← whole, three, channels, count) (omega arith)
 
@@ -209,7 +209,7 @@ block_values Aaf (Some shape) d rate accepted named fine p bytes count =
 
 -- ---- entries
 
--- a packet of samples with a known rate has values of this shape, and there is no unit
+-- A packet of samples with a known rate has values of this shape. No entry is a unit.
 abbrev pub IsShapely : To → Option Shape → Entry → Type 0
 IsShapely to shape (OfItem (OfPacket p)) = 1 ≤ p.count → 1 ≤ p.rate → HasValues to shape p
 IsShapely to shape (OfItem (OfUnit u)) = ⊥

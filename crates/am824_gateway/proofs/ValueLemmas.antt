@@ -17,7 +17,7 @@ drop_here xs ys n e = subst (λ (k : ℕ). drop k (xs ++ ys) ≡ ys) e (drop-app
 dropped : (m n k : ℕ) (xs : List ℕ) → n + m ≡ k → drop m (drop n xs) ≡ drop k xs
 dropped m n k xs e = drop-drop m n xs ∙ ap (λ (i : ℕ). drop i xs) e
 
--- ---- the first ones and then others
+-- ---- the first a values or quadlets, and the b after them
 
 labels_both : (a b : ℕ) (v : List ℕ) → labelled (a + b) v ≡ labelled a v ++ labelled b (drop (3 * a) v)
 labels_both a zero v = (let same : a + 0 ≡ a = omega arith in rw same (sym (append-nil (labelled a v))))
@@ -35,7 +35,7 @@ values_both a (suc b) q =
     let at = dropped (4 * b + 1) (4 * a) (4 * (a + b) + 1) q (omega arith) in
     rw (next, before, ← at) (append_assoc (unlabelled a q) (unlabelled b (drop (4 * a) q)) (take 3 (drop (4 * b + 1) (drop (4 * a) q))))
 
--- ---- what follows is not looked at
+-- ---- later quadlets make no difference
 
 values_front : (n : ℕ) (xs ys : List ℕ) → 4 * n ≤ length xs → unlabelled n (xs ++ ys) ≡ unlabelled n xs
 values_front zero xs ys h = refl
@@ -46,7 +46,7 @@ values_front (suc n) xs ys h =
     let value = take-append-le 3 (drop (4 * n + 1) xs) ys long in
     rw (before, cut, value) refl
 
--- ---- there and back
+-- ---- labels added, then removed
 
 pub back : (n : ℕ) (v : List ℕ) → 3 * n ≤ length v → unlabelled n (labelled n v) ≡ take (3 * n) v
 back zero v h = refl
@@ -63,9 +63,10 @@ back (suc n) v h =
     let next : 3 * suc n ≡ 3 * n + 3 = omega arith in
     rw (front, before, at, all, next) (sym (take-add (3 * n) 3 v))
 
--- ---- a part
+-- ---- part of a list with its labels added or removed
 
--- b values after the first a ones, taken from quadlets that were made of values
+-- If labels are added to values and then removed from b quadlets after the first a, the result is the b values after
+-- the first a.
 pub labels_part : (a b d : ℕ) (v : List ℕ) → 3 * (a + b + d) ≤ length v → unlabelled b (take (4 * b) (drop (4 * a) (labelled (a + b + d) v))) ≡ take (3 * b) (drop (3 * a) v)
 labels_part a b d v h =
     let group : a + b + d ≡ a + (b + d) = omega arith in
@@ -76,7 +77,7 @@ labels_part a b d v h =
     let here = take_here (labelled b (drop (3 * a) v)) (labelled d (drop (3 * b) (drop (3 * a) v))) (4 * b) (length_labelled b (drop (3 * a) v) rest) in
     rw (group, whole, first, both, here) (back b (drop (3 * a) v) rest)
 
--- b values after the first a ones, taken from values that were made of quadlets
+-- If labels are removed from quadlets, the b values after the first a are those of the b quadlets after the first a.
 pub values_part : (a b d : ℕ) (q : List ℕ) → 4 * (a + b + d) ≤ length q → take (3 * b) (drop (3 * a) (unlabelled (a + b + d) q)) ≡ unlabelled b (take (4 * b) (drop (4 * a) q))
 values_part a b d q h =
     let group : a + b + d ≡ a + (b + d) = omega arith in

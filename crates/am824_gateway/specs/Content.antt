@@ -41,7 +41,8 @@ am824 v rate = record {
   linear = are_linear v.payload;
 }
 
--- the samples of a packet; nothing if it has none or their rate is unknown, because it is then never presented
+-- The content of a packet with `count` samples at this rate. If there are no samples or the rate is unknown, the packet
+-- is never presented, and its content is `Silent`.
 abbrev pub samples_or_silent : ℕ → Option ℕ → (ℕ → Samples) → Content
 samples_or_silent count None samples = Silent
 samples_or_silent count (Some rate) samples = if count == 0 then Silent else Audio (samples rate)

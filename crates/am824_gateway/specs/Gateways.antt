@@ -27,8 +27,8 @@ given_out (Some shape) g batch = record g {
   frames = frames_with g.to shape g.id g.given batch;
 }
 
--- The turn is that of frame i of the last batch. A capture can hold it: it has at most 1518 bytes, and arrives at 0 or later,
--- before 2^32 seconds.
+-- `turn` is the turn of frame i of the last batch. A capture can hold this frame: it has at most 1518 bytes, and
+-- arrives at 0 or later and before 2^32 seconds.
 pub record IsPieceTurn (g : Gating) (i : ℕ) (turn : Turn) : Type 0 where
   pub is : option_map turn_of (slice_get g.frames i) ≡ Some turn
   pub begun : pos 0 ≤ℤ turn.arrival

@@ -17,28 +17,28 @@ first_are_linear (suc n) quadlets = first_are_linear n quadlets && (get_or quadl
 abbrev pub are_linear : List ℕ → Bool
 are_linear quadlets = first_are_linear (length quadlets / 4) quadlets
 
--- n values of 24 bits as quadlets: each after the label of linear audio of 24 bits
+-- n values of 24 bits as quadlets, each with the label of linear audio of 24 bits before the value
 abbrev pub labelled : ℕ → List ℕ → List ℕ
 labelled zero values = []
 labelled (suc n) values = labelled n values ++ (linear_label ∷ take 3 (drop (3 * n) values))
 
--- n quadlets as values of 24 bits: each without its label
+-- n quadlets as values of 24 bits, each without its label
 abbrev pub unlabelled : ℕ → List ℕ → List ℕ
 unlabelled zero quadlets = []
 unlabelled (suc n) quadlets = unlabelled n quadlets ++ take 3 (drop (4 * n + 1) quadlets)
 
--- how many bytes a value of 24 bits has in the batches that a gateway to this format converts; a quadlet of AM824 begins with a
--- label
+-- The number of bytes of a value of 24 bits in the batches that a gateway to this format converts: 3 in PCM, and 4 in
+-- AM824, because of the label.
 abbrev pub value_in : To → ℕ
 value_in Am824 = 3
 value_in Aaf = 4
 
--- how many bytes a value of 24 bits has in this format
+-- the number of bytes of a value of 24 bits in this format
 abbrev pub value_out : To → ℕ
 value_out Am824 = 4
 value_out Aaf = 3
 
--- n values of 24 bits in the format that a gateway sends: with the labels of AM824, or without
+-- n values of 24 bits in this format: with labels in AM824, without labels in PCM
 abbrev pub turned : To → ℕ → List ℕ → List ℕ
 turned Am824 n values = labelled n values
 turned Aaf n quadlets = unlabelled n quadlets

@@ -17,12 +17,13 @@ pub record Cut : Type 0 where
   pub batch : Presented
   pub piece : Piece
 
--- the pieces of a batch, with the numbers of their packets; packet n carries the first
+-- the pieces of a batch, with the numbers of their packets; packet n carries the first piece
 abbrev pub cuts_from : ℕ → Presented → List Piece → List Cut
 cuts_from n batch [] = []
 cuts_from n batch (p ∷ pieces) = record { number = n; batch = batch; piece = p } ∷ cuts_from (suc n) batch pieces
 
--- the pieces of batches of a stream of this shape, after what was given out before; a skipped batch has none
+-- The pieces of these batches of a stream of this shape, if the gateway has given out `given` before. A skipped batch
+-- has no pieces.
 abbrev pub cuts_after : To → Shape → Given → List Presented → List Cut
 cuts_after to shape given [] = []
 cuts_after to shape given (batch ∷ batches) =
@@ -38,7 +39,7 @@ cut_frame to shape id c = piece_frame to shape id c.number c.batch c.piece
 abbrev pub cut_instant : Cut → ℤ
 cut_instant c = sample_instant c.batch c.piece.first
 
--- the batches that are given out, which are those that are not skipped
+-- the batches that a gateway does not skip, if it has given out `given` before
 abbrev pub given_batches : To → Shape → Given → List Presented → List Presented
 given_batches to shape given [] = []
 given_batches to shape given (batch ∷ batches) =
@@ -53,7 +54,7 @@ pub record HasRisingInstants (batch : Presented) : Type 0 where
   pub some : 1 ≤ batch.count
   pub rise : (j : ℕ) → suc j < batch.count → sample_instant batch j <ℤ sample_instant batch (suc j)
 
--- each instant is after all before it
+-- each instant is later than all instants before it
 abbrev pub Rise : List ℤ → Type 0
 Rise [] = ⊤
 Rise (x ∷ xs) = AllByRecursion (λ y. x <ℤ y) xs × Rise xs
@@ -62,6 +63,6 @@ Rise (x ∷ xs) = AllByRecursion (λ y. x <ℤ y) xs × Rise xs
 abbrev pub longest_frame : ℕ
 longest_frame = 1518
 
--- a frame that an Ethernet network carries
+-- the frame is not too long for Ethernet
 abbrev pub IsFrame : SentFrame → Type 0
 IsFrame f = length f.bytes ≤ longest_frame

@@ -19,7 +19,7 @@ use Rattle.am824_gateway.specs.Pieces.{Given, arrival_at, given_with, nothing_gi
 
 -- ---- values
 
--- the bytes of the values of a piece, as they are presented
+-- the bytes of a piece's values, as they are presented
 abbrev pub values_of : To → Shape → Presented → Piece → List ℕ
 values_of to shape batch p =
     take (p.count * (value_in to * shape.channels)) (drop (p.first * (value_in to * shape.channels)) batch.bytes)
@@ -34,8 +34,8 @@ samples_of to shape batch p = turned to (p.count * shape.channels) (values_of to
 abbrev pub timestamp_at : ℤ → ℕ
 timestamp_at instant = unsigned_abs (int_rem_euclid instant (pos (2 ^ 32)))
 
--- the stream header of packet n (IEEE 1722-2016, 4.4.4), stamped with this instant, before a payload of this many bytes; the
--- media clock never restarts
+-- The stream header of packet n (IEEE 1722-2016, 4.4.4). It is stamped with this instant, states `length` bytes of
+-- payload, and signals no media clock restart.
 abbrev pub header_at : ℕ → ℕ → ℕ → ℤ → ℕ → StreamHeader
 header_at subtype id n instant length = record {
   subtype = subtype;
@@ -79,19 +79,21 @@ aaf_packet shape header p samples = record {
   reserved = false;
 }
 
--- packet n of the stream with this id, which carries a piece with these samples, presented from this instant on
+-- Packet n of the stream with this ID. It carries a piece with these samples, the first of which is presented at
+-- `instant`.
 abbrev pub packet_of : To → Shape → ℕ → ℕ → ℤ → Piece → List ℕ → PacketView
 packet_of Am824 shape id n instant p blocks = Am824Data (am824_packet shape (header_at iec_subtype id n instant (8 + p.count * (4 * shape.channels))) p blocks)
 packet_of Aaf shape id n instant p samples = Pcm (aaf_packet shape (header_at aaf_subtype id n instant (p.count * (3 * shape.channels))) p samples)
 
 -- ---- frames
 
--- the bytes of the headers of a frame of this format: Ethernet's with its tag, and the packet's
+-- the number of bytes of a frame's headers in this format: of Ethernet's header with its tag, and of the packet's
+-- headers
 abbrev pub headers_of : To → ℕ
 headers_of Am824 = 50
 headers_of Aaf = 42
 
--- the bytes of the frame of a piece
+-- the number of bytes of the frame of a piece
 abbrev pub frame_size : To → Shape → Piece → ℕ
 frame_size to shape p = headers_of to + p.count * (value_out to * shape.channels)
 
@@ -104,18 +106,19 @@ piece_frame to shape id n batch p = record {
   bytes = packet_bytes (packet_of to shape id n (sample_instant batch p.first) p (samples_of to shape batch p));
 }
 
--- the frames of pieces of a batch; packet n carries the first
+-- the frames of these pieces of a batch; packet n carries the first piece
 abbrev pub frames_from : To → Shape → ℕ → ℕ → Presented → List Piece → List SentFrame
 frames_from to shape id n batch [] = []
 frames_from to shape id n batch (p ∷ pieces) = piece_frame to shape id n batch p ∷ frames_from to shape id (suc n) batch pieces
 
--- the frames of a batch that is not skipped, after what was given out before
+-- the frames of a batch that is not skipped, if the gateway has given out `given` before
 abbrev pub frames_with : To → Shape → ℕ → Given → Presented → List SentFrame
 frames_with to shape id given batch = frames_from to shape id given.packets batch (pieces_of to shape batch given.block)
 
 -- ---- all batches
 
--- the frames of batches of a stream of this shape, after what was given out before; a skipped batch has none
+-- The frames of these batches of a stream of this shape, if the gateway has given out `given` before. A skipped batch
+-- has no frames.
 abbrev pub frames_after : To → Shape → ℕ → Given → List Presented → List SentFrame
 frames_after to shape id given [] = []
 frames_after to shape id given (batch ∷ batches) =

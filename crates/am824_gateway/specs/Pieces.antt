@@ -33,7 +33,7 @@ abbrev pub is_nominal : ℕ → Presented → ℕ → ℕ → Bool
 is_nominal rate batch first k =
     int_eq (sample_instant batch (first + k)) (sample_instant batch first +ℤ pos (nominal_offset rate k))
 
--- the first of `more` samples, from sample k on, that fails the test, or sample k + more if none does
+-- the first sample that fails the test, among `more` samples from sample k on; sample k + more if none of them fails it
 abbrev pub going_on : (ℕ → Bool) → ℕ → ℕ → ℕ
 going_on test k zero = k
 going_on test k (suc more) = if test k then going_on test (suc k) more else k
@@ -46,20 +46,20 @@ piece_count to shape batch first =
 
 -- ---- block counts
 
--- The block count of the first data block of an AM824 packet, given the block count and the number of blocks of the packet before
--- it: their sum, raised to a multiple of SYT_INTERVAL, modulo 256. So the timestamp always belongs to the packet's first block
--- (IEC 61883-6), and the block count has a gap after a packet that does not end at a multiple.
+-- The block count of the first data block of an AM824 packet. It is the sum of the block count and the number of blocks
+-- of the previous packet, raised to a multiple of SYT_INTERVAL, modulo 256. So the timestamp always belongs to the
+-- packet's first block (IEC 61883-6). If the previous packet does not end at a multiple, the block count has a gap.
 abbrev pub next_block : ℕ → ℕ → ℕ → ℕ
 next_block interval block count = div_ceil (block + count) interval * interval % 256
 
--- the block count of the packet after these pieces, the first of which has the count `block`
+-- the block count of the packet after these pieces, if the first piece has the block count `block`
 abbrev pub block_after : ℕ → ℕ → List Piece → ℕ
 block_after interval block [] = block
 block_after interval block (p ∷ pieces) = block_after interval (next_block interval p.block p.count) pieces
 
 -- ---- the pieces of a batch
 
--- the pieces of a batch from sample `first` on, at most `most`; the first has this block count
+-- at most `most` pieces of a batch, from sample `first` on; the first of them has the block count `block`
 abbrev pub pieces_from : To → Shape → Presented → ℕ → ℕ → ℕ → List Piece
 pieces_from to shape batch zero first block = []
 pieces_from to shape batch (suc most) first block =
@@ -69,8 +69,8 @@ pieces_from to shape batch (suc most) first block =
     (next_block (interval_of shape.rate) block (piece_count to shape batch first))
     else []
 
--- The pieces of a batch, in order; the first has this block count. Each has at least one sample, so there are at most as many
--- as the batch has samples.
+-- The pieces of a batch, in order. The first piece has this block count. Each piece has at least one sample, so a batch
+-- has at most as many pieces as samples.
 abbrev pub pieces_of : To → Shape → Presented → ℕ → List Piece
 pieces_of to shape batch block = pieces_from to shape batch batch.count 0 block
 
@@ -81,7 +81,7 @@ pieces_of to shape batch block = pieces_from to shape batch batch.count 0 block
 abbrev pub transit : ℕ
 transit = 2000000
 
--- the arrival of a packet that is presented from this instant on; none arrives before 0
+-- the arrival of a packet whose first sample is presented at this instant; no packet arrives before 0
 abbrev pub arrival_at : ℤ → ℤ
 arrival_at instant = int_max (instant -ℤ pos transit) (pos 0)
 
@@ -89,7 +89,7 @@ arrival_at instant = int_max (instant -ℤ pos transit) (pos 0)
 abbrev pub captures_end : ℕ
 captures_end = 2 ^ 32 * 1000000000
 
--- A piece would arrive at a time that a capture cannot state.
+-- The packet of this piece would arrive at a time that a capture cannot state.
 abbrev pub is_late : Presented → Piece → Bool
 is_late batch p = int_le (pos captures_end) (arrival_at (sample_instant batch p.first))
 
@@ -107,13 +107,13 @@ pub record Given : Type 0 where
 abbrev pub nothing_given : Given
 nothing_given = record { batches = 0; packets = 0; block = 0; last = None }
 
--- each value has the label of linear audio of 24 bits, if it has a label
+-- each value that has a label has that of linear audio of 24 bits
 abbrev pub has_labels : To → List ℕ → Bool
 has_labels Am824 bytes = true
 has_labels Aaf bytes = are_linear bytes
 
--- A batch consists of samples of this shape: it is no unit of H.264, has one value of 24 bits for each channel of each sample,
--- and has no label other than that of linear audio of 24 bits.
+-- A batch consists of samples of this shape: it is not a unit of H.264, it has one value of 24 bits for each channel of
+-- each sample, and its only label is that of linear audio of 24 bits.
 abbrev pub has_shape : To → Shape → Presented → Bool
 has_shape to shape batch =
     not (is_unit batch)
@@ -125,7 +125,8 @@ abbrev pub overlaps : Option ℤ → Presented → Bool
 overlaps None batch = false
 overlaps (Some last) batch = int_le (sample_instant batch 0) last
 
--- why a batch of a stream of this shape is skipped, if it is, after what was given out before
+-- Why a batch of a stream of this shape is skipped, if the gateway has given out `given` before. `None` if it is not
+-- skipped.
 abbrev pub skip_by : To → Shape → Given → Presented → Option Skip
 skip_by to shape given batch =
     if not (has_shape to shape batch) then Some ShapeOff
@@ -133,13 +134,14 @@ skip_by to shape given batch =
     else if list_any (is_late batch) (pieces_of to shape batch given.block) then Some Range
     else None
 
--- Why a batch is skipped, if it is: the stream has no shape, or the batch has another one; the batch does not begin after the
--- last sample that was given out; or one of its pieces would arrive too late for a capture.
+-- Why a batch is skipped; `None` if it is not. `ShapeOff`: the stream has no shape, or the batch has another shape.
+-- `Overlap`: the batch does not begin after the last sample that was given out. `Range`: one of its pieces would arrive
+-- too late for a capture.
 abbrev pub skip_of : To → Option Shape → Given → Presented → Option Skip
 skip_of to None given batch = Some ShapeOff
 skip_of to (Some shape) given batch = skip_by to shape given batch
 
--- what was given out after a batch that is not skipped
+-- what was given out, including one more batch that is not skipped
 abbrev pub given_with : To → Shape → Given → Presented → Given
 given_with to shape given batch = record {
   batches = given.batches + 1;
@@ -148,12 +150,12 @@ given_with to shape given batch = record {
   last = Some (sample_instant batch (batch.count - 1));
 }
 
--- one value for a batch that is given out, and another for one that is skipped
+-- the first value if a batch is not skipped, and the second value if it is
 abbrev pub unless : {T : Type 0} → Option Skip → T → T → T
 unless None given skipped = given
 unless (Some skip) given skipped = skipped
 
--- what was given out after these batches; those that are skipped change nothing
+-- what was given out, including these batches; a skipped batch changes nothing
 abbrev pub given_by : To → Shape → Given → List Presented → Given
 given_by to shape given [] = given
 given_by to shape given (batch ∷ batches) = given_by to shape (unless (skip_by to shape given batch) (given_with to shape given batch) given) batches

@@ -25,19 +25,19 @@ pub record IsShape (shape : Shape) : Type 0 where
 abbrev pub shape_of : Samples → Shape
 shape_of s = record { rate = s.rate; channels = s.channels }
 
--- the shape of the first packet: that of this packet if none came before
+-- the shape of the stream's first packet of samples: `first`, or that of this packet if there was no packet before
 abbrev pub first_or : Option Shape → Samples → Shape
 first_or None s = shape_of s
 first_or (Some first) s = first
 
--- the shape of the first packet of samples, after a record
+-- the shape of the stream's first packet of samples, after one more record; `first` is this shape before the record
 abbrev pub shape_after : Option Shape → Content → Option Shape
 shape_after None Silent = None
 shape_after None Video = None
 shape_after None (Audio s) = Some (shape_of s)
 shape_after (Some first) c = Some first
 
--- the shape of the stream's first packet of samples, in these records or before them
+-- the shape of the stream's first packet of samples, after these records; `first` is this shape before the records
 abbrev pub shape_from : ℕ → Option Shape → List Record → Option Shape
 shape_from stream first [] = first
 shape_from stream first (r ∷ records) = shape_from stream (shape_after first (content stream r.bytes)) records
@@ -57,7 +57,7 @@ pub record Row : Type 0 where
 abbrev pub row : ScanFault → Bool → Row
 row fault holds = record { fault = fault; holds = holds }
 
--- the first fault of a list that a packet has
+-- the first fault of the list that the packet has
 abbrev pub first_of : List Row → Option ScanFault
 first_of [] = None
 first_of (r ∷ rows) = if r.holds then Some r.fault else first_of rows
@@ -69,13 +69,14 @@ same_format Am824 Aaf = false
 same_format Aaf Am824 = false
 same_format Aaf Aaf = true
 
--- IEC 61883-6 does not have this sample rate, or it differs from the first packet's
+-- IEC 61883-6 does not have this sample rate, or the rate differs from that of the first packet
 abbrev pub other_rate : Shape → ℕ → Bool
 other_rate first rate = is_none (fdf_of rate) || not (rate == first.rate)
 
--- The faults of a packet of samples, in the order in which they are tested: it is of the wanted format already; its samples do
--- not have 24 bits, all used; IEC 61883-6 does not have its rate, or the rate differs from the first packet's; a data block
--- cannot have its number of channels, or the number differs from the first packet's; a quadlet is not linear audio of 24 bits.
+-- The faults of a packet of samples, in the order in which they are tested. `Kind`: the packet has the wanted format
+-- already. `Format`: its samples do not have 24 bits, all used. `Rate`: IEC 61883-6 does not have its rate, or the rate
+-- differs from that of the first packet. `Channels`: a data block cannot have its number of channels, or the number
+-- differs from that of the first packet. `Label`: a quadlet is not linear audio of 24 bits.
 abbrev pub fault_rows : To → Shape → Samples → List Row
 fault_rows to first s =
     row Kind (same_format s.format to) ∷
@@ -84,8 +85,8 @@ fault_rows to first s =
     row Channels (nat_lt 256 s.channels || not (s.channels == first.channels)) ∷
     row Label (not s.linear) ∷ []
 
--- The fault of what a record holds, after a first packet of this shape. What is never presented has none. H.264 is of neither
--- format.
+-- The fault of a record's content, if the first packet of samples has the shape `first`. A record without anything that
+-- can be presented (`Silent`) has no fault. H.264 is of neither format.
 abbrev pub content_fault : To → Option Shape → Content → Option ScanFault
 content_fault to first Silent = None
 content_fault to first Video = Some Kind
@@ -96,12 +97,13 @@ pub record FaultAt : Type 0 where
   pub frame : ℕ
   pub fault : ScanFault
 
--- the fault of this record, or if it has none, a later one
+-- `fault`, found in record `frame`; if there is none, the fault `later`
 abbrev pub fault_or : ℕ → Option ScanFault → Option FaultAt → Option FaultAt
 fault_or frame None later = later
 fault_or frame (Some fault) later = Some (record { frame = frame; fault = fault })
 
--- the first fault in records; the first record has this number, and comes after a first packet of this shape
+-- The first fault in these records. The first record has the number `frame`. `first` is the shape of the stream's first
+-- packet of samples, if it comes before these records.
 abbrev pub fault_from : To → ℕ → Option Shape → ℕ → List Record → Option FaultAt
 fault_from to stream first frame [] = None
 fault_from to stream first frame (r ∷ records) =

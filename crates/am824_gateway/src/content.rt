@@ -98,7 +98,7 @@ fn packet_content(packet: &StreamPacket<'_>) -> Content
     }
 }
 
-/// The part of the stream with this id that a record holds, given the record's bytes.
+/// What a record holds of the stream with this ID, given the record's bytes.
 pub(crate) fn content_of(stream: u64, frame: &[u8]) -> Content
     ensures exact { result ≡ content stream frame.now }
     ensures counted { IsCounted result }

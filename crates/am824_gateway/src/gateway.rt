@@ -24,7 +24,7 @@ use talker::{Sent, Turn};
 /// The most bytes of a frame.
 const LONGEST_FRAME: usize = 1518;
 
-/// The last batch that was not skipped, with its stream and the number of packets before its own.
+/// The last batch that was not skipped, with its stream and the number of packets before its first packet.
 #[derive(Drop)]
 pub(crate) struct Current {
     pub stream: Stream,
@@ -41,19 +41,19 @@ pub struct Gateway {
     id: u64,
     /// The headers of the frames, if there is a shape.
     headers: [u8; AM824_HEADERS],
-    /// The number of batches that were not skipped, and of their packets.
+    /// The number of batches that were not skipped, and the number of their packets.
     batches: u64,
     packets: u64,
     /// The block count, modulo 256, of the next packet of AM824.
     block: u8,
-    /// The instant of the last sample that was given out.
+    /// The instant of the last sample of the last batch that was not skipped.
     last: Option<i64>,
     current: Option<Current>,
     /// The pieces of the last batch that was not skipped.
     pieces: Vec<Piece>,
     /// The pieces of the next batch, until it is known that the batch is not skipped.
     spare: Vec<Piece>,
-    /// The frame of the piece that was asked for last.
+    /// The frame of the piece for which `piece` was called last.
     frame: Vec<u8>,
 }
 
@@ -83,7 +83,7 @@ fn headers_for(to: To, shape: Option<Shape>, id: u64) -> [u8; AM824_HEADERS]
 impl Current {
     ghost use Rattle.am824_gateway.specs.state.Kept.{IsCut};
 
-    /// Writes the frame of a piece of the batch, which is packet `number`.
+    /// Writes the frame of packet `number`, which carries `piece` of the batch.
     fn write(&self, piece: Piece, number: u64, out: &mut [u8])
         requires cut { IsCut self.now (piece ∷ []) }
         requires room { length out.old ≡ frame_size self.now.stream.to self.now.stream.shape piece }
@@ -97,7 +97,7 @@ impl Current {
             .write(out, number, batch.instant(piece.first), piece, values);
     }
 
-    /// Writes the frame of a piece of the batch, which has this turn, into the first bytes of `out`.
+    /// Writes the frame of a piece of the batch into the first bytes of `out`. `turn` is the turn of that frame.
     fn write_front(&self, piece: Piece, turn: Turn, out: &mut [u8])
         requires cut { IsCut self.now (piece ∷ []) }
         requires size { turn.size ≡ frame_size self.now.stream.to self.now.stream.shape piece }
@@ -138,7 +138,7 @@ fn has_shape(to: To, shape: Shape, batch: &Batch) -> bool
     !batch.is_unit() && bytes.len() == batch.count as usize * sample && has_labels(to, bytes)
 }
 
-/// Whether the batch begins at or before the last sample that was given out.
+/// Whether the batch begins at or before the instant `last`.
 fn overlaps(last: Option<i64>, batch: &Batch) -> bool
     ensures { result ≡ overlaps_by last batch.now }
 {
@@ -152,8 +152,8 @@ impl Gateway {
     ghost use Rattle.std.specs.Borrow.{sem};
     ghost use Rattle.am824_gateway.specs.Lending.{EndsAs};
 
-    /// A gateway before its first batch. It converts a stream of this shape to the format `to`, and sends it under the stream
-    /// id `id`. The shape is the one that the scan found; without a shape all batches are skipped.
+    /// A gateway before its first batch. It converts a stream of this shape to the format `to`, and sends it under the
+    /// stream ID `id`. The shape is the one that the scan found. Without a shape, all batches are skipped.
     pub fn begin(alloc: Global, to: To, shape: Option<Shape>, id: u64) -> Result<Self, NoMemory>
         requires { IfSome shape IsShape }
         ensures { IfOk result (λ gateway. gateway ≡ record { to = to; shape = shape; id = id; given = nothing_given; frames = [] }) }
@@ -240,7 +240,7 @@ impl Gateway {
         self.packets
     }
 
-    /// What is sent for piece `i` of the last batch that was not skipped, counted from 0.
+    /// What is sent for piece `i` of the last batch that was not skipped. Pieces are counted from 0.
     pub fn turn(&self, i: u32) -> Turn
         requires { i < length self.now.frames }
         ensures { IsPieceTurn self.now i result }
@@ -270,8 +270,8 @@ impl Gateway {
         current.write(piece, current.first + u64::from(i), out);
     }
 
-    /// The samples of the last batch that was not skipped, so that their memory can be used again once its packets are written.
-    /// After this call there are no pieces.
+    /// Returns the bytes of the last batch that was not skipped, so that their memory can be used again after the
+    /// batch's packets are written. After this call there are no pieces.
     pub fn give_back(&mut self) -> Option<Bytes>
         ensures { self.new ≡ record self.old { frames = [] } }
     {
@@ -280,7 +280,7 @@ impl Gateway {
         Some(current.batch.bytes)
     }
 
-    /// The frame of piece `i` of the last batch that was not skipped, counted from 0. It allocates nothing.
+    /// The frame of piece `i` of the last batch that was not skipped. Pieces are counted from 0. It allocates nothing.
     pub fn piece(&mut self, i: u32) -> Sent<'_>
         requires { i < length self.old.frames }
         ensures frame { slice_get self.old.frames i ≡ Some (sent_frame result) }

@@ -52,7 +52,7 @@ fn put_value(out: &mut [u8], k: usize, quadlets: &[u8])
     put_bytes(out, 3 * k, &[value[0], value[1], value[2]]);
 }
 
-/// Writes `n` values of 24 bits as quadlets, each with its label in front.
+/// Writes `n` values of 24 bits as quadlets, each with its label before the value.
 fn add_labels(out: &mut [u8], n: usize, values: &[u8])
     requires room { length out.old ≡ 4 * n }
     requires values { length values.now ≡ 3 * n }

@@ -173,7 +173,7 @@ pub(crate) fn first_headers(to: To, shape: Shape, id: u64) -> [u8; AM824_HEADERS
 }
 
 impl Stream {
-    /// The number of bytes of a value that is sent.
+    /// The number of bytes of a value as it is sent.
     fn value_size(&self) -> usize
         ensures { result ≡ value_out self.now.to }
     {
@@ -183,7 +183,7 @@ impl Stream {
         }
     }
 
-    /// The number of bytes of a piece's samples that are sent.
+    /// The number of bytes of a piece's samples as they are sent.
     #[tactic(auto, using(crate::proofs::PieceLemmas::fits))]
     fn samples_size(&self, piece: Piece) -> usize
         requires { Carries self.now piece }
@@ -219,8 +219,8 @@ impl Stream {
         }
     }
 
-    /// Writes the headers of packet `n`, which carries a piece, is presented from this instant on, and has this many bytes after
-    /// its stream header.
+    /// Writes the headers of packet `n`, which carries `piece`. The piece's first sample is presented at `instant`.
+    /// `stated` is the number of bytes after the stream header.
     fn write_headers(&self, out: &mut [u8], n: u64, instant: i64, piece: Piece, stated: u16)
         requires stream { IsStream self.now }
         requires room { length out.old ≡ headers_of self.now.to }
@@ -238,7 +238,8 @@ impl Stream {
         }
     }
 
-    /// Writes the frame of packet `n`, which carries a piece with these values and is presented from this instant on.
+    /// Writes the frame of packet `n`, which carries `piece` with these values. The piece's first sample is presented
+    /// at `instant`.
     pub fn write(&self, out: &mut [u8], n: u64, instant: i64, piece: Piece, values: &[u8])
         requires carries { Carries self.now piece }
         requires values { length values.now ≡ piece.count * (value_in self.now.to * self.now.shape.channels) }

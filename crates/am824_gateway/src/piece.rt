@@ -24,7 +24,7 @@ pub struct Piece {
     pub block: u8,
 }
 
-/// The most pieces of a batch, which has at most this many samples.
+/// The most pieces of a batch. A batch has at most this many samples, and each piece has at least one of them.
 pub(crate) const MOST_PIECES: usize = 65_535;
 
 const NANOSECONDS: u64 = 1_000_000_000;
@@ -44,7 +44,7 @@ fn nominal_offset(rate: u32, k: u32) -> u64
     u64::from(k) * NANOSECONDS / u64::from(rate)
 }
 
-/// The arrival of a packet that is presented from this instant on, in nanoseconds of gPTP.
+/// The arrival of a packet whose first sample is presented at `instant`, in nanoseconds of gPTP.
 pub(crate) fn arrival_of(instant: i64) -> i64
     requires { IsInstant instant }
     ensures value { result ≡ arrival_at instant }
@@ -52,8 +52,8 @@ pub(crate) fn arrival_of(instant: i64) -> i64
     (instant - TRANSIT).max(0)
 }
 
-/// Whether an earlier packet was late, or a packet that is presented from this instant on would arrive at a time that a capture
-/// cannot state.
+/// Whether `late` is true, or a packet whose first sample is presented at `instant` would arrive too late for a capture
+/// to state.
 fn is_late_with(late: bool, instant: i64) -> bool
     requires { IsInstant instant }
     ensures { result ≡ (late || int_le (pos captures_end) (arrival_at instant)) }
@@ -85,7 +85,7 @@ fn next_block(interval: u32, block: u8, count: u32) -> u8
     (counted.div_ceil(interval) * interval % 256) as u8
 }
 
-/// Whether a sample is at its nominal instant, this long after `start`.
+/// Whether a sample that is presented at `instant` is at its nominal instant, which is `offset` after `start`.
 fn is_on_line(instant: i64, start: i64, offset: u64) -> bool
     ensures { result ≡ int_eq instant (start +ℤ pos offset) }
 {
@@ -108,8 +108,8 @@ fn count_piece(instant: &mut Instant, batch: &Batch, rate: u32, most: u32) -> u3
     count
 }
 
-/// Whether a batch can be seen to be one piece without the instants of its samples: its line has the nominal rate and begins at
-/// its first sample, and one packet can carry all samples.
+/// Whether the batch is known to be one piece from its line and its size alone: the line has the nominal rate and
+/// begins at the batch's first sample, and one packet can carry all samples.
 fn is_one_piece(to: To, shape: Shape, batch: &Batch) -> bool
     requires { IsShape shape }
     ensures { result ≡ true → IsOnePiece to shape batch.now }
@@ -200,7 +200,7 @@ fn cut_by_instants(
     (next, late)
 }
 
-/// Adds a piece, for which there is room.
+/// Adds a piece. The vector must have room for it.
 fn push(pieces: &mut Vec<Piece>, piece: Piece)
     requires { vec_len pieces.old < vec_capacity pieces.old }
     ensures items { pieces.new.items ≡ pieces.old.items ++ piece ∷ [] }

@@ -24,9 +24,9 @@ pub enum ScanFault {
     Kind,
     /// PCM samples do not have 24 bits, or not all bits of them are used.
     Format,
-    /// IEC 61883-6 does not have this sample rate, or it differs from the first packet's.
+    /// IEC 61883-6 does not have this sample rate, or the rate differs from that of the first packet.
     Rate,
-    /// There are more than 256 channels, or their number differs from the first packet's.
+    /// There are more than 256 channels, or their number differs from that of the first packet.
     Channels,
     /// A quadlet of AM824 is not linear audio of 24 bits: its label is not 0x40.
     Label,
@@ -61,14 +61,14 @@ impl Model for Scan {
     ghost invariant = { λ s. IfSome s.shape IsShape };
 }
 
-/// Whether IEC 61883-6 does not have this sample rate, or it differs from the first packet's.
+/// Whether IEC 61883-6 does not have this sample rate, or the rate differs from that of the first packet.
 fn is_other_rate(first: Shape, rate: u32) -> bool
     ensures { result ≡ other_rate first rate }
 {
     fdf_of(rate).is_none() || rate != first.rate
 }
 
-/// The first fault of a packet of samples, after a first packet of this shape.
+/// The first fault of a packet of samples, if the first packet of samples has the shape `first`.
 fn fault_of(to: To, first: Shape, samples: &Samples) -> Option<ScanFault>
     ensures { result ≡ first_of (fault_rows to first samples.now) }
 {
@@ -113,9 +113,9 @@ impl Scan {
         }
     }
 
-    /// Looks at the next record of a capture, given its bytes. It looks only at packets of the stream that have samples and a
-    /// known rate and that their reader accepts, because others are never presented. Each packet of H.264 is a fault, even a
-    /// malformed one. After a fault the scan promises nothing.
+    /// Looks at the next record of a capture, given its bytes. Of packets with samples, it looks only at those of the
+    /// stream that their reader accepts and whose rate is known, because other packets are never presented. Each packet
+    /// of H.264 of the stream is a fault, even a malformed one. After a fault the scan promises nothing.
     ///
     /// The fault is the first of these that holds: `Kind`, `Format`, `Rate`, `Channels`, `Label`.
     pub fn note(&mut self, bytes: &[u8]) -> Result<(), ScanFault>
@@ -145,7 +145,7 @@ impl Scan {
         Ok(())
     }
 
-    /// The sample rate and the channels of the stream's packets; `None` if no packet of samples came.
+    /// The sample rate and the channels of the stream's packets; `None` if the stream has no packet of samples so far.
     pub fn shape(&self) -> Option<Shape>
         ensures exact { (to : To) (stream : ℕ) (records : List Record) → HasScanned to stream records self.now → result ≡ shape_in stream records }
         ensures sound { IfSome result IsShape }

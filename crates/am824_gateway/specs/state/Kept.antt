@@ -28,7 +28,7 @@ pub record IsCut (c : Current) (pieces : List Piece) : Type 0 where
   pub size : length c.batch.bytes ≡ c.batch.count * (value_in c.stream.to * c.stream.shape.channels)
   pub within : AllByRecursion (IsWithin c.stream.to c.stream.shape c.batch) pieces
 
--- The last batch that was not skipped is cut into these pieces; at first there is none.
+-- The last batch that was not skipped is cut into these pieces. If there is no such batch, there are no pieces.
 abbrev pub IsCutFrom : Option Current → List Piece → Type 0
 IsCutFrom None pieces = pieces ≡ []
 IsCutFrom (Some c) pieces = IsCut c pieces
@@ -43,8 +43,8 @@ abbrev pub first_in : Option Current → ℕ
 first_in None = 0
 first_in (Some c) = c.first
 
--- The invariant of every gateway: its last batch is cut into its pieces, its numbers are within bounds, and there is room for
--- the pieces of any batch, twice, and for the longest frame.
+-- The invariant of every gateway. Its last batch is cut into its pieces, and its numbers are within bounds. There is
+-- room for the pieces of any batch, twice, and for the longest frame.
 pub record IsGateway (g : Inside) : Type 0 where
   pub shape : IfSome g.shape IsShape
   pub headers : IfSome g.shape (λ shape. HasHeaders g.to shape g.id g.headers)

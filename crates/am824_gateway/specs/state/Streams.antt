@@ -19,12 +19,12 @@ no_samples = record { first = 0; count = 0; block = 0 }
 abbrev pub HasHeaders : To → Shape → ℕ → List ℕ → Type 0
 HasHeaders to shape id headers = take (headers_of to) headers ≡ packet_bytes (packet_of to shape id 0 (pos 0) no_samples [])
 
--- the length of a packet that carries a piece, after its stream header
+-- the number of bytes after the stream header of a packet that carries this piece
 abbrev pub stated_of : To → Shape → Piece → ℕ
 stated_of Am824 shape p = 8 + p.count * (4 * shape.channels)
 stated_of Aaf shape p = p.count * (3 * shape.channels)
 
--- The shape is one that both formats have, and the headers are those of the stream.
+-- Both formats can have the shape, and the headers are those of the stream.
 pub record IsStream (s : Stream) : Type 0 where
   pub shape : IsShape s.shape
   pub headers : HasHeaders s.to s.shape s.id s.headers
