@@ -64,7 +64,7 @@ packet_content p =
     else if p.subtype == aaf_subtype then pcm_content (aaf_refusal p.bytes) (aaf_of p.bytes)
     else am824_content (iec_refusal p.bytes) (iec_of p.bytes)
 
--- the part of the stream with this id that a record holds, given the record's bytes
+-- what a record holds of the stream with this ID, given the record's bytes
 abbrev pub content : ℕ → List ℕ → Content
 content stream bytes = if belongs stream_kinds stream bytes then packet_content (stream_packet bytes) else Silent
 

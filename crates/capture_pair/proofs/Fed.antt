@@ -33,13 +33,13 @@ use Rattle.capture_pair.proofs.Filling.{counts-all}
 use Rattle.capture_pair.proofs.Heard.{heard-of}
 use Rattle.capture_pair.proofs.Taking.{more-a, more-b}
 
--- ---- what few bytes show
+-- ---- how many records some bytes have
 
 nothing-refused : (o : Option Refusal) → is_none o ≡ true → o ≡ None
 nothing-refused None h = refl
 nothing-refused (Some refusal) h = absurd (cc)
 
--- a record has at least 16 bytes
+-- there are at most half as many records as bytes, since a record has at least 16 bytes
 records-few : (n : ℕ) (style : Style) (bytes : List ℕ) → 2 * length (records_from n style bytes) ≤ length bytes
 records-few zero style bytes = omega arith
 records-few (suc n) style bytes = by (is_none (record_refusal style.order 0 bytes)) refl (records-few n style (drop (record_size style bytes) bytes))
@@ -63,7 +63,7 @@ whole-few bytes = by (style_of bytes)
 heard-fed : (bytes : List ℕ) (fed : Feeding) → length bytes ≤ 2 ^ 62 → IsHeard (out fed bytes)
 heard-fed bytes fed le = let h = whole-few bytes in heard-of (whole_records bytes) fed.listener (omega arith)
 
--- ---- a list that goes on
+-- ---- a listener shows a longer list
 
 grows-a : (ShowsA ShowsA2 ShowsB ShowsB2 : List Shown → ℕ → Type 0) (list longer other : List Shown) (given : ℕ) (m : MatchingState) → wanted m ≡ Some A → ((n : ℕ) → ShowsA list n → ShowsA2 longer n) → ((n : ℕ) → ShowsB other n → ShowsB2 other n) → IsPrefix list longer
     → Pairs ShowsA ShowsB list other given m → Holds ShowsA2 ShowsB2 longer other given m
@@ -88,7 +88,7 @@ grows-b ShowsA ShowsA2 ShowsB ShowsB2 list other longer given m w fa fb first p 
 prefix-same : (xs ys : List Shown) → ys ≡ xs → IsPrefix xs ys
 prefix-same xs ys e = ([], append-nil xs ∙ sym e)
 
--- what is shown of some bytes is the beginning of what is shown of more bytes
+-- what is shown of `bytes` is a prefix of what is shown of `bytes ++ more`
 prefix-more : (bytes more : List ℕ) (n : ℕ) (old new : Feeding) → IsFed bytes n old → old.out_of_memory ≡ false → is_ended old ≡ false → is_ended new ≡ false → new.listener.plan ≡ old.listener.plan → IsPrefix (out old bytes) (out new (bytes ++ more))
 prefix-more bytes more n old new s free opened still plan =
     let others = records_first old.reader bytes more (whole_records bytes) (s.read free) in

@@ -1,4 +1,4 @@
--- Both sides of a matching are filled, and the next difference is that of all that the sides present.
+-- Both sides of a matching are filled. Its next difference is then the next one in all that the sides present.
 use Rattle.std.proofs.Common.{◌≡◌, ℕ, ◌+◌, ◌<◌, ◌≤◌, Bool, true, false, cond, ◌⊎◌, inl, inr, List, [], ◌∷◌, ◌++◌, length, take, drop, Option, Some, None, refl, sym, ap, ◌∙◌, subst, arith}
 use Rattle.std.specs.Prelude.{IfNone, IsSome, is_some, slice_get}
 use Rattle.std.specs.Option.{option_to_list}
@@ -114,14 +114,15 @@ goes-on list other n k given over_a over_b m hl ho h oa ob = record {
   is_over_b = ob;
 }
 
--- the merged list of all that the sides present
+-- splitting the lists of both sides after n and k items leaves the known part as it is
 all-merged-is : (list other : List Shown) (n k : ℕ) (over_a over_b : Bool)
     → known over_a over_b (merged (presented_of (take n list) ++ presented_of (drop n list)) (presented_of (take k other) ++ presented_of (drop k other))) ≡ known over_a over_b (merged (presented_of list) (presented_of other))
 all-merged-is list other n k over_a over_b =
     ap (λ (l : List Presented). known over_a over_b (merged l (presented_of (take k other) ++ presented_of (drop k other)))) (presented-split n list)
     ∙ ap (λ (l : List Presented). known over_a over_b (merged (presented_of list) l)) (presented-split k other)
 
--- a difference that was given is the next one of all that the sides present
+-- difference number `given` of what the matching was given is also difference number `given` of all that the sides
+-- present
 pub some-next : (list other : List Shown) (n k given : ℕ) (over_a over_b : Bool) (old new : MatchingState) (d : Option Difference) → IsHeard list → IsHeard other → Matches list other n k (given + 1) new → (new.ended_a ≡ true → over_a ≡ true) → (new.ended_b ≡ true → over_b ≡ true)
     → new.ended_a ≡ old.ended_a → new.ended_b ≡ old.ended_b → d ≡ slice_get (differences (known_of old (presented_of (take n list)) (presented_of (take k other)))) given
     → d ≡ slice_get (differences (known over_a over_b (merged (presented_of list) (presented_of other)))) given
@@ -133,7 +134,7 @@ some-next list other n k given over_a over_b old new d hl ho h oa ob ea eb e =
     ∙ some-all xs ys (presented_of (drop n list)) (presented_of (drop k other)) given over_a over_b new h.matched g
     ∙ ap (λ (l : List Sided). slice_get (differences l) given) (all-merged-is list other n k over_a over_b)
 
--- the matching was given all that the wanted side presents, if its sides are settled
+-- if the sides are settled, the matching was given all that the wanted side presents
 pub asked : (ShowsA ShowsB : List Shown → ℕ → Type 0) (QuietA QuietB : Type 0) (list other : List Shown) (given : ℕ) (over_a over_b : Bool) (m : MatchingState) (p : Pairs ShowsA ShowsB list other given m) → IsSettled over_a over_b QuietA QuietB m
     → IsAsked (presented_of (drop p.shown_a list)) (presented_of (drop p.shown_b other)) over_a over_b m
 asked ShowsA ShowsB QuietA QuietB list other given over_a over_b m p s = record {
@@ -150,14 +151,14 @@ idle-all ShowsA ShowsB QuietA QuietB list other given over_a over_b m hl ho p s 
     ∙ known-idle (presented_of (take p.shown_a list)) (presented_of (take p.shown_b other)) (presented_of (drop p.shown_a list)) (presented_of (drop p.shown_b other)) given over_a over_b m p.matches.matched
     (goes-on list other p.shown_a p.shown_b given over_a over_b m hl ho p.matches s.over_a s.over_b) (asked ShowsA ShowsB QuietA QuietB list other given over_a over_b m p s) idle
 
--- no difference is left of all that the sides present
+-- if the matching is idle, all that the sides present has no further difference
 pub none-next : (ShowsA ShowsB : List Shown → ℕ → Type 0) (QuietA QuietB : Type 0) (list other : List Shown) (given : ℕ) (over_a over_b : Bool) (m : MatchingState) → IsHeard list → IsHeard other → Pairs ShowsA ShowsB list other given m → IsSettled over_a over_b QuietA QuietB m → IsIdle m
     → None ≡ slice_get (differences (known over_a over_b (merged (presented_of list) (presented_of other)))) given
 none-next ShowsA ShowsB QuietA QuietB list other given over_a over_b m hl ho p s idle =
     sym (ap (λ (l : List Sided). slice_get (differences l) given) (idle-all ShowsA ShowsB QuietA QuietB list other given over_a over_b m hl ho p s idle)
     ∙ slice_get_past (differences p.matches.matched.done) given (let e = p.matches.matched.shown in omega arith))
 
--- the counts are those of all that is known
+-- if the matching is idle, its counts are those of the known part
 pub counts-all : (ShowsA ShowsB : List Shown → ℕ → Type 0) (QuietA QuietB : Type 0) (list other : List Shown) (given : ℕ) (over_a over_b : Bool) (m : MatchingState) → IsHeard list → IsHeard other → Pairs ShowsA ShowsB list other given m → IsSettled over_a over_b QuietA QuietB m → IsIdle m
     → m.counts ≡ counts_of (known over_a over_b (merged (presented_of list) (presented_of other)))
 counts-all ShowsA ShowsB QuietA QuietB list other given over_a over_b m hl ho p s idle =
@@ -167,7 +168,7 @@ counts-all ShowsA ShowsB QuietA QuietB list other given over_a over_b m hl ho p 
 pub waits-idle : (m : MatchingState) → is_some (wanted m) ≡ true → IsIdle m
 waits-idle m h = no-next m (ap (λ v. cond v None (first_side m.next_a m.next_b)) h)
 
--- the matching after it was asked for its next difference
+-- a matching that was asked for its next difference still matches the same lists
 matched-on : (list other : List Shown) (n k given : ℕ) (old new : MatchingState) (d : Option Difference) → Matches list other n k given old → ((xs ys : List Presented) (g : ℕ) → StandsFor xs ys g old → StandsFor xs ys (g + length (option_to_list d)) new)
     → new.ended_a ≡ old.ended_a → new.ended_b ≡ old.ended_b → Matches list other n k (given + length (option_to_list d)) new
 matched-on list other n k given old new d h stands ea eb = record {

@@ -57,7 +57,7 @@ presented-split n xs = sym (presented-append (take n xs) (drop n xs)) ∙ ap pre
 taken-few : (n : ℕ) (xs : List Shown) → length (presented_of (take n xs)) ≤ n
 taken-few n xs = let a = presented-few (take n xs) in let b = take-few n xs in omega arith
 
--- with the next item, if that is a batch, there is one more batch
+-- if item n is a batch, the first n + 1 items present the batches of the first n items and then this batch
 next-batch : (n : ℕ) (xs : List Shown) (batch : Presented) → slice_get xs n ≡ Some (Present batch) → presented_of (take (n + 1) xs) ≡ presented_of (take n xs) ++ batch ∷ []
 next-batch n xs batch e =
     let one : n + 1 ≡ suc n = omega arith in
@@ -68,7 +68,7 @@ next-flag n xs x e f =
     let one : n + 1 ≡ suc n = omega arith in
     ap (λ k. presented_of (take k xs)) one ∙ ap presented_of (take-one n xs x e) ∙ presented-append (take n xs) (x ∷ []) ∙ ap (λ (l : List Presented). presented_of (take n xs) ++ l) f ∙ append-nil (presented_of (take n xs))
 
--- the batches so far and the next one are in order
+-- the batches of the first n items and the next batch are in order
 next-order : (n : ℕ) (xs : List Shown) (batch : Presented) → IsHeard xs → slice_get xs n ≡ Some (Present batch) → IsInOrder (presented_of (take n xs) ++ batch ∷ [])
 next-order n xs batch h e =
     subst IsInOrder (next-batch n xs batch e) (order-front (presented_of (take (n + 1) xs)) (presented_of (drop (n + 1) xs)) (subst IsInOrder (sym (presented-split (n + 1) xs)) h.order))
@@ -143,7 +143,7 @@ ended-on B list other n k given m e h = record {
 no-more : (which : Which) (list other : List Shown) (n k given : ℕ) (m : MatchingState) → MatchesOn which list other n k given m → MatchesOn which list other (n + 0) k given m
 no-more which list other n k given m h = subst (λ (i : ℕ). MatchesOn which list other i k given m) (omega arith) h
 
--- the matching was given what is shown next
+-- after the matching is given the next item, it matches one more item of the list
 pub hands-on : (which : Which) (list other : List Shown) (n k given : ℕ) (m : MatchingState) (next : Option Shown) (ended : Bool) → IsHeard list → IsHeard other → wanted m ≡ Some which → next ≡ slice_get list n → MatchesOn which list other n k given m
     → MatchesOn which list other (n + length (option_to_list next)) k given (handed which next ended m)
 hands-on which list other n k given m (Some (Present batch)) ended hl ho w e h = given-on which list other n k given m batch hl ho w (sym e) h
@@ -165,7 +165,7 @@ ends-no : {P : Type 0} (which : Which) (m : MatchingState) → wanted (ended_by 
 ends-no A m h = let e = wants-a (ended_by A m) h in absurd (cc)
 ends-no B m h = let e = wants-b (ended_by B m) h in absurd (cc)
 
--- Nothing was given to a side that is still wanted: its listener showed nothing, and has not ended.
+-- The listener of a side that is still wanted showed no item, and has not ended.
 pub record Waits (next : Option Shown) (ended : Bool) : Type 0 where
   pub none : next ≡ None
   pub opened : ended ≡ false
@@ -221,7 +221,7 @@ over-after B None true m h t = refl
 over-after A None false m h t = h t
 over-after B None false m h t = h t
 
--- ---- less is left
+-- ---- the work that is left
 
 open-less : (e : Bool) → e ≡ false → one_if_open true < one_if_open e
 open-less true h = absurd (cc)
@@ -258,7 +258,7 @@ handed-nexts A None true m was is le = omega arith
 handed-nexts B None true m was is le = omega arith
 handed-nexts which None false m was is le = omega arith
 
--- ---- the side that is asked
+-- ---- whether a side is wanted
 
 pub wants-yes : (which : Which) (o : Option Which) → wants_side which o ≡ true → o ≡ Some which
 wants-yes A (Some A) e = refl
@@ -276,7 +276,7 @@ wants-no B (Some A) e w = absurd (cc)
 wants-no A None e w = absurd (cc)
 wants-no B None e w = absurd (cc)
 
--- ---- the steps of a filling
+-- ---- steps of `fill`
 
 pub going-next : (Shows Shows2 : List Shown → ℕ → Type 0) (which : Which) (list other : List Shown) (k given : ℕ) (m m2 : MatchingState) (next : Option Shown) (ended : Bool) → IsHeard list → IsHeard other → wanted m ≡ Some which
     → ((n : ℕ) → Shows list n → next ≡ slice_get list n) → ((n : ℕ) → Shows list n → Shows2 list (n + length (option_to_list next))) → m2 ≡ handed which next ended m → Going Shows which list other k given m → Going Shows2 which list other k given m2

@@ -71,7 +71,7 @@ le-le x y z h k = omega (arith, ints)
 lt-not : {P : Type 0} (x y : ℤ) → x <ℤ y → y ≤ℤ x → P
 lt-not x y h k = absurd (omega (arith, ints))
 
--- no batch of A in the list is before this batch
+-- no batch of A in the list begins before `a`
 abbrev NoneBefore : Presented → List Sided → Type 0
 NoneBefore a l = AllByRecursion (λ b. first_instant a ≤ℤ first_instant b) (batches_of A l)
 
@@ -82,7 +82,7 @@ none-tail-at a B c l h = h
 none-tail : (a : Presented) (y : Sided) (l : List Sided) → NoneBefore a (y ∷ l) → NoneBefore a l
 none-tail a y l h = none-tail-at a y.side y.batch l h
 
--- a list in merged order is still in merged order with one more batch of A, which is before its others
+-- if no batch of A in a list begins before `a`, the list stays in merged order when `a` is put into it
 put-sorted : (a : Presented) (l : List Sided) → IsSorted l → NoneBefore a l → IsSorted (put_before (of_side A a) l)
 put-sorted a [] s h = (tt, tt)
 put-sorted a (y ∷ ys) s h = at (int_lt (first_instant y.batch) (first_instant a)) refl (put-sorted a ys s.1 (none-tail a y ys h))
@@ -95,7 +95,8 @@ put-sorted a (y ∷ ys) s h = at (int_lt (first_instant y.batch) (first_instant 
         let le = le-of (first_instant y.batch) (first_instant a) e in
         ((record { instants = le; sides = λ p q. absurd (cc) }, all-weaker (MayPrecede y) (MayPrecede (of_side A a)) (λ z m. record { instants = le-le (first_instant a) (first_instant y.batch) (first_instant z.batch) le m.instants; sides = λ p q. absurd (cc) }) ys s.0), s)
 
--- the batches of A are then the new one and those of the list
+-- if no batch of A in a list begins before `a`, the list's batches of A are `a` and the earlier ones after `a` is put
+-- into it
 put-a : (a : Presented) (l : List Sided) → NoneBefore a l → batches_of A (put_before (of_side A a) l) ≡ a ∷ batches_of A l
 put-a a [] h = refl
 put-a a (y ∷ ys) h = at y.side y.batch h (int_lt (first_instant y.batch) (first_instant a)) refl (put-a a ys (none-tail a y ys h))
@@ -106,7 +107,7 @@ put-a a (y ∷ ys) h = at y.side y.batch h (int_lt (first_instant y.batch) (firs
     at B c n true e ih = ih
     at s c n false e ih = refl
 
--- the batches of B are then those of the list
+-- putting a batch of A into a list leaves its batches of B as they are
 put-b : (a : Presented) (l : List Sided) → batches_of B (put_before (of_side A a) l) ≡ batches_of B l
 put-b a [] = refl
 put-b a (y ∷ ys) = at y.side y.batch (int_lt (first_instant y.batch) (first_instant a)) (put-b a ys)
@@ -188,17 +189,17 @@ same-side : (s : Which) (z b : Presented) → first_instant z ≤ℤ first_insta
 same-side A z b le = record { instants = le; sides = λ p q. absurd (cc) }
 same-side B z b le = record { instants = le; sides = λ p q. absurd (cc) }
 
--- each batch of a list may come before each batch that the side presents later
+-- each batch of `done` may precede each batch of `rest` of side `s`
 abbrev pub Crosses : Which → List Presented → List Sided → Type 0
 Crosses s rest done = AllByRecursion (λ d. AllByRecursion (λ r. MayPrecede d (of_side s r)) rest) done
 
--- what follows a next batch follows all batches before that one
+-- if each batch of `done` may precede `a`, it may also precede the later batches of that side
 cross-next : (s : Which) (done : List Sided) (a : Presented) (more : List Presented) → AllByRecursion (λ d. MayPrecede d (of_side s a)) done → AllByRecursion (λ r. first_instant a ≤ℤ first_instant r) more → Crosses s (a ∷ more) done
 cross-next s done a more p le =
     all-weaker (λ d. MayPrecede d (of_side s a)) (λ d. AllByRecursion (λ r. MayPrecede d (of_side s r)) (a ∷ more))
     (λ d m. (m, all-weaker (λ r. first_instant a ≤ℤ first_instant r) (λ r. MayPrecede d (of_side s r)) (λ r h. precede-more s d a r m h) more le)) done p
 
--- what follows the last batch of a side follows all batches before that one
+-- if `done` ends with a batch of side `s`, each batch of `done` may precede the later batches of that side
 cross-last : (s : Which) (done : List Sided) (more : List Presented) → IsSorted done → EndsOn s done → IsInOrder (batches_of s done ++ more) → Crosses s more done
 cross-last s done more sorted (inl none) order = subst (Crosses s more) (sym none) tt
 cross-last s done more sorted (inr (front, z, e)) order =
@@ -214,7 +215,8 @@ cross-last s done more sorted (inr (front, z, e)) order =
     one-of A z = refl
     one-of B z = refl
 
--- batches that come after all of a list are merged by themselves, after the list
+-- if each batch of `done` may precede all of `ra` and `rb`, the merged list is `done` and then the merged list of `ra`
+-- and `rb`
 pub merged-after : (done : List Sided) (ra rb : List Presented) → IsSorted done → IsInOrder ra → IsInOrder rb → Crosses A ra done → Crosses B rb done → merged (batches_of A done ++ ra) (batches_of B done ++ rb) ≡ done ++ merged ra rb
 merged-after done ra rb sorted oa ob ca cb =
     let m = merges ra rb oa ob in
@@ -249,7 +251,7 @@ any-end s (x ∷ front) z rest = at (is_side s x.side) (any-end s front z rest)
     at true h = refl
     at false h = h
 
--- a list is settled for a side by the batches after it, or ends with a batch of that side
+-- side `s` is settled by `rest`, or `done` ends with a batch of that side
 abbrev pub Covered : Bool → Which → List Sided → List Sided → Type 0
 Covered e s done rest = (is_settled e s rest ≡ true) ⊎ EndsOn s done
 
@@ -312,8 +314,8 @@ unsettled-b ea eb (x ∷ l) h =
 
 -- ---- what a matching was given, and what its sides present
 
--- Each side presents more after the matching's list, in order. A side that has ended for the matching presents no more, and has
--- ended.
+-- A presents `xs` and then `more_a`, and B presents `ys` and then `more_b`, each in order. A side that has ended in the
+-- matching has ended, and presents no more batches.
 pub record GoesOn (xs ys more_a more_b : List Presented) (over_a over_b : Bool) (m : MatchingState) : Type 0 where
   pub order_a : IsInOrder (xs ++ more_a)
   pub order_b : IsInOrder (ys ++ more_b)
@@ -322,7 +324,7 @@ pub record GoesOn (xs ys more_a more_b : List Presented) (over_a over_b : Bool) 
   pub is_over_a : m.ended_a ≡ true → over_a ≡ true
   pub is_over_b : m.ended_b ≡ true → over_b ≡ true
 
--- the batches of a side that were not worked through: its next batch and those after it
+-- the batches of a side that are not done yet: its next batch and the batches after that one
 abbrev pub rest_of : Option Presented → List Presented → List Presented
 rest_of next more = option_to_list next ++ more
 
@@ -330,7 +332,7 @@ either : (b : Bool) → (b ≡ true) ⊎ (b ≡ false)
 either true = inl refl
 either false = inr refl
 
--- what comes before the next batch of a side comes before all that the side presents later
+-- if each batch of `done` may precede the next batch of side `s`, it may also precede all later batches of that side
 cross-at : (s : Which) (done : List Sided) (next : Option Presented) (ended lack : Bool) (more : List Presented) → lacks ended next ≡ lack → IsSorted done → (lacks ended next ≡ true → EndsOn s done) → (ended ≡ true → more ≡ [])
     → AllByRecursion (λ d. AllByRecursion (λ r. MayPrecede d (of_side s r)) (option_to_list next)) done → IsInOrder (batches_of s done ++ rest_of next more) → Crosses s (rest_of next more) done
 cross-at s done (Some a) ended lack more l sorted ends none first order =
@@ -363,11 +365,11 @@ cross-nexts-b done na nb sorted = all-weaker (λ d. AllByRecursion (MayPrecede d
         by true p = (p.0, tt)
         by false p = p.1
 
--- what a side presents is what was worked through and what was not
+-- all batches of a side are those in `done`, and then those that are not done yet
 pub given-back : (xs done more : List Presented) (next : Option Presented) → done ++ option_to_list next ≡ xs → xs ++ more ≡ done ++ rest_of next more
 given-back xs done more next e = ap (λ (l : List Presented). l ++ more) (sym e) ∙ append_assoc done (option_to_list next) more
 
--- the merged list of all batches is what was worked through, and then the merged list of the rest
+-- the merged list of all batches is `done`, and then the merged list of the batches that are not done yet
 pub merged-all : (xs ys more_a more_b : List Presented) (given : ℕ) (over_a over_b : Bool) (m : MatchingState) (s : StandsFor xs ys given m) → GoesOn xs ys more_a more_b over_a over_b m
     → merged (xs ++ more_a) (ys ++ more_b) ≡ s.done ++ merged (rest_of m.next_a more_a) (rest_of m.next_b more_b)
 merged-all xs ys more_a more_b given over_a over_b m s g =
@@ -381,7 +383,7 @@ merged-all xs ys more_a more_b given over_a over_b m s g =
     ap (λ (l : List Presented). merged l (ys ++ more_b)) a ∙ ap (merged (batches_of A s.done ++ rest_of m.next_a more_a)) b
     ∙ merged-after s.done (rest_of m.next_a more_a) (rest_of m.next_b more_b) sorted (order-back (batches_of A s.done) (rest_of m.next_a more_a) oa) (order-back (batches_of B s.done) (rest_of m.next_b more_b) ob) ca cb
 
--- a side that has its next batch, or has ended, is settled by the rest
+-- a side is settled by the batches that are not done yet, or `done` ends with a batch of it
 covers-at : (s : Which) (done rest : List Sided) (ended over : Bool) (next : Option Presented) (more : List Presented) (lack : Bool) → lacks ended next ≡ lack → (ended ≡ true → over ≡ true) → (lacks ended next ≡ true → EndsOn s done) → batches_of s rest ≡ rest_of next more → Covered over s done rest
 covers-at s done rest true over next more lack l is ends e = inl (ap (λ v. v || list_any (λ y. is_side s y.side) rest) (is refl))
 covers-at s done rest false over None more lack l is ends e = inr (ends refl)
@@ -400,7 +402,7 @@ known-all xs ys more_a more_b given over_a over_b m s g =
     (covers-at A s.done (merged ra rb) m.ended_a over_a m.next_a more_a (lacks m.ended_a m.next_a) refl g.is_over_a s.last_a r.a)
     (covers-at B s.done (merged ra rb) m.ended_b over_b m.next_b more_b (lacks m.ended_b m.next_b) refl g.is_over_b s.last_b r.b)
 
--- The side that the matching wants is open, and all that it presents was given.
+-- The side that the matching wants has not ended, and the matching was given all batches of that side.
 pub record IsAsked (more_a more_b : List Presented) (over_a over_b : Bool) (m : MatchingState) : Type 0 where
   pub all_a : wanted m ≡ Some A → more_a ≡ []
   pub all_b : wanted m ≡ Some B → more_b ≡ []
@@ -426,7 +428,7 @@ wanted-at true v = inl refl
 wanted-at false true = inr (inl refl)
 wanted-at false false = inr (inr (refl, refl))
 
--- if no side is wanted and nothing more is known, both have ended
+-- if no side is wanted and nothing more is known, both sides have ended
 pub idle-ended : (m : MatchingState) → wanted m ≡ None → IsIdle m → (m.ended_a ≡ true) × (m.ended_b ≡ true)
 idle-ended m none idle = at (wanted-at (lacks m.ended_a m.next_a) (lacks m.ended_b m.next_b))
   where
@@ -435,7 +437,7 @@ idle-ended m none idle = at (wanted-at (lacks m.ended_a m.next_a) (lacks m.ended
     at (inr (inl w)) = let e : Some B ≡ None = sym w ∙ none in absurd (cc)
     at (inr (inr (la, lb))) = let t = through-at m.ended_a m.ended_b m.next_a m.next_b la lb idle in (t.2, t.3)
 
--- nothing of the rest is known
+-- if the matching is idle, no batch is known of those that are not done yet
 rest-idle : (ra rb : List Presented) (more_a more_b : List Presented) (over_a over_b : Bool) (m : MatchingState) → ra ≡ rest_of m.next_a more_a → rb ≡ rest_of m.next_b more_b → IsInOrder ra → IsInOrder rb → IsIdle m
     → (m.ended_a ≡ true → more_a ≡ []) → (m.ended_b ≡ true → more_b ≡ []) → IsAsked more_a more_b over_a over_b m
     → (wanted m ≡ Some A) ⊎ ((wanted m ≡ Some B) ⊎ ((lacks m.ended_a m.next_a ≡ false) × (lacks m.ended_b m.next_b ≡ false))) → known over_a over_b (merged ra rb) ≡ []
@@ -451,7 +453,7 @@ rest-idle ra rb more_a more_b over_a over_b m ea eb oa ob idle none_a none_b ask
     let b : rb ≡ [] = eb ∙ ap (λ (n : Option Presented). option_to_list n ++ more_b) t.1 ∙ none_b t.3 in
     ap (λ (l : List Presented). known over_a over_b (merged l rb)) a ∙ ap (λ (l : List Presented). known over_a over_b (merged [] l)) b ∙ ap (known over_a over_b) (merged-def [] [] ∙ by-nil) ∙ known-nil over_a over_b
 
--- the known part is exactly what was worked through
+-- if the matching is idle, the known part is `done`
 pub known-idle : (xs ys more_a more_b : List Presented) (given : ℕ) (over_a over_b : Bool) (m : MatchingState) (s : StandsFor xs ys given m) → GoesOn xs ys more_a more_b over_a over_b m → IsAsked more_a more_b over_a over_b m → IsIdle m
     → known over_a over_b (merged (xs ++ more_a) (ys ++ more_b)) ≡ s.done
 known-idle xs ys more_a more_b given over_a over_b m s g asked idle =
@@ -473,7 +475,7 @@ front-get done more n h =
     let f = differences-front done more in
     ap (λ (l : List Difference). slice_get l n) f.1 ∙ get-front (differences done) f.0 n h
 
--- a difference among the batches that the matching was given is that of all that the sides present
+-- a difference that the matching has returned has the same number among the differences of all that the sides present
 pub some-all : (xs ys more_a more_b : List Presented) (given : ℕ) (over_a over_b : Bool) (m : MatchingState) (s : StandsFor xs ys (given + 1) m) → GoesOn xs ys more_a more_b over_a over_b m
     → slice_get (differences (known_of m xs ys)) given ≡ slice_get (differences (known over_a over_b (merged (xs ++ more_a) (ys ++ more_b)))) given
 some-all xs ys more_a more_b given over_a over_b m s g =

@@ -1,4 +1,4 @@
--- What a pair has given stays, however its sides go on.
+-- The differences that a pair has returned stay the first ones, whatever its sides present later.
 use Rattle.std.proofs.Common.{◌≡◌, ℕ, zero, suc, ◌+◌, ◌≤◌, Bool, true, false, List, [], ◌∷◌, ◌++◌, length, take, drop}
 use Rattle.std.proofs.Common.{◌||◌, Option, Some, None, refl, sym, ap, ◌∙◌, subst, append_assoc, append-nil, length-append, arith}
 use Rattle.std.specs.Prelude.{slice_get}
@@ -29,9 +29,9 @@ use Rattle.capture_pair.proofs.Handing.{presented-append, presented-split}
 use Rattle.capture_pair.proofs.Heard.{due-in-order, out-in-order, shown-in-order}
 use Rattle.capture_pair.proofs.Joined.{GoesOn, given-back, known-all, merges, none-batch, order-back, rest_of, unsettled-a, unsettled-b}
 
--- ---- what a listener presents goes on
+-- ---- what a listener presents of more records
 
--- A list of batches begins with another one, and is that one if its side has ended.
+-- `ys` begins with `xs`. If the side has ended, `ys` is `xs`.
 pub record Longer (xs ys : List Presented) (ended : Bool) : Type 0 where
   pub more : List Presented
   pub split : ys ≡ xs ++ more
@@ -50,14 +50,14 @@ longer-open xs ys ended opened first = record {
   none = λ t. never-both ended opened t;
 }
 
--- what is due of records is the beginning of what is shown of more records
+-- what is due of `records` is a prefix of what is shown of `records ++ more`
 due-shown : (plan : ListenPlan) (records more : List Record) → IsPrefix (due_of plan records) (shown_of plan (records ++ more))
 due-shown plan records more =
     prefix_twice (due_of plan records) (due_of plan (records ++ more)) (shown_of plan (records ++ more))
     (due_stays plan records more) (due_first plan (records ++ more))
 
--- what a listener presents of records is the beginning of all that is presented of more records; there are no more if it is
--- closed
+-- What a listener presents of `records` is a prefix of all that is presented of `records ++ more`. If the listener is
+-- closed, `more` must be empty.
 pub shows-on : (plan : ListenPlan) (records more : List Record) (l : ListenState) → l.plan ≡ plan → (is_closed l ≡ true → more ≡ [])
     → Longer (presented_by l records) (presented_of (shown_of plan (records ++ more))) (is_closed l)
 shows-on plan records more l is none = at (is_closed l) refl
@@ -73,7 +73,7 @@ shows-on plan records more l is none = at (is_closed l) refl
         (subst (λ (s : List Shown). IsPrefix s (shown_of plan (records ++ more)))
         (ap (λ (p : ListenPlan). due_of p records) (sym is) ∙ sym (out_open l records e)) (due-shown plan records more))
 
--- what a listener presents of records is the beginning of what it presents after it was given more, or closed
+-- what a listener presents of `records` is a prefix of what it presents after it is given `more` or closed
 pub presents-on : (records more : List Record) (old new : ListenState) → new.plan ≡ old.plan → (is_closed old ≡ true → (is_closed new ≡ true) × (more ≡ []))
     → Longer (presented_by old records) (presented_by new (records ++ more)) (is_closed old)
 presents-on records more old new plan closed = at (is_closed old) (is_closed new) refl refl
@@ -90,10 +90,10 @@ presents-on records more old new plan closed = at (is_closed old) (is_closed new
         (ap (λ (p : ListenPlan). shown_of p (records ++ more)) (sym plan) ∙ sym (out_ended new (records ++ more) f))
         (subst (λ (s : List Shown). IsPrefix s (shown_of old.plan (records ++ more))) (sym (out_open old records e)) (due-shown old.plan records more)))
 
--- ---- what is known begins with what a matching has worked through
+-- ---- the known part begins with what the matching has done
 
--- Two sides present these batches. A matching was given the first items of two lists, with which they begin. A side that has
--- ended for the matching presents no more than its list, and has ended.
+-- Two sides present `xs` and `ys`. These begin with the batches of `list` and `other`, from which the matching gets its
+-- batches. A side that has ended in the matching has ended, and presents only the batches of its list.
 pub record Further (list other : List Shown) (xs ys : List Presented) (ended_a ended_b : Bool) (m : MatchingState) : Type 0 where
   pub more_a : List Presented
   pub more_b : List Presented
@@ -106,7 +106,7 @@ pub record Further (list other : List Shown) (xs ys : List Presented) (ended_a e
   pub over_a : m.ended_a ≡ true → ended_a ≡ true
   pub over_b : m.ended_b ≡ true → ended_b ≡ true
 
--- what a side presents after the first n items of a list: the batches left in the list, and more
+-- the batches that a side presents after the first n items of its list: those of the later items, and then `more`
 abbrev left-of : List Shown → ℕ → List Presented → List Presented
 left-of list n more = presented_of (drop n list) ++ more
 
@@ -129,7 +129,7 @@ further-goes list other n k given xs ys ended_a ended_b m h f = record {
   is_over_b = f.over_b;
 }
 
--- the known part is what the matching has worked through, and what is known of the rest
+-- the known part is what the matching has done, and then the known part of the batches that are not done yet
 pub further-known : (list other : List Shown) (n k given : ℕ) (xs ys : List Presented) (ended_a ended_b : Bool) (m : MatchingState)
     → (h : Matches list other n k given m) → (f : Further list other xs ys ended_a ended_b m)
     → known ended_a ended_b (merged xs ys)
@@ -157,7 +157,7 @@ front-within done more given e =
     let long = length-append (differences done) front.0 in
     omega arith
 
--- the differences that were given are the first of the known ones
+-- the first `given` known differences are the differences that the matching has returned
 pub further-take : (list other : List Shown) (n k given : ℕ) (xs ys : List Presented) (ended_a ended_b : Bool) (m : MatchingState)
     → (h : Matches list other n k given m) → Further list other xs ys ended_a ended_b m
     → take given (differences (known ended_a ended_b (merged xs ys))) ≡ differences h.matched.done
@@ -173,7 +173,7 @@ further-within list other n k given xs ys ended_a ended_b m h f =
     subst (λ (l : List Sided). given ≤ length (differences l)) (sym (further-known list other n k given xs ys ended_a ended_b m h f))
     (front-within h.matched.done rest given h.matched.shown)
 
--- ---- a pair goes on
+-- ---- a pair is given more
 
 presented-in-order : (l : ListenState) (records : List Record) → IsInOrder (presented_by l records)
 presented-in-order l records = out-in-order (is_closed l) l.plan records
@@ -213,14 +213,14 @@ further-then records others more more_others old new ends c =
       over_b = λ t. (c.closed_b (ends.b t)).0;
     }
 
--- a pair has given no more differences than are known
+-- `given` is at most the number of known differences
 pub given-within : (records others : List Record) (given : ℕ) (pair : PairState) → StandsFor records others given pair → EndsAreClosed pair
     → given ≤ length (differences (known_by pair records others))
 given-within records others given pair s ends =
     further-within (out pair.a records) (out pair.b others) s.shown_a s.shown_b given (presented_by pair.a records) (presented_by pair.b others)
     (is_closed pair.a) (is_closed pair.b) pair.matching s.matches (further-now records others pair ends)
 
--- the differences that a pair has given stay the first of the known ones, whatever it is given later
+-- the first `given` known differences stay the same, whatever the pair is given later
 pub given-stays : (records others more more_others : List Record) (given : ℕ) (old new : PairState)
     → StandsFor records others given old → EndsAreClosed old → Continues more more_others old new
     → take given (differences (known_by new (records ++ more) (others ++ more_others))) ≡ take given (differences (known_by old records others))
@@ -231,7 +231,7 @@ given-stays records others more more_others given old new s ends c =
     ∙ sym (further-take (out old.a records) (out old.b others) s.shown_a s.shown_b given (presented_by old.a records) (presented_by old.b others)
     (is_closed old.a) (is_closed old.b) old.matching s.matches (further-now records others old ends))
 
--- a pair that was given more has still given no more differences than are known
+-- `given` is at most the number of known differences after the pair is given more
 pub given-within-more : (records others more more_others : List Record) (given : ℕ) (old new : PairState)
     → StandsFor records others given old → EndsAreClosed old → Continues more more_others old new
     → given ≤ length (differences (known_by new (records ++ more) (others ++ more_others)))
@@ -262,7 +262,7 @@ pub continues-close : (which : Which) (old new : PairState) → Changes which 0 
 continues-close A old new c = record { plan_a = c.plan_a; plan_b = c.plan_b; closed_a = λ t. (c.closed, refl); closed_b = λ t. (c.other_closed ∙ t, refl) }
 continues-close B old new c = record { plan_a = c.plan_a; plan_b = c.plan_b; closed_a = λ t. (c.other_closed ∙ t, refl); closed_b = λ t. (c.closed, refl) }
 
--- the differences that were given stay after a record of A was taken
+-- the first `given` known differences stay the same when a record of A is taken
 pub taken-stays-a : (r : Record) (records others : List Record) (given : ℕ) (old new : PairState)
     → StandsFor records others given old → EndsAreClosed old → is_closed old.a ≡ false → Changes A 1 false old new
     → take given (differences (known_by new (records ++ r ∷ []) others)) ≡ take given (differences (known_by old records others))
@@ -270,7 +270,7 @@ taken-stays-a r records others given old new s ends opened c =
     ap (λ (l : List Record). take given (differences (known_by new (records ++ r ∷ []) l))) (sym (append-nil others))
     ∙ given-stays records others (r ∷ []) [] given old new s ends (continues-record-a r old new opened c)
 
--- the differences that were given stay after a record of B was taken
+-- the first `given` known differences stay the same when a record of B is taken
 pub taken-stays-b : (r : Record) (records others : List Record) (given : ℕ) (old new : PairState)
     → StandsFor records others given old → EndsAreClosed old → is_closed old.b ≡ false → Changes B 1 false old new
     → take given (differences (known_by new records (others ++ r ∷ []))) ≡ take given (differences (known_by old records others))
@@ -278,7 +278,7 @@ taken-stays-b r records others given old new s ends opened c =
     ap (λ (l : List Record). take given (differences (known_by new l (others ++ r ∷ [])))) (sym (append-nil records))
     ∙ given-stays records others [] (r ∷ []) given old new s ends (continues-record-b r old new opened c)
 
--- the differences that were given stay after a side was closed
+-- the first `given` known differences stay the same when a side is closed
 pub closed-stays : (which : Which) (records others : List Record) (given : ℕ) (old new : PairState) → StandsFor records others given old → EndsAreClosed old
     → Changes which 0 true old new → take given (differences (known_by new records others)) ≡ take given (differences (known_by old records others))
 closed-stays which records others given old new s ends c =
@@ -296,11 +296,11 @@ known-as old new records others pa pb ca cb =
     ∙ ap (λ (l : List Shown). known (is_closed old.a) (is_closed old.b) (merged (presented_by old.a records) (presented_of l)))
     (out_same old.b new.b others pb cb)
 
--- a pair that is asked for a difference knows what it knew before
+-- asking a pair for a difference does not change its known part
 pub known-kept : (old new : PairState) (records others : List Record) → Keeps old new → known_by new records others ≡ known_by old records others
 known-kept old new records others k = known-as old new records others k.plan_a k.plan_b k.closed_a k.closed_b
 
--- the first differences, with one more, are those that were given and the next one
+-- if element `given` of a list is d, the first `given + 1` elements are the first `given` elements and then d
 pub given-next : (list : List Difference) (given : ℕ) (d : Difference) → slice_get list given ≡ Some d → take (given + 1) list ≡ take given list ++ d ∷ []
 given-next list given d e = let one : given + 1 ≡ suc given = omega arith in ap (λ n. take n list) one ∙ at list given e
   where
@@ -309,16 +309,16 @@ given-next list given d e = let one : given + 1 ≡ suc given = omega arith in a
     at (x ∷ l) zero e = let s : x ≡ d = cc in ap (λ (z : Difference). z ∷ []) s
     at (x ∷ l) (suc n) e = ap (λ (z : List Difference). x ∷ z) (at l n e)
 
--- if there is no next difference, all were given
+-- if a list has no element `given`, its first `given` elements are the whole list
 pub given-all : (list : List Difference) (given : ℕ) → slice_get list given ≡ None → take given list ≡ list
 given-all [] zero e = refl
 given-all [] (suc n) e = refl
 given-all (x ∷ list) zero e = absurd (cc)
 given-all (x ∷ list) (suc n) e = ap (λ (z : List Difference). x ∷ z) (given-all list n e)
 
--- ---- if a capture cannot be read on
+-- ---- a capture whose later records cannot be read
 
--- nothing of a rest is known if an open side has no batch in it
+-- a side that is open and has no batch in `l` is not settled by `l`
 open-none : (ended : Bool) (l : List Sided) (s : Which) → ended ≡ false → batches_of s l ≡ [] → is_settled ended s l ≡ false
 open-none ended l s opened none = ap (λ v. v || list_any (λ (y : Sided). is_side s y.side) l) opened ∙ none-batch s l none
 
@@ -351,7 +351,8 @@ order-rest-b list other n k given xs ys ended_a ended_b m h f =
 none-rest : (next : Option Presented) (us vs : List Presented) → next ≡ None → us ≡ [] → vs ≡ [] → rest_of next (us ++ vs) ≡ []
 none-rest next us vs e f g = ap (λ (o : Option Presented). rest_of o (us ++ vs)) e ∙ both-none us vs f g
 
--- If A is wanted, is open, and all of its list was given, the known part is what was worked through, however B continues.
+-- If A is wanted and open, and all of its list was given, the known part is what the matching has done, whatever B
+-- presents later.
 known-done-a : (list other : List Shown) (n k given : ℕ) (xs ys : List Presented) (ended_a ended_b : Bool) (m : MatchingState)
     → (h : Matches list other n k given m) → (f : Further list other xs ys ended_a ended_b m)
     → wanted m ≡ Some A → n ≡ length list → f.more_a ≡ [] → ended_a ≡ false
@@ -388,7 +389,8 @@ shown-is : (plan : ListenPlan) (records : List Record) (l : ListenState) → l.p
     → presented_by l records ≡ presented_of (shown_of plan records)
 shown-is plan records l is closed = ap presented_of (out_ended l records closed) ∙ ap (λ (p : ListenPlan). presented_of (shown_of p records)) is
 
--- a pair that wants more of A knows what is due of A, which may continue, and all that is shown of B
+-- If A is wanted, further records of B add nothing to the known part: it is that of what is due of A, which is open,
+-- and of all that is shown of B, which has ended.
 pub fault-a : (plan : ListenPlan) (records others more : List Record) (given : ℕ) (pair : PairState)
     → StandsFor records others given pair → HavePlan plan pair → EndsAreClosed pair → wanted_by pair ≡ Some A
     → is_closed pair.a ≡ false → (is_closed pair.b ≡ true → more ≡ [])
@@ -416,7 +418,8 @@ fault-a plan records others more given pair s plans ends w opened none =
     (is_closed pair.a) (is_closed pair.b) m s.matches (further-now records others pair ends) w (s.filled_a w) refl opened
     ∙ sym (known-done-a list other s.shown_a s.shown_b given xs ys false true m s.matches f w (s.filled_a w) refl refl)
 
--- a pair that wants more of B knows all that is shown of A, and what is due of B, which may continue
+-- If B is wanted, further records of A add nothing to the known part: it is that of all that is shown of A, which has
+-- ended, and of what is due of B, which is open.
 pub fault-b : (plan : ListenPlan) (records others more : List Record) (given : ℕ) (pair : PairState)
     → StandsFor records others given pair → HavePlan plan pair → EndsAreClosed pair → wanted_by pair ≡ Some B
     → is_closed pair.b ≡ false → (is_closed pair.a ≡ true → more ≡ [])
@@ -444,7 +447,7 @@ fault-b plan records others more given pair s plans ends w opened none =
     (is_closed pair.a) (is_closed pair.b) m s.matches (further-now records others pair ends) w (s.filled_b w) refl opened
     ∙ sym (known-done-b list other s.shown_a s.shown_b given xs ys true false m s.matches f w (s.filled_b w) refl refl)
 
--- once both captures are closed, all that both listeners present is known
+-- if both captures are closed, all that both listeners present is known
 pub all-known : (plan : ListenPlan) (records others : List Record) (pair : PairState) → HavePlan plan pair → is_closed pair.a ≡ true → is_closed pair.b ≡ true
     → known_by pair records others ≡ merged (presented_of (shown_of plan records)) (presented_of (shown_of plan others))
 all-known plan records others pair plans a b =

@@ -22,7 +22,8 @@ use Rattle.capture_pair.specs.state.Taking.{ClosedOn, IsBegun, TookOn}
 use Rattle.capture_pair.proofs.Filling.{counts-all}
 use Rattle.capture_pair.proofs.Heard.{heard}
 
--- a matching that was given the first n items of a list was given the first n of a longer one
+-- if `longer` begins with `list`, a matching that was given the first n items of `list` was given the first n items of
+-- `longer`
 pub more-a : (list longer other : List Shown) (n k given : ℕ) (m : MatchingState) → IsPrefix list longer → m.ended_a ≡ false → Matches list other n k given m → Matches longer other n k given m
 more-a list longer other n k given m first opened h = record {
   within_a = let a = h.within_a in let b = first_long list longer first in omega arith;
@@ -41,7 +42,8 @@ more-b list other longer n k given m first opened h = record {
   ended_b = λ t. let e = sym opened ∙ t in absurd (cc);
 }
 
--- A listener continued: it has shown equally many items, and what it shows begins with what it showed.
+-- `new` is `old` after it took more records or was closed. It has shown as many items as `old`, and its list begins
+-- with that of `old`.
 pub record Extends (records then : List Record) (old new : ListenState) : Type 0 where
   pub stands : (n : ℕ) → IsGiven records n old → IsGiven then n new
   pub longer : IsPrefix (out old records) (out new then)
@@ -72,7 +74,7 @@ takes-b records others then given old new w e p = record {
   matches = more-b (out old.a records) (out old.b others) (out new then) p.shown_a p.shown_b given old.matching e.longer (lacks-open old.matching.ended_b old.matching.next_b (wants-b old.matching w)) p.matches;
 }
 
--- a pair was given the records that its sides were given
+-- if the sides were given these records, the pair was given them
 pub stands-as : (records others : List Record) (list other : List Shown) (given : ℕ) (a b : ListenState) (m : MatchingState) → Pairs (ShowsRecords a (OfRecords records)) (ShowsRecords b (OfRecords others)) list other given m → StandsFor records others given (record { a = a; b = b; matching = m })
 stands-as records others list other given a b m p = record {
   shown_a = p.shown_a;
@@ -84,7 +86,7 @@ stands-as records others list other given a b m p = record {
   filled_b = λ w. p.filled_b w ∙ ap length p.shows_b.1;
 }
 
--- the sides were given the records that their pair was given
+-- if the pair was given these records, the sides were given them
 pub sides-as : (records others : List Record) (given : ℕ) (pair : PairState) → StandsFor records others given pair → Pairs (ShowsRecords pair.a (OfRecords records)) (ShowsRecords pair.b (OfRecords others)) (out pair.a records) (out pair.b others) given pair.matching
 sides-as records others given pair p = record {
   shown_a = p.shown_a;
@@ -136,7 +138,8 @@ begun-settled wanted_plan a b m sa sb ea eb = record {
 
 -- ---- a record is taken, or a side is closed
 
--- two listeners and a matching, before and after both sides are filled, with what the listeners show
+-- `a2`, `b2` and `m2` are the two listeners and the matching after both sides are filled. The listeners show the same
+-- lists as before.
 abbrev pub FillsBoth : ListenState → ListenState → MatchingState → ListenState → ListenState → MatchingState → Type 0
 FillsBoth a b m a2 b2 m2 = (ta tb : Taken) (list other : List Shown) (given : ℕ) → IsHeard list → IsHeard other → Holds (ShowsRecords a ta) (ShowsRecords b tb) list other given m → Pairs (ShowsRecords a2 ta) (ShowsRecords b2 tb) list other given m2
 
@@ -175,7 +178,7 @@ closed-pair B records others given old a2 b2 a3 b3 m3 w opened t few_a few_b fil
     then-b records others others given old b2 a3 b3 m3 w (extends-close others old.b b2 opened t.0.closed t.0.plan t.0.stands) few_a (let f = t.0.frames in omega arith)
     (subst (λ (a : ListenState). FillsBoth a b2 old.matching a3 b3 m3) t.1 fills) s
 
--- the side that is wanted may be given more
+-- the listener of the side that is wanted is not closed
 pub open-side : (which : Which) (QuietA QuietB : Type 0) (pair : PairState) → IsSettled (is_closed pair.a) (is_closed pair.b) QuietA QuietB pair.matching → wanted pair.matching ≡ Some which → is_closed (listener_of which pair) ≡ false
 open-side A QuietA QuietB pair s w = s.open_a w
 open-side B QuietA QuietB pair s w = s.open_b w

@@ -25,8 +25,8 @@ abbrev pub bytes_of : Which → List ℕ → List ℕ → List ℕ
 bytes_of A bytes others = bytes
 bytes_of B bytes others = others
 
--- The side whose bytes are needed before more is known: A if it has not ended and has no next batch, else B if it has not ended
--- and has no next batch, else none.
+-- The side whose bytes or whose end must be fed next: A if A has not ended and has no next batch; otherwise B if B has
+-- not ended and has no next batch; otherwise none.
 abbrev pub wanted_by : FedPair → Option Which
 wanted_by pair = wanted pair.matching
 
@@ -40,25 +40,27 @@ pub record AreShort (bytes others : List ℕ) : Type 0 where
   pub a : length bytes ≤ 2 ^ 62
   pub b : length others ≤ 2 ^ 62
 
--- The known part of the merged list of what both listeners present, given the bytes of A and of B.
+-- the known part of the merged list of what both listeners present, given `bytes` of A and `others` of B
 abbrev pub known_by : FedPair → List ℕ → List ℕ → List Sided
 known_by pair bytes others = known (is_ended pair.a) (is_ended pair.b) (merged (presented_of (out pair.a bytes)) (presented_of (out pair.b others)))
 
--- The pair was fed these bytes of A and of B, and has given `given` differences of the known part of what both present.
+-- The pair was fed `bytes` of A and `others` of B. It has returned `given` differences of the known part of what both
+-- present.
 abbrev pub StandsFor : List ℕ → List ℕ → ℕ → FedPair → Type 0
 StandsFor bytes others given pair = Pairs (λ list n. IsFed bytes n pair.a) (λ list n. IsFed others n pair.b) (out pair.a bytes) (out pair.b others) given pair.matching
 
--- nothing more is known: what comes next in the merged list depends on what a listener presents later, or both listeners have
--- ended and all was compared
+-- Nothing more is known. Either the next batch of the merged list depends on what a listener presents later, or both
+-- listeners have ended and all was compared.
 abbrev pub IsThrough : FedPair → Type 0
 IsThrough pair = IsIdle pair.matching
 
--- The most differences that the pair can still give for what it was fed: one for each item that a listener can still show, and
--- for each next batch.
+-- The most differences that the pair can still return until more is fed: one for each item that a listener can still
+-- show, and one for each next batch.
 abbrev pub most_left : FedPair → ℕ
 most_left pair = (work pair.a + work pair.b) + nexts_left pair.matching
 
--- The plans and readers of both listeners are unchanged, and so is whether each has ended or run out of memory.
+-- Each listener has the same plan and the same reader as before. It has ended exactly if it had ended before, and has
+-- run out of memory exactly if it had before.
 pub record Keeps (old new : FedPair) : Type 0 where
   pub a : KeepsFed old.a new.a
   pub b : KeepsFed old.b new.b

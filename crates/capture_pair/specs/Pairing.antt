@@ -27,8 +27,8 @@ abbrev pub other_of : Which → Which
 other_of A = B
 other_of B = A
 
--- The side whose records are needed before more is known: A if it has not ended and has no next batch, else B if it has not
--- ended and has no next batch, else none.
+-- The side whose record or whose end must be given next: A if A has not ended and has no next batch; otherwise B if B
+-- has not ended and has no next batch; otherwise none.
 abbrev pub wanted_by : PairState → Option Which
 wanted_by pair = wanted pair.matching
 
@@ -37,16 +37,17 @@ pub record HavePlan (plan : ListenPlan) (pair : PairState) : Type 0 where
   pub a : pair.a.plan ≡ plan
   pub b : pair.b.plan ≡ plan
 
--- the batches that a listener presents of records: those that are due, or all once it is closed
+-- The batches that a listener presents of `records`: those that are due while it is open, and all of them after it is
+-- closed.
 abbrev pub presented_by : ListenState → List Record → List Presented
 presented_by listener records = presented_of (out listener records)
 
--- The known part of the merged list of what both listeners present, given the records of A and of B.
+-- the known part of the merged list of what both listeners present, given `records` of A and `others` of B
 abbrev pub known_by : PairState → List Record → List Record → List Sided
 known_by pair records others = known (is_closed pair.a) (is_closed pair.b) (merged (presented_by pair.a records) (presented_by pair.b others))
 
--- A matching was given the batches among the first n and k of two lists of what is shown, and has given `given` differences. A
--- side has ended only if all of its list was given.
+-- A matching was given the batches among the first n items of `list` and the first k items of `other`, and has returned
+-- `given` differences. If a side has ended, the matching was given all of that side's list.
 pub record Matches (list other : List Shown) (n k given : ℕ) (m : MatchingState) : Type 0 where
   pub within_a : n ≤ length list
   pub within_b : k ≤ length other
@@ -54,8 +55,8 @@ pub record Matches (list other : List Shown) (n k given : ℕ) (m : MatchingStat
   pub ended_a : m.ended_a ≡ true → n ≡ length list
   pub ended_b : m.ended_b ≡ true → k ≡ length other
 
--- Two listeners show these lists. A matching was given the batches of each as far as it asked for them, all batches of the side
--- that it wants, and has given `given` differences.
+-- Two listeners show these lists. A matching was given the batches among the items that they have shown, and has
+-- returned `given` differences. If the matching wants a side, that side's listener has shown all of its list.
 pub record Pairs (ShowsA ShowsB : List Shown → ℕ → Type 0) (list other : List Shown) (given : ℕ) (m : MatchingState) : Type 0 where
   pub shown_a : ℕ
   pub shown_b : ℕ
@@ -65,34 +66,36 @@ pub record Pairs (ShowsA ShowsB : List Shown → ℕ → Type 0) (list other : L
   pub filled_a : wanted m ≡ Some A → shown_a ≡ length list
   pub filled_b : wanted m ≡ Some B → shown_b ≡ length other
 
--- The pair was given these records of A and of B, and has given `given` differences of the known part of what both present.
+-- The pair was given `records` of A and `others` of B. It has returned `given` differences of the known part of what
+-- both present.
 abbrev pub StandsFor : List Record → List Record → ℕ → PairState → Type 0
 StandsFor records others given pair = Pairs (λ list n. IsGiven records n pair.a) (λ list n. IsGiven others n pair.b) (out pair.a records) (out pair.b others) given pair.matching
 
--- nothing more is known: what comes next in the merged list depends on what a listener presents later, or both listeners are
--- closed and all was compared
+-- Nothing more is known. Either the next batch of the merged list depends on what a listener presents later, or both
+-- listeners are closed and all was compared.
 abbrev pub IsThrough : PairState → Type 0
 IsThrough pair = IsIdle pair.matching
 
--- A side that has ended for the matching is closed.
+-- If a side has ended in the matching, its listener is closed.
 pub record EndsAreClosed (pair : PairState) : Type 0 where
   pub a : pair.matching.ended_a ≡ true → is_closed pair.a ≡ true
   pub b : pair.matching.ended_b ≡ true → is_closed pair.b ≡ true
 
--- A pair continues another one, given these further records of A and of B: the plans are equal, and a side that was closed is
--- closed and was given no more.
+-- `new` is `old` after these further records of A and of B. The plans are equal. A side that was closed is still
+-- closed, and was given no further record.
 pub record Continues (more more_others : List Record) (old new : PairState) : Type 0 where
   pub plan_a : new.a.plan ≡ old.a.plan
   pub plan_b : new.b.plan ≡ old.b.plan
   pub closed_a : is_closed old.a ≡ true → (is_closed new.a ≡ true) × (more ≡ [])
   pub closed_b : is_closed old.b ≡ true → (is_closed new.b ≡ true) × (more_others ≡ [])
 
--- The most differences that the pair can still give for what it was given: one for each item that a listener can still show,
--- and for each next batch.
+-- The most differences that the pair can still return until more is given: one for each item that a listener can still
+-- show, and one for each next batch.
 abbrev pub most_left : PairState → ℕ
 most_left pair = (work pair.a + work pair.b) + nexts_left pair.matching
 
--- Both listeners have the plans and the numbers of records that they had, and each is closed if it was.
+-- Each listener has the same plan and the same number of records as before, and is closed exactly if it was closed
+-- before.
 pub record Keeps (old new : PairState) : Type 0 where
   pub plan_a : new.a.plan ≡ old.a.plan
   pub plan_b : new.b.plan ≡ old.b.plan
@@ -101,8 +104,8 @@ pub record Keeps (old new : PairState) : Type 0 where
   pub closed_a : is_closed new.a ≡ is_closed old.a
   pub closed_b : is_closed new.b ≡ is_closed old.b
 
--- The listener of side `which` was given one more record, or was closed. The other listener is unchanged, except for what it
--- has shown.
+-- The listener of side `which` was given `more` records, and is closed exactly if `ended` is true. The other listener
+-- is unchanged, except for what it has shown.
 pub record Changes (which : Which) (more : ℕ) (ended : Bool) (old new : PairState) : Type 0 where
   pub plan_a : new.a.plan ≡ old.a.plan
   pub plan_b : new.b.plan ≡ old.b.plan

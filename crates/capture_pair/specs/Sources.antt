@@ -1,4 +1,4 @@
--- A listener as one side of a pair: what it has taken, and what stays while it is asked for what it shows.
+-- A listener as one side of a pair: what it has taken, and what does not change while it is asked for items.
 use Rattle.std.specs.Prelude.{ℕ, Bool, List, Option}
 use Rattle.pcap_frames.specs.Capture.{Record}
 use Rattle.pcap_frames.specs.Reading.{Reading}
@@ -9,8 +9,8 @@ pub data Taken : Type 0 where
   OfRecords : List Record → Taken
   OfBytes : List ℕ → Taken
 
--- What stays while a listener is asked for what it shows: its plan and whether it has ended; for a listener of records also how
--- many it took; and for a listener of bytes also its reader, and whether it ran out of memory.
+-- What does not change while a listener is asked for items: its plan and whether it has ended. For a listener of
+-- records, also how many it took. For a listener of bytes, also its reader, and whether it ran out of memory.
 pub record Kept : Type 0 where
   pub plan : ListenPlan
   pub frames : ℕ

@@ -1,4 +1,4 @@
-//! Two captures whose bytes come in pieces of any length.
+//! Two captures whose bytes are fed in pieces of any length.
 
 ghost use Rattle.std.specs.Prelude.{◌≡◌, ◌↔◌, ◌+◌, ◌^◌, ◌≤◌, ◌++◌, [], ℕ, true, false, List, length, slice_get, take, None, Some, Err, IfNone, IfOk, option_map};
 ghost use Rattle.std.specs.Option.{option_to_list};
@@ -23,11 +23,11 @@ use listener_pair::{Difference, Matching, PairCounts, Which};
 use std::alloc::Global;
 use std::marker::Model;
 
-/// Two listeners with the same plan, fed the bytes of two captures of a stream, and the differences of what they present. The
-/// bytes of each capture are fed in its order, and only as far as `wants` asks for them.
+/// Two listeners with the same plan, fed the bytes of two captures of a stream, and the differences of what they
+/// present. The bytes of each capture are fed in their order, and only when `wants` asks for them.
 ///
-/// It gives the differences that a `RecordPair` gives for the records of both captures. Items that a listener flags are dropped,
-/// and do not end a side. Each capture has at most 2^62 bytes.
+/// The differences are those that a `RecordPair` returns for the records of both captures. Items that a listener flags
+/// are dropped, and do not end a side. Each capture has at most 2^62 bytes.
 #[derive(Drop)]
 pub struct Pair {
     a: ByteSource,
@@ -63,8 +63,8 @@ impl Pair {
         Ok(Pair { a, b, matching })
     }
 
-    /// The capture whose next bytes, or end, are needed before more is known: A if it has not ended and has no next batch, else
-    /// B if it has not ended and has no next batch, else `None`.
+    /// The capture whose next bytes, or whose end, must be fed next: A if A has not ended and has no next batch;
+    /// otherwise B if B has not ended and has no next batch; otherwise `None`.
     pub fn wants(&self) -> Option<Which>
         ensures wanted { result ≡ wanted_by self.now }
         ensures open { (which : Which) → result ≡ Some which → is_ended (fed_of which self.now) ≡ false }
@@ -73,12 +73,13 @@ impl Pair {
         self.matching.wants()
     }
 
-    /// Takes bytes of the capture that is wanted, up to the end of one record or of the piece, and returns how many. At most
-    /// 2^62 bytes of each capture may be taken.
+    /// Takes bytes of the capture that is wanted, up to the end of one record or of the piece. Returns the number of
+    /// bytes taken. At most 2^62 bytes of each capture may be taken.
     ///
-    /// Without a fault, returns `Ok(0)` exactly if the piece is empty. `Refused` is the capture's first refusal, and is returned
-    /// as soon as the bytes so far show it; what was accepted stays, and `end` then ends that side. `Memory` is returned if there
-    /// is no memory for the samples of a record; every later `feed` and `end` of that side returns `Memory`.
+    /// Without a fault, returns `Ok(0)` exactly if the piece is empty. `Refused` is the capture's first refusal, and is
+    /// returned as soon as the bytes so far show it. What was accepted before stays, and `end` then ends that side.
+    /// `Memory` is returned if there is no memory for the samples of a record. After it, every `feed` and `end` of that
+    /// side returns `Memory`.
     pub fn feed(&mut self, alloc: Global, which: Which, piece: &[u8]) -> Result<usize, ListenFault>
         requires wanted { wanted_by self.old ≡ Some which }
         requires bounded { taken (fed_of which self.old).reader + length piece.now ≤ 2 ^ 62 }
@@ -98,10 +99,10 @@ impl Pair {
         answer
     }
 
-    /// Ends the capture that is wanted after the bytes so far. Allocates nothing.
+    /// Ends the capture that is wanted: no more bytes of it follow. Allocates nothing.
     ///
-    /// `Refused` is the capture's first field that is cut off or refused, if there is one; the records before it are compared.
-    /// After `Memory` by `feed` it returns `Memory`.
+    /// If a field of the capture is cut off or refused, returns `Refused` for the first such field; the records before
+    /// it are compared. If `feed` has returned `Memory` for this side, returns `Memory`.
     pub fn end(&mut self, which: Which) -> Result<(), ListenFault>
         requires wanted { wanted_by self.old ≡ Some which }
         ensures stands { (bytes others : List ℕ) (given : ℕ) → AreShort bytes others → StandsFor bytes others given self.old → StandsFor bytes others given self.new }
@@ -115,8 +116,9 @@ impl Pair {
         answer
     }
 
-    /// The next difference in the known part of the merged list of what both listeners present. Returns `None` exactly if that
-    /// part has no further difference. For what was given so far, only finitely many differences can be given. Allocates nothing.
+    /// Returns the next difference in the known part of the merged list of what both listeners present; `None` exactly
+    /// if that part has no further difference. Until more is fed, only finitely many differences are returned.
+    /// Allocates nothing.
     pub fn next_difference(&mut self) -> Option<Difference>
         ensures given { (bytes others : List ℕ) (given : ℕ) → AreShort bytes others → StandsFor bytes others given self.old → result ≡ slice_get (differences (known_by self.old bytes others)) given }
         ensures stands { (bytes others : List ℕ) (given : ℕ) → AreShort bytes others → StandsFor bytes others given self.old → StandsFor bytes others (given + length (option_to_list result)) self.new }
@@ -127,8 +129,8 @@ impl Pair {
         next_difference(&mut self.a, &mut self.b, &mut self.matching)
     }
 
-    /// The counts of the known part, after all its differences were given. A batch that is not paired yet counts as presented
-    /// by one side only.
+    /// The counts of the known part, after all its differences were returned. A batch that is not paired yet counts as
+    /// presented by one side only.
     pub fn counts(&self) -> PairCounts
         ensures { IsThrough self.now → (bytes others : List ℕ) (given : ℕ) → AreShort bytes others → StandsFor bytes others given self.now → result ≡ counts_of (known_by self.now bytes others) }
     {

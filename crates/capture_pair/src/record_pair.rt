@@ -1,4 +1,4 @@
-//! Two captures whose records come one at a time.
+//! Two captures whose records are taken one at a time.
 
 ghost use Rattle.std.specs.Prelude.{◌≡◌, ◌+◌, ◌^◌, ◌<◌, ◌≤◌, ◌++◌, ◌∷◌, [], ℕ, true, false, List, length, slice_get, None, Some, IfNone, IfOk, OnErr, OnOk};
 ghost use Rattle.std.specs.Option.{option_to_list};
@@ -21,12 +21,12 @@ use pcap_frames::RecordView;
 use std::alloc::Global;
 use std::marker::Model;
 
-/// Two listeners with the same plan, given the records of two captures of a stream, and the differences of what they present. The
-/// records of each capture are given in its order, and only as far as `wants` asks for them.
+/// Two listeners with the same plan, given the records of two captures of a stream, and the differences of what they
+/// present. The records of each capture are given in their order, and only when `wants` asks for them.
 ///
-/// A difference is given as soon as all batches are known that come before it in the merged list of what both present. Items that
-/// a listener flags are dropped, and do not end a side. Memory is reserved when the pair is made; later each packet's samples,
-/// and each whole unit, are copied once.
+/// A difference is returned as soon as all batches before it in the merged list of what both present are known. Items
+/// that a listener flags are dropped, and do not end a side. Memory is reserved when the pair is made. Later, the
+/// samples of each packet and each whole unit are copied once.
 #[derive(Drop)]
 pub struct RecordPair {
     a: RecordSource,
@@ -65,8 +65,8 @@ impl RecordPair {
         Ok(RecordPair { a, b, matching })
     }
 
-    /// The capture whose next record, or end, is needed before more is known: A if it has not ended and has no next batch, else
-    /// B if it has not ended and has no next batch, else `None`.
+    /// The capture whose next record, or whose end, must be given next: A if A has not ended and has no next batch;
+    /// otherwise B if B has not ended and has no next batch; otherwise `None`.
     pub fn wants(&self) -> Option<Which>
         ensures wanted { result ≡ wanted_by self.now }
         ensures open { (which : Which) → result ≡ Some which → is_closed (listener_of which self.now) ≡ false }
@@ -76,9 +76,9 @@ impl RecordPair {
         self.matching.wants()
     }
 
-    /// Takes the next record of the capture that is wanted. Fewer than 2^61 records of that capture may have been taken. The
-    /// record's time is from 0 to 2^62 ns. Returns `NoMemory` if there is no memory for the packet's samples or the unit; the
-    /// pair is then unchanged.
+    /// Takes the next record of the capture that is wanted. Fewer than 2^61 records of that capture may have been taken
+    /// before. The record's time is from 0 to 2^62 ns. If there is no memory for the packet's samples or the unit,
+    /// returns `NoMemory`, and the pair is unchanged.
     pub fn take_record(
         &mut self,
         alloc: Global,
@@ -108,8 +108,9 @@ impl RecordPair {
         fill_both(&mut self.a, &mut self.b, &mut self.matching);
     }
 
-    /// The next difference in the known part of the merged list of what both listeners present. Returns `None` exactly if that
-    /// part has no further difference. For what was given so far, only finitely many differences can be given. Allocates nothing.
+    /// Returns the next difference in the known part of the merged list of what both listeners present; `None` exactly
+    /// if that part has no further difference. Until more is taken, only finitely many differences are returned.
+    /// Allocates nothing.
     pub fn next_difference(&mut self) -> Option<Difference>
         ensures given { (records others : List Record) (given : ℕ) → StandsFor records others given self.old → result ≡ slice_get (differences (known_by self.old records others)) given }
         ensures stands { (records others : List Record) (given : ℕ) → StandsFor records others given self.old → StandsFor records others (given + length (option_to_list result)) self.new }
@@ -121,8 +122,8 @@ impl RecordPair {
         next_difference(&mut self.a, &mut self.b, &mut self.matching)
     }
 
-    /// The counts of the known part, after all its differences were given. A batch that is not paired yet counts as presented
-    /// by one side only.
+    /// The counts of the known part, after all its differences were returned. A batch that is not paired yet counts as
+    /// presented by one side only.
     pub fn counts(&self) -> PairCounts
         ensures { IsThrough self.now → (records others : List Record) (given : ℕ) → StandsFor records others given self.now → result ≡ counts_of (known_by self.now records others) }
     {

@@ -14,8 +14,9 @@ use crate::source::Source;
 use listener_pair::{Difference, Matching, Which};
 use sample_schedule::Shown;
 
-/// Gives the matching what the listener of the wanted side shows next: a batch is the side's next batch, and a flag is dropped.
-/// If nothing is shown and the listener has ended, the side ends. Returns whether the listener is to be asked again.
+/// Gives the matching the next item that the listener of the wanted side shows. A batch becomes the side's next batch,
+/// and a flag is dropped. If there is no item and the listener has ended, the side ends. Returns whether the listener
+/// must be asked again.
 #[inline(always)]
 fn hand_on(matching: &mut Matching, which: Which, next: Option<Shown>, ended: bool) -> bool
     requires { wanted matching.old ≡ Some which }
@@ -37,7 +38,7 @@ fn hand_on(matching: &mut Matching, which: Which, next: Option<Shown>, ended: bo
     }
 }
 
-/// Whether this side is the one that is wanted.
+/// Whether side `which` is the one that is wanted.
 #[inline(always)]
 fn is_wanted(matching: &Matching, which: Which) -> bool
     ensures { result ≡ wants_side which (wanted matching.now) }
@@ -48,7 +49,7 @@ fn is_wanted(matching: &Matching, which: Which) -> bool
     }
 }
 
-/// Gives the matching the next batch of a side, or the side's end, if the side is wanted and either is known.
+/// If side `which` is wanted, gives the matching the side's next batch or the side's end, if either is known.
 fn fill<S: Source>(source: &mut S, matching: &mut Matching, which: Which)
     ensures filled { (taken : Taken) (list other : List ShownValue) (n k given : ℕ) → S.shows source.old taken list n → IsHeard list → IsHeard other → MatchesOn which list other n k given matching.old → Filled (S.shows source.new taken) which list other k given matching.new }
     ensures fills { Fills which (S.kept source.old).ended (S.is_quiet source.new) matching.old matching.new }
@@ -70,8 +71,8 @@ fn fill<S: Source>(source: &mut S, matching: &mut Matching, which: Which)
     }
 }
 
-/// Gives the matching the next batch, or the end, of each side that lacks one, as far as either is known: first of A, then of
-/// B.
+/// Asks for the next batch of A if A is wanted, and then for that of B if B is wanted. Each time gives the matching the
+/// batch or the side's end, if either is known.
 pub fn fill_both<S: Source>(a: &mut S, b: &mut S, matching: &mut Matching)
     requires bounded { IsBounded (S.kept a.old).ended (S.kept b.old).ended matching.old }
     ensures pairs { (ta tb : Taken) (list other : List ShownValue) (given : ℕ) → IsHeard list → IsHeard other → Holds (S.shows a.old ta) (S.shows b.old tb) list other given matching.old → Pairs (S.shows a.new ta) (S.shows b.new tb) list other given matching.new }
@@ -86,8 +87,8 @@ pub fn fill_both<S: Source>(a: &mut S, b: &mut S, matching: &mut Matching)
     fill(b, matching, Which::B);
 }
 
-/// The next difference in the known part of what both listeners present. Returns `None` exactly if that part has no further
-/// difference.
+/// Returns the next difference in the known part of what both listeners present; `None` exactly if that part has no
+/// further difference.
 pub fn next_difference<S: Source>(
     a: &mut S,
     b: &mut S,

@@ -8,27 +8,27 @@ use avtp_base::Bytes;
 use listener::{Listener, RecordListener};
 use sample_schedule::Shown;
 
-/// One of two listeners, which is asked for what it shows.
+/// One of two listeners. It is asked for the items that it shows, one at a time.
 pub trait Source {
     ghost use Rattle.std.specs.Prelude.{◌≡◌, ◌+◌, ◌≤◌, List, ℕ, IfNone, length, slice_get};
     ghost use Rattle.std.specs.Option.{option_to_list};
     ghost use Rattle.sample_schedule.specs.declared.shown.Shown.{Shown as ShownValue};
     ghost use Rattle.capture_pair.specs.Sources.{Kept, Taken};
 
-    /// The listener took this, shows this list of it, and has shown this many items of the list.
+    /// The listener took these records or bytes, shows this list of items, and has shown this many items of the list.
     ghost shows: { Self → Taken → List ShownValue → ℕ → Type 0 };
 
-    /// The listener has shown all that it shows so far.
+    /// The listener has shown all items that are known so far.
     ghost is_quiet: { Self → Type 0 };
 
-    /// What stays while the listener is asked for what it shows.
+    /// What does not change while the listener is asked for items.
     ghost kept: { Self → Kept };
 
     /// The most items that the listener can still show.
     ghost work: { Self → ℕ };
 
-    /// The next item that is shown of what was taken so far. Returns `None` exactly if all of that was shown. The listener uses
-    /// the memory of `spent` again.
+    /// Returns the next item that the listener shows of what it took so far; `None` exactly if it has shown all of
+    /// these items. The listener uses the memory of `spent` again.
     fn next_out(&mut self, spent: Option<Bytes>) -> Option<Shown>
         ensures given { (taken : Taken) (list : List ShownValue) (n : ℕ) → shows self.old taken list n → result ≡ slice_get list n }
         ensures shows { (taken : Taken) (list : List ShownValue) (n : ℕ) → shows self.old taken list n → shows self.new taken list (n + length (option_to_list result)) }
@@ -36,7 +36,7 @@ pub trait Source {
         ensures kept { kept self.new ≡ kept self.old }
         ensures less { work self.new + length (option_to_list result) ≤ work self.old };
 
-    /// Whether the listener takes nothing more, so that all that is left is shown.
+    /// Whether the listener takes no more input. It then shows all items that are left.
     fn has_ended(&self) -> bool
         ensures { result ≡ (kept self.now).ended };
 }

@@ -37,7 +37,7 @@ abbrev pub IsBoundedOn : Which → ℕ → Feeding → Feeding → Type 0
 IsBoundedOn A n a b = taken a.reader + n ≤ 2 ^ 62
 IsBoundedOn B n a b = taken b.reader + n ≤ 2 ^ 62
 
--- A listener was fed a piece, and `feed` returned this.
+-- A listener was fed a piece, and `feed` returned `result`.
 pub record FedBy (piece : List ℕ) (result : Result ℕ ListenFault) (old new : Feeding) : Type 0 where
   pub stands : (bytes : List ℕ) (n : ℕ) → IsFed bytes n old → IsFed (bytes_after bytes piece result) n new
   pub within : IfOk result (λ n. n ≤ length piece)
@@ -50,7 +50,7 @@ pub record FedBy (piece : List ℕ) (result : Result ℕ ListenFault) (old new :
   pub lasting : old.out_of_memory ≡ true → result ≡ Err Memory
   pub taken : taken new.reader ≤ taken old.reader + length piece
 
--- A listener was told that its capture ends, and `end` returned this fault or none.
+-- `end` was called for a listener, and returned `fault`; `None` means that it returned no fault.
 pub record EndedBy (fault : Option ListenFault) (old new : Feeding) : Type 0 where
   pub stands : (bytes : List ℕ) (n : ℕ) → IsFed bytes n old → IsFed bytes n new
   pub refused : old.out_of_memory ≡ false → (bytes : List ℕ) (n : ℕ) → IsFed bytes n old → fault ≡ option_map Refused (first_refusal bytes)
@@ -58,12 +58,12 @@ pub record EndedBy (fault : Option ListenFault) (old new : Feeding) : Type 0 whe
   pub lasting : old.out_of_memory ≡ true → (fault ≡ Some Memory) × (new ≡ old)
   pub plan : new.listener.plan ≡ old.listener.plan
 
--- the listener of side `which` was fed a piece, and the other is unchanged
+-- the listener of side `which` was fed a piece, and the other listener is unchanged
 abbrev pub FedOn : Which → List ℕ → Result ℕ ListenFault → Feeding → Feeding → Feeding → Feeding → Type 0
 FedOn A piece result a b then_a then_b = FedBy piece result a then_a × (then_b ≡ b)
 FedOn B piece result a b then_a then_b = FedBy piece result b then_b × (then_a ≡ a)
 
--- the listener of side `which` was told that its capture ends, and the other is unchanged
+-- `end` was called for the listener of side `which`, and the other listener is unchanged
 abbrev pub EndedOn : Which → Option ListenFault → Feeding → Feeding → Feeding → Feeding → Type 0
 EndedOn A fault a b then_a then_b = EndedBy fault a then_a × (then_b ≡ b)
 EndedOn B fault a b then_a then_b = EndedBy fault b then_b × (then_a ≡ a)

@@ -25,53 +25,55 @@ abbrev pub ShowsBytes : Feeding → Taken → List Shown → ℕ → Type 0
 ShowsBytes fed (OfRecords records) list n = ⊥
 ShowsBytes fed (OfBytes bytes) list n = IsFed bytes n fed × (list ≡ out_fed fed bytes)
 
--- what stays of a listener of records while it is asked for what it shows
+-- what does not change in a listener of records while it is asked for items
 abbrev pub kept_of_records : ListenState → Kept
 kept_of_records listener = record { plan = listener.plan; frames = listener.counts.frames; ended = is_closed listener; reader = None; out_of_memory = false }
 
--- what stays of a listener of bytes while it is asked for what it shows
+-- what does not change in a listener of bytes while it is asked for items
 abbrev pub kept_of_bytes : Feeding → Kept
 kept_of_bytes fed = record { plan = fed.listener.plan; frames = 0; ended = is_closed fed.listener; reader = Some fed.reader; out_of_memory = fed.out_of_memory }
 
--- ---- what a listener shows is handed on
+-- ---- items are given to the matching
 
 -- The list has at most 2^61 items, and its batches are in order.
 pub record IsHeard (list : List Shown) : Type 0 where
   pub few : length list ≤ 2 ^ 61
   pub order : IsInOrder (presented_of list)
 
--- the matching after it was given what the listener of the wanted side shows next
+-- The matching after it was given the next item of the wanted side. If there is no item and the side's listener has
+-- ended, the side ends.
 abbrev pub handed : Which → Option Shown → Bool → MatchingState → MatchingState
 handed which (Some (Present batch)) ended m = given_to which batch m
 handed which (Some (Flag frame seq reason)) ended m = m
 handed which None ended m = if ended then ended_by which m else m
 
--- the listener is asked again after a flag
+-- whether the listener must be asked again, which is the case only after a flag
 abbrev pub is_passed : Option Shown → Bool
 is_passed (Some (Present batch)) = false
 is_passed (Some (Flag frame seq reason)) = true
 is_passed None = false
 
--- what a matching was given from the lists of side `which` and of the other side
+-- A matching was given the batches among the first n items of the list of side `which` and the first k items of the
+-- other side's list.
 abbrev pub MatchesOn : Which → List Shown → List Shown → ℕ → ℕ → ℕ → MatchingState → Type 0
 MatchesOn A list other n k given m = Matches list other n k given m
 MatchesOn B list other n k given m = Matches other list k n given m
 
--- A listener shows this list, and the matching was given what it has shown of it.
+-- The listener of side `which` shows `list`, and the matching was given the items that it has shown.
 pub record Going (Shows : List Shown → ℕ → Type 0) (which : Which) (list other : List Shown) (k given : ℕ) (m : MatchingState) : Type 0 where
   pub n : ℕ
   pub shows : Shows list n
   pub matches : MatchesOn which list other n k given m
 
--- A listener was asked for the next batch of its side, and the matching was given that batch or the side's end, as far as
--- either is known.
+-- The matching was given the items that the listener of side `which` has shown. If this side is still wanted, its
+-- listener has shown all of `list`.
 pub record Filled (Shows : List Shown → ℕ → Type 0) (which : Which) (list other : List Shown) (k given : ℕ) (m : MatchingState) : Type 0 where
   pub n : ℕ
   pub shows : Shows list n
   pub matches : MatchesOn which list other n k given m
   pub filled : wanted m ≡ Some which → n ≡ length list
 
--- Two listeners show these lists, and a matching was given the first items of each.
+-- Two listeners show these lists, and a matching was given the items that they have shown.
 pub record Holds (ShowsA ShowsB : List Shown → ℕ → Type 0) (list other : List Shown) (given : ℕ) (m : MatchingState) : Type 0 where
   pub shown_a : ℕ
   pub shown_b : ℕ
@@ -79,7 +81,7 @@ pub record Holds (ShowsA ShowsB : List Shown → ℕ → Type 0) (list other : L
   pub shows_b : ShowsB other shown_b
   pub matches : Matches list other shown_a shown_b given m
 
--- A side has ended only if its listener has. The listener of the side that is wanted has not ended, and is quiet.
+-- If a side has ended, its listener has ended. The listener of the side that is wanted has not ended, and is quiet.
 pub record IsSettled (ended_a ended_b : Bool) (QuietA QuietB : Type 0) (m : MatchingState) : Type 0 where
   pub over_a : m.ended_a ≡ true → ended_a ≡ true
   pub over_b : m.ended_b ≡ true → ended_b ≡ true
@@ -88,7 +90,7 @@ pub record IsSettled (ended_a ended_b : Bool) (QuietA QuietB : Type 0) (m : Matc
   pub quiet_a : wanted m ≡ Some A → QuietA
   pub quiet_b : wanted m ≡ Some B → QuietB
 
--- A side has ended only if its listener has.
+-- If a side has ended, its listener has ended.
 pub record IsBounded (ended_a ended_b : Bool) (m : MatchingState) : Type 0 where
   pub over_a : m.ended_a ≡ true → ended_a ≡ true
   pub over_b : m.ended_b ≡ true → ended_b ≡ true
@@ -102,17 +104,17 @@ one_if_open false = 1
 abbrev pub open_sides : MatchingState → ℕ
 open_sides m = one_if_open m.ended_a + one_if_open m.ended_b
 
--- a side has ended for a matching
+-- whether side `which` has ended in the matching
 abbrev pub ended_of : Which → MatchingState → Bool
 ended_of A m = m.ended_a
 ended_of B m = m.ended_b
 
--- the side other than `which` has the same next batch as before, and has ended if it had ended before
+-- the side other than `which` has the same next batch as before, and has ended exactly if it had ended before
 abbrev pub IsOtherSame : Which → MatchingState → MatchingState → Type 0
 IsOtherSame A old new = (new.next_b ≡ old.next_b) × (new.ended_b ≡ old.ended_b)
 IsOtherSame B old new = (new.next_a ≡ old.next_a) × (new.ended_a ≡ old.ended_a)
 
--- the side that is wanted is this one
+-- side `which` is the one that is wanted
 abbrev pub wants_side : Which → Option Which → Bool
 wants_side A (Some A) = true
 wants_side B (Some B) = true
@@ -120,8 +122,9 @@ wants_side A (Some B) = false
 wants_side B (Some A) = false
 wants_side which None = false
 
--- Filling a side changes nothing if the side is not wanted. If it is still wanted afterwards, its listener is quiet and has not
--- ended, and the matching is unchanged. The side has ended only if its listener has, and the other side is unchanged.
+-- How the matching changes when side `which` is filled. If the side is not wanted, nothing changes. If it is still
+-- wanted afterwards, the matching is unchanged, and the side's listener is quiet and has not ended. The other side is
+-- unchanged. It stays true that the side has ended only if its listener has ended.
 pub record Fills (which : Which) (ended : Bool) (Quiet : Type 0) (old new : MatchingState) : Type 0 where
   pub idle : wants_side which (wanted old) ≡ false → new ≡ old
   pub same : wanted new ≡ Some which → new ≡ old

@@ -51,12 +51,12 @@ pub record Closed (old new : ListenState) : Type 0 where
   pub closed : is_closed new ≡ true
   pub frames : new.counts.frames ≡ old.counts.frames
 
--- the listener of side `which` was given a record, and the other is unchanged
+-- the listener of side `which` was given a record, and the other listener is unchanged
 abbrev pub TookOn : Which → Record → ListenState → ListenState → ListenState → ListenState → Type 0
 TookOn A r a b then_a then_b = Took r a then_a × (then_b ≡ b)
 TookOn B r a b then_a then_b = Took r b then_b × (then_a ≡ a)
 
--- the listener of side `which` was closed, and the other is unchanged
+-- the listener of side `which` was closed, and the other listener is unchanged
 abbrev pub ClosedOn : Which → ListenState → ListenState → ListenState → ListenState → Type 0
 ClosedOn A a b then_a then_b = Closed a then_a × (then_b ≡ b)
 ClosedOn B a b then_a then_b = Closed b then_b × (then_a ≡ a)
