@@ -1,4 +1,4 @@
--- The pairs and counts of one batch more.
+-- The pairs and counts after one more batch.
 use Rattle.std.proofs.Common.{◌≡◌, ℕ, suc, ◌+◌, ◌-◌, ◌^◌, ◌<◌, ◌≤◌, true, false, List, [], ◌∷◌, ◌++◌, length, filter, Option, Some, None, refl, sym, ap, ◌∙◌, subst, arith, append-nil, append_assoc, length-append}
 use Rattle.std.specs.Prelude.{is_some, option_map}
 use Rattle.std.specs.List.{cons_option, filter_map, find}
@@ -36,7 +36,7 @@ pairs-one : (n : ℕ) (u : List Placed) (x : Sided) → pairs_from n u (x ∷ []
 unfolding pairs_from
 pairs-one n u x = append-nil (pair_by (at_place n x) (partner_of (at_place n x) u))
 
--- the pairs of the first batches come first among the pairs of all batches
+-- the pairs of `xs` are the first pairs of `xs ++ ys`
 pub pairs-front : (xs ys : List Sided) → (more : List Paired) × (pairs (xs ++ ys) ≡ pairs xs ++ more)
 pairs-front xs ys = (pairs_from (length xs) (unpaired xs) ys, pairs-append 0 (length xs) [] xs ys (omega arith))
 
@@ -168,7 +168,7 @@ differences-next done x =
     ∙ differences-append (pairs done) (pair_by p (partner_of p (unpaired done)))
     ∙ ap (λ (l : List Difference). differences done ++ l) (differences-by p (partner_of p (unpaired done)))
 
--- the differences of the first batches come first among those of all batches
+-- the differences of `xs` are the first differences of `xs ++ ys`
 pub differences-front : (xs ys : List Sided) → (more : List Difference) × (differences (xs ++ ys) ≡ differences xs ++ more)
 differences-front xs ys =
     let front = pairs-front xs ys in
@@ -204,6 +204,6 @@ count-from s place u (x ∷ xs) =
     let all = length-of s x xs in
     omega arith
 
--- each batch of a side is in a pair or in none
+-- for each side, the number of pairs plus the number of its unpaired batches is the number of all its batches
 pub count-all : (s : Which) (list : List Sided) → length (pairs list) + alone s (unpaired list) ≡ length (batches_of s list)
 count-all s list = let h = count-from s 0 [] list in omega arith

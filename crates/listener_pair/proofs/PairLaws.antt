@@ -55,7 +55,7 @@ three true true w h = h
 three true false w h = absurd (cc)
 three false v w h = absurd (cc)
 
--- all these batches have places below n
+-- each of these batches has a position below n
 abbrev AllBelow : ℕ → List Placed → Type 0
 AllBelow n u = AllByRecursion (λ y. y.place < n) u
 
@@ -118,7 +118,7 @@ eq-no a b n = eq-cases (either (a == b))
     eq-cases (inl hit) = absurd (n ((Decides-eqb a b).0 hit))
     eq-cases (inr miss) = miss
 
--- the batch has this place
+-- the batch has position k
 abbrev at : ℕ → Placed → Bool
 at k y = y.place == k
 
@@ -134,11 +134,12 @@ none-below k lo hi (y ∷ u) h lt =
     let p = h.0 in
     filter-no (at k) y u (eq-no y.place k (λ e. absurd (omega arith))) ∙ none-below k (suc y.place) hi u h.1 (omega arith)
 
--- how many of the pairs the batch at place k is in
+-- the number of pairs that contain the batch at position k
 abbrev Paired-at : ℕ → List Paired → ℕ
 Paired-at k ps = length (filter (is_in k) ps)
 
--- the batch at place k is in at most one further pair, and in none if it came and is not among the unpaired batches
+-- Below `place`, the batch at position k is in as many further pairs as it occurs in `u`, or in fewer. From `place` on,
+-- it is in one further pair or in none.
 abbrev Bound : ℕ → ℕ → List Placed → ℕ → Type 0
 Bound k place u times = (k < place → times ≤ length (filter (at k) u)) × (place ≤ k → times ≤ 1)
 

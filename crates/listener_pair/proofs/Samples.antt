@@ -48,7 +48,7 @@ pub equal-batches : (a b : Presented) (n : ℕ) → a.line ≡ b.line → a.from
 equal-batches a b zero l f c y = first-none a b
 equal-batches a b (suc n) l f c y = first-next a b n (equal-batches a b n l f c y) ∙ equal-sample a b n (cc) (cc)
 
--- ---- the tests of the code
+-- ---- what follows from the comparisons that the code makes
 
 both-left : (u v : Bool) → (u && v) ≡ true → u ≡ true
 both-left true v h = refl

@@ -70,7 +70,7 @@ put-first x (y ∷ ys) h = ap (λ v. cond v (y ∷ put_before x ys) (x ∷ y ∷
 put-later : (x y : Sided) (ys : List Sided) → first_instant y.batch <ℤ first_instant x.batch → put_before x (y ∷ ys) ≡ y ∷ put_before x ys
 put-later x y ys h = ap (λ v. cond v (y ∷ put_before x ys) (x ∷ y ∷ ys)) (lt_true (first_instant y.batch) (first_instant x.batch) h)
 
--- x is put before all batches of A, which are later, and before all others, which are not earlier
+-- if all batches of `xs` are later than x and no batch of `l` is earlier than x, x is sorted before all of them
 skip : (x : Sided) (xs : List Presented) (l : List Sided) → AllByRecursion (λ a. first_instant x.batch <ℤ first_instant a) xs → AllByRecursion (NotBefore x) l
     → by_instant (all_of A xs ++ x ∷ l) ≡ x ∷ by_instant (all_of A xs ++ l)
 skip x [] l h n = by-cons x l ∙ put-first x (by_instant l) (all-by (NotBefore x) l n)
@@ -189,7 +189,7 @@ pub batches-one : (s : Which) (z : Presented) → batches_of s (of_side s z ∷ 
 batches-one A z = refl
 batches-one B z = refl
 
--- a batch that follows the last batch of its side in the list follows all batches of the list
+-- if the last batch of `done` is of side `s`, each batch of `done` may precede a batch b that follows on side `s`
 before-end : (s : Which) (done : List Sided) (b : Presented) → IsSorted done → EndsOn s done → IsInOrder (batches_of s done ++ b ∷ []) → AllByRecursion (λ x. MayPrecede x (of_side s b)) done
 before-end s done b sorted (inl none) order = subst (AllByRecursion (λ x. MayPrecede x (of_side s b))) (sym none) tt
 before-end s done b sorted (inr (front, z, e)) order =
@@ -259,7 +259,7 @@ of-b : (xs ys : List Presented) → length (batches_of B (all_of A xs ++ all_of 
 of-b [] ys = of-own-b ys
 of-b (x ∷ xs) ys = of-b xs ys
 
--- merging keeps all batches of each side
+-- merging keeps the number of batches of A
 pub length-a : (xs ys : List Presented) → length (batches_of A (merged xs ys)) ≡ length xs
 length-a xs ys = ap (λ (l : List Sided). length (batches_of A l)) (merged-def xs ys) ∙ by-length A (all_of A xs ++ all_of B ys) ∙ of-a xs ys
 

@@ -76,7 +76,7 @@ begun wa wb counts a b c = record {
   counts = c ∙ sym nothing-done;
 }
 
--- ---- one batch more of a side
+-- ---- one more batch of a side
 
 pub given-a : (xs ys : List Presented) (given : ℕ) (m : MatchingState) (b : Presented) → StandsFor xs ys given m → wanted m ≡ Some A → IsInOrder (xs ++ b ∷ []) → length xs + length ys + 1 < 2 ^ 63 → StandsFor (xs ++ b ∷ []) ys given (given_to A b m)
 given-a xs ys given m b s wants order few =
@@ -181,7 +181,7 @@ idle-none xs ys given m s idle =
 pub no-next : (m : MatchingState) → next_side m ≡ None → IsIdle m
 no-next m h = idle-at m.ended_a m.ended_b m.next_a m.next_b h
 
--- ---- the next batch comes
+-- ---- the next batch is worked through
 
 wants-none-at : (u v : Bool) (o : Option Which) (s : Which) → cond (is_some (cond u (Some A) (cond v (Some B) None))) None o ≡ Some s → (u ≡ false) × (v ≡ false) × (o ≡ Some s)
 wants-none-at true v o s h = absurd (cc)
@@ -209,7 +209,7 @@ few-done xs ys given m s =
     let few = s.few in
     omega arith
 
--- What waits after a batch came is what is not paired of the last 512 batches.
+-- After x was added, the batches that wait are the unpaired ones among the last 512 batches.
 pub record Left (x : Placed) (u own_then other_then : List Placed) (pair : Option Paired) : Type 0 where
   pub made : pair ≡ option_map (paired_with x) (partner_of x u)
   pub owns : own_then ≡ window x.side (suc x.place) (unpaired_with x u)
@@ -255,8 +255,8 @@ window-more done s r b then e =
     e ∙ ap (λ n. window r n (unpaired_with (at_place (length done) (of_side s b)) (unpaired done))) (sym (more-done done (of_side s b)))
     ∙ ap (window r (length (done ++ of_side s b ∷ []))) (sym (unpaired-next done (of_side s b)))
 
--- After a batch came, the matching was given what it was given before, and has given one more difference if the batch made a
--- pair that differs.
+-- After a batch was worked through, the matching was given the same lists as before. If the batch made a pair that
+-- differs, one more difference was returned.
 pub record Advances (xs ys : List Presented) (given : ℕ) (old new : MatchingState) (difference : Option Difference) : Type 0 where
   pub stands : StandsFor xs ys (given + length (option_to_list difference)) new
   pub first : IfSome difference (λ d. slice_get (differences (known_of new xs ys)) given ≡ Some d)
@@ -355,7 +355,7 @@ pub steps : (xs ys : List Presented) (given : ℕ) (s : Which) (old new : Matchi
 steps xs ys given A old new b pair s side is t = steps-a xs ys given old new b pair s side is t
 steps xs ys given B old new b pair s side is t = steps-b xs ys given old new b pair s side is t
 
--- this side has no next batch
+-- side `s` has no next batch
 abbrev NextAt : Which → Option Presented → Option Presented → Type 0
 NextAt A na nb = na ≡ None
 NextAt B na nb = nb ≡ None

@@ -1,4 +1,4 @@
--- The code's step is that of the next batch.
+-- The code's `step` works through the next batch of the merged list.
 use Rattle.std.proofs.Common.{◌≡◌, ℕ, ◌+◌, List, Option, Some, None, length, refl, sym, ap, ◌∙◌, subst}
 use Rattle.std.specs.Prelude.{slice_get, IfSome, IsSome}
 use Rattle.std.specs.Option.{option_to_list}
@@ -31,7 +31,7 @@ enters-on : (s : Which) (x : Placed) (n k : ℕ) (old new : MatchingState) (coun
 enters-on A x n k old new counts pair e h = subst (λ m. Enters x m old.waiting_a old.waiting_b new.waiting_a new.waiting_b pair) (sym e) h
 enters-on B x n k old new counts pair e h = subst (λ m. Enters x m old.waiting_b old.waiting_a new.waiting_b new.waiting_a pair) (sym e) h
 
--- the matching after its next batch entered, with its next place and its counts
+-- if a batch entered, and the new position and counts are set, the matching has worked through that batch
 pub stepped : (s : Which) (b : Presented) (old new : MatchingState) (place : ℕ) (counts : PairCounts) (pair : Option Paired) → new ≡ record (without_next s old) { waiting_a = new.waiting_a; waiting_b = new.waiting_b }
     → EntersSide s (placed old.place s b) (risen old.place) old new pair → place ≡ risen new.place → counts ≡ counted s pair new.counts → Steps s b old (left new place counts) pair
 stepped s b old new place counts pair same enters is_place is_counts =
@@ -43,7 +43,7 @@ stepped s b old new place counts pair same enters is_place is_counts =
       counts = is_counts ∙ ap (counted s pair) (ap (λ (m : MatchingState). m.counts) same ∙ counts-same s old);
     }
 
--- A next batch entered and made this pair or none, and the difference of the pair is what the code returns.
+-- The next batch of side `s` was worked through. It made a pair or none, and `entered` states the pair's difference.
 pub record Came (s : Which) (old new : MatchingState) (entered : Entered) : Type 0 where
   pub batch : Presented
   pub next : next_of s old ≡ Some batch
@@ -51,7 +51,6 @@ pub record Came (s : Which) (old new : MatchingState) (entered : Entered) : Type
   pub steps : Steps s batch old new pair
   pub tells : entered.difference ≡ difference_by_pair pair
 
--- the side of the next batch of the known part has a next batch
 some-of : (o : Option Presented) → (o ≡ None → ⊥) → (b : Presented) × (o ≡ Some b)
 some-of None h = absurd (h refl)
 some-of (Some b) h = (b, refl)
@@ -70,7 +69,7 @@ comes s old new entered place counts side same enters tells is_place is_counts =
     subst (λ (o : Option Presented). IfSome o (λ batch. EntersSide s (placed old.place s batch) (risen old.place) old new (made_on s (placed old.place s batch) old))) h.1 enters in
     record { batch = h.0; next = h.1; pair = pair; steps = stepped s h.0 old new place counts pair same on is_place (is_counts pair told); tells = told.difference }
 
--- what the step leaves
+-- after the step, the matching was given the same lists, and has returned one more difference if d is one
 pub step-stands : (s : Which) (b : Presented) (old new : MatchingState) (pair : Option Paired) (d : Option Difference) → next_side old ≡ Some s → next_of s old ≡ Some b → Steps s b old new pair → d ≡ difference_by_pair pair
     → (xs ys : List Presented) (given : ℕ) → StandsFor xs ys given old → StandsFor xs ys (given + length (option_to_list d)) new
 step-stands s b old new pair d side is t e xs ys given h =

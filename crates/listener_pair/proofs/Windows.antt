@@ -1,4 +1,4 @@
--- What waits for a partner is what is not paired of the last 512 batches.
+-- The batches that wait for a partner are the unpaired ones among the last 512 batches.
 use Rattle.std.proofs.Common.{◌≡◌, ℕ, suc, ◌+◌, ◌<◌, ◌≤◌, Bool, true, false, cond, ◌&&◌, ◌⊎◌, inl, inr, List, [], ◌∷◌, ◌++◌, length, filter, Option, Some, None, refl, sym, ap, ◌∙◌, subst, arith, append-nil}
 use Rattle.std.specs.Prelude.{nat_le, not, option_map}
 use Rattle.std.specs.List.{find}
@@ -12,9 +12,9 @@ use Rattle.listener_pair.specs.Pairs.{left_by, may_pair, unpaired_with, without_
 use Rattle.listener_pair.specs.Matching.{is_within, window}
 use Rattle.listener_pair.specs.state.Window.{kept, paired_with, takes, without_passed}
 
--- ---- places that ascend
+-- ---- positions that ascend
 
--- the places of the batches rise, from lo on and below hi
+-- the positions of the batches ascend, from `lo` on and below `hi`
 abbrev pub IsAscending : ℕ → ℕ → List Placed → Type 0
 IsAscending lo hi [] = lo ≤ hi
 IsAscending lo hi (y ∷ ys) = (lo ≤ y.place) × IsAscending (suc y.place) hi ys
@@ -86,7 +86,7 @@ find-yes t y ys e = ap (λ v. cond v (Some y) (find t ys)) e
 find-no : (t : Placed → Bool) (y : Placed) (ys : List Placed) → t y ≡ false → find t (y ∷ ys) ≡ find t ys
 find-no t y ys e = ap (λ v. cond v (Some y) (find t ys)) e
 
--- ---- the first that passes, among those that pass another test
+-- ---- the first batch that passes a test, among those that pass another test
 
 find-at : (t p q : Placed → Bool) (y : Placed) (ys : List Placed) → t y ≡ (q y && p y) → find t ys ≡ find p (filter q ys) → (q y ≡ true) ⊎ (q y ≡ false) → find t (y ∷ ys) ≡ find p (filter q (y ∷ ys))
 find-at t p q y ys e rest (inl hit) =
@@ -147,7 +147,7 @@ pub find-passes : (t : Placed → Bool) (ys : List Placed) (x : Placed) → find
 find-passes t [] x h = absurd (cc)
 find-passes t (y ∷ ys) x h = passes-at t y ys x (find-passes t ys x) h (either (t y))
 
--- without the first batch that passes a test, one batch fewer passes another test, if that batch passes it
+-- if the first batch that passes t also passes q, one batch fewer passes q after that batch is removed
 fewer-at : (t q : Placed → Bool) (y : Placed) (ys : List Placed) (x : Placed) → q x ≡ true → (find t ys ≡ Some x → suc (length (filter q (without_first t ys))) ≡ length (filter q ys)) → find t (y ∷ ys) ≡ Some x
     → (t y ≡ true) ⊎ (t y ≡ false) → suc (length (filter q (without_first t (y ∷ ys)))) ≡ length (filter q (y ∷ ys))
 fewer-at t q y ys x qx rest h (inl hit) =
@@ -236,7 +236,7 @@ window-at n y W V true true false e same less step = same refl ∙ sym (ap (λ k
 window-at n y W V true false true e same less step = let f = less refl in absurd (cc)
 window-at n y W V true false false e same less step = step
 
--- from one place to the next, at most the first waiting batch is dropped
+-- when the position grows by one, at most the first waiting batch is dropped
 pub window-next : (s : Which) (n lo hi : ℕ) (ys : List Placed) → IsAscending lo hi ys → window s (suc n) ys ≡ without_passed (suc n) (window s n ys)
 window-next s n lo hi [] h = refl
 window-next s n lo hi (y ∷ ys) h =
@@ -257,14 +257,14 @@ others-left x u None e =
     ∙ sym (without-none (takes x) (window (other_side x.side) x.place u) (sym (find-within (may_pair x) (takes x) (QO x) (may-pair-is x) u) ∙ e))
 others-left x u (Some y) e = without-within (may_pair x) (takes x) (QO x) (may-pair-is x) u
 
--- the batches that wait on the other side after x came
+-- the batches that wait on the other side after x is added
 pub others-next : (x : Placed) (u : List Placed) → IsAscending 0 x.place u
     → window (other_side x.side) (suc x.place) (unpaired_with x u) ≡ without_passed (suc x.place) (without_first (takes x) (window (other_side x.side) x.place u))
 others-next x u h =
     window-next (other_side x.side) x.place 0 (suc x.place) (unpaired_with x u) (ascending-with x u h)
     ∙ ap (without_passed (suc x.place)) (others-left x u (find (may_pair x) u) refl)
 
--- x's partner is found among those that wait on the other side
+-- x's partner is found among the batches that wait on the other side
 pub partner-waits : (x : Placed) (u : List Placed) → find (may_pair x) u ≡ find (takes x) (window (other_side x.side) x.place u)
 partner-waits x u = find-within (may_pair x) (takes x) (QO x) (may-pair-is x) u
 
@@ -278,7 +278,7 @@ own-left x u (Some y) e =
     without-apart (may_pair x) (is_within x.side (suc x.place)) (λ z p. partner-apart (suc x.place) x z p) u
     ∙ sym (append-nil (window x.side (suc x.place) u))
 
--- the batches that wait on x's own side after x came
+-- the batches that wait on x's own side after x is added
 pub own-next : (x : Placed) (u : List Placed) → IsAscending 0 x.place u
     → window x.side (suc x.place) (unpaired_with x u) ≡ without_passed (suc x.place) (window x.side x.place u) ++ kept x (option_map (paired_with x) (find (may_pair x) u))
 own-next x u h =
@@ -314,6 +314,6 @@ passed-one n (y ∷ ys) = elim (nat_le n (y.place + 512)) as (λ v. length (y �
   | false ↦ omega arith
 ]
 
--- at most 512 batches wait
+-- at most 512 batches of a side wait
 pub few-wait : (s : Which) (n : ℕ) (u : List Placed) → IsAscending 0 n u → length (window s n u) ≤ 512
 few-wait s n u h = let one = passed-one (suc n) (window s n u) in let room = room-next s n u h in omega arith

@@ -12,20 +12,20 @@ use Rattle.listener_pair.specs.Merged.{Sided, is_side}
 use Rattle.listener_pair.specs.Pairs.{Paired, pairs, unpaired}
 use Rattle.listener_pair.specs.Ways.{way_of}
 
--- a way in which a batch of A and one of B differ, with the numbers of their frames and their sequence number
+-- `way`, in which a batch of A and a batch of B differ, with the numbers of their frames and their sequence number
 abbrev pub differ_in : Presented → Presented → Way → Difference
 differ_in a b way = record { frame_a = a.frame; frame_b = b.frame; seq = a.seq; way = way }
 
--- the difference of a batch of A and one of B, if they differ
+-- the difference of a batch of A and a batch of B; none if they do not differ
 abbrev pub between : Presented → Presented → Option Difference
 between a b = option_map (differ_in a b) (way_of a b)
 
--- the difference of two batches, given which side the first is of; the second is of the other side
+-- the difference of batch x of this side and batch y of the other side; none if they do not differ
 abbrev pub difference_by : Which → Presented → Presented → Option Difference
 difference_by A x y = between x y
 difference_by B x y = between y x
 
--- the difference of a pair, if it differs
+-- the difference of a pair; none if its batches do not differ
 abbrev pub difference_of : Paired → Option Difference
 difference_of pair = difference_by pair.later.side pair.later.batch pair.earlier.batch
 
@@ -37,7 +37,7 @@ differences list = filter_map difference_of (pairs list)
 abbrev pub alone : Which → List Placed → ℕ
 alone side list = length (filter (λ x. is_side side x.side) list)
 
--- the counts of a merged list: its pairs, the batches of A and of B that are in none, and the pairs that differ
+-- the counts of a merged list: its pairs, its batches of A and of B that are in no pair, and its pairs that differ
 abbrev pub counts_of : List Sided → PairCounts
 counts_of list = record {
   matched = length (pairs list);

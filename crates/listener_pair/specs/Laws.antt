@@ -3,18 +3,18 @@ use Rattle.std.specs.Prelude.{◌≡◌, ℕ, ◌+◌, ◌==◌, ◌<◌, ◌≤
 use Rattle.listener_pair.specs.Merged.{Sided, is_side}
 use Rattle.listener_pair.specs.Pairs.{Paired, fits, pairs}
 
--- What holds for every pair: its batches are of different sides and may be one packet or unit, and the earlier is among the 512
--- directly before the later.
+-- What holds for every pair. Its batches are of different sides and may present the same packet or unit. The earlier
+-- batch is one of the 512 batches directly before the later one.
 pub record IsPair (pair : Paired) : Type 0 where
   pub sides : is_side pair.later.side pair.earlier.side ≡ false
   pub before : pair.earlier.place < pair.later.place
   pub near : pair.later.place ≤ pair.earlier.place + 512
   pub fits : fits pair.later.side pair.later.batch pair.earlier.batch ≡ true
 
--- the batch at a place is in a pair
+-- the batch at position `place` is in this pair
 abbrev pub is_in : ℕ → Paired → Bool
 is_in place pair = pair.earlier.place == place || pair.later.place == place
 
--- the number of pairs of a merged list that the batch at a place is in
+-- the number of pairs of a merged list that contain the batch at position `place`
 abbrev pub times_paired : List Sided → ℕ → ℕ
 times_paired list place = length (filter (is_in place) (pairs list))

@@ -1,4 +1,4 @@
--- A matching: it is given what two listeners present, batch by batch, and gives differences.
+-- A matching takes what two listeners present, batch by batch, and returns the differences.
 use Rattle.std.specs.Prelude.{◌≡◌, ℕ, ◌+◌, ◌^◌, ◌<◌, ◌⊎◌, ⊤, Bool, true, false, ◌&&◌, if◌then◌else◌, int_lt, ◌≤ℤ◌, ◌<ℤ◌, nat_le, List, [], ◌∷◌, ◌++◌, length, filter, map, Option, None, Some}
 use Rattle.std.specs.List.{AllByRecursion}
 use Rattle.std.specs.Option.{option_to_list}
@@ -12,8 +12,8 @@ use Rattle.listener_pair.specs.Merged.{Sided, is_side, known, merged}
 use Rattle.listener_pair.specs.Pairs.{unpaired}
 use Rattle.listener_pair.specs.Differences.{counts_of, differences}
 
--- A matching: the next batch of each side, and whether the side has ended; the number of batches that came in merged order; the
--- batches of each side that wait for a partner; and the counts.
+-- A matching. For each side it has the next batch, whether the side has ended, and the batches that wait for a partner.
+-- It also has the position of the next batch in the merged list, and the counts.
 pub record MatchingState : Type 0 where
   pub next_a : Option Presented
   pub next_b : Option Presented
@@ -30,7 +30,8 @@ lacks true next = false
 lacks false None = true
 lacks false (Some batch) = false
 
--- the side whose next batch, or end, the matching wants: first A, then B
+-- the side whose next batch or whose end the matching wants: A if it lacks its next batch, otherwise B if it lacks its
+-- next batch, otherwise none
 abbrev pub wanted : MatchingState → Option Which
 wanted m = if lacks m.ended_a m.next_a then Some A else if lacks m.ended_b m.next_b then Some B else None
 
@@ -38,7 +39,7 @@ wanted m = if lacks m.ended_a m.next_a then Some A else if lacks m.ended_b m.nex
 abbrev pub nexts_left : MatchingState → ℕ
 nexts_left m = length (option_to_list m.next_a) + length (option_to_list m.next_b)
 
--- the matching after the wanted side presented its next batch
+-- the matching after the wanted side has presented its next batch
 abbrev pub given_to : Which → Presented → MatchingState → MatchingState
 given_to A batch m = record m { next_a = Some batch }
 given_to B batch m = record m { next_b = Some batch }
@@ -60,8 +61,8 @@ nexts None (Some b) = of_side B b ∷ []
 nexts (Some a) (Some b) =
     if int_lt (first_instant b) (first_instant a) then of_side B b ∷ of_side A a ∷ [] else of_side A a ∷ of_side B b ∷ []
 
--- Nothing more is known: what comes next in the merged list depends on what a side presents later; or both sides have ended and
--- no batch is left.
+-- Nothing more is known. Either the next batch of the merged list depends on what a side presents later, or both sides
+-- have ended and no batch is left.
 abbrev pub IsIdle : MatchingState → Type 0
 IsIdle m = known m.ended_a m.ended_b (nexts m.next_a m.next_b) ≡ []
 
@@ -73,7 +74,7 @@ known_of m xs ys = known m.ended_a m.ended_b (merged xs ys)
 abbrev pub batches_of : Which → List Sided → List Presented
 batches_of side list = map (λ x. x.batch) (filter (λ x. is_side side x.side) list)
 
--- x may come before y in a merged list
+-- x may precede y in a merged list
 pub record MayPrecede (x y : Sided) : Type 0 where
   pub instants : first_instant x.batch ≤ℤ first_instant y.batch
   pub sides : x.side ≡ B → y.side ≡ A → first_instant x.batch <ℤ first_instant y.batch
@@ -83,27 +84,27 @@ abbrev pub IsSorted : List Sided → Type 0
 IsSorted [] = ⊤
 IsSorted (x ∷ rest) = AllByRecursion (MayPrecede x) rest × IsSorted rest
 
--- the last batch of a list, if it has one, is of this side
+-- the list is empty, or its last batch is of this side
 abbrev pub EndsOn : Which → List Sided → Type 0
 EndsOn side list = (list ≡ []) ⊎ ((front : List Sided) × (batch : Presented) × (list ≡ front ++ of_side side batch ∷ []))
 
--- a batch is of a side, and among the 512 before a place
+-- the batch is of `side`, and among the 512 batches before position `place`
 abbrev pub is_within : Which → ℕ → Placed → Bool
 is_within side place y = is_side side y.side && nat_le place (y.place + 512)
 
--- the batches of a side that are not paired and among the 512 before a place
+-- the batches of `list` that are of `side` and among the 512 batches before position `place`
 abbrev pub window : Which → ℕ → List Placed → List Placed
 window side place list = filter (is_within side place) list
 
--- The matching was given these batches of A and of B, each list in order, and has given `given` differences. `done` is the part
--- of the merged list that it has worked through.
+-- The matching was given the batches `xs` of A and `ys` of B, each list in order, and has returned `given` differences.
+-- `done` is the part of the merged list that it has worked through.
 pub record StandsFor (xs ys : List Presented) (given : ℕ) (m : MatchingState) : Type 0 where
   pub few : length xs + length ys < 2 ^ 63
   pub done : List Sided
   pub a : batches_of A done ++ option_to_list m.next_a ≡ xs
   pub b : batches_of B done ++ option_to_list m.next_b ≡ ys
   pub sorted : IsSorted (done ++ nexts m.next_a m.next_b)
-  -- If a side lacks its next batch, the last batch was that side's; if both lack it, none came.
+  -- If a side lacks its next batch, the last batch of `done` is of that side. If both sides lack it, `done` is empty.
   pub last_a : lacks m.ended_a m.next_a ≡ true → EndsOn A done
   pub last_b : lacks m.ended_b m.next_b ≡ true → EndsOn B done
   pub none : lacks m.ended_a m.next_a ≡ true → lacks m.ended_b m.next_b ≡ true → done ≡ []

@@ -15,27 +15,27 @@ pub record Sided : Type 0 where
 abbrev pub all_of : Which → List Presented → List Sided
 all_of side batches = map (λ b. record { side = side; batch = b }) batches
 
--- a list that is ordered by first instant, with one more batch before all that are not earlier
+-- x put into a list that is ordered by first instant, before the first batch that is not earlier than x
 abbrev pub put_before : Sided → List Sided → List Sided
 put_before x [] = x ∷ []
 put_before x (y ∷ ys) = if int_lt (first_instant y.batch) (first_instant x.batch) then y ∷ put_before x ys else x ∷ y ∷ ys
 
--- batches ordered by first instant, and at the same instant in the order of the list
+-- the batches of a list, ordered by first instant; batches with the same first instant keep their order
 unfoldable pub by_instant : List Sided → List Sided
 by_instant [] = []
 by_instant (x ∷ rest) = put_before x (by_instant rest)
 
--- The merged list of what A and B present: by first instant; at the same instant A's batches before B's; otherwise in the order
--- of each list.
+-- What A and B present, in one list ordered by first instant. At the same instant, batches of A come before batches of
+-- B. Apart from that, each side's batches keep their order.
 unfoldable pub merged : List Presented → List Presented → List Sided
 merged xs ys = by_instant (all_of A xs ++ all_of B ys)
 
--- the list is ordered by first instant, as what a listener presents is
+-- the list is ordered by first instant, like every list of what a listener presents
 abbrev pub IsInOrder : List Presented → Type 0
 IsInOrder [] = ⊤
 IsInOrder (x ∷ rest) = AllByRecursion (λ y. first_instant x ≤ℤ first_instant y) rest × IsInOrder rest
 
--- ---- what is known of it while the two lists may go on
+-- ---- what is known of the merged list before both sides have ended
 
 -- two sides are the same
 abbrev pub is_side : Which → Which → Bool
@@ -44,12 +44,14 @@ is_side A B = false
 is_side B A = false
 is_side B B = true
 
--- No batch that a side presents later can come before the first of these: the side has ended, or has presented one of them.
+-- No batch that the side presents later can precede the first batch of `list`: the side has ended, or has presented a
+-- batch of `list`.
 abbrev pub is_settled : Bool → Which → List Sided → Bool
 is_settled ended side list = ended || list_any (λ x. is_side side x.side) list
 
--- The known part of a merged list, given which sides have ended. A batch is known if each side that has not ended has presented
--- this batch or a later one. However the two sides go on, the known part stays the beginning of the merged list.
+-- The known part of a merged list, given which sides have ended. A batch is known if each side that has not ended has
+-- presented this batch or a later one. Whatever the two sides present later, the known part stays a prefix of the
+-- merged list.
 unfoldable pub known : Bool → Bool → List Sided → List Sided
 known ended_a ended_b [] = []
 known ended_a ended_b (x ∷ rest) =

@@ -10,29 +10,31 @@ use Rattle.listener_pair.specs.Merged.{Sided, is_side}
 
 -- ---- what may be a pair
 
--- A batch of A and one of B are apart by at most 64 times the time of A's batch, as A's line gives it.
+-- The first instants of a batch of A and a batch of B differ by at most 64 times the duration of A's batch, which A's
+-- line gives.
 abbrev pub are_near : Presented → Presented → Bool
 are_near a b = nat_le (unsigned_abs (first_instant a -ℤ first_instant b) * a.line.den) (64 * a.count * a.line.num)
 
--- A batch of A and one of B may present the same packet: if neither is a unit of H.264, they are near; if both are, they are at
--- the same instant.
+-- A batch of A and a batch of B may present the same packet or unit. If neither batch is a unit of H.264, they are near
+-- each other. If both are units, they are at the same instant.
 unfoldable pub within_reach : Presented → Presented → Bool
 within_reach a b =
     if is_unit a || is_unit b
     then is_unit a && is_unit b && same_instant (first_instant a) (first_instant b)
     else are_near a b
 
--- two batches of different sides are within reach, given which side the first is of
+-- batch x of `side` and batch y of the other side are within reach
 abbrev pub reaches : Which → Presented → Presented → Bool
 reaches A x y = within_reach x y
 reaches B x y = within_reach y x
 
--- A batch may be paired with an earlier one of the other side: both have the same sequence number and are within reach.
+-- Batch x of `side` may be paired with an earlier batch y of the other side: both have the same sequence number, and
+-- they are within reach.
 unfoldable pub fits : Which → Presented → Presented → Bool
 fits side x y = y.seq == x.seq && reaches side x y
 
--- A batch may be paired with an unpaired one: it is of the other side and among the 512 directly before it; both have the same
--- sequence number; and they are within reach.
+-- Batch x may be paired with the unpaired batch y: y is of the other side and among the 512 batches directly before x,
+-- both have the same sequence number, and they are within reach.
 abbrev pub may_pair : Placed → Placed → Bool
 may_pair x y = nat_le x.place (y.place + 512) && not (is_side x.side y.side) && fits x.side x.batch y.batch
 
@@ -48,20 +50,21 @@ abbrev pub without_first : {T : Type 0} → (T → Bool) → List T → List T
 without_first {T} test [] = []
 without_first {T} test (y ∷ ys) = if test y then ys else y ∷ without_first test ys
 
--- the batch of a merged list at a place
+-- batch x of a merged list, with its position `place`
 abbrev pub at_place : ℕ → Sided → Placed
 at_place place x = record { place = place; side = x.side; batch = x.batch }
 
--- the partner of x: the first of the earlier unpaired batches that it may be paired with
+-- the partner of x: the first earlier unpaired batch with which x may be paired
 abbrev pub partner_of : Placed → List Placed → Option Placed
 partner_of x unpaired = find (may_pair x) unpaired
 
--- the unpaired batches after x came: the earlier ones without its partner; or, if it has none, the earlier ones and x
+-- The unpaired batches after x is added. If x has a partner, these are the earlier ones without the partner; otherwise
+-- the earlier ones and x.
 abbrev pub left_by : Placed → List Placed → Option Placed → List Placed
 left_by x unpaired None = unpaired ++ x ∷ []
 left_by x unpaired (Some partner) = without_first (may_pair x) unpaired
 
--- the unpaired batches after x came, given the earlier ones
+-- the unpaired batches after x is added, given the unpaired batches before
 abbrev pub unpaired_with : Placed → List Placed → List Placed
 unpaired_with x unpaired = left_by x unpaired (partner_of x unpaired)
 
@@ -70,20 +73,22 @@ abbrev pub pair_by : Placed → Option Placed → List Paired
 pair_by x None = []
 pair_by x (Some partner) = record { earlier = partner; later = x } ∷ []
 
--- the pairs of successive batches, given the place of the first and the unpaired batches before it
+-- The pairs that successive batches make. `place` is the position of the first of these batches, and `unpaired` are the
+-- unpaired batches before it.
 unfoldable pub pairs_from : ℕ → List Placed → List Sided → List Paired
 pairs_from place unpaired [] = []
 pairs_from place unpaired (x ∷ rest) =
     pair_by (at_place place x) (partner_of (at_place place x) unpaired)
     ++ pairs_from (suc place) (unpaired_with (at_place place x) unpaired) rest
 
--- the unpaired batches after successive batches came, given the place of the first and the unpaired batches before it
+-- The unpaired batches after successive batches are added. `place` is the position of the first of these batches, and
+-- `unpaired` are the unpaired batches before it.
 unfoldable pub unpaired_from : ℕ → List Placed → List Sided → List Placed
 unpaired_from place unpaired [] = unpaired
 unpaired_from place unpaired (x ∷ rest) = unpaired_from (suc place) (unpaired_with (at_place place x) unpaired) rest
 
--- The pairs of a merged list, in the order of their later batches. Each batch in turn is paired with the first of those before
--- it that it may be paired with.
+-- The pairs of a merged list, in the order of their later batches. Each batch in turn is paired with the first earlier
+-- unpaired batch with which it may be paired.
 abbrev pub pairs : List Sided → List Paired
 pairs list = pairs_from 0 [] list
 

@@ -6,15 +6,15 @@ use Rattle.sample_schedule.specs.Verdicts.{same_instant}
 use Rattle.listener_pair.specs.declared.difference.Way.{Way}
 use Rattle.listener_pair.specs.declared.difference.Way.TheVariants.{Count, At, Bytes}
 
--- the bytes of each sample of a batch
+-- the number of bytes of each sample of a batch
 abbrev pub sample_size : Presented → ℕ
 sample_size batch = length batch.bytes / batch.count
 
--- the bytes of sample j of a batch: an equal share of its bytes
+-- the bytes of sample j of a batch; each sample has an equal share of the batch's bytes
 abbrev pub sample_bytes : Presented → ℕ → List ℕ
 sample_bytes batch j = take (sample_size batch) (drop (j * sample_size batch) batch.bytes)
 
--- how sample j of a batch of A and one of B differs: in its instant, or else in its bytes
+-- how sample j differs between a batch of A and a batch of B: in its instant; if not, in its bytes
 unfoldable pub sample_way : Presented → Presented → ℕ → Option Way
 sample_way a b j =
     if same_instant (sample_instant a j) (sample_instant b j)
@@ -26,12 +26,12 @@ abbrev pub or_way : Option Way → Option Way → Option Way
 or_way (Some way) other = Some way
 or_way None other = other
 
--- how the first differing sample among the first n samples differs
+-- the way in which the first differing sample differs, among the first n samples; none if none of them differs
 unfoldable pub first_way : Presented → Presented → ℕ → Option Way
 first_way a b zero = None
 first_way a b (suc n) = or_way (first_way a b n) (sample_way a b n)
 
--- The way in which a batch of A and one of B differ, if they do: in the number of samples; otherwise, for the first sample that
--- differs, in its instant, or if not, in its bytes.
+-- How a batch of A and a batch of B differ; none if they do not. They may differ in the number of samples. Otherwise
+-- the first sample that differs decides: it differs in its instant or, if not, in its bytes.
 unfoldable pub way_of : Presented → Presented → Option Way
 way_of a b = if a.count == b.count then first_way a b a.count else Some (Count a.count b.count)

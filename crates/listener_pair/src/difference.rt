@@ -10,16 +10,16 @@ pub enum Which {
 /// How two batches of the same packet differ.
 #[derive(Clone, Copy, Debug, PartialEq, Eq)]
 pub enum Way {
-    /// The numbers of their samples.
+    /// The batches have `a` and `b` samples.
     Count { a: u32, b: u32 },
-    /// The instants of a sample, in nanoseconds of gPTP.
+    /// Sample `sample` is presented at `a` in one batch and at `b` in the other, in nanoseconds of gPTP.
     At { sample: u32, a: i64, b: i64 },
-    /// The bytes of a sample.
+    /// The bytes of sample `sample` differ.
     Bytes { sample: u32 },
 }
 
-/// Two batches that are paired and differ: the numbers of their frames in the two captures, from 1, their sequence number, and
-/// how they differ.
+/// Two batches that are paired and differ: the numbers of their frames in the two captures, counted from 1; their
+/// sequence number; and how they differ.
 #[derive(Clone, Copy, Debug, PartialEq, Eq)]
 pub struct Difference {
     pub frame_a: u64,
@@ -28,7 +28,7 @@ pub struct Difference {
     pub way: Way,
 }
 
-/// The numbers of pairs, of batches of A and of B that are in no pair, and of pairs that differ.
+/// How many pairs there are, how many batches of A and of B are in no pair, and how many pairs differ.
 #[derive(Clone, Copy, Debug, PartialEq, Eq)]
 pub struct PairCounts {
     pub matched: u64,
@@ -53,7 +53,7 @@ impl PairCounts {
         }
     }
 
-    /// The counts with one more batch of a side, which is in no pair.
+    /// The counts with one more batch of `side` that is in no pair.
     pub(crate) fn with_alone(self, side: Which) -> Self
         ensures { result ≡ with_alone side self }
     {
@@ -69,8 +69,8 @@ impl PairCounts {
         }
     }
 
-    /// The counts with one more pair: of a new batch of `side` and a batch of the other side that was in no pair. `differs`
-    /// says whether the pair differs.
+    /// The counts with one more pair. The pair consists of a new batch of `side` and a batch of the other side that was
+    /// in no pair. `differs` says whether the pair differs.
     pub(crate) fn with_pair(self, side: Which, differs: bool) -> Self
         ensures { result ≡ with_pair side differs self }
     {

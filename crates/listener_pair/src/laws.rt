@@ -11,20 +11,20 @@ ghost use Rattle.listener_pair.specs.Matching.{IsSorted, MatchingState, StandsFo
 ghost use Rattle.listener_pair.specs.Merged.{Sided, known, merged};
 ghost use Rattle.listener_pair.specs.Pairs.{pairs};
 
-/// The pairs and differences of the beginning of a merged list stay if the list goes on: they come first among those of the
-/// whole list.
+/// When a merged list gets longer, its pairs and differences stay: they are the first ones of the longer list.
 pub fn pairs_stay()
     ensures pairs { (list more : List Sided) → IsPrefix (pairs list) (pairs (list ++ more)) }
     ensures differences { (list more : List Sided) → IsPrefix (differences list) (differences (list ++ more)) }
 {}
 
-/// The known part is the beginning of the merged list, and all of it after both sides have ended.
+/// The known part is a prefix of the merged list. After both sides have ended, it is the whole merged list.
 pub fn known_comes_first()
     ensures first { (ended_a ended_b : Bool) (list : List Sided) → IsPrefix (known ended_a ended_b list) list }
     ensures all { (list : List Sided) → known true true list ≡ list }
 {}
 
-/// The two batches of a pair are of different sides, are at most 512 places apart, and may be one packet or unit.
+/// The two batches of a pair are of different sides, are at most 512 positions apart in the merged list, and may
+/// present the same packet or unit.
 pub fn pairs_are_of_two_sides()
     ensures { (list : List Sided) → AllByRecursion IsPair (pairs list) }
 {}
@@ -34,19 +34,19 @@ pub fn each_batch_is_paired_once()
     ensures { (list : List Sided) (place : ℕ) → times_paired list place ≤ 1 }
 {}
 
-/// A list in merged order is the merged list of its two sides, and so the only one.
+/// A list in merged order is the merged list of its two sides. So two sides have only one list in merged order.
 pub fn merged_is_the_only_one()
     ensures { (list : List Sided) → IsSorted list → merged (batches_of A list) (batches_of B list) ≡ list }
 {}
 
-/// Of each side, at most 512 batches wait for a partner.
+/// At most 512 batches of each side wait for a partner.
 pub fn at_most_512_wait()
     ensures a { (xs ys : List Presented) (given : ℕ) (m : MatchingState) → StandsFor xs ys given m → length m.waiting_a ≤ 512 }
     ensures b { (xs ys : List Presented) (given : ℕ) (m : MatchingState) → StandsFor xs ys given m → length m.waiting_b ≤ 512 }
 {}
 
-/// Each batch is in one pair or in none: for each side, the pairs and the side's batches in no pair add up to the side's
-/// batches.
+/// Each batch is either in one pair or in no pair. So for each side, the number of pairs plus the number of its batches
+/// in no pair is the number of all its batches.
 pub fn counts_add_up()
     ensures a { (xs ys : List Presented) → (counts_of (merged xs ys)).matched + (counts_of (merged xs ys)).only_a ≡ length xs }
     ensures b { (xs ys : List Presented) → (counts_of (merged xs ys)).matched + (counts_of (merged xs ys)).only_b ≡ length ys }

@@ -1,4 +1,4 @@
-//! The batches of two listeners, matched as they come.
+//! Matches the batches of two listeners, one after another.
 
 ghost use Rattle.std.specs.Prelude.{◌≡◌, ◌+◌, ◌^◌, ◌<◌, ◌≤◌, ◌++◌, ◌∷◌, [], ℕ, false, List, length, slice_get, Option, Some, None, IfNone, IfOk, IfSome, IsSome, MatchOption, is_some, option_map};
 ghost use Rattle.std.specs.Option.{option_to_list};
@@ -18,18 +18,18 @@ use sample_schedule::Batch;
 use std::alloc::Global;
 use std::marker::Model;
 
-/// Matches what two listeners present. It is given the batches of each, one at a time, and gives the differences of the batches
-/// that are pairs. It gives a difference as soon as all batches that come before it in merged order are known.
+/// Matches what two listeners present. It takes the batches of each listener, one at a time, and returns the difference
+/// of each pair that differs. A difference is returned as soon as all earlier batches of the merged list are known.
 ///
-/// Memory is reserved when the matching is made. A batch is dropped when it is paired, or when none of the 512 batches after it
-/// was its partner.
+/// Memory is reserved when the matching is made. A batch is dropped when it is paired, or when none of the 512 batches
+/// after it was its partner.
 #[derive(Drop)]
 pub struct Matching {
     next_a: Option<Timed>,
     next_b: Option<Timed>,
     ended_a: bool,
     ended_b: bool,
-    /// The number of batches that came so far, in merged order.
+    /// The position of the next batch in the merged list, from 0.
     place: u64,
     waiting_a: Waiting,
     waiting_b: Waiting,
@@ -45,7 +45,7 @@ impl Model for Matching {
 }
 
 impl Matching {
-    /// A matching that was given nothing. It reserves all the memory that it needs.
+    /// A matching before its first batch. It reserves all the memory that it needs.
     pub fn begin(alloc: Global) -> Result<Self, NoMemory>
         ensures stands { IfOk result (StandsFor [] [] 0) }
         ensures open { IfOk result (λ m. wanted m ≡ Some Which.A) }
@@ -65,8 +65,8 @@ impl Matching {
         })
     }
 
-    /// The side whose next batch, or end, is needed before more is known: A, if it has not ended and has no next batch;
-    /// otherwise B on the same condition; otherwise `None`.
+    /// The side whose next batch, or whose end, must be given next: A if A has not ended and has no next batch;
+    /// otherwise B if B has not ended and has no next batch; otherwise `None`.
     pub fn wants(&self) -> Option<Which>
         ensures { result ≡ wanted self.now }
     {
@@ -101,8 +101,8 @@ impl Matching {
         }
     }
 
-    /// The next difference in the known part of the merged list. Returns `None` exactly if that part has no further difference.
-    /// Each difference uses up the next batch of a side. Allocates nothing.
+    /// Returns the next difference in the known part of the merged list; `None` exactly if that part has no further
+    /// difference. Each difference uses up the next batch of a side. Allocates nothing.
     pub fn next_difference(&mut self) -> Option<Difference>
         ensures given { (xs ys : List Presented) (given : ℕ) → StandsFor xs ys given self.old → result ≡ slice_get (differences (known_of self.old xs ys)) given }
         ensures stands { (xs ys : List Presented) (given : ℕ) → StandsFor xs ys given self.old → StandsFor xs ys (given + length (option_to_list result)) self.new }
@@ -121,15 +121,16 @@ impl Matching {
         }
     }
 
-    /// The counts over the known part, after all its differences were given. A batch that is not paired yet counts as in no
-    /// pair.
+    /// The counts of the known part, after all its differences were returned. A batch that is not paired yet counts as
+    /// in no pair.
     pub fn counts(&self) -> PairCounts
         ensures { IsIdle self.now → (xs ys : List Presented) (given : ℕ) → StandsFor xs ys given self.now → result ≡ counts_of (known_of self.now xs ys) }
     {
         self.counts
     }
 
-    /// The memory of samples of a batch of a side that was paired or dropped, if some is kept. It can be used again.
+    /// Returns the memory of the samples of a batch of side `which` that was paired or dropped, if any is kept. It can
+    /// be used again.
     pub fn take_spent(&mut self, which: Which) -> Option<Bytes>
         ensures { self.new ≡ self.old }
     {
@@ -139,7 +140,7 @@ impl Matching {
         }
     }
 
-    /// Makes a batch the next one of a side.
+    /// Makes `batch` the next batch of side `which`.
     fn put(&mut self, which: Which, batch: Timed)
         ensures { self.new ≡ given_to which batch self.old }
     {
@@ -149,7 +150,7 @@ impl Matching {
         }
     }
 
-    /// The side of the next batch of the known part.
+    /// The side of the next batch of the known part; `None` if that part has no further batch.
     fn next_side(&self) -> Option<Which>
         ensures { result ≡ next_side self.now }
     {
@@ -168,7 +169,7 @@ impl Matching {
         }
     }
 
-    /// Adds the next batch of a side to those that wait, or pairs it.
+    /// Pairs the next batch of a side, or adds it to the batches that wait for a partner.
     fn enter(&mut self, side: Which) -> Entered
         requires { IsSome (next_of side self.old) }
         ensures enters { IfSome (next_of side self.old) (λ batch. EntersSide side (placed self.old.place side batch) (risen self.old.place) self.old self.new (made_on side (placed self.old.place side batch) self.old)) }
@@ -194,8 +195,8 @@ impl Matching {
         }
     }
 
-    /// Takes the next batch of the known part, which is of this side. Returns the difference of the batch's pair, if it makes a
-    /// pair that differs.
+    /// Takes the next batch of the known part, which is of side `side`. If it makes a pair that differs, returns the
+    /// difference.
     fn step(&mut self, side: Which) -> Option<Difference>
         requires { next_side self.old ≡ Some side }
         ensures stands { (xs ys : List Presented) (given : ℕ) → StandsFor xs ys given self.old → StandsFor xs ys (given + length (option_to_list result)) self.new }
@@ -210,7 +211,7 @@ impl Matching {
     }
 }
 
-/// The counts after a batch of a side entered.
+/// The counts after a batch of a side was paired or began to wait for a partner, as `entered` says.
 fn counted(counts: PairCounts, side: Which, entered: &Entered) -> PairCounts
     ensures { (pair : Option Paired) → Tells pair entered.now → result ≡ counted_by side pair counts }
 {

@@ -3,7 +3,7 @@
 use crate::difference::{Difference, Which};
 use crate::timed::Timed;
 
-/// A batch of a side, and its place in the merged list, from 0.
+/// A batch of a side, and its position in the merged list, from 0.
 #[derive(Drop)]
 pub struct Placed {
     pub place: u64,
@@ -11,7 +11,7 @@ pub struct Placed {
     pub batch: Timed,
 }
 
-/// What became of a batch that entered: whether it was paired, and the difference of the pair, if that differs.
+/// Whether a new batch was paired and, if the two batches of the pair differ, their difference.
 #[derive(Clone, Copy)]
 pub struct Entered {
     pub paired: bool,

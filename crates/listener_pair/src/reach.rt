@@ -6,10 +6,10 @@ ghost use Rattle.listener_pair.specs.Pairs.{are_near as are_near_of, fits as fit
 use crate::difference::Which;
 use crate::timed::Timed;
 
-/// Two batches of one packet may be apart by this many times the time of one.
+/// Two batches of one packet may be apart by at most this many times the duration of A's batch.
 const REACH: u64 = 64;
 
-/// Whether a batch of A and one of B are apart by at most 64 times the time of A's batch.
+/// Whether a batch of A and a batch of B are apart by at most 64 times the duration of A's batch.
 #[tactic(auto, using(crate::proofs::Numbers::products))]
 fn are_near(a: &Timed, b: &Timed) -> bool
     ensures { result ≡ are_near_of a.now b.now }
@@ -20,7 +20,7 @@ fn are_near(a: &Timed, b: &Timed) -> bool
     u128::from(distance) * u128::from(line.den) <= u128::from(samples) * u128::from(line.num)
 }
 
-/// Whether a batch of A and one of B may present the same packet or unit.
+/// Whether a batch of A and a batch of B may present the same packet or unit.
 #[tactic(auto, unfolding(crate::specs::Pairs::within_reach))]
 fn within_reach(a: &Timed, b: &Timed) -> bool
     ensures { result ≡ within_reach_of a.now b.now }
@@ -40,8 +40,8 @@ fn reaches(side: Which, x: &Timed, y: &Timed) -> bool
     }
 }
 
-/// Whether batch `x` of a side may be paired with the unpaired batch `y` of the other side, if both are near enough in the
-/// merged list.
+/// Whether batch `x` of `side` may be paired with the unpaired batch `y` of the other side, if `y` is among the 512
+/// batches before `x`.
 #[tactic(auto, unfolding(crate::specs::Pairs::fits))]
 pub fn fits(side: Which, x: &Timed, y: &Timed) -> bool
     ensures { result ≡ fits_of side x.now y.now }

@@ -19,7 +19,7 @@ fn sample_bytes(batch: &Batch, j: u32) -> &[u8]
     &bytes[start..start + size]
 }
 
-/// How sample `j` of a batch of A and of one of B differs, if it does.
+/// How sample `j` differs between a batch of A and a batch of B; `None` if it does not differ.
 #[tactic(auto, unfolding(crate::specs::Ways::sample_way))]
 fn sample_way(a: &Batch, b: &Batch, j: u32) -> Option<Way>
     requires a { j < a.now.count }
@@ -41,7 +41,7 @@ fn sample_way(a: &Batch, b: &Batch, j: u32) -> Option<Way>
     None
 }
 
-/// How the first differing sample differs, if there is one.
+/// The way in which the first differing sample differs; `None` if no sample differs.
 fn first_of_samples(a: &Batch, b: &Batch) -> Option<Way>
     requires { b.now.count ≡ a.now.count }
     ensures { result ≡ first_way a.now b.now a.now.count }
@@ -55,8 +55,8 @@ fn first_of_samples(a: &Batch, b: &Batch) -> Option<Way>
     None
 }
 
-/// The way in which a batch of A and one of B differ, if they do. Batches with the same line and equal bytes are not compared
-/// sample by sample.
+/// How a batch of A and a batch of B differ; `None` if they do not. Batches with the same line and equal bytes are not
+/// compared sample by sample.
 #[tactic(auto, unfolding(crate::specs::Ways::way_of))]
 pub fn way_of(a: &Batch, b: &Batch) -> Option<Way>
     ensures { result ≡ way a.now b.now }
@@ -73,7 +73,7 @@ pub fn way_of(a: &Batch, b: &Batch) -> Option<Way>
     first_of_samples(a, b)
 }
 
-/// The difference of a batch of A and one of B, if they differ.
+/// The difference of a batch of A and a batch of B; `None` if they do not differ.
 fn between(a: &Batch, b: &Batch) -> Option<Difference>
     ensures { result ≡ between_of a.now b.now }
 {
@@ -88,7 +88,7 @@ fn between(a: &Batch, b: &Batch) -> Option<Difference>
     }
 }
 
-/// The difference of a batch of a side and its partner on the other side, if they differ.
+/// The difference of batch `x` of `side` and its partner `y` on the other side; `None` if they do not differ.
 pub fn difference_of(side: Which, x: &Timed, y: &Timed) -> Option<Difference>
     ensures { result ≡ difference_by side x.now y.now }
 {

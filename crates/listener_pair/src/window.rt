@@ -15,13 +15,13 @@ use std::alloc::Global;
 use std::collections::VecDeque;
 use std::marker::Model;
 
-/// A batch is paired only with one of this many directly before it in merged order.
+/// A batch is paired only with one of this many batches directly before it in merged order.
 const WINDOW: usize = 512;
 
-/// The samples of at most this many batches are kept to be given back.
+/// The memory of the samples of at most this many batches is kept, to be used again.
 const SPENT: usize = 8;
 
-/// The batches of a side that wait for a partner, and the memory of samples of some that no longer do.
+/// The batches of a side that wait for a partner, and the memory of the samples of some batches that no longer wait.
 #[derive(Drop)]
 pub struct Waiting {
     batches: VecDeque<Placed>,
@@ -46,7 +46,7 @@ impl Waiting {
     ghost use Rattle.listener_pair.specs.Pairs.{without_first};
     ghost use Rattle.listener_pair.specs.state.Window.{takes_by, without_passed};
 
-    /// Nothing waits. All memory is reserved.
+    /// No batch waits yet. All memory is reserved.
     pub fn begin(alloc: Global) -> Result<Self, NoMemory>
         ensures { IfOk result (λ waiting. waiting ≡ []) }
     {
@@ -55,7 +55,7 @@ impl Waiting {
         Ok(Waiting { batches, spent })
     }
 
-    /// The memory of samples of a batch that no longer waits, if some is kept.
+    /// Returns the memory of the samples of a batch that no longer waits, if any is kept.
     pub fn take_spent(&mut self) -> Option<Bytes>
         ensures { self.new ≡ self.old }
     {
@@ -72,7 +72,7 @@ impl Waiting {
         }
     }
 
-    /// Takes the first batch that a batch of the other side may be paired with.
+    /// Removes and returns the first waiting batch with which batch `x` of the other side may be paired.
     fn take_partner(&mut self, side: Which, x: &Timed) -> Option<Placed>
         ensures found { result ≡ find (takes_by side x.now) self.old }
         ensures left { self.new ≡ without_first (takes_by side x.now) self.old }
@@ -83,7 +83,7 @@ impl Waiting {
         }
     }
 
-    /// Drops the first batch if it is not among the 512 batches before a place.
+    /// Drops the first batch if it is not among the 512 batches before position `place`.
     fn drop_passed(&mut self, place: u64)
         ensures { self.new ≡ without_passed place self.old }
     {
@@ -99,8 +99,8 @@ impl Waiting {
         }
     }
 
-    /// Adds the next batch of a side. At most 511 others of the last 512 batches wait, so there is room. If there were none, those
-    /// that wait would be dropped.
+    /// Adds a batch. There is room, because at most 511 other batches wait. Without room, all waiting batches would be
+    /// dropped.
     #[inline(always)]
     fn keep(&mut self, batch: Placed)
         ensures { length self.old < 512 → self.new ≡ self.old ++ batch ∷ [] }
@@ -112,7 +112,7 @@ impl Waiting {
     }
 }
 
-/// The place of the first waiting batch that a batch of a side may be paired with.
+/// The index of the first waiting batch with which batch `x` of `side` may be paired.
 fn find_partner(waiting: &VecDeque<Placed>, side: Which, x: &Timed) -> Option<usize>
     ensures found { IfSome result (λ i. find (takes_by side x.now) waiting.now.items ≡ slice_get waiting.now.items i) }
     ensures left { IfSome result (λ i. without_first (takes_by side x.now) waiting.now.items ≡ remove waiting.now.items i) }
@@ -126,8 +126,9 @@ fn find_partner(waiting: &VecDeque<Placed>, side: Which, x: &Timed) -> Option<us
     None
 }
 
-/// Takes the next batch of a side: it is paired with the first waiting batch of the other side that it may be paired with, or it
-/// waits. Waiting batches that are then not among the last 512 are dropped.
+/// Takes the next batch of a side. It is paired with the first waiting batch of the other side with which it may be
+/// paired. If there is no such batch, it waits. Waiting batches that are then not among the last 512 batches are
+/// dropped.
 #[inline(always)]
 pub fn enter(
     side: Which,

@@ -1,5 +1,5 @@
--- Kept for proofs: what the code's own parts hold and do. No clause of a public call rests on it.
--- What waits for a partner, and a batch that comes.
+-- Kept for proofs: what the code's own parts hold and do. No clause of a public call rests on it. The batches that wait
+-- for a partner, and what the next batch changes.
 use Rattle.std.specs.Prelude.{◌≡◌, ℕ, ◌+◌, ◌-◌, ◌^◌, ◌<◌, nat_le, min, Bool, true, false, if◌then◌else◌, List, [], ◌∷◌, ◌++◌, length, Option, None, Some, option_map, is_some, int_lt}
 use Rattle.std.specs.List.{find}
 use Rattle.sample_schedule.specs.Batches.{Presented}
@@ -14,19 +14,19 @@ use Rattle.listener_pair.specs.Pairs.{Paired, fits, without_first}
 use Rattle.listener_pair.specs.Differences.{difference_of}
 use Rattle.listener_pair.specs.Matching.{MatchingState, wanted}
 
--- the next batch of a side, at its place
+-- the next batch of a side, with its position
 abbrev pub placed : ℕ → Which → Presented → Placed
 placed place side batch = record { place = place; side = side; batch = batch }
 
--- a batch of a side may be paired with one that waits on the other side
+-- `batch` of `side` may be paired with batch y, which waits on the other side
 abbrev pub takes_by : Which → Presented → Placed → Bool
 takes_by side batch y = fits side batch y.batch
 
--- x may be paired with one that waits on the other side
+-- batch x may be paired with a batch that waits on the other side
 abbrev pub takes : Placed → Placed → Bool
 takes x = takes_by x.side x.batch
 
--- the waiting batches, without the first one if that is not among the 512 before a place
+-- the waiting batches; the first one is left out if it is not among the 512 batches before position `place`
 abbrev pub without_passed : ℕ → List Placed → List Placed
 without_passed place [] = []
 without_passed place (y ∷ ys) = if nat_le place (y.place + 512) then y ∷ ys else ys
@@ -34,28 +34,29 @@ without_passed place (y ∷ ys) = if nat_le place (y.place + 512) then y ∷ ys 
 abbrev pub paired_with : Placed → Placed → Paired
 paired_with later earlier = record { earlier = earlier; later = later }
 
--- the pair that x makes with one of those that wait on the other side
+-- the pair that x makes with a batch of `other`, the batches that wait on the other side; none if it makes no pair
 abbrev pub made : Placed → List Placed → Option Paired
 made x other = option_map (paired_with x) (find (takes x) other)
 
--- the pair that x makes in a matching
+-- the pair that x makes in a matching; none if it makes no pair
 abbrev pub made_on : Which → Placed → MatchingState → Option Paired
 made_on A x m = made x m.waiting_b
 made_on B x m = made x m.waiting_a
 
--- x waits if it made no pair
+-- the batches that x adds to the waiting ones: x itself if it made no pair
 abbrev pub kept : Placed → Option Paired → List Placed
 kept x None = x ∷ []
 kept x (Some pair) = []
 
--- x entered, given the batches that wait on its own side and on the other side, and made this pair or none; `next` is the place
--- of the next batch.
+-- Batch x was added, and made this pair or none. `own` and `other` are the batches that waited on its side and on the
+-- other side before; `own_then` and `other_then` are those that wait afterwards. `next` is the position of the batch
+-- after x.
 pub record Enters (x : Placed) (next : ℕ) (own other own_then other_then : List Placed) (pair : Option Paired) : Type 0 where
   pub made : pair ≡ made x other
   pub others : other_then ≡ without_passed next (without_first (takes x) other)
   pub owns : length (without_passed next own) < 512 → own_then ≡ without_passed next own ++ kept x pair
 
--- x entered, given the batches that wait in a matching
+-- batch x was added to a matching, and made this pair or none
 abbrev pub EntersSide : Which → Placed → ℕ → MatchingState → MatchingState → Option Paired → Type 0
 EntersSide A x next old new pair = Enters x next old.waiting_a old.waiting_b new.waiting_a new.waiting_b pair
 EntersSide B x next old new pair = Enters x next old.waiting_b old.waiting_a new.waiting_b new.waiting_a pair
@@ -69,34 +70,35 @@ abbrev pub risen_if : Bool → ℕ → ℕ
 risen_if true n = risen n
 risen_if false n = n
 
--- the counts with one more batch of a side, which is in no pair
+-- the counts with one more batch of a side that is in no pair
 abbrev pub with_alone : Which → PairCounts → PairCounts
 with_alone A counts = record counts { only_a = risen counts.only_a }
 with_alone B counts = record counts { only_b = risen counts.only_b }
 
--- the counts with one more pair: of a new batch of a side and a batch of the other side that was in no pair
+-- The counts with one more pair. The pair consists of a new batch of a side and a batch of the other side that was in
+-- no pair.
 abbrev pub with_pair : Which → Bool → PairCounts → PairCounts
 with_pair A differs counts = record counts { matched = risen counts.matched; only_b = counts.only_b - 1; differ = risen_if differs counts.differ }
 with_pair B differs counts = record counts { matched = risen counts.matched; only_a = counts.only_a - 1; differ = risen_if differs counts.differ }
 
--- the counts after a batch of a side made this pair, or none
+-- the counts after a batch of a side made this pair or none
 abbrev pub counted : Which → Option Paired → PairCounts → PairCounts
 counted side None counts = with_alone side counts
 counted side (Some pair) counts = with_pair side (is_some (difference_of pair)) counts
 
--- the difference of a pair, if there is one and it differs
+-- the difference of the pair; none if there is no pair or if its batches do not differ
 abbrev pub difference_by_pair : Option Paired → Option Difference
 difference_by_pair None = None
 difference_by_pair (Some pair) = difference_of pair
 
--- whether a pair was made, and its difference
+-- `entered` says whether a pair was made, and states the pair's difference
 pub record Tells (pair : Option Paired) (entered : Entered) : Type 0 where
   pub paired : entered.paired ≡ is_some pair
   pub difference : entered.difference ≡ difference_by_pair pair
 
 -- ---- the next batch
 
--- the side of the first of the next batches
+-- the side of whichever next batch is first in merged order
 abbrev pub first_side : Option Presented → Option Presented → Option Which
 first_side None None = None
 first_side (Some a) None = Some A
@@ -117,7 +119,7 @@ abbrev pub without_next : Which → MatchingState → MatchingState
 without_next A m = record m { next_a = None }
 without_next B m = record m { next_b = None }
 
--- The next batch of a side came, and made this pair or none.
+-- The next batch of a side was added to the matching, and made this pair or none.
 pub record Steps (side : Which) (batch : Presented) (old new : MatchingState) (pair : Option Paired) : Type 0 where
   pub same : new ≡ record (without_next side old) { place = new.place; waiting_a = new.waiting_a; waiting_b = new.waiting_b; counts = new.counts }
   pub place : new.place ≡ risen old.place

@@ -1,4 +1,4 @@
--- What waits is what is not paired of the last 512 batches.
+-- The batches that wait are the unpaired ones among the last 512 batches.
 use Rattle.std.proofs.Common.{◌≤◌, List, length, sym, subst}
 use Rattle.listener_pair.specs.declared.difference.Which.TheVariants.{A, B}
 use Rattle.listener_pair.specs.declared.placed.Placed.{Placed}

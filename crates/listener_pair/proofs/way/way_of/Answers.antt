@@ -1,4 +1,4 @@
--- One line and equal bytes leave no sample that differs.
+-- If the lines and the bytes of both batches are equal, no sample differs.
 use Rattle.std.proofs.Common.{◌≡◌, sym, ap, ◌∙◌, rules}
 use Rattle.std.proofs.lemmas.Int.{ints}
 use Rattle.sample_schedule.specs.Batches.{Presented}

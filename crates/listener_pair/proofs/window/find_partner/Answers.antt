@@ -1,4 +1,4 @@
--- None of those before passes, and this one does.
+-- No batch before index `i` passes the test, and the batch at `i` passes it.
 use Rattle.std.proofs.Common.{◌≡◌, ◌<◌, suc, true, drop, get_or, length, sym, ap, ◌∙◌, subst, arith}
 use Rattle.std.specs.List.{find}
 use Rattle.std.proofs.Math.Seq.{drop-cons}

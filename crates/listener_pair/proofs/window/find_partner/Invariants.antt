@@ -4,7 +4,7 @@ use Rattle.listener_pair.specs.Pairs.{without_first}
 use Rattle.listener_pair.specs.state.Window.{takes_by}
 use Rattle.listener_pair.proofs.window.find_partner.Given as goal
 
--- none of those before passes
+-- no batch before index `i` passes the test
 abbrev pub invariant-loop-i : goal.invariant-loop-i
 invariant-loop-i l = record {
   found : find (takes_by l.side l.x) l.waiting.items ≡ find (takes_by l.side l.x) (drop l.i l.waiting.items);

@@ -3,7 +3,7 @@ use Rattle.sample_schedule.specs.Batches.{Presented}
 use Rattle.listener_pair.specs.Matching.{StandsFor, nexts_left}
 use Rattle.listener_pair.proofs.matching.Matching.next_difference.Given as goal
 
--- no difference was given so far
+-- no difference was returned so far
 abbrev pub invariant-loop-side : goal.invariant-loop-side
 invariant-loop-side l = record {
   stands : (xs ys : List Presented) (given : ℕ) → StandsFor xs ys given l.fn.self → StandsFor xs ys given l.self;

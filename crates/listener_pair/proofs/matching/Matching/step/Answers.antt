@@ -1,4 +1,4 @@
--- The next batch enters.
+-- The next batch is worked through.
 use Rattle.std.proofs.Common.{◌+◌, length, ap, sym, ◌∙◌, subst}
 use Rattle.std.specs.Option.{option_to_list}
 use Rattle.listener_pair.specs.Matching.{MatchingState, StandsFor}

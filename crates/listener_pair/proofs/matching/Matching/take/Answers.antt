@@ -1,4 +1,4 @@
--- What is taken is the next batch of its side.
+-- The batch that is taken becomes the next batch of its side.
 use Rattle.std.proofs.Common.{◌≡◌, [], ◌∷◌, ◌++◌, Some, ap, sym, ◌∙◌, subst}
 use Rattle.sample_schedule.specs.Batches.{Presented}
 use Rattle.listener_pair.specs.declared.difference.Which.{Which}
