@@ -19,11 +19,11 @@ use Rattle.am824_gateway.proofs.GatewayLemmas.{all_within}
 use Rattle.am824_gateway.proofs.PieceLemmas.{counted}
 use Rattle.am824_gateway.proofs.SampleLemmas.{counted_at}
 
--- the instant of the last sample of a piece, counted from its first at the nominal rate
+-- the instant of the last sample of a piece, counted at the nominal rate from the piece's first sample
 abbrev pub end_of : Shape → Cut → ℤ
 end_of shape c = cut_instant c +ℤ pos (nominal_offset shape.rate (c.piece.count - 1))
 
--- each piece ends before all after it begin
+-- each piece ends before all later pieces begin
 abbrev pub AreApart : Shape → List Cut → Type 0
 AreApart shape [] = ⊤
 AreApart shape (c ∷ cs) = AllByRecursion (λ y. end_of shape c <ℤ y) (map cut_instant cs) × AreApart shape cs
@@ -57,7 +57,7 @@ pieces_apart to shape n batch (suc most) first block is =
     let after : ℕ = first + piece_count to shape batch first in
     apart_by to shape n batch first block (pieces_from to shape batch most after next) (nat_lt first batch.count) refl is (begin_from to shape batch most after next) (pieces_apart to shape (suc n) batch most after next is)
 
--- a piece has as many samples as a gateway puts into a piece that begins there
+-- the piece has as many samples as a gateway puts into a piece that begins with the same sample
 abbrev IsCounted : To → Shape → Presented → Piece → Type 0
 IsCounted to shape batch p = p.count ≡ piece_count to shape batch p.first
 
@@ -74,7 +74,7 @@ pieces_counted to shape batch (suc most) first block =
 
 -- ---- all batches
 
--- a piece ends with its batch or before
+-- a piece ends no later than its batch
 ends_within : (to : To) (shape : Shape) (n : ℕ) (batch : Presented) (p : Piece) → HasRisingInstants batch → IsWithin to shape batch p → IsCounted to shape batch p → end_of shape (record { number = n; batch = batch; piece = p }) ≤ℤ sample_instant batch (batch.count - 1)
 ends_within to shape n batch p is within count =
     let inside = within.inside in
@@ -84,7 +84,7 @@ ends_within to shape n batch p is within count =
     let same = rw (← count) at same in
     subst (λ (x : ℤ). x ≤ℤ sample_instant batch (batch.count - 1)) (sym same) last
 
--- a piece ends before all of these begin
+-- piece c ends before all of the pieces `ys` begin
 abbrev EndBefore : Shape → List Cut → Cut → Type 0
 EndBefore shape ys c = AllByRecursion (λ y. end_of shape c <ℤ y) (map cut_instant ys)
 

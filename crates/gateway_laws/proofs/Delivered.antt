@@ -35,7 +35,7 @@ use Rattle.gateway_laws.proofs.Read.{IsCarried, aaf_read, belongs_so, cut_aaf, c
 
 -- ---- one delivery
 
--- the delivery of the frame of a piece, which is the record of this number
+-- the delivery of the frame of piece c, which is record number `frame`
 abbrev delivered : To → Shape → ℕ → ℕ → Cut → Delivery
 delivered to shape id frame c = delivery frame (record_of (cut_frame to shape id c))
 
@@ -79,7 +79,7 @@ item_is Am824 shape id frame c is small fine =
 
 -- ---- all deliveries
 
--- the deliveries of all frames; the first frame is the record of this number
+-- the deliveries of the frames of all pieces; the first frame is record number `frame`
 abbrev all_delivered : To → Shape → ℕ → ℕ → List Cut → List Delivery
 all_delivered to shape id frame [] = []
 all_delivered to shape id frame (c ∷ cs) = delivered to shape id frame c ∷ all_delivered to shape id (suc frame) cs
@@ -117,7 +117,7 @@ entries_are to shape id cs is small all =
 
 -- ---- what is presented
 
--- The schedule of a listener of the stream without a clock has these entries.
+-- The entries of the schedule of a listener without a clock are `entries`, and its buffer is never full.
 pub record IsSchedule (plan : ListenPlan) (records : List Record) (entries : List Entry) : Type 0 where
   pub without : (schedule_plan plan).clock ≡ false
   pub entries_is : entries_in plan records ≡ entries
@@ -141,6 +141,6 @@ is_schedule to shape id cs plan is small all hears = schedule_by id plan (map re
 pub no_entries : (id : ℕ) → entries (deliveries id None []) ≡ packet_entries []
 no_entries id = ap (map made_entry) (items_other [] (All-nil IsOther))
 
--- the schedule of no records
+-- if there are no records, the schedule has no entries
 pub empty_schedule : (id : ℕ) (plan : ListenPlan) → Hears id plan [] → IsSchedule plan [] (packet_entries [])
 empty_schedule id plan hears = schedule_by id plan [] [] hears (no_entries id)

@@ -1,4 +1,4 @@
--- Items that come in their order are presented in that order.
+-- Items that arrive in the order of their instants are presented in that order.
 use Rattle.std.proofs.Common.{◌≡◌, ℕ, zero, suc, ◌+◌, ◌<◌, ◌≤◌, Bool, true, false, ℤ, ◌<ℤ◌, List, [], ◌∷◌, ◌++◌, length, map, take, Option, Some, None, inl, inr, refl, sym, ap, subst, ◌∙◌, arith}
 use Rattle.std.specs.Prelude.{◌==◌, if◌then◌else◌, fold, int_le, int_lt, slice_get, Ok, Err}
 use Rattle.std.specs.List.{AllByRecursion, list_any}
@@ -19,7 +19,7 @@ use Rattle.sample_schedule.proofs.LawLemmas.{accepted-presented}
 use Rattle.sample_schedule.proofs.StageLemmas.{accepted-next}
 use Rattle.gateway_laws.specs.InOrder.{AreInOrder, IsNotFull, IsTimedAt}
 
--- the batches as they are accepted, the first at this place
+-- these batches as accepted items; the first one is entry n
 abbrev pub placed : ℕ → List Presented → List Accepted
 placed n [] = []
 placed n (b ∷ bs) = record { place = n; instant = first_instant b; batch = b } ∷ placed (suc n) bs
@@ -45,7 +45,7 @@ front_length [] i b e = absurd cc
 front_length (x ∷ bs) zero b e = refl
 front_length (x ∷ bs) (suc i) b e = ap suc (front_length bs i b e)
 
--- ---- all instants before one
+-- ---- all instants are before a given one
 
 abbrev AreBefore : ℤ → List Presented → Type 0
 AreBefore instant bs = AllByRecursion (λ b. first_instant b <ℤ instant) bs
@@ -112,7 +112,7 @@ mapped : (gs : List Given) → AllByRecursion IsNotFull (map shown_of gs) → Al
 mapped [] all = tt
 mapped (g ∷ gs) all = (all.0, mapped gs all.1)
 
--- a timed item that is no copy is judged by the room alone
+-- if a timed item is not a copy, it is accepted exactly if there is room
 judged : (clock : Clock) (plan : SchedulePlan) (entries : List Entry) (i : ℕ) (b : Presented) (earlier : List Accepted) → (is : IsTimedAt clock plan entries i b) → accepted clock plan entries i ≡ earlier → list_any (is_copy (first_instant b) b.seq) earlier ≡ false
     → verdict_in clock plan entries i is.item ≡ (if is_full plan (standing (now_at entries i) earlier) (length b.bytes) then Err Full else Ok (record { place = i; instant = first_instant b; batch = b }))
 judged clock plan entries i b earlier is same copy =
@@ -121,7 +121,7 @@ judged clock plan entries i b earlier is same copy =
     let decides = ap (λ (r : _). verdict plan (now_at entries i) earlier i r) is.batch_is ∙ decide plan (now_at entries i) earlier i b late copy in
     subst (λ (l : List Accepted). verdict plan (now_at entries i) l i (timed clock plan (prefix_of plan entries i) is.item) ≡ (if is_full plan (standing (now_at entries i) earlier) (length b.bytes) then Err Full else Ok (record { place = i; instant = first_instant b; batch = b }))) (sym same) decides
 
--- if nothing is flagged because the buffer is full, there is room
+-- if no item is flagged because of a full buffer, there is room
 has_room : (clock : Clock) (plan : SchedulePlan) (entries : List Entry) (i : ℕ) (b : Presented) (earlier : List Accepted) → IsTimedAt clock plan entries i b → AllByRecursion IsNotFull (shown clock plan entries) → accepted clock plan entries i ≡ earlier
     → list_any (is_copy (first_instant b) b.seq) earlier ≡ false → is_full plan (standing (now_at entries i) earlier) (length b.bytes) ≡ false
 has_room clock plan entries i b earlier is room same copy =
@@ -139,7 +139,8 @@ within [] k below e = absurd (omega arith)
 within (x ∷ xs) zero below e = absurd cc
 within (x ∷ xs) (suc k) below e = within xs k (omega (arith, below)) e
 
--- Each entry is an item that is timed, the first instants rise, and there is room for each once those before it are accepted.
+-- Each entry is an item that can be presented, the first instants rise, and there is room for each item after the
+-- earlier ones are accepted.
 pub record AreFree (clock : Clock) (plan : SchedulePlan) (entries : List Entry) (batches : List Presented) : Type 0 where
   pub all : length batches ≡ length entries
   pub timed_at : (i : ℕ) (batch : Presented) → slice_get batches i ≡ Some batch → IsTimedAt clock plan entries i batch
@@ -152,7 +153,7 @@ record AreTaken (clock : Clock) (plan : SchedulePlan) (entries : List Entry) (ba
   accepted_is : accepted clock plan entries n ≡ placed 0 (take n batches)
   sorted_is : by_instant (placed 0 (take n batches)) ≡ placed 0 (take n batches)
 
--- the next one is accepted
+-- item n is accepted
 accept : (clock : Clock) (plan : SchedulePlan) (entries : List Entry) (batches : List Presented) (n : ℕ) (b : Presented) → slice_get batches n ≡ Some b → (is : AreFree clock plan entries batches) → accepted clock plan entries n ≡ placed 0 (take n batches) → (t : IsTimedAt clock plan entries n b)
     → verdict_in clock plan entries n t.item ≡ Ok (record { place = n; instant = first_instant b; batch = b })
 accept clock plan entries batches n b e is before t =

@@ -1,4 +1,4 @@
--- What listeners and `check` make of a gateway's capture.
+-- What listeners present of a gateway's capture, and what `check` finds in it.
 use Rattle.std.proofs.Common.{◌≡◌, ℕ, ◌%◌, ◌^◌, ◌<◌, ◌≤◌, Bool, true, false, inl, inr, nat_abs, List, [], ◌∷◌, ◌++◌, length, map, Option, Some, None, refl, sym, ap, subst, ◌∙◌, arith, append_assoc}
 use Rattle.std.specs.Prelude.{◌&&◌, flat_map, nat_lt, IfSome}
 use Rattle.std.specs.List.{AllByRecursion}
@@ -63,7 +63,7 @@ never_off : (b : Bool) → (b && false) ≡ false
 never_off true = refl
 never_off false = refl
 
--- The packet of a frame is this one, and is accepted.
+-- These bytes are read as `packet`, and are accepted.
 record IsPlain (pdu : List ℕ) (packet : AnyPacket) : Type 0 where
   packet_is : packet_of pdu ≡ packet
   accepted : packet_refusal pdu ≡ None
@@ -142,7 +142,7 @@ no_rest interval (inl e) = rw e refl
 no_rest interval (inr (inl e)) = rw e refl
 no_rest interval (inr (inr e)) = rw e refl
 
--- what is presented of the records of the pieces' frames
+-- what is presented of the frames of all pieces is exactly the samples of the batches that were not skipped
 heard_of_cuts : (to : To) (shape : Shape) (id : ℕ) (batches : List Presented) (records : List Record) (plan : ListenPlan) → IsShape shape → id < 2 ^ 64 → AllByRecursion BeginsInTime batches
     → records ≡ map record_of (map (cut_frame to shape id) (cuts_after to shape nothing_given batches)) → Hears id plan records → Presents to (Some shape) batches (presented_of (shown_of plan records))
 heard_of_cuts to shape id batches records plan is small begins e hears =

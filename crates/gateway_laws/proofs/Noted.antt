@@ -15,7 +15,7 @@ use Rattle.gateway_laws.specs.Noted.{cut_seen, nothing_found, subtype_to}
 
 -- ---- numbers
 
--- the pieces are numbered one by one
+-- the pieces are numbered one by one, from n on
 abbrev NumberedFrom : ℕ → List Cut → Type 0
 NumberedFrom n [] = ⊤
 NumberedFrom n (c ∷ cs) = (c.number ≡ n) × NumberedFrom (suc n) cs
@@ -45,7 +45,7 @@ all_numbered to shape given (b ∷ bs) =
     (two_numbered given.packets (given.packets + length (pieces_of to shape b given.block)) xs (cuts_after to shape (given_with to shape given b) bs) (omega (arith, long)) (from_numbered given.packets b (pieces_of to shape b given.block)) (all_numbered to shape (given_with to shape given b) bs))
     (all_numbered to shape given bs)
 
--- the number of a piece, given how many are before it
+-- if the first piece has number n, a piece's number is n plus the number of pieces before it
 number_at : (n : ℕ) (front later : List Cut) (c : Cut) → NumberedFrom n (front ++ c ∷ later) → c.number ≡ n + length front
 number_at n [] later c all = all.0 ∙ omega arith
 number_at n (x ∷ front) later c all = number_at (suc n) front later c all.1 ∙ omega arith
@@ -77,12 +77,12 @@ is_known : (to : To) (id : ℕ) (cs : List Cut) (c : Cut) → is_tracked (record
 is_known to id [] c = tracked_first to id c []
 is_known to id (x ∷ cs) c = tracked_first to id x (map (cut_seen to id) cs ++ cut_seen to id c ∷ [])
 
--- ---- the step
+-- ---- the step from one sequence number to the next
 
 one_step : (n : ℕ) → ((suc n % 256 + 256 - n % 256) % 256 == 1) ≡ true
 one_step n = eq-eqb ((suc n % 256 + 256 - n % 256) % 256) 1 (omega arith)
 
--- A list has a last piece, and others before it.
+-- The list is not empty: it consists of `front` and the last piece.
 record Ends (cs : List Cut) : Type 0 where
   front : List Cut
   last : Cut

@@ -204,7 +204,7 @@ iec_spells shape id c is small fine =
 
 -- ---- frames
 
--- The bytes are a frame of AVTP that holds this packet.
+-- The bytes are a frame of AVTP that holds `packet`.
 pub record Holds (bytes packet : List ℕ) : Type 0 where
   pub accepted : frame_refusal bytes ≡ None
   pub ethertype : (frame_of bytes).ethertype ≡ avtp_ethertype
@@ -265,7 +265,7 @@ iec_read shape id c is small fine =
 
 -- ---- of which stream
 
--- The packet in a record is of this stream, for a reader of any format.
+-- The packet in a record is of this stream, whatever format its reader expects.
 pub record IsOfStream (subtype id seq : ℕ) (bytes : List ℕ) : Type 0 where
   pub accepted : frame_refusal bytes ≡ None
   pub ethertype : (frame_of bytes).ethertype ≡ avtp_ethertype

@@ -1,4 +1,4 @@
--- AM824 of a gateway comes back as the same frames.
+-- AM824 of a gateway that is converted to PCM and back has the same frames.
 use Rattle.std.proofs.Common.{◌≡◌, ℕ, zero, suc, ◌+◌, ◌-◌, ◌*◌, ◌/◌, ◌^◌, ◌<◌, ◌≤◌, Bool, true, false, inl, inr, ℤ, pos, ◌<ℤ◌, List, [], ◌∷◌, ◌++◌, length, drop, map, take, Option, Some, None, refl, sym, ap, subst, ◌∙◌, eq-eqb, arith}
 use Rattle.std.specs.Prelude.{◌==◌, IfSome, if◌then◌else◌, int_le, nat_lt, not, ⊤}
 use Rattle.std.specs.List.{AllByRecursion, list_any}
@@ -57,7 +57,7 @@ record Body : Type 0 where
 abbrev body_of : To → Shape → Cut → Body
 body_of to shape c = record { instant = cut_instant c; count = c.piece.count; bytes = samples_of to shape c.batch c.piece }
 
--- the frame of packet n, with the block count of its first block
+-- the frame of packet n, which carries body b; the block count of its first block is `block`
 abbrev body_frame : To → Shape → ℕ → ℕ → ℕ → Body → SentFrame
 body_frame to shape id n block b = record {
   arrival = arrival_at b.instant;
@@ -66,7 +66,7 @@ body_frame to shape id n block b = record {
   bytes = packet_bytes (packet_of to shape id n b.instant (record { first = 0; count = b.count; block = block }) b.bytes);
 }
 
--- the frames of bodies; packet n is the first, and has this block count
+-- the frames of bodies; the first frame is that of packet n, with the block count `block`
 abbrev body_frames : To → Shape → ℕ → ℕ → ℕ → List Body → List SentFrame
 body_frames to shape id n block [] = []
 body_frames to shape id n block (b ∷ bs) = body_frame to shape id n block b ∷ body_frames to shape id (suc n) (next_block (interval_of shape.rate) block b.count) bs
@@ -131,15 +131,15 @@ same_size : (to : To) → value_in (other to) ≡ value_out to
 same_size Am824 = refl
 same_size Aaf = refl
 
--- a body whose samples are converted to another format
+-- body b after its samples are converted to another format
 abbrev turn_body : To → Shape → Body → Body
 turn_body on shape b = record { instant = b.instant; count = b.count; bytes = turned on (b.count * shape.channels) b.bytes }
 
--- what is presented of the packet that carries a piece
+-- the batch that is presented of the packet that carries piece c
 abbrev heard_of : To → Shape → ℕ → Cut → Presented
 heard_of to shape i c = counted_from_first (packet_heard to shape i c) (cut_instant c)
 
--- the one piece of what is presented of the packet that carries a piece
+-- the one piece into which `heard_of` is cut: all samples of piece c
 abbrev piece_of : Cut → ℕ → Piece
 piece_of c block = record { first = 0; count = c.piece.count; block = block }
 
@@ -160,7 +160,7 @@ heard_start to shape i c is = starts_at (packet_heard to shape i c) (cut_instant
 heard_pieces : (to : To) (shape : Shape) (i : ℕ) (c : Cut) (block : ℕ) → IsShape shape → IsCarried to shape c → HasRoom (other to) shape c → pieces_of (other to) shape (heard_of to shape i c) block ≡ piece_of c block ∷ []
 heard_pieces to shape i c block is fine room = one_piece (other to) shape (heard_of to shape i c) block (record { begun = refl; num = refl; den = refl; fits = room }) (some_rate shape is) fine.within.some
 
--- the last sample that was given out is before all of these instants
+-- all of these instants are after the last sample that was given out
 abbrev IsOver : Option ℤ → List ℤ → Type 0
 IsOver None xs = ⊤
 IsOver (Some last) xs = AllByRecursion (λ y. last <ℤ y) xs
@@ -232,7 +232,7 @@ heard_again to shape id batches plan is small begins hears =
     ∙ stamped_presented clock_spot (schedule_plan plan) (packets_heard to shape 1 cuts) (map cut_instant cuts) schedule.without (stamped_all to shape (packets_heard to shape 1 cuts) cuts carry)
     (rise_all to shape nothing_given batches (all_rising batches begins)) schedule.room)
 
--- the bodies that a gateway sends of what is presented of another gateway's frames
+-- if a gateway converts what is presented of another gateway's frames, it sends the same bodies, converted
 turned_again : (to : To) (shape : Shape) (id : ℕ) (batches : List Presented) (plan : ListenPlan) → IsShape shape → id < 2 ^ 64 → AllByRecursion BeginsInTime batches → Hears id plan (gateway_records to (Some shape) id batches)
     → AllByRecursion (HasRoom (other to) shape) (cuts_after to shape nothing_given batches)
     → map (body_of (other to) shape) (cuts_after (other to) shape nothing_given (presented_again plan to shape id batches)) ≡ map (turn_body (other to) shape) (map (body_of to shape) (cuts_after to shape nothing_given batches))
@@ -301,18 +301,18 @@ comes_with_shape shape id via batches there back_plan is small via_small begins 
     let bodies = three ∙ (ap (map (turn_body Am824 shape)) two ∙ same_bodies shape cs fine) in
     frames_by_bodies Am824 shape id (presented_again back_plan Aaf shape via hs) ∙ (ap (body_frames Am824 shape id 0 0) bodies ∙ sym (frames_by_bodies Am824 shape id batches))
 
--- nothing is presented of no records
+-- if there are no records, nothing is presented
 none_again : (id : ℕ) (plan : ListenPlan) → Hears id plan [] → presented_of (shown_of plan []) ≡ []
 none_again id plan hears = (let schedule = empty_schedule id plan hears in schedule.batches ∙ stamped_presented clock_spot (schedule_plan plan) [] [] schedule.without tt tt schedule.room)
 
--- the records of a gateway's frames have the gateway's shape, if there are any
+-- if a gateway makes any frames, a scan of their records finds the gateway's shape
 shape_by : (to : To) (shape : Shape) (id : ℕ) (batches : List Presented) (plan : ListenPlan) (f : SentFrame) (fs : List SentFrame) → gateway_frames to (Some shape) id batches ≡ f ∷ fs → IsShape shape → id < 2 ^ 64 → plan.stream ≡ id
     → shape_in plan.stream (gateway_records to (Some shape) id batches) ≡ Some shape
 shape_by to shape id batches plan f fs e is small stream =
     let some : 1 ≤ length (gateway_records to (Some shape) id batches) = rw e (omega arith) in
     ap (λ (n : ℕ). shape_in n (gateway_records to (Some shape) id batches)) stream ∙ shape_found to shape id batches is small some
 
--- AM824 comes back with the shape that the scan finds
+-- AM824 is the same after both conversions, each with the shape that the scan finds
 comes_found : (shape : Shape) (id via : ℕ) (batches : List Presented) (there back_plan : ListenPlan) (one two : List SentFrame) → gateway_frames Am824 (Some shape) id batches ≡ one
     → gateway_frames Aaf (Some shape) via (presented_again there Am824 shape id batches) ≡ two → IsShape shape → id < 2 ^ 64 → via < 2 ^ 64 → AllByRecursion BeginsInTime batches
     → Hears id there (gateway_records Am824 (Some shape) id batches) → Hears via back_plan (map record_of (frames_made Aaf there via (gateway_records Am824 (Some shape) id batches)))
@@ -344,7 +344,7 @@ comes_back None id via batches there back_plan is small via_small begins hears h
 comes_back (Some shape) id via batches there back_plan is small via_small begins hears hears_back =
     comes_found shape id via batches there back_plan (gateway_frames Am824 (Some shape) id batches) (gateway_frames Aaf (Some shape) via (presented_again there Am824 shape id batches)) refl refl is small via_small begins hears hears_back
 
--- ---- there is room on both ways
+-- ---- there is room in both conversions
 
 abbrev instants : List Body → List ℤ
 instants bs = map (λ (b : Body). b.instant) bs
@@ -357,7 +357,7 @@ instants_turned : (on : To) (shape : Shape) (bs : List Body) → instants (map (
 instants_turned on shape [] = refl
 instants_turned on shape (b ∷ bs) = ap (λ (xs : List ℤ). b.instant ∷ xs) (instants_turned on shape bs)
 
--- the packets of the way back are presented when those of the way there are
+-- the packets of PCM are presented at the same instants as the packets of AM824 from which they are converted
 same_instants : (shape : Shape) (id : ℕ) (batches : List Presented) (there : ListenPlan) → IsShape shape → id < 2 ^ 64 → AllByRecursion BeginsInTime batches → Hears id there (gateway_records Am824 (Some shape) id batches)
     → map cut_instant (cuts_after Am824 shape nothing_given batches) ≡ map cut_instant (cuts_after Aaf shape nothing_given (presented_again there Am824 shape id batches))
 same_instants shape id batches there is small begins hears =

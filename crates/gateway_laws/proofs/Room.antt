@@ -1,4 +1,5 @@
--- A listener has room for packets that come soon before they are presented, and are apart.
+-- A listener has room for packets that arrive shortly before they are presented and are presented at least 500 ns
+-- apart.
 use Rattle.std.proofs.Common.{◌≡◌, ℕ, zero, suc, ◌+◌, ◌*◌, ◌^◌, ◌<◌, ◌≤◌, Bool, true, false, ℤ, pos, ◌+ℤ◌, ◌≤ℤ◌, List, [], ◌∷◌, length, map, take, Option, Some, None, refl, sym, ap, subst, arith}
 use Rattle.std.specs.Prelude.{⊤, IfSome, if◌then◌else◌, nat_le, nat_lt, slice_get}
 use Rattle.std.specs.List.{AllByRecursion}
@@ -51,7 +52,7 @@ use Rattle.gateway_laws.proofs.Stamped.{at_place, counted_length, now_early, sta
 
 -- ---- how many wait
 
--- each batch is before the instant by 500 ns, and by 500 ns more for each batch after it
+-- each batch is at least 500 ns before x, and another 500 ns for each batch after it
 abbrev SpreadTo : ℤ → List Presented → Type 0
 SpreadTo x [] = ⊤
 SpreadTo x (b ∷ bs) = ((first_instant b +ℤ pos (500 * suc (length bs))) ≤ℤ x) × SpreadTo x bs
@@ -93,7 +94,7 @@ not_full plan waiting size some fits_in = by (nat_le plan.buffer (length waiting
 
 -- ---- packets
 
--- a packet comes at most 2 ms before it is presented, and is short
+-- the packet arrives at most 2 ms before it is presented, and has at most 1500 bytes
 record IsSoon (p : Packet) (x : ℤ) : Type 0 where
   soon : x ≤ℤ (p.arrival +ℤ pos 2000000)
   short : length p.bytes ≤ 1500

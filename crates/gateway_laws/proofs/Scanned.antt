@@ -68,7 +68,7 @@ heard_labels Am824 shape c fine =
 
 -- ---- one frame
 
--- A frame holds samples of this shape, in which no fault is found.
+-- A frame holds samples of this shape, and a scan for the other format finds no fault in it.
 record IsTurnable (to : To) (shape : Shape) (id : ℕ) (bytes : List ℕ) : Type 0 where
   first : content_fault (other to) None (content id bytes) ≡ None
   more : content_fault (other to) (Some shape) (content id bytes) ≡ None
@@ -77,7 +77,7 @@ record IsTurnable (to : To) (shape : Shape) (id : ℕ) (bytes : List ℕ) : Type
 pub no_row : (w r e m c l : Bool) → w ≡ true → r ≡ false → e ≡ true → m ≡ false → c ≡ true → l ≡ true → first_of (row Kind false ∷ row Format (not w) ∷ row Rate (r || not e) ∷ row Channels (m || not c) ∷ row Label (not l) ∷ []) ≡ None
 no_row w r e m c l is_w is_r is_e is_m is_c is_l = rw (is_w, is_r, is_e, is_m, is_c, is_l) refl
 
--- the tests of a shape
+-- the shape passes the tests of a scan
 record PassesTests (shape : Shape) : Type 0 where
   named : is_none (fdf_of shape.rate) ≡ false
   one_rate : (shape.rate == shape.rate) ≡ true

@@ -1,4 +1,4 @@
--- Packets that are stamped on their first samples are in order.
+-- Packets whose timestamps belong to their first samples are in order.
 use Rattle.std.proofs.Common.{◌≡◌, ℕ, zero, suc, ◌<◌, ◌≤◌, true, false, ℤ, pos, ◌≤ℤ◌, ◌<ℤ◌, List, [], ◌∷◌, length, map, take, Some, refl, sym, ap, subst, ◌∙◌, inl, inr, arith}
 use Rattle.std.specs.Prelude.{◌==◌, ◌⊎◌, ◌*ℤ◌, ◌+ℤ◌, fold, nat_lt, neg_ℤ, slice_get, Ok}
 use Rattle.std.specs.Int.{int_max}
@@ -47,7 +47,7 @@ timed_so clock plan prefix p x without is =
 
 -- ---- all of them
 
--- Packet i is stamped with this instant, and this is its batch.
+-- Packet i is stamped with this instant, and b is its batch.
 pub record At (ps : List Packet) (xs : List ℤ) (i : ℕ) (b : Presented) : Type 0 where
   pub packet : Packet
   pub instant : ℤ
@@ -83,7 +83,7 @@ counted_length [] (x ∷ xs) all = absurd all
 counted_length (p ∷ ps) [] all = absurd all
 counted_length (p ∷ ps) (x ∷ xs) all = ap suc (counted_length ps xs all.1)
 
--- ---- none came late
+-- ---- no packet arrives late
 
 latest_by : (es : List ℤ) (from x : ℤ) → from ≤ℤ x → AllByRecursion (λ a. a ≤ℤ x) es → fold int_max from es ≤ℤ x
 latest_by [] from x h all = h

@@ -13,13 +13,13 @@ use Rattle.am824_gateway.specs.Laws.{Cut, HasRisingInstants, cut_instant}
 use Rattle.am824_gateway.specs.Packets.{samples_of, timestamp_at}
 use Rattle.am824_gateway.specs.Pieces.{arrival_at}
 
--- which sample the timestamp of a piece's packet belongs to: the first one of PCM (IEEE 1722-2016, 7), or the first block whose
--- count is a multiple of SYT_INTERVAL (IEC 61883-6)
+-- The sample to which the timestamp of a piece's packet belongs. In PCM it is the first sample (IEEE 1722-2016, 7). In
+-- AM824 it is in the first block whose count is a multiple of SYT_INTERVAL (IEC 61883-6).
 abbrev pub rule_of : To → Shape → Piece → HeadRule
 rule_of Am824 shape p = Blocks p.block (interval_of shape.rate)
 rule_of Aaf shape p = Own
 
--- what a listener reads of the frame that carries a piece; the frame is the record of this number in the capture
+-- what a listener reads of the frame that carries piece c; the frame is record number `frame` of the capture
 abbrev pub packet_heard : To → Shape → ℕ → Cut → Packet
 packet_heard to shape frame c = record {
   frame = frame;
@@ -34,13 +34,13 @@ packet_heard to shape frame c = record {
   bytes = samples_of to shape c.batch c.piece;
 }
 
--- what a listener reads of the frames that carry pieces; the first frame is the record of this number in the capture
+-- what a listener reads of the frames that carry these pieces; the first frame is record number `frame` of the capture
 abbrev pub packets_heard : To → Shape → ℕ → List Cut → List Packet
 packets_heard to shape frame [] = []
 packets_heard to shape frame (c ∷ cs) = packet_heard to shape frame c ∷ packets_heard to shape (suc frame) cs
 
--- The instants of a batch rise and begin at 0 or later, as those of every presented batch do, because no packet arrives before
--- 0.
+-- The instants of a batch rise and begin at 0 or later. This is true of every presented batch, because no packet
+-- arrives before 0.
 pub record BeginsInTime (batch : Presented) : Type 0 where
   pub rising : HasRisingInstants batch
   pub begun : pos 0 ≤ℤ sample_instant batch 0

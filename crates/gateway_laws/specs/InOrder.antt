@@ -1,4 +1,4 @@
--- Schedules whose items come in the order in which they are presented.
+-- Schedules whose items arrive in the order in which they are presented.
 use Rattle.std.specs.Prelude.{◌≡◌, ◌≢◌, ℕ, ◌<◌, ◌≤ℤ◌, ◌<ℤ◌, List, length, slice_get, Some, Ok}
 use Rattle.std.specs.List.{AllByRecursion}
 use Rattle.sample_schedule.specs.declared.entry.Entry.{Entry}
@@ -12,13 +12,13 @@ use Rattle.sample_schedule.specs.Batches.{Presented}
 use Rattle.sample_schedule.specs.Schedule.{now_at, prefix_of, shown}
 use Rattle.sample_schedule.specs.Verdicts.{Clock, first_instant, timed}
 
--- an item is presented, or flagged for a reason other than a full buffer
+-- an item is presented, or is flagged for a reason other than a full buffer
 abbrev pub IsNotFull : Shown → Type 0
 IsNotFull (Present batch) = Unit {0}
 IsNotFull (Flag frame seq reason) = reason ≢ Full
 
--- The item at place i is timed: what is known when it is judged gives this batch, and no packet up to it came after the
--- batch's first instant.
+-- Entry i is an item. It can be presented as `batch`, by what is known when it is judged. No packet up to this item
+-- arrived after the first instant of `batch`.
 pub record IsTimedAt (clock : Clock) (plan : SchedulePlan) (entries : List Entry) (i : ℕ) (batch : Presented) : Type 0 where
   pub item : Item
   pub there : slice_get entries i ≡ Some (OfItem item)

@@ -1,4 +1,4 @@
--- What listeners and `check` make of the capture that a gateway makes.
+-- What listeners present of a gateway's capture, and what `check` finds in it.
 use Rattle.std.specs.Prelude.{◌≡◌, ℕ, true, List, [], ◌∷◌, ◌++◌, map, Option, Some, None, ⊤}
 use Rattle.std.specs.List.{AllByRecursion, flat_map}
 use Rattle.pcap_frames.specs.Capture.{Record, first_refusal, whole_records}
@@ -32,13 +32,13 @@ pub record Hears (id : ℕ) (plan : ListenPlan) (records : List Record) : Type 0
   pub clock : plan.clock ≡ None
   pub room : AllByRecursion IsNotFull (shown_of plan records)
 
--- What is presented of a gateway's capture is exactly the samples of the batches that it was given and did not skip: in order,
--- once, with the same values at the same instants. If the stream has no shape, nothing is presented.
+-- The samples that are presented of a gateway's capture are exactly those of the batches that the gateway did not skip:
+-- in order, once, with the same values at the same instants. If the stream has no shape, nothing is presented.
 abbrev pub Presents : To → Option Shape → List Presented → List Presented → Type 0
 Presents to None batches heard = heard ≡ []
 Presents to (Some shape) batches heard = flat_map (samples_heard to shape) heard ≡ flat_map (samples_presented to shape) (given_batches to shape nothing_given batches)
 
--- no batch is skipped; a stream without a shape has no batch
+-- no batch is skipped; if the stream has no shape, there is no batch
 abbrev pub SkipsNone : To → Option Shape → List Presented → Type 0
 SkipsNone to None batches = batches ≡ []
 SkipsNone to (Some shape) batches = given_batches to shape nothing_given batches ≡ batches
@@ -54,7 +54,7 @@ pub record IsNotedAs (bytes : List ℕ) (seen : Seen) : Type 0 where
   pub reserved : has_reserved (packet_of (packet_in bytes)) ≡ seen.reserved
   pub stamp : stamp_is_off (packet_of (packet_in bytes)) ≡ seen.stamp_wrong
 
--- `check` notes something of each of these records, after earlier notes, and finds nothing
+-- for each of these records, `check` makes a note and finds nothing, if it has made `notes` before
 abbrev pub FindsNothingAfter : List Seen → List Record → Type 0
 FindsNothingAfter notes [] = ⊤
 FindsNothingAfter notes (r ∷ records) =
@@ -62,9 +62,9 @@ FindsNothingAfter notes (r ∷ records) =
 
 -- ---- both
 
--- The bytes are a whole capture of the frames of a gateway to this format, under this id, for these batches. A listener without
--- a clock, whose buffer is never full, presents exactly the samples of the batches that were not skipped, and `check` finds
--- nothing.
+-- The bytes are a whole capture of the frames that a gateway to this format, under this ID, makes of these batches. A
+-- listener without a clock whose buffer is never full presents exactly the samples of the batches that were not
+-- skipped. `check` finds nothing.
 pub record Keeps (to : To) (shape : Option Shape) (id : ℕ) (batches : List Presented) (bytes : List ℕ) : Type 0 where
   pub records : whole_records bytes ≡ map record_of (gateway_frames to shape id batches)
   pub whole : first_refusal bytes ≡ None

@@ -1,4 +1,4 @@
--- Listeners whose buffers are never full of what a gateway sends.
+-- Listeners whose buffers are never full while they hear what a gateway sends.
 use Rattle.std.specs.Prelude.{◌≡◌, ℕ, ◌≤◌, ℤ, pos, ◌+ℤ◌, ◌≤ℤ◌, List, [], ◌∷◌, map, Option, Some, None, ⊤}
 use Rattle.std.specs.List.{AllByRecursion}
 use Rattle.sample_schedule.specs.Batches.{Presented}
@@ -8,12 +8,13 @@ use Rattle.am824_gateway.specs.declared.scan.To.{To}
 use Rattle.am824_gateway.specs.Laws.{cut_instant, cuts_after}
 use Rattle.am824_gateway.specs.Pieces.{nothing_given}
 
--- each instant is at least 500 ns after all before it
+-- each instant is at least 500 ns after all earlier ones
 abbrev pub AreSpread : List ℤ → Type 0
 AreSpread [] = ⊤
 AreSpread (x ∷ xs) = AllByRecursion (λ y. (x +ℤ pos 500) ≤ℤ y) xs × AreSpread xs
 
--- The packets that a gateway makes of these batches are presented at least 500 ns apart. A stream without a shape has none.
+-- The packets that a gateway makes of these batches are presented at least 500 ns apart. If the stream has no shape,
+-- there are no packets.
 abbrev pub ArePacketsSpread : To → Option Shape → List Presented → Type 0
 ArePacketsSpread to None batches = ⊤
 ArePacketsSpread to (Some shape) batches = AreSpread (map cut_instant (cuts_after to shape nothing_given batches))

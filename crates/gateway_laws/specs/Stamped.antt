@@ -1,4 +1,4 @@
--- Packets that are stamped on their first samples, and come before these are presented.
+-- Packets whose timestamps belong to their first samples and which arrive before these samples are presented.
 use Rattle.std.specs.Prelude.{◌≡◌, ℕ, ◌≤◌, false, ℤ, pos, neg_ℤ, ◌≤ℤ◌, List, [], ◌∷◌, map, Some, ⊤}
 use Rattle.time_unfold.specs.Heads.{stamped_index}
 use Rattle.time_unfold.specs.Time.{unfolded}
@@ -9,8 +9,8 @@ use Rattle.sample_schedule.specs.declared.item.Packet.{Packet}
 use Rattle.sample_schedule.specs.Batches.{Presented}
 use Rattle.sample_schedule.specs.Verdicts.{nominal_spot, samples_at}
 
--- The packet has samples of a known rate and a certain timestamp, which belongs to the first sample and means this instant. The
--- instant is 0 or later, and the packet came no later than it.
+-- The packet has samples, a known rate, and a timestamp that is not marked as uncertain. The timestamp belongs to the
+-- first sample and means `instant`, which is 0 or later. The packet arrives at or before `instant`.
 pub record IsStamped (p : Packet) (instant : ℤ) : Type 0 where
   pub certain : p.tu ≡ false
   pub some : 1 ≤ p.count
@@ -29,16 +29,16 @@ AreStamped [] (x ∷ xs) = ⊥
 AreStamped (p ∷ ps) [] = ⊥
 AreStamped (p ∷ ps) (x ∷ xs) = IsStamped p x × AreStamped ps xs
 
--- the samples of a packet, counted at the nominal rate from the instant of the first one
+-- the samples of a packet, counted at the nominal rate from the instant of its first sample
 abbrev pub counted_from_first : Packet → ℤ → Presented
 counted_from_first p instant = samples_at p (nominal_spot p.rate (record { instant = instant; first = neg_ℤ (pos 0) }))
 
--- the batches of all packets, each counted from the instant of its first sample
+-- the batches of all packets, each counted from the instant of the packet's first sample
 abbrev pub all_counted : List Packet → List ℤ → List Presented
 all_counted [] xs = []
 all_counted (p ∷ ps) [] = []
 all_counted (p ∷ ps) (x ∷ xs) = counted_from_first p x ∷ all_counted ps xs
 
--- the entries of a schedule of packets alone
+-- the entries of a schedule that consists of packets
 abbrev pub packet_entries : List Packet → List Entry
 packet_entries ps = map (λ (p : Packet). OfItem (OfPacket p)) ps

@@ -1,4 +1,5 @@
-//! Laws of what listeners present of the captures that a gateway makes. Each call only states its contract, and does nothing.
+//! Laws of what listeners present of the captures that a gateway makes. Each is a function whose contract states the
+//! law; a call does nothing.
 
 ghost use Rattle.std.specs.Prelude.{◌≡◌, ◌%◌, ◌^◌, ◌<◌, ◌≤◌, ◌∷◌, ◌++◌, ℕ, ℤ, IfSome, List, None, Option, Some, false, length, map};
 ghost use Rattle.am824_gateway.specs.Laws.{Cut};
@@ -35,21 +36,21 @@ ghost use Rattle.listener.specs.Laws.{presented_of};
 ghost use Rattle.pcap_frames.specs.Capture.{Record};
 ghost use Rattle.gateway_laws.specs.Stamped.{AreStamped, all_counted, packet_entries};
 
-/// If all items of a schedule have instants, arrive no later than their instants, and come in the order of these, all are
-/// presented, in that order, unless the buffer is full for one of them.
+/// Let each item of a schedule have an instant and arrive at or before it, let the items arrive in the order of their
+/// instants, and let the buffer never be full. Then all items are presented, in that order.
 pub fn items_in_order_are_presented()
     ensures { (clock : Clock) (plan : SchedulePlan) (entries : List Entry) (batches : List Presented) → AreInOrder clock plan entries batches → map (λ (a : Accepted). a.batch) (presented (given clock plan entries)) ≡ batches }
 {}
 
-/// Packets whose timestamps belong to their first samples, and which arrive in time and in the order of their timestamps, are
-/// all presented by a listener without a clock whose buffer is never full: in order, once, each sample counted at the nominal
-/// rate from its packet's own timestamp.
+/// Let the timestamp of each packet belong to its first sample, and let the packets arrive in time and in the order of
+/// their timestamps. A listener without a clock whose buffer is never full presents each packet once, in order. Each
+/// sample is counted at the nominal rate from the timestamp of its own packet.
 pub fn stamped_packets_in_order_are_presented()
     ensures { (clock : Clock) (plan : SchedulePlan) (packets : List Packet) (instants : List ℤ) → plan.clock ≡ false → AreStamped packets instants → Rise instants
         → AllByRecursion IsNotFull (shown clock plan (packet_entries packets)) → map (λ (a : Accepted). a.batch) (presented (given clock plan (packet_entries packets))) ≡ all_counted packets instants }
 {}
 
-/// Of packets that carry the pieces of batches with rising instants, a listener without a clock whose buffer is never full
+/// Let packets carry the pieces of batches whose instants rise. A listener without a clock whose buffer is never full
 /// presents exactly the samples of the batches that were not skipped: in order, once, with the same values at the same
 /// instants.
 pub fn packets_of_pieces_are_heard()
@@ -58,55 +59,56 @@ pub fn packets_of_pieces_are_heard()
         → flat_map (samples_heard to shape) (map (λ (a : Accepted). a.batch) (presented (given clock plan (packet_entries packets)))) ≡ flat_map (samples_presented to shape) (given_batches to shape given_before batches) }
 {}
 
-/// A listener reads the frames of a gateway as packets that carry the pieces of the batches. Each timestamp belongs to the
-/// packet's first sample, in AM824, too, because block counts are raised to a multiple of SYT_INTERVAL; and from instant 0 on a
-/// timestamp means the instant that was stamped.
+/// A listener reads the frames of a gateway as packets that carry the pieces of the batches. Each timestamp belongs to
+/// the packet's first sample. This is true in AM824, too, because block counts are raised to a multiple of
+/// SYT_INTERVAL. From instant 0 on, a timestamp means the instant that was stamped.
 pub fn frames_carry_the_pieces()
     ensures { (to : ToValue) (shape : ShapeValue) (given_before : GivenOut) (frame : ℕ) (batches : List Presented) → IsShape shape → given_before.block % interval_of shape.rate ≡ 0 → AllByRecursion BeginsInTime batches
         → CarryCuts to shape (packets_heard to shape frame (cuts_after to shape given_before batches)) (cuts_after to shape given_before batches) }
 {}
 
-/// `check` finds nothing in the frames of a gateway, whatever the batches: sequence numbers have no gaps, and the media clock
-/// never restarts.
+/// `check` finds nothing in the frames of a gateway, whatever the batches: sequence numbers have no gaps, and there is
+/// no media clock restart.
 pub fn nothing_is_found_in_frames()
     ensures { (to : ToValue) (shape : ShapeValue) (id : ℕ) (given_before : GivenOut) (batches : List Presented) (earlier later : List Cut) (c : Cut) → cuts_after to shape given_before batches ≡ earlier ++ c ∷ later
         → findings (map (cut_seen to id) earlier) (cut_seen to id c) ≡ nothing_found }
 {}
 
-/// If the batches begin at 0 or later and their instants rise, as those of every listener do, the frames of a gateway are a
-/// whole capture that reads back. A listener without a clock, whose buffer is never full, presents exactly the samples of the
-/// batches that were not skipped, in order, once, with the same values at the same instants. `check` finds nothing in the
-/// capture.
+/// Let the batches begin at 0 or later and their instants rise, as is true of every listener's batches. Then the frames
+/// of a gateway are a whole capture that reads back. A listener without a clock whose buffer is never full presents
+/// exactly the samples of the batches that were not skipped: in order, once, with the same values at the same instants.
+/// `check` finds nothing in the capture.
 pub fn captures_of_pieces_are_kept()
     ensures { (to : ToValue) (shape : Option ShapeValue) (id : ℕ) (batches : List Presented) → IfSome shape IsShape → id < 2 ^ 64 → AllByRecursion BeginsInTime batches
         → Keeps to shape id batches (capture_of (gateway_frames to shape id batches)) }
 {}
 
-/// A listener without a clock, whose buffer is at least the default one, hears all that a gateway makes, if the packets are presented
-/// at least 500 ns apart: its buffer is never full, since a packet comes at most 2 ms before it is presented.
+/// Let the packets of a gateway be presented at least 500 ns apart. A listener without a clock, with a buffer of at
+/// least the default size, hears all of them. Its buffer is never full, because a packet arrives at most 2 ms before it
+/// is presented.
 pub fn default_buffers_are_never_full()
     ensures { (to : ToValue) (shape : Option ShapeValue) (id : ℕ) (batches : List Presented) (plan : ListenPlan) → IfSome shape IsShape → id < 2 ^ 64 → AllByRecursion BeginsInTime batches → ArePacketsSpread to shape batches → HasDefaultRoom id plan
         → Hears id plan (gateway_records to shape id batches) }
 {}
 
-/// Each batch that a listener presents begins at 0 or later, and its instants rise, whatever the records and whether the listener
-/// has a clock or not. This holds for what is due, too, while more records may follow.
+/// Each batch that a listener presents begins at 0 or later, and its instants rise, whatever the records and whether
+/// the listener has a clock or not. This is also true of what is due while more records may follow.
 pub fn presented_batches_begin_in_time()
     ensures shown { (plan : ListenPlan) (records : List Record) → AllByRecursion BeginsInTime (presented_of (shown_of plan records)) }
     ensures due { (plan : ListenPlan) (records : List Record) → AllByRecursion BeginsInTime (presented_of (due_of plan records)) }
 {}
 
-/// What a gateway made can be converted back, whatever the batches: a scan for the other format finds no fault in it and, if
-/// there is a frame, the gateway's own shape.
+/// The capture that a gateway made can be converted back, whatever the batches. A scan for the other format finds no
+/// fault in it. If there is a frame, the scan finds the gateway's own shape.
 pub fn captures_of_pieces_can_be_turned()
     ensures fault { (to : ToValue) (shape : Option ShapeValue) (id : ℕ) (batches : List Presented) → IfSome shape IsShape → id < 2 ^ 64 → first_fault (other to) id (gateway_records to shape id batches) ≡ None }
     ensures shape { (to : ToValue) (shape : ShapeValue) (id : ℕ) (batches : List Presented) → IsShape shape → id < 2 ^ 64 → 1 ≤ length (gateway_records to (Some shape) id batches)
         → shape_in id (gateway_records to (Some shape) id batches) ≡ Some shape }
 {}
 
-/// AM824 of a gateway that is converted to PCM, under any stream id, and back to AM824 under its first id, each time with the
-/// shape that the scan finds, has the same bytes. The listeners have no clock, and their buffers are never full; default buffers
-/// never are if packets are presented at least 500 ns apart.
+/// Let AM824 of a gateway be converted to PCM under any stream ID, and that PCM to AM824 under the first ID, each time
+/// with the shape that the scan finds. The result has the same bytes. The listeners have no clock, and their buffers
+/// are never full. Default buffers are never full if the packets are presented at least 500 ns apart.
 pub fn am824_comes_back()
     ensures heard { (shape : Option ShapeValue) (id via : ℕ) (batches : List Presented) (there back : ListenPlan) → IfSome shape IsShape → id < 2 ^ 64 → via < 2 ^ 64 → AllByRecursion BeginsInTime batches
         → Hears id there (gateway_records Am824 shape id batches) → Hears via back (map record_of (frames_made Aaf there via (gateway_records Am824 shape id batches)))
