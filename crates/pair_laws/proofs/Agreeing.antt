@@ -73,7 +73,7 @@ cancel w x y some h = elim (cases_lt y x) [
   | inr le ↦ le
 ]
 
--- a distance of 64 batches' time on a line that keeps the pace is at most 72 packets' time
+-- if a line keeps the pace, 64 times a batch's duration on this line is at most 72 times the packet's nominal duration
 paced : (u den count num rate : ℕ) → 1 ≤ den → u * den ≤ 64 * count * num → 8 * (rate * num) ≤ 9000000000 * den → u * rate ≤ 72 * (count * 1000000000)
 paced u den count num rate some near pace =
     let a : (8 * rate) * (u * den) ≤ (8 * rate) * (64 * count * num) = mul-le-mul_left (8 * rate) near in
@@ -84,7 +84,7 @@ paced u den count num rate some near pace =
 instant-is : (x y : ℤ) → same_instant x y ≡ true → x ≡ y
 instant-is x y e = grind (arith, ints)
 
--- two batches within reach have the same first instant, or neither is a unit and they are near
+-- if two batches are within reach, they have the same first instant, or neither is a unit and they are near
 reach-cases : (a b : Presented) → within_reach a b ≡ true → (first_instant a ≡ first_instant b) ⊎ ((is_unit a ≡ false) × (are_near a b ≡ true))
 unfolding within_reach
 reach-cases a b h = at (is_unit a) (is_unit b) refl h
@@ -192,7 +192,7 @@ pairs-all Q place us (x ∷ rest) all more =
 
 -- ---- no pair differs
 
--- a pair of batches of the talker is of one packet or unit
+-- if both batches of a pair are of the talker, the pair is of one packet or unit
 pair-one : (by : Bool) (p : PacketJournal) (pair : Paired) → Conforms p.times → IsPair pair → BothOf (IsPresentedOfTalker by p) pair → IsOneOf by p pair
 pair-one by p pair is k h =
     let same = one-that-fits pair.later.side by p h.1.is.number h.0.is.number pair.later.batch pair.earlier.batch h.1.pace h.0.pace is h.1.is.is h.0.is.is k.fits in
@@ -209,14 +209,14 @@ pairs-none : (by : Bool) (p : PacketJournal) (ps : List Paired) → Conforms p.t
 pairs-none by p [] is h = refl
 pairs-none by p (x ∷ ps) is h = ap (λ (o : Option Difference). cons_option o (filter_map difference_of ps)) (pair-none by p x is h.0) ∙ pairs-none by p ps is h.1
 
--- in a list of what two listeners present of one talker, each pair is of one packet or unit
+-- if all batches of a merged list are of one talker, each pair is of one packet or unit
 pub list-one : (by : Bool) (p : PacketJournal) (list : List Sided) → Conforms p.times → AllByRecursion (λ (x : Sided). IsPresentedOfTalker by p x.batch) list → AllByRecursion (IsOneOf by p) (pairs list)
 list-one by p list is h = pairs-one by p (pairs list) is (pairs-are list) (pairs-all (IsPresentedOfTalker by p) 0 [] list tt h)
 
 pub list-none : (by : Bool) (p : PacketJournal) (list : List Sided) → Conforms p.times → AllByRecursion (λ (x : Sided). IsPresentedOfTalker by p x.batch) list → differences list ≡ []
 list-none by p list is h = pairs-none by p (pairs list) is (list-one by p list is h)
 
--- what two listeners present of one talker is the talker's, if both have the clock or neither does
+-- if both listeners use the clock or neither does, all that they present of one talker are batches of the talker
 both-presented : (shift : ℤ) (p : PacketJournal) (plan other : ListenPlan) (records others : List Record) → HearsTalker shift p plan records → HearsTalker shift p other others → by_clock other ≡ by_clock plan
     → AllByRecursion (λ (x : Sided). IsPresentedOfTalker (by_clock plan) p x.batch) (merged (presented_of (shown_of plan records)) (presented_of (shown_of other others)))
 both-presented shift p plan other records others h k e =

@@ -55,7 +55,7 @@ fits-itself B x = ap (λ v. v && within_reach x x) (eqb-same x.seq) ∙ within-i
 
 -- ---- at most 256 batches have the same first instant
 
--- all batches of a list have this first instant
+-- all batches of the list have the first instant t
 abbrev pub AllAt : ℤ → List Presented → Type 0
 AllAt t l = AllByRecursion (λ x. first_instant x ≡ t) l
 
@@ -97,15 +97,15 @@ told-left : (xs ys : List Presented) → AreAllTold (xs ++ ys) → AreAllTold xs
 told-left [] ys h = tt
 told-left (x ∷ xs) ys h = (all-left (AreTold x) xs ys h.0, told-left xs ys h.1)
 
--- a part of what is presented, all at the same instant, has at most 256 batches
+-- if all batches of `part` have the same first instant, there are at most 256 of them
 pub part-few : (t : ℤ) (front part back : List Presented) → AllAt t part → IsPresentation (front ++ (part ++ back)) → length part ≤ 256
 part-few t front part back all p =
     few-at t part all (told-left part back (told-right front (part ++ back) p.told))
     (all-left (λ (x : Presented). x.seq < 256) part back (all-right (λ (x : Presented). x.seq < 256) front (part ++ back) p.bytes))
 
--- ---- where those that wait are
+-- ---- the positions of the batches that wait
 
--- The batch of A that waits is at its place among the batches that came.
+-- The waiting batch `u` is of A, and is at its position in `done`.
 record IsAt (done : List Sided) (u : Placed) : Type 0 where
   front : List Sided
   back : List Sided
@@ -122,7 +122,7 @@ is-at-more done x u h = record {
   side = h.side;
 }
 
--- what is between two batches with the same first instant has that first instant, too
+-- all batches between two batches with the same first instant have that first instant, too
 pub between-at : (x : Sided) (back : List Sided) (y : Sided) (rest : List Sided) (t : ℤ) → first_instant x.batch ≡ t → first_instant y.batch ≡ t → AllByRecursion (MayPrecede x) back → AllByRecursion (λ b. MayPrecede b y) back → AllByRecursion (λ b. first_instant b.batch ≡ t) back
 between-at x [] y rest t ex ey after before = tt
 between-at x (b ∷ back) y rest t ex ey after before = (same (first_instant x.batch) (first_instant b.batch) (first_instant y.batch) ex ey after.0.instants before.0.instants, between-at x back y rest t ex ey after.1 before.1)
@@ -160,11 +160,11 @@ sides-length (x ∷ l) = at x.side x.batch (sides-length l)
     at A b e = omega arith
     at B b e = omega arith
 
--- the batches of one side in three parts of a list
+-- the batches of side `s` in three parts of a list
 pub parts : (s : Which) (front mid rest : List Sided) → batches_of s (front ++ (mid ++ rest)) ≡ batches_of s front ++ (batches_of s mid ++ batches_of s rest)
 parts s front mid rest = batches-append s front (mid ++ rest) ∙ ap (λ (l : List Presented). batches_of s front ++ l) (batches-append s mid rest)
 
--- a batch of A that waits is within 512 places of the equal batch of B
+-- a waiting batch of A is at most 512 positions before the equal batch of B
 near : (done : List Sided) (u : Placed) (x : Presented) (rest : List Sided) (xs ys : List Presented) → IsAt done u → u.batch ≡ x → IsSorted (done ++ of_side B x ∷ rest) → batches_of A (done ++ of_side B x ∷ rest) ≡ xs → batches_of B (done ++ of_side B x ∷ rest) ≡ ys → IsPresentation xs → IsPresentation ys → length done ≤ u.place + 512
 near done u x rest xs ys h same sorted ea eb px py =
     let t = first_instant x in
@@ -186,7 +186,8 @@ near done u x rest xs ys h same sorted ea eb px py =
 
 -- ---- the pairs
 
--- Of the batches that come, each pair has equal batches, all of B are paired, and none is left.
+-- Each pair that the batches `rest` make consists of equal batches. All batches of B in `rest` are paired, and no batch
+-- is left unpaired.
 record AreSame (place : ℕ) (waiting : List Placed) (rest : List Sided) : Type 0 where
   pairs : AllByRecursion (λ (p : Paired). p.earlier.batch ≡ p.later.batch) (pairs_from place waiting rest)
   left : unpaired_from place waiting rest ≡ []
@@ -217,7 +218,7 @@ unpaired-at place us x rest f e = unpaired-cons place us x rest ∙ ap (λ (o : 
 abbrev AllSame : List Paired → Type 0
 AllSame ps = AllByRecursion (λ (p : Paired). p.earlier.batch ≡ p.later.batch) ps
 
--- the pairs after a batch that makes no pair and waits
+-- if batch x makes no pair and `AreSame` holds for `rest`, it holds for x and `rest`
 same-none : (place : ℕ) (us : List Placed) (x : Sided) (rest : List Sided) → partner_of (at_place place x) us ≡ None → batches_of B (x ∷ rest) ≡ batches_of B rest → AreSame (suc place) (us ++ at_place place x ∷ []) rest → AreSame place us (x ∷ rest)
 same-none place us x rest e b s = record {
   pairs = subst AllSame (sym (pairs-at place us x rest None e)) s.pairs;
@@ -225,7 +226,7 @@ same-none place us x rest e b s = record {
   count = ap length (pairs-at place us x rest None e) ∙ s.count ∙ ap length (sym b);
 }
 
--- the pairs after a batch that is paired with an equal one
+-- if batch x is paired with an equal batch and `AreSame` holds for `rest`, it holds for x and `rest`
 same-some : (place : ℕ) (us : List Placed) (x : Sided) (rest : List Sided) (u : Placed) → partner_of (at_place place x) us ≡ Some u → u.batch ≡ x.batch → batches_of B (x ∷ rest) ≡ x.batch ∷ batches_of B rest → AreSame (suc place) (without_first (may_pair (at_place place x)) us) rest → AreSame place us (x ∷ rest)
 same-some place us x rest u e same b s = record {
   pairs = subst AllSame (sym (pairs-at place us x rest (Some u) e)) (same, s.pairs);
@@ -233,7 +234,6 @@ same-some place us x rest u e same b s = record {
   count = ap length (pairs-at place us x rest (Some u) e) ∙ ap suc s.count ∙ ap length (sym b);
 }
 
--- a batch of A makes no pair with other batches of A
 both-false : (v w : Bool) → ((v && false) && w) ≡ false
 both-false true w = refl
 both-false false w = refl
@@ -247,7 +247,6 @@ none-of-own : (x : Placed) (us : List Placed) (done : List Sided) → x.side ≡
 none-of-own x [] done e h = refl
 none-of-own x (u ∷ us) done e h = ap (λ v. cond v (Some u) (find (may_pair x) us)) (not-own x u e h.0.side) ∙ none-of-own x us done e h.1
 
--- a batch of B makes a pair with the first batch that waits, if that is equal and near
 both-true : (u v w : Bool) → u ≡ true → v ≡ false → w ≡ true → ((u && not v) && w) ≡ true
 both-true u v w e f g = ap (λ x. (x && not v) && w) e ∙ ap (λ x. not x && w) f ∙ g
 
@@ -285,7 +284,8 @@ batches-with : (us : List Placed) (p : Placed) (more : List Presented) → Batch
 batches-with [] p more = refl
 batches-with (u ∷ us) p more = ap (λ (l : List Presented). u.batch ∷ l) (batches-with us p more)
 
--- all that comes after these batches is paired with equal batches, if what waits and the rest of A are the rest of B
+-- Let `rest` be the batches after `done` and x. If the waiting batches and then the batches of A in `rest` are the
+-- batches of B in `rest`, `AreSame` holds for `rest`.
 abbrev GoOn : List Sided → Sided → List Sided → Type 0
 GoOn done x rest = (us : List Placed) → AllByRecursion (IsAt (done ++ x ∷ [])) us → BatchesOf us ++ batches_of A rest ≡ batches_of B rest → AreSame (suc (length done)) us rest
 

@@ -120,7 +120,7 @@ first-of : (by : Bool) (p : PacketJournal) (n : ℕ) (x w : Placed) (l r : List 
 first-of by p n x w [] r is tx ox h may = ap (λ v. cond v (Some w) (find (may_pair x) r)) may
 first-of by p n x w (u ∷ l) r is tx ox h may = ap (λ v. cond v (Some u) (find (may_pair x) (l ++ w ∷ r))) (false-of (may_pair x u) (no-pair by p n x u is tx ox h.0)) ∙ first-of by p n x w l r is tx ox h.1 may
 
--- after a batch of packet n is paired, no other batch of the packet waits
+-- after a batch of packet n is paired, no batch of packet n waits
 without-found : (by : Bool) (p : PacketJournal) (n : ℕ) (x w : Placed) (l r : List Placed) → Conforms p.times → IsPresentedOfTalker by p x.batch → IsOfPacket by p n x.batch → AllElse by p n l → AllElse by p n r → may_pair x w ≡ true → AllElse by p n (without_first (may_pair x) (l ++ w ∷ r))
 without-found by p n x w [] r is tx ox hl hr may = subst (AllElse by p n) (sym (ap (λ v. cond v r (w ∷ without_first (may_pair x) r)) may)) hr
 without-found by p n x w (u ∷ l) r is tx ox hl hr may =
@@ -163,7 +163,7 @@ left-waits by p n x w us None no-w e h = record {
 }
 left-waits by p n x w us (Some u) no-w e h = subst (λ (k : List Placed). Waits by p n w (without_first (may_pair x) k)) (sym h.split) (without-waits by p n (may_pair x) w h.before h.after no-w h.all_before h.all_after)
 
--- a batch of packet n still waits after batches of other packets came
+-- a batch of packet n still waits after batches of other packets are added
 goes-by : (by : Bool) (p : PacketJournal) (n : ℕ) (w : Placed) (place : ℕ) (us : List Placed) (mid : List Sided) → Conforms p.times → IsPresentedOfTalker by p w.batch → IsOfPacket by p n w.batch → AllByRecursion (λ x. IsElse by p n x.batch) mid → Waits by p n w us → Waits by p n w (unpaired_from place us mid)
 goes-by by p n w place us [] is tw ow all h = subst (Waits by p n w) (sym (unpaired-nil place us)) h
 goes-by by p n w place us (x ∷ mid) is tw ow all h =
@@ -220,12 +220,12 @@ any-here P before x after h = (length before, x, within before, there before, h)
 any-later : {X : Type 0} (P : X → Type 0) (before : List X) (x : X) (list after : List X) → list ≡ x ∷ after → P x → Any P (before ++ list)
 any-later P before x list after e h = subst (λ (l : List _). Any P (before ++ l)) (sym e) (any-here P before x after h)
 
--- Two batches are a pair, and no batch of packet n waits.
+-- Batches a and b are a pair, and no batch of packet n waits.
 record AreFound (by : Bool) (p : PacketJournal) (n : ℕ) (a b : Presented) (list : List Sided) : Type 0 where
   pair : Any (IsPairOf a b) (pairs list)
   left : AllElse by p n (unpaired list)
 
--- a batch of packet n and one of the other side, with at most 511 batches of other packets between them, are a pair
+-- two batches of packet n on different sides are a pair, if at most 511 batches of other packets are between them
 meets : (by : Bool) (p : PacketJournal) (n : ℕ) (front mid rest : List Sided) (w z : Sided) → Conforms p.times → IsPresentedOfTalker by p w.batch → IsPresentedOfTalker by p z.batch → IsOfPacket by p n w.batch → IsOfPacket by p n z.batch → is_side z.side w.side ≡ false
     → AllByRecursion (λ x. IsElse by p n x.batch) front → AllByRecursion (λ x. IsElse by p n x.batch) mid → AllByRecursion (λ x. IsElse by p n x.batch) rest → length (w ∷ mid) ≤ 512 → AreFound by p n w.batch z.batch (front ++ w ∷ (mid ++ z ∷ rest))
 meets by p n front mid rest w z is tw tz ow oz sides hf hm hr near =
@@ -263,9 +263,9 @@ meets by p n front mid rest w z is tw tz ow oz sides hf hm hr near =
       left = subst (AllElse by p n) (sym rest_of) (unpaired-all (IsElse by p n) end u3 rest others hr);
     }
 
--- ---- where the two stand
+-- ---- the positions of the two batches
 
--- A list of both sides is split at a batch of one side.
+-- A list of both sides is split at batch x of side `s`.
 record Split (s : Which) (list : List Sided) (before : List Presented) (x : Presented) (after : List Presented) : Type 0 where
   front : List Sided
   rest : List Sided
@@ -300,7 +300,7 @@ split-at s (y ∷ list) before x after e = by s y.side y.batch before e (λ f. s
     by A B c bs e skip go = one-more A list bs x after (of_side B c) [] refl (skip e)
     by B A c bs e skip go = one-more B list bs x after (of_side A c) [] refl (skip e)
 
--- A list is what comes before an item, that item, and what comes after it.
+-- The list consists of the items before x, then x, and then the items after x.
 record Cut (list : List Presented) (x : Presented) : Type 0 where
   before : List Presented
   after : List Presented
@@ -311,7 +311,7 @@ cut-at [] i x e = absurd (cc)
 cut-at (y ∷ list) zero x e = let same : y ≡ x = cc in record { before = []; after = list; is = ap (λ (z : Presented). z ∷ list) same }
 cut-at (y ∷ list) (suc i) x e = let h = cut-at list i x e in record { before = y ∷ h.before; after = h.after; is = ap (λ (l : List Presented). y ∷ l) h.is }
 
--- An item of two lists, one after the other, is in the first one.
+-- Item x of `front ++ back` is in `front`.
 record InFirst (front back before : List Presented) (x : Presented) (after : List Presented) : Type 0 where
   mid : List Presented
   is : front ≡ before ++ x ∷ mid
@@ -337,7 +337,7 @@ locate (y ∷ front) back (z ∷ before) x after e =
     next same (inl h) = inl (record { mid = h.mid; is = ap (λ (l : List Presented). y ∷ l) h.is ∙ ap (λ (w : Presented). w ∷ (before ++ x ∷ h.mid)) same; then = h.then })
     next same (inr h) = inr (record { mid = h.mid; is = h.is; first = ap (λ (w : Presented). w ∷ before) (sym same) ∙ ap (λ (l : List Presented). y ∷ l) h.first })
 
--- ---- the others of a side
+-- ---- the other batches of a side
 
 abbrev AreTalkers : Bool → PacketJournal → List Presented → Type 0
 AreTalkers by p l = AllByRecursion (IsPresentedOfTalker by p) l
@@ -357,7 +357,7 @@ told-from : (l : List Presented) (a : Presented) (after : List Presented) → Ar
 told-from [] a after h = h.0
 told-from (v ∷ l) a after h = told-from l a after h.1
 
--- No batch of a side before or after its batch of packet n is that packet.
+-- No batch of `before` and of `after` is packet n.
 record Others (by : Bool) (p : PacketJournal) (n : ℕ) (before after : List Presented) : Type 0 where
   before_all : AllByRecursion (IsElse by p n) before
   after_all : AllByRecursion (IsElse by p n) after
@@ -380,7 +380,7 @@ both-else by p n (x ∷ l) a b = at x.side x.batch a b (λ c d. both-else by p n
     at A c a b ih = (a.0, ih a.1 b)
     at B c a b ih = (b.0, ih a b.1)
 
--- between two batches with the same first instant there are at most 511 batches
+-- at most 511 batches are between two batches with the same first instant
 few-between : (front back rest : List Sided) (head y : Sided) (xs ys : List Presented) → IsSorted (front ++ head ∷ (back ++ y ∷ rest)) → first_instant head.batch ≡ first_instant y.batch → batches_of A (front ++ head ∷ (back ++ y ∷ rest)) ≡ xs → batches_of B (front ++ head ∷ (back ++ y ∷ rest)) ≡ ys
     → IsPresentation xs → IsPresentation ys → length (head ∷ back) ≤ 512
 few-between front back rest head y xs ys s same ea eb px py =
@@ -408,7 +408,7 @@ seqs-small by p (x ∷ l) all = (small x.seq all.0.is.number all.0.is.is.seq, se
     small : (q n : ℕ) → q ≡ n % 256 → q < 256
     small q n e = omega arith
 
--- Both sides present batches of the talker, and one batch of each is packet n.
+-- Both sides present batches of the talker. Batch a of A and batch b of B are packet n.
 record Given (by : Bool) (p : PacketJournal) (n : ℕ) (xs ys : List Presented) (a b : Presented) : Type 0 where
   talkers_a : AreTalkers by p xs
   talkers_b : AreTalkers by p ys
@@ -467,7 +467,7 @@ found-at by p n xs ys a b list x1 x2 y1 y2 is g sorted ea eb ex ey = at (locate 
         (sa.whole ∙ ap (λ (l : List Sided). l ++ of_side A a ∷ sa.rest) sb.whole ∙ append_assoc sb.front (of_side B b ∷ sb.rest) (of_side A a ∷ sa.rest)) ex ey sb.ahead
         (sym (batches-append A sb.front (of_side B b ∷ sb.rest)) ∙ ap (batches_of A) (sym sb.whole) ∙ sa.ahead) (ap (λ (l : List Presented). l ++ batches_of B sa.rest) sb.behind ∙ sym h.then) sa.behind refl
 
--- two batches of the same packet, which two listeners present, are a pair, and no batch of the packet waits
+-- if two listeners present batches of the same packet, these are a pair, and no batch of the packet waits
 captures-found : (shift : ℤ) (p : PacketJournal) (plan other : ListenPlan) (records others : List Record) → HearsTalker shift p plan records → HearsTalker shift p other others → by_clock other ≡ by_clock plan → (n i k : ℕ) (a b : Presented)
     → slice_get (presented_of (shown_of plan records)) i ≡ Some a → slice_get (presented_of (shown_of other others)) k ≡ Some b → IsOfPacket (by_clock plan) p n a → IsOfPacket (by_clock plan) p n b → AreFound (by_clock plan) p n a b (merged (presented_of (shown_of plan records)) (presented_of (shown_of other others)))
 captures-found shift p plan other records others h g e n i k a b there_a there_b oa ob =
@@ -484,12 +484,12 @@ captures-found shift p plan other records others h g e n i k a b there_a there_b
     (record { talkers_a = tx; talkers_b = ty; is_a = px; is_b = py; of_a = oa; of_b = ob; talker_a = talker-in (by_clock plan) p ca.before a ca.after xs ca.is tx; talker_b = talker-in (by_clock plan) p cb.before b cb.after ys cb.is ty })
     m.sorted m.a m.b ca.is cb.is
 
--- two batches of one packet, which two listeners present, are a pair
+-- if two listeners present batches of the same packet, these are a pair
 pub captures-paired : (shift : ℤ) (p : PacketJournal) (plan other : ListenPlan) (records others : List Record) → HearsTalker shift p plan records → HearsTalker shift p other others → by_clock other ≡ by_clock plan → (n i k : ℕ) (a b : Presented)
     → slice_get (presented_of (shown_of plan records)) i ≡ Some a → slice_get (presented_of (shown_of other others)) k ≡ Some b → IsOfPacket (by_clock plan) p n a → IsOfPacket (by_clock plan) p n b → Any (IsPairOf a b) (pairs (merged (presented_of (shown_of plan records)) (presented_of (shown_of other others))))
 captures-paired shift p plan other records others h g e n i k a b there_a there_b oa ob = (captures-found shift p plan other records others h g e n i k a b there_a there_b oa ob).pair
 
--- each batch of a packet that both listeners present has a partner
+-- if both listeners present packet n, no batch of packet n is left unpaired
 pub captures-leave-none : (shift : ℤ) (p : PacketJournal) (plan other : ListenPlan) (records others : List Record) → HearsTalker shift p plan records → HearsTalker shift p other others → by_clock other ≡ by_clock plan → (n i k : ℕ) (a b : Presented)
     → slice_get (presented_of (shown_of plan records)) i ≡ Some a → slice_get (presented_of (shown_of other others)) k ≡ Some b → IsOfPacket (by_clock plan) p n a → IsOfPacket (by_clock plan) p n b → AllByRecursion (IsOfAnother (by_clock plan) p n) (unpaired (merged (presented_of (shown_of plan records)) (presented_of (shown_of other others))))
 captures-leave-none shift p plan other records others h g e n i k a b there_a there_b oa ob =

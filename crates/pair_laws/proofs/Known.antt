@@ -1,4 +1,4 @@
--- What is known of what two listeners present of one talker has no differences.
+-- The known part of what two listeners present of one talker has no differences.
 use Rattle.std.proofs.Common.{◌≡◌, Bool, true, false, ℤ, List, [], refl, sym, ap, ◌∙◌, subst}
 use Rattle.std.specs.List.{AllByRecursion}
 use Rattle.pcap_frames.specs.Capture.{Record}
@@ -22,7 +22,7 @@ use Rattle.pair_laws.specs.Agreeing.{IsPresentedOfTalker}
 use Rattle.pair_laws.proofs.Agreeing.{list-none}
 use Rattle.pair_laws.proofs.Paces.{presented-of-talker}
 
--- the batches of a list are the talker's
+-- the batches of the list are of the talker
 abbrev AreTalkers : ListenPlan → PacketJournal → List Presented → Type 0
 AreTalkers plan p xs = AllByRecursion (IsPresentedOfTalker (by_clock plan) p) xs
 
@@ -33,7 +33,7 @@ due-of-talker shift p plan records h =
     all-left (IsPresentedOfTalker (by_clock plan) p) (presented_of (due_of plan records)) (presented_of first.0)
     (subst (AreTalkers plan p) (ap presented_of (sym first.1) ∙ presented-append (due_of plan records) first.0) (presented-of-talker shift p plan records h))
 
--- what is known of the talker's batches has no differences
+-- if all batches of both sides are of the talker, the known part has no differences
 known-none : (shift : ℤ) (p : PacketJournal) (plan : ListenPlan) (records : List Record) (xs ys : List Presented) (ended_a ended_b : Bool)
     → HearsTalker shift p plan records → AreTalkers plan p xs → AreTalkers plan p ys → differences (known ended_a ended_b (merged xs ys)) ≡ []
 known-none shift p plan records xs ys ended_a ended_b h a b =
@@ -64,7 +64,7 @@ known-shown shift p plan records others ended_a ended_b h k =
     known-none shift p plan records (presented_of (shown_of plan records)) (presented_of (shown_of plan others)) ended_a ended_b h
     (presented-of-talker shift p plan records h) (presented-of-talker shift p plan others k)
 
--- what a listener presents so far is of the talker
+-- all batches that a listener presents so far are of the talker
 presents-talker : (shift : ℤ) (p : PacketJournal) (plan : ListenPlan) (records : List Record) (l : ListenState)
     → HearsTalker shift p plan records → l.plan ≡ plan → AreTalkers plan p (presented_by l records)
 presents-talker shift p plan records l h is = at (is_closed l) refl

@@ -20,22 +20,22 @@ KeepsPace SparseAaf rate batch = HasPace rate batch
 KeepsPace (Am824 interval dbc) rate batch = HasPace rate batch
 KeepsPace (H264 part) rate batch = is_unit batch ≡ true
 
--- A batch is one packet or unit of the journal, by the clock or without, and keeps the talker's pace, as do all batches that a
--- listener presents of the talker.
+-- A batch that a listener may present of the talker. It is one packet or unit of the journal, timed by the clock if
+-- `by` is true, and it keeps the talker's pace.
 pub record IsPresentedOfTalker (by : Bool) (p : PacketJournal) (batch : Presented) : Type 0 where
   pub is : IsOfJournal by p batch
   pub pace : KeepsPace p.times.kind p.times.rate batch
 
--- Both batches of a pair are the same packet or unit of the journal.
+-- Both batches of the pair are the same packet or unit of the journal.
 pub record IsOneOf (by : Bool) (p : PacketJournal) (pair : Paired) : Type 0 where
   pub number : ℕ
   pub earlier : IsOfPacket by p number pair.earlier.batch
   pub later : IsOfPacket by p number pair.later.batch
 
--- a batch is not this packet or unit of the journal
+-- the batch is not packet or unit `number` of the journal
 abbrev pub IsOfAnother : Bool → PacketJournal → ℕ → Placed → Type 0
 IsOfAnother by p number x = IsOfPacket by p number x.batch → ⊥
 
--- two batches are a pair, in either order
+-- the pair consists of these two batches, in either order
 abbrev pub IsPairOf : Presented → Presented → Paired → Type 0
 IsPairOf a b pair = ((pair.earlier.batch ≡ a) × (pair.later.batch ≡ b)) ⊎ ((pair.earlier.batch ≡ b) × (pair.later.batch ≡ a))

@@ -9,13 +9,13 @@ use Rattle.listener_pair.specs.Merged.{IsInOrder}
 abbrev pub AreTold : Presented → Presented → Type 0
 AreTold x y = first_instant x ≡ first_instant y → x.seq ≢ y.seq
 
--- any two batches of a list with the same first instant have different sequence numbers
+-- any two batches of the list that have the same first instant have different sequence numbers
 abbrev pub AreAllTold : List Presented → Type 0
 AreAllTold [] = ⊤
 AreAllTold (x ∷ rest) = AllByRecursion (AreTold x) rest × AreAllTold rest
 
--- The list is one that a listener may present: it is in the order of first instants, no two batches have both the same first
--- instant and the same sequence number, and each sequence number is a byte.
+-- A listener may present this list. It is in the order of first instants. No two batches have both the same first
+-- instant and the same sequence number. Each sequence number is a byte.
 pub record IsPresentation (list : List Presented) : Type 0 where
   pub order : IsInOrder list
   pub told : AreAllTold list

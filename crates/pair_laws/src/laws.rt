@@ -1,4 +1,4 @@
-//! Laws of the pairs of two captures. Each call only states its contract, and does nothing.
+//! Laws of the pairs of two captures. Each is a function whose contract states the law; a call does nothing.
 
 ghost use Rattle.std.specs.Prelude.{◌≡◌, ◌<◌, ◌≤◌, ◌++◌, [], ℕ, ℤ, Any, Bool, true, false, List, Some, length, slice_get, take};
 ghost use Rattle.std.specs.List.{AllByRecursion};
@@ -17,18 +17,20 @@ ghost use Rattle.capture_pair.specs.Pairing.{Continues, EndsAreClosed, HavePlan,
 ghost use Rattle.pair_laws.specs.Agreeing.{IsOfAnother, IsOneOf, IsPairOf, IsPresentedOfTalker};
 ghost use Rattle.pair_laws.specs.Beside.{IsPresentation};
 
-/// A capture compared with itself never differs, whatever it holds: all that a listener presents of it is paired, each batch with
-/// itself. The premise is that each sequence number is a byte.
+/// A capture compared with itself never differs, whatever it holds: all that a listener presents of it is paired, each
+/// batch with itself. This requires that each sequence number is a byte.
 pub fn a_capture_beside_itself_never_differs()
     ensures differ { (list : List Presented) → IsPresentation list → differences (merged list list) ≡ [] }
     ensures matched { (list : List Presented) → IsPresentation list → counts_of (merged list list) ≡ record { matched = length list; only_a = 0; only_b = 0; differ = 0 } }
     ensures presented { (plan : ListenPlan) (records : List Record) → AllByRecursion (λ x. x.seq < 256) (presented_of (shown_of plan records)) → IsPresentation (presented_of (shown_of plan records)) }
 {}
 
-/// Captures of one talker that keeps the rules never differ, whatever each lost, repeated or reordered of the talker's packets
-/// and of its clock's, and wherever these restart. Each pair is of one packet or unit of the talker, no pair differs, and two
-/// batches of the same packet or unit are a pair. So the pairs are exactly the packets and units that both present. Both
-/// listeners use the clock, or neither does; buffers, look-ahead and lead may differ.
+/// Let two captures be of one talker that keeps the rules. It does not matter which packets of the talker and of its
+/// clock each capture lost, repeated or reordered, nor where the talker or the clock restarts.
+///
+/// The captures never differ. Each pair is of one packet or unit of the talker, no pair differs, and two batches of the
+/// same packet or unit are a pair. So the pairs are exactly the packets and units that both captures present. Both
+/// listeners use the clock, or neither does. Their buffers, look-ahead and lead may differ.
 pub fn captures_of_one_talker_never_differ()
     ensures differ { (shift : ℤ) (p : PacketJournal) (plan other : ListenPlan) (records others : List Record) → HearsTalker shift p plan records → HearsTalker shift p other others → by_clock other ≡ by_clock plan
         → differences (merged (presented_of (shown_of plan records)) (presented_of (shown_of other others))) ≡ [] }
@@ -42,25 +44,26 @@ pub fn captures_of_one_talker_never_differ()
         → AllByRecursion (IsOfAnother (by_clock plan) p n) (unpaired (merged (presented_of (shown_of plan records)) (presented_of (shown_of other others)))) }
 {}
 
-/// Batches of one talker on two sides never differ, whether they are all that listeners present or the part that is known while
-/// captures continue: each pair is of one packet or unit. What a listener presents of the talker are batches of the talker.
+/// If all batches of both sides are of one talker, no pair differs: each pair is of one packet or unit. The batches may
+/// be all that listeners present, or the part that is known while the captures continue. All batches that a listener
+/// presents of the talker are batches of the talker.
 pub fn batches_of_one_talker_never_differ()
     ensures differ { (shift : ℤ) (by : Bool) (p : PacketJournal) (list : List Sided) → IsConforming shift p → AllByRecursion (λ x. IsPresentedOfTalker by p x.batch) list → differences list ≡ [] }
     ensures one { (shift : ℤ) (by : Bool) (p : PacketJournal) (list : List Sided) → IsConforming shift p → AllByRecursion (λ x. IsPresentedOfTalker by p x.batch) list → AllByRecursion (IsOneOf by p) (pairs list) }
     ensures presented { (shift : ℤ) (p : PacketJournal) (plan : ListenPlan) (records : List Record) → HearsTalker shift p plan records → AllByRecursion (IsPresentedOfTalker (by_clock plan) p) (presented_of (shown_of plan records)) }
 {}
 
-/// The differences that a pair has given are the first of those that are known, and remain the first, however the two captures
-/// continue or end.
+/// The differences that a pair has returned are the first known differences. They stay the first ones, however the two
+/// captures continue or end.
 pub fn what_was_given_stays()
     ensures within { (records others : List Record) (given : ℕ) (pair : PairState) → StandsFor records others given pair → EndsAreClosed pair → given ≤ length (differences (known_by pair records others)) }
     ensures stays { (records others more more_others : List Record) (given : ℕ) (old new : PairState) → StandsFor records others given old → EndsAreClosed old → Continues more more_others old new
         → take given (differences (known_by new (records ++ more) (others ++ more_others))) ≡ take given (differences (known_by old records others)) }
 {}
 
-/// What is known while a pair wants more of a capture, for example because that capture cannot be read on: what is due of its
-/// records so far, and all that is shown of the other capture, however far that is read. Once both are closed, all that both
-/// show is known.
+/// What is known while a pair wants more of one capture, for example because that capture cannot be read on. It is what
+/// is due of that capture's records so far, merged with all that is shown of the other capture, however far the other
+/// capture is read. After both are closed, all that both show is known.
 pub fn what_a_fault_leaves_is_known()
     ensures a { (plan : ListenPlan) (records others more : List Record) (given : ℕ) (pair : PairState) → StandsFor records others given pair → HavePlan plan pair → EndsAreClosed pair → wanted_by pair ≡ Some A → is_closed pair.a ≡ false → (is_closed pair.b ≡ true → more ≡ [])
         → known_by pair records others ≡ known false true (merged (presented_of (due_of plan records)) (presented_of (shown_of plan (others ++ more)))) }
@@ -70,8 +73,8 @@ pub fn what_a_fault_leaves_is_known()
         → known_by pair records others ≡ merged (presented_of (shown_of plan records)) (presented_of (shown_of plan others)) }
 {}
 
-/// What is known of two captures of one talker never differs, however far each was read, whether it is what is due so far or all
-/// that is shown.
+/// What is known of two captures of one talker has no differences, however far each capture was read. This is true of
+/// what is due so far and of all that is shown.
 pub fn what_is_known_of_one_talker_never_differs()
     ensures pair { (shift : ℤ) (p : PacketJournal) (plan : ListenPlan) (records others : List Record) (pair : PairState) → HearsTalker shift p plan records → HearsTalker shift p plan others → HavePlan plan pair → differences (known_by pair records others) ≡ [] }
     ensures due_a { (shift : ℤ) (p : PacketJournal) (plan : ListenPlan) (records others : List Record) (ended_a ended_b : Bool) → HearsTalker shift p plan records → HearsTalker shift p plan others

@@ -55,7 +55,7 @@ silent_by (Aaf format sparse) plan input none = rw none refl
 silent_by TalkAm824 plan input none = rw none refl
 silent_by (H264 last_stamp) plan input none = rw none refl
 
--- ---- what a scan makes of a copy
+-- ---- what a scan reads of a copy
 
 content_of_copy : (stream : ℕ) (bytes : List ℕ) (v : AafPacket) → belongs stream_kinds stream bytes ≡ true → IsWritableAaf v → Fits aaf_layout v → Spells (aaf_spelling v) (packet_in bytes) → content stream bytes ≡ pcm_content None (plain_aaf v)
 content_of_copy stream bytes v here writable fits s =
@@ -71,7 +71,7 @@ named : (o : Option ℕ) → IsSome o → is_none o ≡ false
 named None some = absurd cc
 named (Some code) some = refl
 
--- PCM of the plan, with trailing bytes or without, as the first packet of the stream or after others like it
+-- PCM of the plan has no fault, whether it is the stream's first packet or follows other packets of the plan.
 module _ (plan : TalkPlan) (rate : IsSome (fdf_of plan.rate)) (most : plan.channels ≤ 256) (count : 1 ≤ plan.count) where
   shape : Shape
   shape = record { rate = plan.rate; channels = plan.channels }
@@ -101,7 +101,7 @@ module _ (plan : TalkPlan) (rate : IsSome (fdf_of plan.rate)) (most : plan.chann
   -- ---- the records of a capture
 
   module _ (p : PacketJournal) (lead : ℕ) (whole : (n : ℕ) → n < p.times.packets → IsWhole plan p n) (silent : p.times.clock.packets ≡ 0) where
-    -- one record, before others
+    -- if the records `rs` have no fault, `r` and `rs` have no fault
     step : (origins : List Origin) (first : Option Shape) (i frame : ℕ) (r : Record) (rs : List Record) (b : Bool) → belongs stream_kinds p.stream r.bytes ≡ b
         → IfSome first (λ s. s ≡ record { rate = plan.rate; channels = plan.channels })
         → AreFrom p lead origins (map (λ (x : ℕ × Record). delivery x.0 x.1) (cond (b || false) ((i, r) ∷ filter (λ (x : ℕ × Record). is_delivered p.stream None x.1.bytes) (enumerate_from (i + 1) rs)) (filter (λ (x : ℕ × Record). is_delivered p.stream None x.1.bytes) (enumerate_from (i + 1) rs))))

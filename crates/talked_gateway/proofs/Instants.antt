@@ -34,7 +34,8 @@ soon_by q r f k x rate low high over =
     absurd (omega (arith, ints, low, high, over, below, one, more, k_times, f_times)))
     (λ not. not)
 
--- Sample k of a packet is soon after its first, counted from any sample at the nominal rate.
+-- Let samples be counted at the nominal rate. Sample k of a packet is at most `nominal_offset rate k + 1` ns after the
+-- packet's first sample.
 pub soon_after : (head f : ℤ) (k rate : ℕ) → 0 < rate → instant_at (nominal_line head rate) (f +ℤ pos k) ≤ℤ (instant_at (nominal_line head rate) (f +ℤ pos 0) +ℤ pos (nominal_offset rate k + 1))
 soon_after head f k rate some =
     let q : ℤ = floor_of ((f +ℤ pos k) *ℤ pos 1000000000) rate in
@@ -56,7 +57,7 @@ far_by q r f i k rate low high after slow =
     absurd (omega (arith, ints, low, high, below, more, i_times, k_times, after, slow)))
     (λ not. not)
 
--- A later sample of a packet is at least 500 ns later.
+-- If i is less than k, sample k of a packet is at least 500 ns after sample i.
 pub far_after : (head f : ℤ) (i k rate : ℕ) → 0 < rate → rate ≤ 192000 → i < k → (instant_at (nominal_line head rate) (f +ℤ pos i) +ℤ pos 500) ≤ℤ instant_at (nominal_line head rate) (f +ℤ pos k)
 far_after head f i k rate some slow after =
     let q : ℤ = floor_of ((f +ℤ pos k) *ℤ pos 1000000000) rate in
@@ -68,7 +69,7 @@ far_after head f i k rate some slow after =
 
 -- ---- the packets of a plan
 
--- a sample's time is more than 1000 ns
+-- a sample lasts at least 1000 ns
 some_by : (x rate : ℕ) → rate ≤ 192000 → 1000000000 < x * rate + rate → 1000 ≤ x
 some_by x rate slow over = elim (cases_lt x 1000) [
   | inl less ↦ let times : (x + 1) * rate ≤ 1000 * rate = mul-le-mul_right rate (omega (arith, less)) in absurd (omega arith)
@@ -78,11 +79,12 @@ some_by x rate slow over = elim (cases_lt x 1000) [
 some_offset : (rate : ℕ) → 0 < rate → rate ≤ 192000 → 1000 ≤ nominal_offset rate 1
 some_offset rate some slow = let over = (is_offset rate 1 some).over in some_by (nominal_offset rate 1) rate slow (omega (arith, over))
 
--- x and y are at most the time n; z and w are the time m, rounded down; m is at least n, `last` and `one` together
+-- The arithmetic of `first_apart`: if `n + last + one` is at most `m`, `x + y` at most `n`, and `m - 1` at most `z +
+-- w`, then `x + y + last + 999` is at most `z + w`.
 after_by : (s j x y k z w n m most last one front : ℕ) → x + y ≤ n → m ≤ z + w + 1 → j ≤ k → n + last ≤ front → front + one ≤ most → most ≤ m → 1000 ≤ one → s + j + x + y + last + 999 ≤ s + k + z + w
 after_by s j x y k z w n m most last one front under over jumps step next more least = omega (arith, under, over, jumps, step, next, more, least)
 
--- each packet begins a while after the end of those before it
+-- each packet begins at least 999 ns after the last sample of each earlier packet
 pub first_apart : (plan : TalkPlan) (n m : ℕ) → IsAudioPlan plan → n < m → first_instant plan n + nominal_offset plan.rate (plan.count - 1) + 999 ≤ first_instant plan m
 unfolding nominal_instant
 first_apart plan n m p less =
@@ -107,7 +109,7 @@ first_apart plan n m p less =
     (nominal_offset plan.rate (n * plan.count + (plan.count - 1)))
     first.from second.to jumps step.from one.from more (some_offset plan.rate some range.most)
 
--- no packet of an input that a talker takes ends late
+-- each packet of an input that a talker takes ends before 4,100,000,000 seconds, or then
 pub ends_early : (plan : TalkPlan) (n : ℕ) → IsAudioPlan plan → n * plan.count ≤ 268435456 → first_instant plan n + nominal_offset plan.rate (plan.count - 1) ≤ 4100000000000000000
 unfolding nominal_instant
 ends_early plan n p events =

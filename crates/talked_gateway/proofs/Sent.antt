@@ -1,4 +1,4 @@
--- The batches that a listener without a clock presents of a plan of audio, each of which is one packet.
+-- The batches that a listener without a clock presents of an audio plan. Each batch is one packet.
 use Rattle.std.proofs.Common.{◌≡◌, ℕ, ◌+◌, ◌-◌, ◌*◌, ◌<◌, ◌≤◌, true, false, ℤ, pos, ◌+ℤ◌, ◌≤ℤ◌, List, length, Some, refl, sym, ap, subst, ◌∙◌, arith}
 use Rattle.std.proofs.lemmas.Int.{ints}
 use Rattle.stream_journal.specs.Conforming.{Conforms}
@@ -28,7 +28,7 @@ use Rattle.talked_gateway.proofs.Instants.{ends_early, far_after, first_apart, s
 
 -- ---- the journal of a plan
 
--- the journal is one of audio, with the plan's rate and count
+-- the journal is of audio, and has the plan's rate and count
 record HasTimes (plan : TalkPlan) (j : Journal) : Type 0 where
   audio : IsAudioKind j.kind
   rate : j.rate ≡ plan.rate
@@ -40,7 +40,8 @@ times_by (Aaf format true) plan input kind = record { audio = tt; rate = refl; c
 times_by TalkAm824 plan input kind = record { audio = tt; rate = refl; count = refl }
 times_by (TalkH264 last_stamp) plan input kind = absurd kind
 
--- When packet n is due, and how many events come before it.
+-- Packet n begins in the journal at most 3 ns before its instant in the plan, and at most 1 ns after it. At most
+-- 268,435,456 events are before the packet.
 record IsDue (plan : TalkPlan) (j : Journal) (n : ℕ) : Type 0 where
   from : first_instant plan n ≤ j.due n + 3
   to : j.due n ≤ first_instant plan n + 1
@@ -61,8 +62,9 @@ is_due plan input n p limit =
 
 -- ---- a batch
 
--- The batch is packet n of the plan: it begins and ends about when the packet does, its samples are apart, and the packet ends early
--- enough for a capture.
+-- The batch is packet n of the plan. It begins at most 3 ns before the packet's instant in the plan, and ends at most 2
+-- ns after the packet's last instant there. Its samples are at least 500 ns apart. The packet ends early enough for a
+-- capture.
 pub record IsSent (plan : TalkPlan) (n : ℕ) (batch : Presented) : Type 0 where
   pub from : pos (first_instant plan n) ≤ℤ (sample_instant batch 0 +ℤ pos 3)
   pub to : (k : ℕ) → k < batch.count → sample_instant batch k ≤ℤ pos (first_instant plan n + nominal_offset plan.rate (plan.count - 1) + 2)
@@ -87,7 +89,7 @@ begins_by first due x from is = omega (arith, ints, from, is)
 ends_by : (first due offset last : ℕ) (x y : ℤ) → due ≤ first + 1 → y ≡ pos due → x ≤ℤ (y +ℤ pos (offset + 1)) → offset ≤ last → x ≤ℤ pos (first + last + 2)
 ends_by first due offset last x y to is soon within = omega (arith, ints, to, is, soon, within)
 
--- the journal's own instants of the packet
+-- The instants that the journal gives the samples of packet n.
 module _ (plan : TalkPlan) (p : PacketJournal) (n : ℕ) (plan_is : IsAudioPlan plan) (times : HasTimes plan p.times) (due : IsDue plan p.times n) (conforms : Conforms p.times) where
   at_first : (x : ℤ) → n < p.times.packets → IsAtNominal p.times n 0 x → x ≡ pos (p.times.due n)
   at_first x known at = at.at ∙ sym ((audio p times.audio conforms).first_instants n at.head known at.is_head)
@@ -133,7 +135,7 @@ sent plan input n batch p limit conforms is =
 
 -- ---- two batches
 
--- the samples of a batch are at least 500 ns before the first one of another
+-- all samples of batch a are at least 500 ns before the first sample of batch b
 pub record IsBefore (a b : Presented) : Type 0 where
   pub last : (k : ℕ) → k < a.count → (sample_instant a k +ℤ pos 500) ≤ℤ sample_instant b 0
 

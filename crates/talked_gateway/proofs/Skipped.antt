@@ -1,4 +1,4 @@
--- Nothing is skipped of batches that are packets of a plan.
+-- Batches that are packets of a plan are not skipped.
 use Rattle.std.proofs.Common.{◌≡◌, ℕ, zero, suc, ◌+◌, ◌-◌, ◌<◌, ◌≤◌, Bool, true, false, ℤ, pos, ◌+ℤ◌, ◌-ℤ◌, ◌≤ℤ◌, ◌<ℤ◌, List, [], ◌∷◌, ◌++◌, All, inl, inr, length, Option, Some, None, is_some, refl, ap, subst, arith}
 use Rattle.std.specs.Prelude.{⊤, ◌||◌, AllPairs, if◌then◌else◌, int_le, nat_lt, slice_index_or}
 use Rattle.std.specs.List.{AllByRecursion, list_any}
@@ -31,7 +31,7 @@ use Rattle.talked_gateway.proofs.Sent.{IsBefore, IsSent, sent, sent_before}
 
 -- ---- what a gateway asks of batches
 
--- Each batch begins after the end of those before it, has a sample, and ends in time for a capture; its samples are apart.
+-- The batch has a sample, its samples are at least 500 ns apart, and they are early enough for a capture.
 pub record IsInTime (batch : Presented) : Type 0 where
   pub some : 1 ≤ batch.count
   pub apart : (i k : ℕ) → i < k → k < batch.count → (sample_instant batch i +ℤ pos 500) ≤ℤ sample_instant batch k
@@ -69,7 +69,7 @@ none_late to shape batch (suc most) first block is =
     by false e rest = refl
     by true e rest = both _ _ (not_late batch first is (let within : first < batch.count = grind (arith, nat_tests) in within)) rest
 
--- the batch begins after the last sample that was given out
+-- the batch begins after the last sample that was given out, if there is one
 abbrev IsAfter : Option ℤ → Presented → Type 0
 IsAfter None batch = ⊤
 IsAfter (Some last) batch = last <ℤ sample_instant batch 0
@@ -81,7 +81,7 @@ not_over (Some last) batch after = not_le (sample_instant batch 0) last after
 not_skipped : (to : To) (shape : Shape) (given : Given) (batch : Presented) → has_shape to shape batch ≡ true → IsInTime batch → IsAfter given.last batch → skip_by to shape given batch ≡ None
 not_skipped to shape given batch shaped is after = rw (shaped, not_over given.last batch after, none_late to shape batch batch.count 0 given.block is) refl
 
--- those after a batch begin after its last sample
+-- the batches after a batch begin after its last sample
 all_after : (batch : Presented) (batches : List Presented) → IsInTime batch → AllByRecursion (IsBefore batch) batches → AllByRecursion (IsAfter (Some (sample_instant batch (batch.count - 1)))) batches
 all_after batch [] is before = tt
 all_after batch (b ∷ bs) is before =
@@ -113,7 +113,7 @@ module _ (plan : TalkPlan) (input : List ℕ) (p : IsAudioPlan plan) (limit : le
   in_time : (n : ℕ) (batch : Presented) → 1 ≤ batch.count → IsSent plan n batch → IsInTime batch
   in_time n batch some is = record { some = some; apart = is.apart; early = λ k within. (let to = is.to k within in let early = is.early in omega (arith, ints, to, early)) }
 
-  -- of two batches, the one that comes first is of an earlier packet
+  -- if batch a comes before batch b and is another packet, a ends at least 500 ns before b begins
   before_of : (n m : ℕ) (a b : Presented) → 1 ≤ b.count → IsOfPacket false (journal plan input) n a → IsOfPacket false (journal plan input) m b → AreOther false (journal plan input) a b → ComesBefore a b → IsBefore a b
   before_of n m a b some of_a of_b other comes =
       elim (cases_lt n m) [
@@ -147,7 +147,7 @@ module _ (plan : TalkPlan) (input : List ℕ) (p : IsAudioPlan plan) (limit : le
           are_apart bs begin.1 rest (λ i j d less within. other (suc i) (suc j) d (omega (arith, less)) (omega (arith, within))) (λ i j d less within. comes (suc i) (suc j) d (omega (arith, less)) (omega (arith, within))),
         )
 
--- all that is presented of a capture of the plan
+-- the batches that are presented of a capture of the plan are apart
 pub shown_apart : (plan : TalkPlan) (input : List ℕ) (listen : ListenPlan) (records : List Record) → IsAudioPlan plan → length input ≤ most_input → IsConforming (pos 0) (journal plan input) → listen.clock ≡ None
     → KeepsHeadline (pos 0) (journal plan input) listen records (shown_of listen records) → AreApart (presented_of (shown_of listen records))
 shown_apart plan input listen records p limit conforms none keeps =

@@ -1,4 +1,4 @@
--- The packets that a gateway makes of batches of a plan are apart.
+-- The packets that a gateway makes of the batches of a plan are presented at least 500 ns apart.
 use Rattle.std.proofs.Common.{◌≡◌, ℕ, zero, suc, ◌+◌, ◌-◌, ◌<◌, ◌≤◌, Bool, true, false, ℤ, pos, ◌+ℤ◌, ◌≤ℤ◌, List, [], ◌∷◌, ◌++◌, map, Option, Some, None, refl, arith}
 use Rattle.std.specs.Prelude.{if◌then◌else◌, min, nat_lt}
 use Rattle.std.specs.List.{AllByRecursion}
@@ -47,7 +47,7 @@ both_spread : (xs ys : List ℤ) → AreSpread xs → AreSpread ys → AllByRecu
 both_spread [] ys first second between = second
 both_spread (x ∷ xs) ys first second between = (both_hold (λ y. (x +ℤ pos 500) ≤ℤ y) xs ys first.0 between.0, both_spread xs ys first.1 second between.1)
 
--- what holds for all instants of the samples of batches
+-- P holds for the instant of each sample of these batches
 abbrev HoldsOf : (ℤ → Type 0) → List Presented → Type 0
 HoldsOf P bs = AllByRecursion (λ b. (j : ℕ) → j < b.count → P (sample_instant b j)) bs
 
@@ -62,7 +62,7 @@ cuts_hold P to shape given (b ∷ bs) holds =
     (cuts_begin P given.packets b 0 (pieces_of to shape b given.block) (λ j low high. holds.0 j high) (begin_from to shape b b.count 0 given.block))
     (cuts_hold P to shape (given_with to shape given b) bs holds.1) (cuts_hold P to shape given bs holds.1)
 
--- the batches after a sample
+-- each sample of the batches after batch a is at least 500 ns after sample k of a
 later_hold : (a : Presented) (k : ℕ) (bs : List Presented) → k < a.count → AllByRecursion (IsBefore a) bs → AreApart bs → HoldsOf (λ y. (sample_instant a k +ℤ pos 500) ≤ℤ y) bs
 later_hold a k [] within before apart = tt
 later_hold a k (b ∷ bs) within before apart = (of, later_hold a k bs within before.1 apart.2)

@@ -1,4 +1,4 @@
-//! What a gateway makes of a capture of a talker's plan. Each call only states its contract, and does nothing.
+//! Laws of what a gateway makes of a capture of a talker's plan. Each is a function whose contract states the law.
 
 ghost use Rattle.std.specs.Prelude.{◌≡◌, ◌≤◌, ◌<◌, ◌^◌, Bool, ℕ, IsSome, List, None, map};
 ghost use Rattle.aaf_format.specs.declared.aaf.AafFormat.TheVariants.{Int24};
@@ -20,11 +20,13 @@ ghost use Rattle.talked_headline.specs.Premises.{ListensTo, captured};
 use talked_headline::laws::talked_keeps_headline;
 use talker::laws::{journal_conforms, losses_are_delivered};
 
-/// A gateway skips nothing that a listener without a clock presents of a capture of an audio plan, whatever the capture loses,
-/// repeats or reorders, if a scan finds no fault in it: each packet begins after the end of those before it, and arrives before
-/// 2^32 seconds. This also holds for what is due while more records may follow. If some packets have no timestamp, as in sparse
-/// PCM and in AM824 whose packets have fewer blocks than SYT_INTERVAL, the listener's lead must be within 127 packets' time of
-/// the plan's.
+/// Let a listener without a clock hear a capture of an audio plan in which a scan finds no fault, whatever the capture
+/// loses, repeats or reorders. A gateway skips nothing that the listener presents: each packet begins after the end of
+/// the earlier packets, and arrives before 2^32 seconds. This is also true of what is due while more records may
+/// follow.
+///
+/// Some packets may have no timestamp, as in sparse PCM and in AM824 whose packets have fewer blocks than SYT_INTERVAL.
+/// Then the listener's lead must be within 127 packets' time of the plan's lead.
 pub fn nothing_talked_is_skipped()
     ensures shown { (to : ToValue) (plan : TalkPlan) (input places : List ℕ) (listen : ListenPlan) → ListensTo plan input listen → listen.clock ≡ None → first_fault to listen.stream (captured plan input places) ≡ None
         → SkipsNone to (shape_in listen.stream (captured plan input places)) (presented_of (shown_of listen (captured plan input places))) }
@@ -35,8 +37,9 @@ pub fn nothing_talked_is_skipped()
     talked_keeps_headline();
 }
 
-/// A listener without a clock, whose buffer is at least the default one, has room for all that a gateway makes of such a capture,
-/// under any stream id. So the gateway's promises of what listeners present hold for it.
+/// Let a gateway convert a capture of an audio plan in which a scan finds no fault, under any stream ID. A listener
+/// without a clock, with a buffer of at least the default size, has room for all that the gateway makes. So the
+/// gateway's promises of what listeners present are true for this listener.
 pub fn default_listeners_hear_turned_captures()
     ensures { (to : ToValue) (plan : TalkPlan) (input places : List ℕ) (listen : ListenPlan) (id : ℕ) (hearing : ListenPlan) → ListensTo plan input listen → listen.clock ≡ None → first_fault to listen.stream (captured plan input places) ≡ None
         → id < 2 ^ 64 → HasDefaultRoom id hearing → Hears id hearing (map record_of (frames_made to listen id (captured plan input places))) }
@@ -45,8 +48,9 @@ pub fn default_listeners_hear_turned_captures()
     talked_keeps_headline();
 }
 
-/// A scan finds no fault in a capture of PCM of 24 bits that a plan without a media clock sends, whatever the capture loses,
-/// repeats or reorders, if AM824 has the plan's rate and its number of channels. So a gateway converts all that is presented.
+/// Let a plan without a media clock send PCM of 24 bits, at a rate that AM824 has and with at most 256 channels. A scan
+/// finds no fault in a capture of it, whatever the capture loses, repeats or reorders. So a gateway converts all that
+/// is presented.
 pub fn talked_pcm_can_be_turned()
     ensures { (plan : TalkPlan) (input places : List ℕ) (listen : ListenPlan) (sparse : Bool) → ListensTo plan input listen → plan.kind ≡ Aaf Int24 sparse → plan.crf ≡ None → IsSome (fdf_of plan.rate) → plan.channels ≤ 256
         → first_fault Am824 listen.stream (captured plan input places) ≡ None }
