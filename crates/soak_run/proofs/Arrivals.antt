@@ -1,4 +1,4 @@
--- Copies by arrival, as the sort of the library leaves them.
+-- The library's stable sort leaves copies sorted by arrival.
 use Rattle.std.proofs.Common.{◌≡◌, ℕ, ℤ, Bool, true, false, cond, List, [], ◌∷◌, int_lt, refl, ap, ◌∙◌}
 use Rattle.std.specs.declared.cmp.Ordering.TheVariants.{Less, Equal, Greater}
 use Rattle.std.specs.Cmp.{int_cmp_total}

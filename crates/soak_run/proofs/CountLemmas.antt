@@ -17,7 +17,7 @@ pub with_all_append : (counts : SoakCounts) (xs ys : List Shown) → with_all co
 with_all_append counts [] ys = refl
 with_all_append counts (x ∷ xs) ys = with_all_append (with_shown counts x) xs ys
 
--- ---- as many items are counted as there are
+-- ---- the number of items that are counted
 
 abbrev counted : Bool → ℕ
 counted b = cond b 1 0
@@ -42,7 +42,7 @@ IsFew n = n < 2 ^ 64 - 1
 one : (n : ℕ) → IsFew n → one_more n ≡ n + 1
 one n few = omega (arith, few)
 
--- one more item is shown
+-- the counts with one more item that is shown
 with_one : (d p l r u f : ℕ) (x : Shown) → IsFew p → IsFew l → IsFew r → IsFew u → IsFew f → with_shown (counts_with d p l r u f) x
     ≡ counts_with d (p + counted (is_present x)) (l + counted (is_late x)) (r + counted (is_repeat x)) (u + counted (is_untimed x)) (f + counted (is_full x))
 with_one d p l r u f (Present batch) a b c e g = same_counts d (one_more p) l r u f (p + 1) (l + 0) (r + 0) (u + 0) (f + 0) (one p a) (none l) (none r) (none u) (none f)
@@ -52,7 +52,7 @@ with_one d p l r u f (Flag frame seq Untimed) a b c e g = same_counts d p l r (o
 with_one d p l r u f (Flag frame seq Full) a b c e g = same_counts d p l r u (one_more f) (p + 0) (l + 0) (r + 0) (u + 0) (f + 1) (none p) (none l) (none r) (none u) (one f g)
 with_one d p l r u f (Flag frame seq reason) a b c e g = same_counts d p l r u f (p + 0) (l + 0) (r + 0) (u + 0) (f + 0) (none p) (none l) (none r) (none u) (none f)
 
--- at most as many items are counted as the list has
+-- if a list has few items, few of them are counted
 few_of : (p : Shown → Bool) (list : List Shown) → IsFew (length list) → IsFew (count_by p list)
 few_of p list few = omega (arith, few, count_by-le-length p list)
 
@@ -69,6 +69,6 @@ counts_on d list (x ∷ items) few =
     ∙ counts_on d (list ++ x ∷ []) items (omega (arith, few, length-append list (x ∷ [])))
     ∙ ap (outcomes d) (append_assoc list (x ∷ []) items)
 
--- the counts of a list that is not too long are those of its items, one after another
+-- if a list is not too long, counting its items one after another gives the counts of the list
 pub counts_all : (d : ℕ) (items : List Shown) → IsFew (length items) → with_all (outcomes d []) items ≡ outcomes d items
 counts_all d items few = counts_on d [] items (omega (arith, few))

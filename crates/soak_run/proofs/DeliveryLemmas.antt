@@ -10,7 +10,7 @@ use Rattle.soak_run.specs.Soak.{all_copies, by_arrival, copies, copies_by, copie
 use Rattle.talk_plan.specs.Timing.{arrival_of}
 use Rattle.soak_run.proofs.SoakLemmas.{copies-more, sent_soon}
 
--- A delivery of one of this many packets, within 2.52 ms of when the packet is sent.
+-- The delivery is a copy of one of the first `packets` packets. It arrives at most 2.52 ms after the packet is sent.
 pub record IsCopy (packets : ℕ) (delivery : ℤ × ℕ) : Type 0 where
   pub known : delivery.1 < packets
   pub delay : ℕ
@@ -58,14 +58,14 @@ sorted_all packets (x ∷ xs) all = put_all packets x (by_arrival xs) all.0 (sor
 pub are_copies : (packets : ℕ) → AllByRecursion (IsCopy packets) (deliveries_of packets)
 are_copies packets = sorted_all packets (all_copies packets packets) (first_copies packets packets packets (omega arith))
 
--- a capture can record when they arrive
+-- a capture can record when each copy arrives
 pub copy_time : (packets : ℕ) (delivery : ℤ × ℕ) → packets ≤ 1000000 → IsCopy packets delivery → IsArrival delivery.0
 copy_time packets delivery few is =
     let soon = sent_soon delivery.1 (omega (arith, is.known)) in
     let short = is.short in
     subst IsArrival (sym is.time) (record { from = omega (arith, ints); to = omega (arith, ints) })
 
--- ---- how many there are
+-- ---- how many deliveries there are
 
 long_by : (b : Bool) (x y : ℤ × ℕ) (rest ys : List (ℤ × ℕ)) → length rest ≡ suc (length ys) → length (if b then y ∷ rest else x ∷ y ∷ ys) ≡ suc (suc (length ys))
 long_by true x y rest ys e = ap suc e

@@ -1,5 +1,5 @@
--- What a listener shows of the deliveries: it is that of their capture's bytes, it keeps the headline, and each delivery is
--- counted once.
+-- What a listener shows of the deliveries is what it shows of their capture's bytes. It keeps the headline, and each
+-- delivery is counted once.
 use Rattle.std.proofs.Common.{◌≡◌, ℕ, ◌+◌, pos, ◌≤◌, arith, false, List, length, refl, sym, ap, subst, ◌∙◌, None}
 use Rattle.std.specs.Prelude.{◌==◌}
 use Rattle.std.proofs.lemmas.List.{length-map}
@@ -58,7 +58,7 @@ keeps_headline again packets few = headline (pos 0) (soak_stream packets).journa
 
 -- ---- the counts add up
 
--- the stream has samples at a rate, and no clock
+-- the stream has no clock
 no_clock : (packets : ℕ) → (soak_stream packets).journal.times.clock.packets ≡ 0
 unfolding soak_stream
 no_clock packets = refl
@@ -75,7 +75,7 @@ records_long : (packets : ℕ) → length (soak_records packets) ≡ length (del
 unfolding soak_records
 records_long packets = length-map (deliveries_of packets) (captured (soak_stream packets))
 
--- the fragments of units are none
+-- if there are no fragments, the number of items that are shown is the number of packets
 counted_by : (shown fragments packets : ℕ) → fragments ≡ 0 → shown + fragments ≡ packets → shown ≡ packets
 counted_by shown fragments packets none sum = omega (arith, none, sum)
 

@@ -19,14 +19,14 @@ use Rattle.listener.proofs.Places.{presented-or-flagged}
 
 -- ---- how many items were shown
 
--- the number of items shown is that of the items presented and flagged
+-- a listener that has shown `given` items has presented or flagged as many
 shown_count : (listener : ListenState) (records : List Record) (given : ℕ) → StandsFor records given listener → shown_by listener ≡ given
 shown_count listener records given stands =
     let all = out listener records in
     let long : length (take given all) ≡ given = omega (arith, length-take given all, stands.within) in
     rw stands.counts (presented-or-flagged (take given all) ∙ long)
 
--- at most as many items were shown as there are records
+-- the number of items shown is at most the number of records
 shown_few : (listener : ListenState) (records : List Record) (given : ℕ) → StandsFor records given listener → given ≤ length records
 shown_few listener records given stands =
     let most : length (out listener records) ≤ length records = few (is_closed listener) _ _ listener.plan records in
@@ -42,11 +42,11 @@ front_first f zero xs = omega arith
 front_first f (suc n) [] = omega arith
 front_first f (suc n) (x ∷ xs) = let le = front_first f n xs in omega arith
 
--- a listener was given the first `given` deliveries
+-- the listener was given the first `given` deliveries
 abbrev pub Heard : Talking → List (ℤ × ℕ) → ℕ → ListenState → Type 0
 Heard talker deliveries given listener = StandsFor (records_of talker deliveries given) (shown_by listener) listener
 
--- this many more were shown
+-- A step shows `more` further items.
 module _ {old new : ListenState} {before after : List Record} (more : ℕ) (step : (given : ℕ) → StandsFor before given old → StandsFor after (given + more) new) where
   pub shown_on : StandsFor before (shown_by old) old → shown_by new ≡ shown_by old + more
   shown_on was = shown_count new after (shown_by old + more) (step (shown_by old) was)
@@ -60,7 +60,7 @@ module _ {old new : ListenState} {before after : List Record} (more : ℕ) (step
 pub records_few : (talker : Talking) (deliveries : List (ℤ × ℕ)) (given : ℕ) → length (records_of talker deliveries given) ≤ length deliveries
 records_few talker deliveries given = front_long (captured (stream_of talker.plan talker.input)) given deliveries
 
--- fewer were given than there are
+-- as long as a delivery is left, the listener was given fewer than 2^62 records
 pub frames_few : (talker : Talking) (deliveries : List (ℤ × ℕ)) (given : ℕ) (listener : ListenState) → given < length deliveries → length deliveries ≤ 2 ^ 62 → Heard talker deliveries given listener → listener.counts.frames < 2 ^ 62
 frames_few talker deliveries given listener more within heard =
     omega (arith, more, within, ap (λ (c : Counts). c.frames) heard.counts, front_first (captured (stream_of talker.plan talker.input)) given deliveries)
@@ -91,13 +91,13 @@ module _ {old new : ListenState} {records : List Record} {items : List Shown} (k
   all_given zero (x ∷ xs) e = absurd cc
   all_given (suc n) (x ∷ xs) e = let le = all_given n xs e in omega arith
 
-  -- all was shown
+  -- if there is no next item, `items` are all items that the listener shows
   pub shows_all : ((given : ℕ) → StandsFor records given old → None ≡ slice_get (out old records) given) → items ≡ out new records
   shows_all at =
       was.shown ∙ take_all (shown_by old) (out old records) (all_given (shown_by old) (out old records) (at (shown_by old) was.stands))
       ∙ sym (out_same old new records keeps.plan keeps.closed)
 
--- nothing was shown at first
+-- a listener that was given nothing has shown nothing
 pub shown_none : (listener : ListenState) → StandsFor [] 0 listener → Shows [] listener []
 shown_none listener none =
     let count = sym (shown_count listener [] 0 none) in
@@ -123,12 +123,13 @@ module _ {old new : ListenState} {records : List Record} {items : List Shown} (o
   pub shows_closed : is_closed new ≡ true → ((given : ℕ) → StandsFor records given old → StandsFor records given new) → Shows records old items → Shows records new items
   shows_closed closed step was = shows_further (out_at_end old new records opened closed plan) step was
 
--- the records with that of the next delivery
+-- the records of the first `given + 1` deliveries are those of the first `given` deliveries, and then that of the next
+-- delivery
 records_next : (talker : Talking) (deliveries : List (ℤ × ℕ)) (given : ℕ) (other : ℤ × ℕ) → given < length deliveries
     → records_of talker deliveries (given + 1) ≡ records_of talker deliveries given ++ captured (stream_of talker.plan talker.input) (get_or deliveries given other) ∷ []
 records_next talker deliveries given other more = map_more (captured (stream_of talker.plan talker.input)) deliveries given other more
 
--- the next delivery was given
+-- The next delivery was given to the listener.
 module _ {old new : ListenState} {talker talker' : Talking} (deliveries : List (ℤ × ℕ)) (given : ℕ) (other : ℤ × ℕ) (same : talker' ≡ talker) (more : given < length deliveries)
     (takes : (records : List Record) (shown : ℕ) → StandsFor records shown old → StandsFor (records ++ captured (stream_of talker.plan talker.input) (get_or deliveries given other) ∷ []) shown new) where
   pub step_next : (shown : ℕ) → StandsFor (records_of talker deliveries given) shown old → StandsFor (records_of talker' deliveries (given + 1)) shown new
@@ -142,14 +143,14 @@ module _ {old new : ListenState} {talker talker' : Talking} (deliveries : List (
       (subst (λ (l : List Record). Shows l new items) (sym (records_next talker deliveries given other more))
       (shows_record opened plan (captured (stream_of talker.plan talker.input) (get_or deliveries given other)) still (takes (records_of talker deliveries given)) was))
 
--- nothing was given
+-- if no delivery was given, the listener has shown the same items as before
 pub shows_same : {old new : ListenState} {talker talker' : Talking} (deliveries : List (ℤ × ℕ)) (given : ℕ) {items : List Shown} → talker' ≡ talker → new ≡ old → Shows (records_of talker deliveries given) old items → Shows (records_of talker' deliveries given) new items
 shows_same {old} {new} {talker} {talker'} deliveries given {items} same still was =
     subst (λ (t : Talking). Shows (records_of t deliveries given) new items) (sym same) (subst (λ (l : ListenState). Shows (records_of talker deliveries given) l items) (sym still) was)
 
 -- ---- stages
 
--- the hearing continues, and the rest is not shown yet
+-- a hearing that has not ended and is not at stage `Showing` is at stage `Giving`
 pub giving_by : (stage : Stage) → pull_at stage ≡ None → (stage ≡ Showing → ⊥) → stage ≡ Giving
 giving_by Giving going other = refl
 giving_by Showing going other = absurd (other refl)
@@ -168,7 +169,7 @@ not_over stage giving over = let e : false ≡ true = ap closed_at (sym giving) 
 pub not_ended : (stage : Stage) → stage ≡ Giving → stage ≡ Ended → ⊥
 not_ended stage giving over = let e : Giving ≡ Ended = sym giving ∙ over in cc
 
--- one delivery less is left, or only the items that are shown of them
+-- as long as a delivery is left, the hearing goes on, and giving that delivery leaves fewer steps
 pub steps_on : (stage : Stage) (deliveries : List (ℤ × ℕ)) (given : ℕ) → stage ≡ Giving → given < length deliveries → (pull_at stage ≡ None) × (steps_left stage deliveries (given + 1) < steps_left stage deliveries given)
 steps_on Giving deliveries given giving more = (refl, omega (arith, more))
 steps_on Showing deliveries given giving more = absurd cc

@@ -18,7 +18,7 @@ use Rattle.listener.proofs.Made.{IsOther, items_other}
 use Rattle.listener.proofs.TrueItems.{IsCopied, copy_entry}
 use Rattle.soak_run.proofs.OutcomeLemmas.{IsSoundEntry}
 
--- if each record belongs to the stream, there are as many deliveries as records
+-- a record that belongs to the stream adds one delivery
 kept_by : (b : Bool) (i : ℕ) (r : Record) (rest : List (ℕ × Record)) (n : ℕ) → b ≡ true → length rest ≡ n → length (if b || false then (i, r) ∷ rest else rest) ≡ suc n
 kept_by true i r rest n e long = ap suc long
 kept_by false i r rest n e long = absurd cc
@@ -35,7 +35,7 @@ all_long : (stream : ℕ) (records : List Record) → ((r : Record) (n : ℕ) �
 all_long stream records each =
     length-map (filter (λ (x : ℕ × Record). is_delivered stream None x.1.bytes) (enumerate_from 1 records)) (λ (x : ℕ × Record). delivery x.0 x.1) ∙ kept_long stream 1 records each
 
--- which packet a record carries
+-- each of these records carries a packet
 pub carried_at : (p : PacketJournal) (lead : ℕ) (numbers : List ℕ) (records : List Record) (r : Record) (k : ℕ) → AllCarry p lead numbers records → slice_get records k ≡ Some r → (n : ℕ) × Carries p lead n r
 carried_at p lead [] [] r k all at = absurd cc
 carried_at p lead [] (s ∷ records) r k all at = absurd all
@@ -58,7 +58,7 @@ entry_of_one (d ∷ ds) (suc i) e there = entry_of_one ds i e there
 entry_at : (ds : List Delivery) (i : ℕ) (e : Entry) → All IsOther ds → slice_get (entries ds) i ≡ Some e → (d : Delivery) × (slice_get ds i ≡ Some d) × (entry_of d ≡ e)
 entry_at ds i e others there = entry_of_one ds i e (subst (λ (ms : List MadeItem). slice_get (map made_entry ms) i ≡ Some e) (items_other ds others) there)
 
--- no unit has fragments, if no delivery is one of H.264
+-- items that are made of one delivery each have no fragments
 none_before : (ds : List Delivery) → fragments_in (map made_of_one ds) ≡ 0
 none_before [] = refl
 none_before (d ∷ ds) = omega (arith, sum_by-cons (λ (made : MadeItem). length made.earlier) (made_of_one d) (map made_of_one ds), none_before ds)
@@ -75,7 +75,7 @@ from_stream : (p : PacketJournal) (lead : ℕ) (d : Delivery) (o : Origin) → p
 from_stream p lead d (FromStream n) none copy = (n, copy)
 from_stream p lead d (FromClock m) none copy = absurd (let known = copy.known in omega arith)
 
--- the entries of a stream without a clock, at a rate and with samples in each packet
+-- if each packet of an audio stream without a clock has samples at a known rate, its entries are sound
 pub entries_sound : (shift : ℤ) (p : PacketJournal) (lead : ℕ) (ds : List Delivery) → IsConforming shift p → IsAudioKind p.times.kind → p.times.clock.packets ≡ 0 → (p.times.count == 0) ≡ false → (p.times.rate == 0) ≡ false
     → All IsOther ds → All (IsCopied p lead) ds → (i : ℕ) (e : Entry) → slice_get (entries ds) i ≡ Some e → IsSoundEntry e
 entries_sound shift p lead ds conforming audio none some rate others all i e there =

@@ -1,4 +1,4 @@
--- Each delivery is an item with a timestamp or a head to be looked for, so nothing but the counted reasons can flag it.
+-- Each delivery is an item with samples at a known rate. So only the counted reasons can flag it.
 use Rattle.std.proofs.Common.{◌≡◌, ℕ, ℤ, zero, suc, ◌+◌, Bool, true, false, cond, List, [], ◌∷◌, ◌++◌, length, map, Option, Some, None, refl, sym, subst, arith}
 use Rattle.std.specs.Prelude.{◌==◌, count_by, if◌then◌else◌, slice_get, Result, Ok, Err, option_and_then}
 use Rattle.std.specs.List.{AllByRecursion}
@@ -27,7 +27,7 @@ counted b = cond b 1 0
 
 -- ---- the reasons
 
--- one of the reasons that are counted
+-- the reason is one of those that are counted
 abbrev pub IsCountedReason : Reason → Type 0
 IsCountedReason Late = Unit {0}
 IsCountedReason Repeat = Unit {0}
@@ -43,7 +43,7 @@ abbrev pub IsCountedGiven : Given → Type 0
 IsCountedGiven (Presents a) = Unit {0}
 IsCountedGiven (Flags place item reason) = IsCountedReason reason
 
--- a packet of samples at a rate, whose timestamp is not uncertain
+-- the packet has samples at a known rate, and its timestamp is not marked as uncertain
 pub record IsSound (p : Packet) : Type 0 where
   pub certain : p.tu ≡ false
   pub some : (p.count == 0) ≡ false
@@ -54,7 +54,7 @@ pub record IsSoundEntry (e : Entry) : Type 0 where
   pub is : e ≡ OfItem (OfPacket packet)
   pub sound : IsSound packet
 
--- ---- a verdict has one of them
+-- ---- a verdict has one of the counted reasons
 
 abbrev ErrsSo : Result Accepted Reason → Type 0
 ErrsSo (Ok a) = Unit {0}

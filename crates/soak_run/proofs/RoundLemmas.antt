@@ -1,4 +1,4 @@
--- What was counted of deliveries that are heard, round by round.
+-- What is counted while deliveries are heard, round by round.
 use Rattle.std.proofs.Common.{◌≡◌, ℕ, ℤ, ◌+◌, ◌-◌, ◌^◌, ◌<◌, ◌≤◌, List, [], ◌++◌, length, map, Option, Some, None, refl, sym, ap, ◌∙◌, arith, append-nil, take_all}
 use Rattle.pcap_frames.specs.Capture.{Record}
 use Rattle.sample_schedule.specs.declared.shown.Shown.{Shown}
@@ -37,7 +37,7 @@ ended hearing = pull_at hearing.stage
 abbrev pub handed : SoakCounts → SoakCounts → List Shown → Type 0
 handed begun now items = now ≡ with_all begun items
 
--- What was shown so far of this many deliveries was counted, except for what waits in the pipe.
+-- Of `delivered` deliveries, the items shown so far were counted, except for those that wait in the pipe.
 pub record HasCounted (delivered : ℕ) (begun now : Hearing) (pipe : Pipe) (counts : SoakCounts) : Type 0 where
   pub items : List Shown
   pub shown : HasShown begun now items
@@ -59,7 +59,7 @@ counted_none d begun pipe counts giving shown empty live none is = record {
   room = let few = begun.few in omega (arith, none, few);
 }
 
--- how a receiver ended, which is how its pipe did
+-- if a receiver and its pipe had ended in the same way before a round, they have after it
 ends_on : (h h' : Hearing) (a b : Pipe) → ended_with a ≡ ended h → EndsWith ended h h' a b → ended_with b ≡ ended h'
 ends_on h h' a b is with =
     elim (ended_with a) as (λ (e : Option Pull). ended_with a ≡ e → ended_with b ≡ ended h') [
@@ -87,13 +87,13 @@ ended_whole Showing is = absurd cc
 ended_whole Ended is = refl
 ended_whole NoMemory is = absurd (let e : pull.Memory ≡ pull.Done = cc in cc)
 
--- all of the deliveries were given
+-- if all deliveries were given, their records are the records of all deliveries
 all_records : (talker talker' : Talking) (ds ds' : List (ℤ × ℕ)) (given : ℕ) → talker' ≡ talker → ds' ≡ ds → length ds' ≤ given → records_of talker' ds' given ≡ map (captured (stream_of talker.plan talker.input)) ds
 all_records talker talker' ds ds' given same all within =
     ap (λ (l : List (ℤ × ℕ)). map (captured (stream_of talker'.plan talker'.input)) l) (take_all given ds' within ∙ all)
     ∙ ap (λ (t : Talking). map (captured (stream_of t.plan t.input)) ds) same
 
--- all that is shown of them was counted
+-- if the pipe is drained and the hearing is done, all that is shown of the deliveries was counted
 pub counted_whole : (d : ℕ) (talker : Talking) (ds : List (ℤ × ℕ)) (begun now : Hearing) (pipe : Pipe) (counts : SoakCounts) → HasCounted d begun now pipe counts → IsDrained pipe → ended_with pipe ≡ Some pull.Done
     → begun.talker ≡ talker → begun.deliveries.now ≡ ds → begun.listener.plan ≡ soak_listener → counts ≡ outcomes d (shown_of soak_listener (map (captured (stream_of talker.plan talker.input)) ds))
 counted_whole d talker ds begun now pipe counts has drained done same all plan =

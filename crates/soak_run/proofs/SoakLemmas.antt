@@ -8,17 +8,17 @@ use Rattle.soak_run.specs.Noise.{drawn, first_state, next_state, state_after}
 use Rattle.soak_run.specs.Soak.{all_copies, copies, copies_by, copies_of, copy_of, delay_by, draws_before, soak_plan}
 use Rattle.talk_plan.specs.Timing.{arrival_of, nominal_instant}
 
--- this many copies of a packet were delivered after some others
+-- `count` copies of packet `number` were added to the deliveries `old`
 pub record Delivering (seed number count noise : ℕ) (old new : List (ℤ × ℕ)) : Type 0 where
   pub state : noise ≡ state_after seed (draws_before seed number + 1 + count)
   pub copies : new ≡ old ++ map (copy_of seed number) (range_with_len 0 count)
 
--- one more number is drawn
+-- the state after one more number is drawn
 state-more : (seed draws more noise next : ℕ) → suc draws ≡ more → noise ≡ state_after seed draws → next ≡ next_state noise → next ≡ state_after seed more
 unfolding state_after
 state-more seed draws more noise next e s n = n ∙ ap next_state s ∙ ap (state_after seed) e
 
--- the first number is the packet's
+-- after the packet's own number is drawn, no copy of it is delivered yet
 pub delivering-none : (seed number noise next : ℕ) (old : List (ℤ × ℕ)) → noise ≡ state_after seed (draws_before seed number) → next ≡ next_state noise
     → Delivering seed number 0 next old old
 delivering-none seed number noise next old s n = record {
@@ -26,7 +26,7 @@ delivering-none seed number noise next old s n = record {
   copies = sym (append-nil old);
 }
 
--- one number was drawn for each copy
+-- with one more number drawn, one more copy is delivered
 pub delivering-more : (seed number count noise next : ℕ) (arrival : ℤ) (old new : List (ℤ × ℕ)) → Delivering seed number count noise old new → next ≡ next_state noise
     → arrival ≡ pos (arrival_of soak_plan number + delay_by (drawn next)) → Delivering seed number (count + 1) next old (new ++ (arrival, number) ∷ [])
 delivering-more seed number count noise next arrival old new so n a = record {
@@ -41,7 +41,7 @@ delivering-more seed number count noise next arrival old new so n a = record {
     here : (arrival, number) ≡ copy_of seed number count
     here = ap (λ (x : ℤ). (x, number)) (a ∙ ap (λ (x : ℕ). pos (arrival_of soak_plan number + delay_by (drawn x))) (n ∙ ap next_state so.state))
 
--- all copies of a packet
+-- the packet's own number says how many copies of it are delivered
 pub delivering-all : (seed number count noise first start : ℕ) (old new : List (ℤ × ℕ)) → Delivering seed number count noise old new
     → start ≡ state_after seed (draws_before seed number) → first ≡ next_state start → count ≡ copies_by (drawn first) → count ≡ copies_of seed number
 delivering-all seed number count noise first start old new so s f e = e ∙ ap (λ (x : ℕ). copies_by (drawn x)) (f ∙ ap next_state s)
@@ -55,14 +55,14 @@ pub copied-all : (seed number count noise : ℕ) (old new : List (ℤ × ℕ)) �
     → new ≡ old ++ copies seed number
 copied-all seed number count noise old new so e = so.copies ∙ ap (λ (n : ℕ). old ++ map (copy_of seed number) (range_with_len 0 n)) e
 
--- the packets are sent soon after the beginning
+-- each packet is sent before 2^42 ns
 pub sent_soon : (n : ℕ) → n < 1000000 → arrival_of soak_plan n < 2 ^ 42
 unfolding nominal_instant
 sent_soon n few = omega arith
 
 -- ---- packet by packet
 
--- the numbers from one on, and the next
+-- `n + 1` numbers, counted from `from`, are n numbers and then the next number
 pub range-more : (from n next : ℕ) → from + n ≡ next → range_with_len from (suc n) ≡ range_with_len from n ++ next ∷ []
 range-more from zero next e = let same : from ≡ next = omega arith in ap (λ (x : ℕ). x ∷ []) same
 range-more from (suc n) next e = ap (λ (l : List ℕ). from ∷ l) (range-more (from + 1) n next (omega arith))
@@ -72,7 +72,7 @@ pub none-drawn : (seed noise : ℕ) → noise ≡ first_state seed → noise ≡
 unfolding state_after draws_before
 none-drawn seed noise e = e
 
--- the copies of one packet more
+-- the copies of `n + 1` packets are those of n packets, and then those of packet n
 pub copies-more : (seed n : ℕ) → all_copies seed (suc n) ≡ all_copies seed n ++ copies seed n
 copies-more seed n =
     ap (λ (l : List ℕ). flat_map (copies seed) l) (range-more 0 n n (omega arith))

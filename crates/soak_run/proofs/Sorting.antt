@@ -1,4 +1,5 @@
--- If equal elements keep their order, a list can be sorted in only one way; so a stable sort is the sort by insertion.
+-- If equal elements keep their order, a list can be sorted in only one way. So every stable sort gives the same list as
+-- sorting by insertion.
 use Rattle.std.proofs.Common.{◌≡◌, ℕ, suc, ◌<◌, ◌≤◌, Bool, true, false, not, cond, List, [], ◌∷◌, length, filter, refl, sym, ap, ◌∙◌, subst, arith, get_or}
 use Rattle.std.specs.Cmp.{IsStrictWeakOrder}
 use Rattle.std.specs.List.Sorted.{IsSortedBy, IsStableBy, ties}
@@ -6,7 +7,7 @@ use Rattle.std.proofs.lemmas.Bool.{and_parts, and_from, not-true, not_from_false
 use Rattle.std.proofs.lemmas.List.Sorted.{sorted_far}
 
 module _ {X : Type 0} (lt : X → X → Bool) where
-  -- an element, put after those at the front that are less
+  -- x put into a list, after the elements at its beginning that are less than x
   abbrev pub put : X → List X → List X
   put x [] = x ∷ []
   put x (y ∷ ys) = cond (lt y x) (y ∷ put x ys) (x ∷ y ∷ ys)
@@ -16,12 +17,12 @@ module _ {X : Type 0} (lt : X → X → Bool) where
   sorted (x ∷ xs) = put x (sorted xs)
 
 module _ {X : Type 0} (lt : X → X → Bool) (o : IsStrictWeakOrder lt) where
-  -- none of a list is less than an element
+  -- no element of the list is less than x
   Least : X → List X → Type 0
   Least x [] = Unit {0}
   Least x (y ∷ ys) = (lt y x ≡ false) × Least x ys
 
-  -- no element is less than its predecessor
+  -- no element of the list is less than an earlier one
   Rising : List X → Type 0
   Rising [] = Unit {0}
   Rising (x ∷ xs) = Least x xs × Rising xs
@@ -63,7 +64,7 @@ module _ {X : Type 0} (lt : X → X → Bool) (o : IsStrictWeakOrder lt) where
 
   -- ---- one order
 
-  -- an element that ties with one of a list is not less than the least of the list
+  -- if y is least in `ys` and an element of `ys` ties with z, z is not less than y
   not-below : (y z w : X) (ys l : List X) → Least y ys → filter (ties lt z) ys ≡ w ∷ l → lt z y ≡ false
   unfolding Least
   not-below y z w [] l least e = absurd cc
@@ -82,7 +83,7 @@ module _ {X : Type 0} (lt : X → X → Bool) (o : IsStrictWeakOrder lt) where
   tails : (a b : X) (xs ys : List X) → a ∷ xs ≡ b ∷ ys → xs ≡ ys
   tails a b xs ys e = cc
 
-  -- two rising lists begin alike, if the same elements tie
+  -- two rising lists have the same first element, if for each x the same elements of both tie with x
   first-same : (y z : X) (ys zs : List X) → Least y ys → Least z zs
       → ((x : X) → filter (ties lt x) (y ∷ ys) ≡ filter (ties lt x) (z ∷ zs)) → y ≡ z
   unfolding Least
@@ -141,7 +142,7 @@ module _ {X : Type 0} (lt : X → X → Bool) (o : IsStrictWeakOrder lt) where
   rising-sorted [] = tt
   rising-sorted (x ∷ xs) = rising-put x (sorted lt xs) (rising-sorted xs)
 
-  -- those that tie keep their order
+  -- putting x into a list keeps the order of the elements that tie
   ties-put : (z x : X) (ys : List X) → filter (ties lt z) (put lt x ys) ≡ filter (ties lt z) (x ∷ ys)
   ties-put z x [] = refl
   ties-put z x (y ∷ ys) = by_case (lt y x) refl (ties-put z x ys)
@@ -164,6 +165,6 @@ module _ {X : Type 0} (lt : X → X → Bool) (o : IsStrictWeakOrder lt) where
   ties-sorted z [] = refl
   ties-sorted z (x ∷ xs) = ties-put z x (sorted lt xs) ∙ ap (λ (l : List X). cond (ties lt z x) (x ∷ l) l) (ties-sorted z xs)
 
-  -- what a stable sort leaves
+  -- the result of a stable sort is the result of sorting by insertion
   pub stable-is : (xs ys : List X) → IsSortedBy lt ys → IsStableBy lt xs ys → ys ≡ sorted lt xs
   stable-is xs ys up stable = unique ys (sorted lt xs) (rising ys up) (rising-sorted xs) (λ x. stable x ∙ sym (ties-sorted x xs))

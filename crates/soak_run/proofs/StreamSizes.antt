@@ -18,7 +18,7 @@ use Rattle.talker.proofs.TalkLemmas.{none_late}
 use Rattle.soak_run.specs.Captured.{sample_frame, sample_frames, soak_input}
 use Rattle.soak_run.proofs.SoakLemmas.{range-more}
 
--- one sample frame more
+-- the first `n + 1` sample frames are the first n, and then sample frame n
 pub frames_more : (n : ℕ) → sample_frames (suc n) ≡ sample_frames n ++ sample_frame n
 frames_more n =
     ap (λ (l : List ℕ). flat_map sample_frame l) (range-more 0 n n (omega arith))
@@ -65,7 +65,7 @@ soak_is_plan = record {
   crf = tt;
 }
 
--- the samples are whole sample frames, and no packet is sent too late: the stream has no fault
+-- the samples are whole sample frames of four bytes
 by_fours : (long packets : ℕ) → long ≡ 24 * packets → (long % 4 == 0) ≡ true
 by_fours long packets e = let none : long % 4 ≡ 0 = omega arith in rw none refl
 

@@ -1,4 +1,4 @@
--- What a listener takes of a delivery is its record.
+-- What a listener takes of a delivery is the delivery's record.
 use Rattle.std.proofs.Common.{◌≡◌, ℕ, ℤ, ◌<◌, ◌≤◌, List, length, map, Some, sym, ap, subst, ◌∙◌}
 use Rattle.std.specs.Prelude.{All, slice_get}
 use Rattle.std.proofs.lemmas.List.Elements.{All-from_recursion, All-weaker}
@@ -19,7 +19,7 @@ use Rattle.soak_run.proofs.StreamSizes.{frames_of_stream}
 inside : (a b : SentFrame) → Some a ≡ Some b → a ≡ b
 inside a b e = cc
 
--- the frame that a talker lends, with the arrival of the delivery
+-- the frame that a talker lends, with the arrival of the delivery, is the delivery's record
 pub taken : (s : Stream) (d : ℤ × ℕ) (sent : SentFrame) (arrival : ℤ) (long : ℕ) → d.1 < length (numbered_frames s) → slice_get (numbered_frames s) d.1 ≡ Some sent → arrival ≡ d.0 → long ≡ length sent.bytes
     → ◌≡◌ {A = Record} (record { arrival = arrival; orig_len = long; bytes = sent.bytes }) (captured s d)
 taken s d sent arrival long known at a e =
@@ -29,7 +29,7 @@ taken s d sent arrival long known at a e =
     ∙ ap (λ (n : ℕ). R d.0 n sent.bytes) e
     ∙ ap (λ (f : SentFrame). R d.0 (length f.bytes) f.bytes) same
 
--- the talker of the stream has the packet of each delivery
+-- the talker of the stream, before it has given a packet
 abbrev soak_talker : List ℕ → Talking
 soak_talker input = record { plan = soak_plan; input = input; given = 0 }
 
@@ -47,7 +47,7 @@ all_deliverable packets input talker ds few input_is talker_is ds_is =
     (All-weaker (IsCopy packets) (IsDeliverable (soak_talker (soak_input packets))) (λ d. one_deliverable packets d few) (deliveries_of packets)
     (All-from_recursion (IsCopy packets) (deliveries_of packets) (are_copies packets))))
 
--- what is counted of a delivery
+-- what is counted of all deliveries are the counts of `soak_counts`
 pub counted_all : (packets : ℕ) (input : List ℕ) (talker : Talking) (ds : List (ℤ × ℕ)) (counts : SoakCounts) → input ≡ soak_input packets → talker ≡ soak_talker input → ds ≡ deliveries_of packets
     → counts ≡ outcomes (length ds) (shown_of soak_listener (map (captured (stream_of talker.plan talker.input)) ds)) → counts ≡ soak_counts packets
 unfolding soak_counts soak_records soak_stream

@@ -1,4 +1,5 @@
--- A capture of the deliveries of a stream over a bad network, as a listener hears it. It is this project's own.
+-- A capture of the deliveries of a stream over a bad network, as a listener hears it. This project defines it; it is
+-- from no standard.
 use Rattle.std.specs.Prelude.{ℕ, ℤ, pos, ◌-◌, ◌*◌, ◌%◌, List, ◌++◌, map, None}
 use Rattle.std.specs.List.{flat_map, range_with_len}
 use Rattle.byteorder.specs.Endian.{big_bytes}

@@ -1,5 +1,5 @@
--- Pseudo-random numbers, the same in each run: the linear congruential generator that the C standard gives as an example,
--- with one more bit of its state (this project's own).
+-- Pseudo-random numbers, the same in each run. They come from the linear congruential generator that the C standard
+-- gives as an example, with 31 bits of state. The number of bits is this project's own.
 use Rattle.std.specs.Prelude.{ℕ, zero, suc, ◌+◌, ◌*◌, ◌/◌, ◌%◌, ◌^◌}
 
 -- the states are the numbers below this
@@ -14,11 +14,11 @@ multiplier = 1103515245
 abbrev pub increment : ℕ
 increment = 12345
 
--- the state after another
+-- the state after `state`
 abbrev pub next_state : ℕ → ℕ
 next_state state = (state * multiplier + increment) % states
 
--- the number that is drawn with a state: its upper bits
+-- the number that is drawn in this state: the state's upper bits
 abbrev pub drawn : ℕ → ℕ
 drawn state = state / 2 ^ 16
 
@@ -26,11 +26,11 @@ drawn state = state / 2 ^ 16
 abbrev pub first_state : ℕ → ℕ
 first_state seed = seed % states
 
--- the state after n numbers were drawn from a seed
+-- the state after `draws` numbers were drawn from a seed
 unfoldable pub state_after : ℕ → ℕ → ℕ
 state_after seed zero = first_state seed
 state_after seed (suc draws) = next_state (state_after seed draws)
 
--- the number that is drawn after n others
+-- the number that is drawn after `draws` other numbers
 abbrev pub draw_after : ℕ → ℕ → ℕ
 draw_after seed draws = drawn (next_state (state_after seed draws))

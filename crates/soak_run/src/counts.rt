@@ -12,22 +12,22 @@ use sample_schedule::{Reason, Shown};
 /// - 1, because a presenter may get any number of items; no count of `soak` gets that far.
 #[derive(Clone, Copy, Debug, PartialEq, Eq)]
 pub struct SoakCounts {
-    /// The deliveries: packets that arrive. A packet that arrives twice counts twice.
+    /// The number of deliveries, which are the packets that arrive. A packet that arrives twice counts twice.
     pub delivered: u64,
-    /// Those that are presented.
+    /// The deliveries that are presented.
     pub presented: u64,
-    /// Those whose presentation time had passed.
+    /// The deliveries whose presentation time had passed.
     pub late: u64,
-    /// Those of a packet that was accepted before.
+    /// The deliveries of a packet that was accepted before.
     pub repeat: u64,
-    /// Those for which no timestamp was known.
+    /// The deliveries for which no timestamp was known.
     pub untimed: u64,
-    /// Those for which the buffer had no room.
+    /// The deliveries for which the buffer had no room.
     pub full: u64,
 }
 
 impl SoakCounts {
-    /// The counts for this many deliveries, before any is shown.
+    /// The counts for this many deliveries, before any item is shown.
     pub(crate) fn of(delivered: u64) -> Self
         ensures { result ≡ outcomes delivered [] }
     {

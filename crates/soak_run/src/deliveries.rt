@@ -28,10 +28,10 @@ pub const SOAK_PLAN: TalkPlan = TalkPlan {
     crf: None,
 };
 
-/// The step in which copies are delayed, in nanoseconds.
+/// The unit in which copies are delayed, in nanoseconds.
 const DELAY_STEP: u32 = 40_000;
 
-/// How many copies of a packet are delivered, for the number that is drawn for it.
+/// The number of copies of a packet that are delivered, if `draw` is drawn for the packet.
 fn copies_drawn(draw: u32) -> u32
     ensures exact { result ≡ copies_by draw }
     ensures few { result ≤ 2 }
@@ -43,7 +43,7 @@ fn copies_drawn(draw: u32) -> u32
     }
 }
 
-/// The delay of a copy, in nanoseconds, for the number that is drawn for it.
+/// The delay of a copy, in nanoseconds, if `draw` is drawn for the copy.
 fn delay_drawn(draw: u32) -> u32
     ensures exact { result ≡ delay_by draw }
     ensures bound { result < 2 ^ 22 }
@@ -51,7 +51,7 @@ fn delay_drawn(draw: u32) -> u32
     draw % 64 * DELAY_STEP
 }
 
-/// When a copy of a packet arrives, in nanoseconds of gPTP, for the number that is drawn for it.
+/// When a copy of packet `number` arrives, in nanoseconds of gPTP, if `draw` is drawn for the copy.
 #[tactic(auto, using(crate::proofs::SoakLemmas::sent_soon))]
 fn copy_arrival(number: u64, draw: u32) -> i64
     requires { number < 1000000 }
@@ -60,7 +60,7 @@ fn copy_arrival(number: u64, draw: u32) -> i64
     SOAK_PLAN.arrival(number) + i64::from(delay_drawn(draw))
 }
 
-/// Delivers a packet: one copy, two, or none, as a number is drawn.
+/// Delivers one copy, two copies or no copy of a packet, as a drawn number says.
 fn deliver(noise: &mut Noise, number: u64, copies: &mut Vec<(i64, u64)>) -> Result<(), NoMemory>
     requires { number < 1000000 }
     ensures drawn { OnOk result ((seed : ℕ) → noise.old ≡ state_after seed (draws_before seed number) → noise.new ≡ state_after seed (draws_before seed (suc number))) }
@@ -73,7 +73,7 @@ fn deliver(noise: &mut Noise, number: u64, copies: &mut Vec<(i64, u64)>) -> Resu
     Ok(())
 }
 
-/// The copies of the first packets, one packet after another.
+/// The copies of the first `packets` packets, one packet after another.
 fn copies_of_all(alloc: Global, packets: u32) -> Result<Vec<(i64, u64)>, NoMemory>
     requires { packets ≤ 1000000 }
     ensures { IfOk result (λ copies. copies.items ≡ all_copies packets packets) }
@@ -86,9 +86,9 @@ fn copies_of_all(alloc: Global, packets: u32) -> Result<Vec<(i64, u64)>, NoMemor
     Ok(copies)
 }
 
-/// The deliveries of the first `n` packets of the stream, at most 1,000,000, over a bad network: for each its arrival,
-/// in nanoseconds of gPTP, and the number of its packet. They are sorted by arrival, then by number, then by copy.
-/// `NoMemory` if the list cannot be allocated.
+/// The deliveries of the first `n` packets of the stream over a bad network. `n` is at most 1,000,000. Each delivery
+/// consists of its arrival, in nanoseconds of gPTP, and the number of its packet. The list is sorted by arrival, then
+/// by number, then by copy. `NoMemory` if the list cannot be allocated.
 pub fn soak_deliveries(alloc: Global, n: u32) -> Result<Vec<(i64, u64)>, NoMemory>
     requires { n ≤ 1000000 }
     ensures { IfOk result (λ deliveries. deliveries.items ≡ deliveries_of n) }

@@ -1,4 +1,4 @@
-//! Deliveries that a listener hears one by one. What it shows of them comes item by item.
+//! A listener hears deliveries one by one. The items that it shows are returned one by one.
 
 ghost use Rattle.std.specs.Prelude.{◌≡◌, ◌≤◌, ◌<◌, ◌^◌, [], All, IfOk, IsTrue, List, None, false, length, ℕ};
 ghost use Rattle.listener.specs.Listening.{StandsFor, is_closed};
@@ -29,7 +29,7 @@ const SOAK_LISTENER: ListenPlan = ListenPlan {
 pub enum Stage {
     /// Deliveries are still being given to the listener, and what is due is shown.
     Giving,
-    /// All deliveries were given, and the rest is being shown.
+    /// All deliveries were given, and the items that are left are being shown.
     Showing,
     /// Everything was shown.
     Ended,
@@ -60,13 +60,13 @@ fn deliver(
     Ok(())
 }
 
-/// The packets of a talker that are delivered, the listener that hears them, and how far it has come.
+/// The packets of a talker that are delivered, the listener that hears them, and how far the hearing has come.
 #[derive(Drop)]
 pub struct Hearing<'a> {
     pub alloc: Global,
     pub talker: Talker<'a>,
     pub deliveries: &'a [(i64, u64)],
-    /// How many deliveries were given.
+    /// The number of deliveries that were given to the listener.
     pub given: usize,
     pub listener: RecordListener,
     pub stage: Stage,
@@ -108,8 +108,8 @@ impl<'a> Hearing<'a> {
         })
     }
 
-    /// Gives the next delivery to the listener, or closes the listener if all were given. All that was due before must have
-    /// been shown.
+    /// Gives the next delivery to the listener. If all deliveries were given, closes the listener. All that was due
+    /// before must have been shown.
     fn go_on(&mut self) -> Result<(), NoMemory>
         requires giving { self.old.stage ≡ Stage.Giving }
         requires idle { IsIdle self.old.listener }

@@ -1,4 +1,4 @@
-//! Laws of what becomes of deliveries. Each call only states its contract, and does nothing.
+//! Laws of what becomes of deliveries. Each is a function whose contract states the law.
 
 ghost use Rattle.std.specs.Prelude.{◌≡◌, ◌≤◌, ℕ, None, pos};
 ghost use Rattle.listener.specs.Headline.{KeepsHeadline};
@@ -10,7 +10,7 @@ ghost use Rattle.soak_run.specs.Outcomes.{soak_counts, soak_shown, total};
 
 use cvf_format::laws::packet_again;
 
-/// The capture of the deliveries reads back as their records, so a listener that reads the capture's bytes shows what
+/// The capture of the deliveries reads back as their records. So a listener that reads the capture's bytes shows what
 /// is shown of the records.
 pub fn capture_is_heard()
     ensures records { (packets : ℕ) → packets ≤ 1000000 → whole_records (soak_capture packets) ≡ soak_records packets }
@@ -18,7 +18,7 @@ pub fn capture_is_heard()
     ensures shown { (packets : ℕ) → packets ≤ 1000000 → (heard_of soak_listener (soak_capture packets)).shown ≡ soak_shown packets }
 {}
 
-/// The deliveries meet the whole premise of the headline: no copy is late enough to be taken for another packet.
+/// The deliveries meet the whole premise of the headline: no copy is so late that it could be taken for another packet.
 pub fn deliveries_are_heard()
     ensures { (packets : ℕ) → packets ≤ 1000000 → HearsTalker (pos 0) (soak_stream packets).journal soak_listener (soak_records packets) }
 {
@@ -32,7 +32,7 @@ pub fn deliveries_keep_headline()
     packet_again();
 }
 
-/// Each delivery is shown once, and only for the reasons that are counted, so the counts add up.
+/// Each delivery is shown once: it is presented, or flagged for one of the counted reasons. So the counts add up.
 pub fn counts_add_up()
     ensures { (packets : ℕ) → packets ≤ 1000000 → total (soak_counts packets) ≡ (soak_counts packets).delivered }
 {

@@ -21,7 +21,7 @@ use std::alloc::Global;
 use std::thread::Threads;
 use talker::{TalkFault, Talker};
 
-/// The most items that wait between the thread that hears the stream and the one that counts.
+/// The most items that wait between the thread that hears the stream and the thread that counts.
 const RING: u32 = 64;
 
 /// What becomes of deliveries of a talker's packets: one thread hears them, and another counts what is shown.
@@ -70,12 +70,13 @@ fn want_of_memory(_fault: TalkFault) -> NoMemory
     NoMemory
 }
 
-/// Sends `packets` packets over a bad network, at most 1,000,000, has a listener hear what arrives, and returns what
-/// became of it. `NoMemory` if memory cannot be allocated.
+/// Sends `packets` packets over a bad network, has a listener hear what arrives, and returns what became of it.
+/// `packets` is at most 1,000,000. `NoMemory` if memory cannot be allocated.
 ///
-/// The stream is sparse PCM of two channels at 48 kHz, with six sample frames in a packet. One packet in 16 is lost and
-/// one comes twice, and each copy comes up to 2.52 ms late. The listener looks 32 items ahead, and hears the deliveries
-/// in the order in which they arrive, as the records of a capture. Each delivery has one outcome, so the counts add up.
+/// The stream is sparse PCM of two channels at 48 kHz, with six sample frames in a packet. One packet in 16 is lost,
+/// one in 16 arrives twice, and each copy arrives up to 2.52 ms late. The listener looks 32 items ahead, and hears the
+/// deliveries in the order in which they arrive, as the records of a capture. Each delivery has one outcome, so the
+/// counts add up.
 ///
 /// One thread talks and hears, and another counts what is shown, with a ring between them. The counts do not depend on
 /// how the threads interleave.

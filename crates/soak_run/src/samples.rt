@@ -7,7 +7,7 @@ use crate::deliveries::SOAK_PLAN;
 use avtp_base::NoMemory;
 use std::alloc::Global;
 
-/// Puts a sample frame after the others: two samples of 16 bits, one rising and one falling.
+/// Appends sample frame `number`: two samples of 16 bits, one rising and one falling with `number`.
 fn put_sample_frame(samples: &mut Vec<u8>, number: u32) -> Result<(), NoMemory>
     ensures { OnOk result (samples.new.items ≡ samples.old.items ++ sample_frame number) }
 {
@@ -17,7 +17,7 @@ fn put_sample_frame(samples: &mut Vec<u8>, number: u32) -> Result<(), NoMemory>
     Ok(())
 }
 
-/// The samples of this many packets.
+/// The samples of the first `packets` packets.
 #[tactic(auto, unfolding(crate::specs::Captured::soak_input))]
 pub(crate) fn soak_input(alloc: Global, packets: u32) -> Result<Vec<u8>, NoMemory>
     requires { packets ≤ 1000000 }

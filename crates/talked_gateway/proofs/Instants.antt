@@ -109,7 +109,7 @@ first_apart plan n m p less =
     (nominal_offset plan.rate (n * plan.count + (plan.count - 1)))
     first.from second.to jumps step.from one.from more (some_offset plan.rate some range.most)
 
--- each packet of an input that a talker takes ends before 4,100,000,000 seconds, or then
+-- no packet of an input that a talker takes ends after 4,100,000,000 seconds
 pub ends_early : (plan : TalkPlan) (n : ℕ) → IsAudioPlan plan → n * plan.count ≤ 268435456 → first_instant plan n + nominal_offset plan.rate (plan.count - 1) ≤ 4100000000000000000
 unfolding nominal_instant
 ends_early plan n p events =

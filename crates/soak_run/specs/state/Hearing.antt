@@ -1,5 +1,5 @@
--- Kept for proofs: what the code's own parts hold and do. No clause of a public call rests on it. Deliveries that a listener
--- hears one by one, and how far it has come.
+-- Kept for proofs: what the code's own parts hold and do. No clause of a public call rests on it. A listener that hears
+-- deliveries one by one, and how far it has come.
 use Rattle.std.specs.Prelude.{◌≡◌, ◌<◌, ℕ, ◌+◌, ◌-◌, ◌^◌, ℤ, Bool, true, false, List, [], ◌∷◌, ◌++◌, length, map, take, Option, Some, None, Result, OnOk, OnErr}
 use Rattle.avtp_base.specs.declared.failed.NoMemory.{NoMemory as WantOfMemory}
 use Rattle.time_unfold.specs.Time.{IsArrival}
@@ -17,14 +17,14 @@ use Rattle.soak_run.specs.Captured.{captured}
 
 -- ---- stages
 
--- no delivery follows
+-- whether no delivery follows at this stage
 abbrev pub closed_at : Stage → Bool
 closed_at Giving = false
 closed_at Showing = true
 closed_at Ended = true
 closed_at NoMemory = false
 
--- the answer with which the hearing ended, if it ended
+-- the answer with which the hearing ended; none if it has not ended
 abbrev pub pull_at : Stage → Option Pull
 pull_at Giving = None
 pull_at Showing = None
@@ -43,17 +43,17 @@ pub record IsDeliverable (talker : Talking) (delivery : ℤ × ℕ) : Type 0 whe
   pub known : delivery.1 < length (stream_frames talker.plan talker.input)
   pub time : IsArrival delivery.0
 
--- the first `n` deliveries as records
+-- the first `given` deliveries as records
 abbrev pub records_of : Talking → List (ℤ × ℕ) → ℕ → List Record
 records_of talker deliveries given = map (captured (stream_of talker.plan talker.input)) (take given deliveries)
 
--- a listener can be given a record
+-- a record can be given to the listener
 pub record IsReady (listener : ListenState) : Type 0 where
   pub opened : is_closed listener ≡ false
   pub idle : IsIdle listener
   pub few : listener.counts.frames < 2 ^ 62
 
--- It was given this record, or there was no memory for it.
+-- The listener was given record `taken`, or there was no memory for it.
 pub record Takes (taken : Record) (old new : ListenState) (result : Result Unit WantOfMemory) : Type 0 where
   pub stands : OnOk result ((records : List Record) (given : ℕ) → StandsFor records given old → StandsFor (records ++ taken ∷ []) given new)
   pub same : OnErr result (new ≡ old)

@@ -1,4 +1,4 @@
--- This many copies of the packet were delivered.
+-- `counter` copies of the packet were delivered.
 use Rattle.std.proofs.Common.{◌≡◌, ℕ}
 use Rattle.soak_run.specs.Noise.{state_after}
 use Rattle.soak_run.specs.Soak.{draws_before}

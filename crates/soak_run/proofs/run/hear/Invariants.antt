@@ -1,4 +1,4 @@
--- What was shown so far was counted, except for what waits in the pipe.
+-- The items shown so far were counted, except for those that wait in the pipe.
 use Rattle.std.proofs.Common.{length}
 use Rattle.presenter_ring.specs.Pipes.{work}
 use Rattle.soak_run.proofs.RoundLemmas.{HasCounted, left}

@@ -1,4 +1,4 @@
--- What was shown so far continues from what was shown when the call began.
+-- In the loop no item is shown: the items shown are those from before the call.
 use Rattle.std.proofs.Common.{◌≡◌, ◌≤◌, List, None}
 use Rattle.sample_schedule.specs.declared.shown.Shown.{Shown}
 use Rattle.soak_run.specs.declared.hearing.Hearing.{Hearing}
