@@ -5,7 +5,7 @@ ghost use Rattle.std.specs.Prelude.{◌≤◌, ◌<◌};
 use avtp_base::NoMemory;
 use std::alloc::Global;
 
-/// The stream of all captures.
+/// The stream ID in all captures.
 pub const STREAM: u64 = 0x0200_0000_0001_0001;
 
 const SECOND: u64 = 1_000_000_000;
@@ -30,7 +30,8 @@ struct Source {
     start: u64,
     /// The block count of the first data block.
     dbc: u64,
-    /// The number of packets after which the stream restarts, or 0; and how far presentation times jump then, in nanoseconds.
+    /// After how many packets the stream restarts, or 0 for never; and how far presentation times jump at each restart,
+    /// in nanoseconds.
     restart: u64,
     jump: u64,
     /// How long before its first instant a packet is captured, in nanoseconds.
@@ -120,7 +121,7 @@ fn source_of(words: &str) -> Source {
     source
 }
 
-/// The time of this many samples, in whole nanoseconds.
+/// The duration of this many samples, in whole nanoseconds.
 fn span(samples: u64, rate: u64) -> u64 {
     samples.saturating_mul(SECOND) / rate.max(1)
 }
@@ -150,7 +151,7 @@ fn codes_of(rate: u64) -> (u8, u8) {
     }
 }
 
-/// When a packet's first sample is presented; its timestamp, if it has one; and its restart bit.
+/// When a packet's first sample is presented; the packet's timestamp, if it has one; and its restart bit.
 #[derive(Clone, Copy)]
 struct Times {
     first: u64,
@@ -194,7 +195,7 @@ fn block_of(source: &Source, n: u64) -> u64
     source.dbc.saturating_add(n.saturating_mul(source.count)) % 256
 }
 
-/// Adds the values of packet `n`, each different from the one before it. AM824 has labels.
+/// Adds the values of packet `n`. Each value differs from the value before it. In AM824, values have labels.
 fn add_samples(bytes: &mut Vec<u8>, source: &Source, n: u64) -> Result<(), NoMemory> {
     let values = source.count.saturating_mul(source.channels).min(1_000);
     for k in 0..values {
@@ -230,7 +231,7 @@ fn add_header(bytes: &mut Vec<u8>, source: &Source, n: u64, times: &Times) -> Re
     Ok(())
 }
 
-/// The low 16 bits of a number, in the order of the network.
+/// The low 16 bits of a number, in network byte order.
 fn two_bytes(number: u64) -> [u8; 2] {
     ((number % (1 << 16)) as u16).to_be_bytes()
 }
@@ -256,7 +257,7 @@ fn frame_of(alloc: Global, source: &Source, n: u64) -> Result<Vec<u8>, NoMemory>
     Ok(bytes)
 }
 
-/// Whether a row's words say that packet `n` is lost: `lost=3`.
+/// Whether a row's words say that packet `n` is lost, as `lost=3` does for packet 3.
 fn is_lost(words: &str, n: u64) -> bool {
     for word in words.split_ascii_whitespace() {
         if let Some(("lost", place)) = word.split_once('=')

@@ -7,7 +7,7 @@ use sequence_track::{Findings, Seen, Tracker};
 use std::alloc::Global;
 use std::test::Fail;
 
-/// What `check` finds in a packet without findings.
+/// What `check` returns for a packet in which it finds nothing.
 pub const NOTHING: Findings = Findings {
     reserved: false,
     step: None,

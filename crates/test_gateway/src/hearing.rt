@@ -47,7 +47,7 @@ fn add_samples(
     Ok(())
 }
 
-/// The samples that are presented of records, whose values may have labels.
+/// The samples that a listener presents of records. The records' values may have labels.
 pub fn samples_of(
     alloc: Global,
     records: &[Recorded],
@@ -64,7 +64,7 @@ pub fn samples_of(
     Ok(samples)
 }
 
-/// The instants and counts of the batches that are presented: `1002000000*6 1002125000*6`.
+/// The instants and counts of the batches that a listener presents, as in `1002000000*6 1002125000*6`.
 pub fn batches_text(alloc: Global, records: &[Recorded]) -> Result<String, Fail> {
     let heard = heard(alloc, records, 0)?;
     let mut text = String::new(alloc);

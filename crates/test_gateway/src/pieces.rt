@@ -12,9 +12,9 @@ use std::alloc::Global;
 use std::test::Fail;
 use vectors_avtp::row_of;
 
-/// Streams that are converted to AM824: the number of batches and packets with what is skipped, and the instants and counts of
-/// the packets. The first rows have batches that touch, overlap, and lie apart; in the next, packets arrive at the last
-/// nanosecond that a capture can state, and after it.
+/// Streams that are converted to AM824. After `=>` are the numbers of batches and packets, what is skipped, and the
+/// instants and counts of the packets. In the first rows, batches touch, overlap, or lie apart. In later rows, packets
+/// arrive at the last nanosecond that a capture can state, and after it.
 const TO_AM824: &str = "\
 packets=1 => 1 1: 1002000000*6
 packets=1, packets=1 start=1002104167 => 2 2: 1002000000*6 1002104167*6
@@ -32,8 +32,8 @@ packets=1 start=4294967295999000000 lead=9000000 count=246, packets=1 start=4294
 packets=0 => 0 0:
 ";
 
-/// Streams that are converted to PCM, with the same numbers, instants and counts. In the first row the timestamp of the first
-/// packet belongs to its fifth block, and the second packet is counted from there.
+/// Streams that are converted to PCM, in rows of the same form. In the first row, the timestamp of the first packet
+/// belongs to its fifth block, and the second packet is counted from that block.
 const TO_AAF: &str = "\
 am824 channels=1 packets=2 dbc=12 start=4999916666 | 1@30=2a05f200 => 2 4: 4999916666*1 4999937500*5 5000041666*1 5000062500*5
 am824 packets=1 => 1 1: 1002000000*6
@@ -66,7 +66,7 @@ fn batches_are_cut_where_they_leave_the_nominal_line(rt: HostRuntime) -> Result<
     Ok(())
 }
 
-/// Shapes other than the stream's: a rate and channels, or none.
+/// Shapes for the gateway: a rate and channels, or none. They may differ from the stream's shape.
 const SHAPES: &str = "\
 48000 2 | packets=2 => 2 2
 44100 2 | packets=1 => 1 6
@@ -114,8 +114,9 @@ fn batches_of_another_shape_are_skipped(rt: HostRuntime) -> Result<(), Fail> {
     Ok(())
 }
 
-/// A stream of PCM, the place of a frame that is made of it, and how that frame begins: from the packet on, without the stream
-/// id. The block count is raised to a multiple of the SYT interval if it is none, and wraps after 255.
+/// A stream of PCM, the index of a frame that is made of it, and how that frame begins: from the packet on, without the
+/// stream ID. A block count that is not a multiple of the SYT interval is raised to one. The block count wraps after
+/// 255.
 const FRAMES: &str = "\
 packets=1 | 0 => 1000000000 00810000 3bb94e80 0000000000385fa03f0200009002ffff
 packets=2 | 1 => 1000125000 00810100 3bbb36c8 0000000000385fa03f0200089002ffff
@@ -130,7 +131,7 @@ packets=2 channels=256 count=1 | 1 => 1000020833 00810100 3bb99fe1 0000000004085
 packets=1 start=1999999 | 0 => 0 00810000 001e847f 0000000000385fa03f0200009002ffff
 ";
 
-/// How a frame begins, without its stream id.
+/// How a frame begins, without its stream ID.
 fn start_of(alloc: Global, records: &[Recorded], place: usize) -> Result<String, Fail> {
     let record = records.get(place).ok_or("no such frame")?;
     let head = hex::encode(alloc, record.frame.get(18..22).unwrap_or(&[]))?;

@@ -1,4 +1,4 @@
-//! What a scan finds: each fault at the first packet and at a later one, and packets that only seem to have one.
+//! What a scan finds: each fault at the first packet and at a later packet, and packets that only seem to have a fault.
 
 use crate::captures::{Recorded, number, records_of};
 use crate::turning::scanned;
@@ -8,9 +8,10 @@ use std::alloc::Global;
 use std::test::Fail;
 use vectors_avtp::row_of;
 
-/// Streams, bytes of frames that are changed (`2@34=02` in the second frame), and what a scan for a gateway to AM824 finds: a
-/// fault and the number of its frame, or the shape. In a frame of PCM byte 18 is the subtype, 19 has `sv`, 21 `tu`, 29 ends the
-/// stream id, 34 is the format, 35 and 36 have the rate and the channels, 37 is the bit depth, and 38 and 39 are the length.
+/// Streams, bytes of frames that are changed, and what a scan for a gateway to AM824 finds: a fault and the number of
+/// its frame, or the shape. `2@34=02` sets byte 34 of the second frame to 2. In a frame of PCM, byte 18 is the subtype,
+/// byte 19 has `sv`, byte 21 has `tu`, byte 29 ends the stream ID, byte 34 is the format, bytes 35 and 36 have the rate
+/// and the channels, byte 37 is the bit depth, and bytes 38 and 39 are the length.
 const TO_AM824: &str = "\
 packets=3 | => 48000 2
 rate=192000 channels=256 count=1 | => 192000 256
@@ -49,8 +50,8 @@ count=8 | 2@34=02 2@36=03 => Format at 2
  | 2@19=80 2@35=40 => Rate at 2
 ";
 
-/// Streams, bytes of frames that are changed, and what a scan for a gateway to PCM finds. In a frame of AM824 byte 43 is DBS,
-/// 45 DBC, 47 FDF, and the first quadlet begins at 50.
+/// Streams, bytes of frames that are changed, and what a scan for a gateway to PCM finds. In a frame of AM824, byte 43
+/// is DBS, byte 45 is DBC, byte 47 is FDF, and the first quadlet begins at byte 50.
 const TO_AAF: &str = "\
 am824 | => 48000 2
 am824 rate=176400 channels=256 count=1 | => 176400 256

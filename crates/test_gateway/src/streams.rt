@@ -11,8 +11,8 @@ use std::process::Abort;
 use std::test::Fail;
 use vectors_avtp::row_of;
 
-/// A stream of PCM, how many batches a listener presents of it, and how many packets of AM824 these make. A packet of AM824 has
-/// at most 1,468 bytes of quadlets.
+/// A stream of PCM, the number of batches that a listener presents of it, and the number of AM824 packets that these
+/// batches make. A packet of AM824 has at most 1,468 bytes of quadlets.
 const PCM: &str = "\
 rate=32000 => 3 3
 rate=44100 => 3 3
@@ -55,8 +55,9 @@ rate=44100 start=0 packets=40 => 40 40
 start=4294967296000000000 => 3 3
 ";
 
-/// A stream of AM824, how many batches a listener presents of it, and how many packets of PCM these make. If the timestamp
-/// belongs to a later block, the samples before and after that block are not all on the nominal line of the first sample.
+/// A stream of AM824, the number of batches that a listener presents of it, and the number of PCM packets that these
+/// batches make. If the timestamp belongs to a later block, the samples before and after that block are not all on the
+/// nominal line of the first sample.
 const AM824: &str = "\
 am824 => 3 5
 am824 rate=32000 packets=5 => 5 5
@@ -84,7 +85,7 @@ am824 rate=44100 start=0 packets=9 => 9 19
 am824 rate=48000 count=8 packets=34 => 34 34
 ";
 
-/// Whether both records present the same values at the same instants.
+/// Whether a listener presents the same values at the same instants of both lists of records.
 fn sound_alike(
     alloc: Global,
     to: To,
@@ -108,9 +109,9 @@ fn are_same(a: &[Recorded], b: &[Recorded]) -> bool {
     true
 }
 
-/// Checks that a row's stream is converted to as many packets as the row says, that these present the same values at the same
-/// instants, and that `check` finds nothing in them. It checks this again for the way back, and that AM824 of a gateway,
-/// converted to PCM and back, is the same frames.
+/// Checks that a row's stream is converted to as many packets as the row says. These packets must present the same
+/// values at the same instants, and `check` must find nothing in them. Checks the same for the conversion back. AM824
+/// of a gateway that is converted to PCM and back must have the same frames.
 fn check_row(rt: &impl Abort, alloc: Global, to: To, line: &str) -> Result<(), Fail> {
     let (words, wanted) = row_of(line)?;
     let back = match to {

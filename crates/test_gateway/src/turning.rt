@@ -37,7 +37,7 @@ pub fn heard(alloc: Global, records: &[Recorded], look: u32) -> Result<Heard, Fa
     Ok(whole(alloc, &plan_of(look), &bytes)?)
 }
 
-/// The shape of the stream, or the first fault with the number of its record.
+/// The shape of the stream, or the first fault and the number of its record.
 pub fn scanned(to: To, records: &[Recorded]) -> Result<Option<Shape>, (ScanFault, usize)>
     ensures { IfOk result (λ shape. IfSome shape IsShape) }
 {
@@ -52,7 +52,7 @@ pub fn scanned(to: To, records: &[Recorded]) -> Result<Option<Shape>, (ScanFault
     Ok(scan.shape())
 }
 
-/// What a gateway made of a capture: its frames, and a line with the numbers of batches and frames and the skipped batches.
+/// What a gateway made of a capture: the records of its frames, the number of batches, and which batches were skipped.
 #[derive(Debug, Drop)]
 pub struct Turned {
     pub records: Vec<Recorded>,
@@ -89,7 +89,7 @@ fn record_of(alloc: Global, gateway: &Gateway, i: u32) -> Result<Recorded, Fail>
     })
 }
 
-/// Checks that the last piece is lent as it is written.
+/// Checks that the frame of piece `i` is the same when it is lent as when it is written.
 fn check_lent(alloc: Global, gateway: &mut Gateway, i: u32) -> Result<(), Fail>
     requires { i < length gateway.old.frames }
     ensures { gateway.new ≡ gateway.old }
@@ -102,7 +102,7 @@ fn check_lent(alloc: Global, gateway: &mut Gateway, i: u32) -> Result<(), Fail>
     Ok(())
 }
 
-/// Checks that the gateway gives the samples of a batch back.
+/// Checks that the gateway gives the bytes of the batch back.
 fn check_given_back(gateway: &mut Gateway, batch: &Batch) -> Result<(), Fail>
     ensures { gateway.new.given ≡ gateway.old.given }
 {
@@ -161,7 +161,7 @@ fn turn_all(
     Ok(())
 }
 
-/// What a gateway of this shape makes of what a listener presents of records.
+/// What a gateway of this shape makes of what a listener presents of these records.
 pub fn turn_as(
     alloc: Global,
     to: To,
@@ -182,7 +182,7 @@ pub fn turn_as(
     Ok(turned)
 }
 
-/// What a gateway makes of records that it scans first.
+/// What a gateway makes of these records after it has scanned them.
 pub fn turn_scanned(
     alloc: Global,
     to: To,

@@ -7,7 +7,8 @@ use std::collections::VecDeque;
 use std::test::Fail;
 use time_unfold::Line;
 
-/// The first instant of a batch, in nanoseconds; the time of `den` of its samples, in nanoseconds; and their number.
+/// The samples of a batch: the first instant, in nanoseconds; the duration of `den` samples, in nanoseconds; and the
+/// number of samples.
 #[derive(Clone, Copy)]
 struct Samples {
     first: u32,

@@ -18,7 +18,7 @@ pcap | pcap => matched 1 only 0 0 differ 0
 pcap | pcap 105=fb => 1 1 seq 0 Bytes { sample: 5 }, matched 1 only 0 0 differ 1
 pcap 70=3bb94e81 | pcap => 1 1 seq 0 At { sample: 0, a: 1002000001, b: 1002000000 }, matched 1 only 0 0 differ 1
 pcap | pcap len=24 => matched 0 only 1 0 differ 0
-// A side that is refused is compared up to there.
+// If a side is refused, it is compared up to the refusal.
 pcap | pcap len=105 => packet_bytes at 40 short, matched 0 only 1 0 differ 0
 pcap | pcap 105=fb 00 => ts_sec at 106 short, 1 1 seq 0 Bytes { sample: 5 }, matched 1 only 0 0 differ 1
 pcap 0=00 | pcap => magic at 0, matched 0 only 0 1 differ 0
@@ -65,7 +65,7 @@ fn has_ended(bounded: &Bounded, which: Which) -> bool
     }
 }
 
-/// Feeds a piece of the wanted side, and returns how many bytes were taken: all of them after a refusal.
+/// Feeds a piece of the wanted side, and returns how many bytes were taken. After a refusal, all bytes count as taken.
 fn feed(alloc: Global, bounded: &mut Bounded, which: Which, piece: &[u8]) -> Result<usize, Fail>
     requires { wanted_by bounded.old.pair ≡ Some which }
 {
@@ -80,7 +80,7 @@ fn feed(alloc: Global, bounded: &mut Bounded, which: Which, piece: &[u8]) -> Res
     }
 }
 
-/// Ends the wanted side, and returns its refusal.
+/// Ends the wanted side, and returns its refusal, if it has one.
 fn end(alloc: Global, bounded: &mut Bounded, which: Which) -> Result<String, Fail>
     requires { wanted_by bounded.old.pair ≡ Some which }
 {
@@ -98,8 +98,8 @@ fn end(alloc: Global, bounded: &mut Bounded, which: Which) -> Result<String, Fai
     }
 }
 
-/// Feeds at most this many of the bytes that are left of the wanted side, or ends it. Returns what is left, and the refusal at
-/// the end.
+/// Feeds at most `most` of the bytes that are left of the wanted side. If none are left, ends the side. Returns the
+/// bytes that are left then, and the refusal at the end.
 fn put<'a>(
     alloc: Global,
     bounded: &mut Bounded,

@@ -1,4 +1,5 @@
-//! Tests of the crates that compare two listeners: batches as they come, records of two captures, and their bytes.
+//! Tests of the crates that compare two listeners: batches one by one, records of two captures, and bytes of two
+//! captures.
 #![tactic(auto)]
 
 #[cfg(test)]

@@ -1,4 +1,4 @@
-//! Batches of two listeners, matched as they come.
+//! Batches of two listeners, matched one by one.
 
 ghost use Rattle.std.specs.Prelude.{◌≡◌, Some};
 ghost use Rattle.listener_pair.specs.Matching.{wanted};
@@ -12,7 +12,7 @@ use std::collections::VecDeque;
 use std::test::Fail;
 use vectors_avtp::row_of;
 
-/// The batches of A, those of B, and the differences and counts that the matching gives.
+/// The batches of A, the batches of B, and the differences and counts that the matching returns.
 const ROWS: &str = "\
  |  => matched 0 only 0 0 differ 0
 0@0 |  => matched 0 only 1 0 differ 0
@@ -20,34 +20,34 @@ const ROWS: &str = "\
 0@0 | 0@0 => matched 1 only 0 0 differ 0
 0@0 | 1@0 => matched 0 only 1 1 differ 0
 0@5 1@5 2@5 | 1@5 => matched 1 only 2 0 differ 0
-// 512 and 513 places apart.
+// The two batches are 512 and 513 positions apart.
 0@0 511x1@0 | 0@0 => matched 1 only 511 0 differ 0
 0@0 512x1@0 | 0@0 => matched 0 only 513 1 differ 0
 0@1 | 0@0 511x1@0 => 1 1 seq 0 At { sample: 0, a: 1, b: 0 }, matched 1 only 0 511 differ 1
 0@1 | 0@0 512x1@0 => matched 0 only 1 513 differ 0
-// Of these places those of paired batches count too.
+// Positions of paired batches count, too.
 0@0 255x1@0 | 255x1@0 0@0 => matched 256 only 0 0 differ 0
 0@0 256x1@0 | 256x1@0 0@0 => matched 256 only 1 1 differ 0
-// The reach, 64 times the time of A's six samples, and one nanosecond more.
+// The reach is 64 times the duration of A's six samples. One nanosecond more is too much.
 0@0 | 0@8000000 => 1 1 seq 0 At { sample: 0, a: 0, b: 8000000 }, matched 1 only 0 0 differ 1
 0@0 | 0@8000001 => matched 0 only 1 1 differ 0
 0@8000000 | 0@0 => 1 1 seq 0 At { sample: 0, a: 8000000, b: 0 }, matched 1 only 0 0 differ 1
 0@8000001 | 0@0 => matched 0 only 1 1 differ 0
-// The reach of three samples of A compared with six of B, and the other way round.
+// The reach of three samples of A compared with six of B, and of six samples of A compared with three of B.
 0@0*3 | 0@4000000 => 1 1 seq 0 Count { a: 3, b: 6 }, matched 1 only 0 0 differ 1
 0@0*3 | 0@4000001 => matched 0 only 1 1 differ 0
 0@4000001 | 0@0*3 => 1 1 seq 0 Count { a: 6, b: 3 }, matched 1 only 0 0 differ 1
-// The reach at A's rate, which is not a whole number of nanoseconds.
+// At A's rate, the reach is not a whole number of nanoseconds.
 0@0/44100 | 0@8707482 => 1 1 seq 0 At { sample: 0, a: 0, b: 8707482 }, matched 1 only 0 0 differ 1
 0@0/44100 | 0@8707483 => matched 0 only 1 1 differ 0
 0@8000001 | 0@0/44100 => matched 0 only 1 1 differ 0
-// The first one within reach, and each only once.
+// The first batch within reach is paired, and each batch is paired only once.
 0@0 0@1000 | 0@2000 => 1 1 seq 0 At { sample: 0, a: 0, b: 2000 }, matched 1 only 1 0 differ 1
 0@0 0@1000 | 0@2000 0@2500 => 1 1 seq 0 At { sample: 0, a: 0, b: 2000 }, 2 2 seq 0 At { sample: 0, a: 1000, b: 2500 }, matched 2 only 0 0 differ 2
 0@0 0@8000000 | 0@8000001 => 2 1 seq 0 At { sample: 0, a: 8000000, b: 8000001 }, matched 1 only 1 0 differ 1
 256x0@0 | 256x0@8000001 => matched 0 only 256 256 differ 0
 256x0@0 256x0@8000001 | 256x0@8000001 => matched 256 only 256 0 differ 0
-// At one instant A comes before B, so the differences are in the order of B's batches.
+// At the same instant, batches of A come before batches of B. So the differences are in the order of B's batches.
 0@0=010101010101 1@0=010101010101 | 1@0 0@0 => 2 1 seq 1 Bytes { sample: 0 }, 1 2 seq 0 Bytes { sample: 0 }, matched 2 only 0 0 differ 2
 // A unit compared with samples, and two units at the same instant and at different ones.
 0@5u=65 | 0@5 => matched 0 only 1 1 differ 0
@@ -55,7 +55,7 @@ const ROWS: &str = "\
 0@5u=65 | 0@5u=65 => matched 1 only 0 0 differ 0
 0@5u=65 | 0@5u=6501 => 1 1 seq 0 Bytes { sample: 0 }, matched 1 only 0 0 differ 1
 0@5u=65 | 0@6u=65 => matched 0 only 1 1 differ 0
-// The first sample that differs does so in its instant, and otherwise in its bytes.
+// The first sample that differs does so in its instant or, if not, in its bytes.
 0@0=000000000100 | 0@0=000000000000 => 1 1 seq 0 Bytes { sample: 4 }, matched 1 only 0 0 differ 1
 0@0=010000000000 | 0@1=000000000000 => 1 1 seq 0 At { sample: 0, a: 0, b: 1 }, matched 1 only 0 0 differ 1
 0@0 | 0@0/44100 => 1 1 seq 0 At { sample: 1, a: 20833, b: 22675 }, matched 1 only 0 0 differ 1

@@ -1,4 +1,4 @@
-//! Records of two captures, each given only as far as it is wanted.
+//! Records of two captures, each given only when it is wanted.
 
 ghost use Rattle.std.specs.Prelude.{◌≡◌, ◌+◌, ◌≤◌, ◌^◌, Some};
 ghost use Rattle.capture_pair.specs.Pairing.{wanted_by};
@@ -12,16 +12,17 @@ use std::collections::VecDeque;
 use std::test::Fail;
 use vectors_avtp::{bytes_of, row_of};
 
-/// The records of A and of B, each with the millisecond in which it was captured; then what happens in turn: `a` and `b` are
-/// records that were wanted, `-a` and `-b` are the ends, and differences are where they became known.
+/// The records of A and of B, each after the millisecond in which it was captured. After `=>` is what happens, in
+/// order: `a` and `b` are records that were wanted, `-a` and `-b` are ends of captures, and each difference is where it
+/// became known.
 const ROWS: &str = "\
 1000 frame | 1000 frame => a -a b -b matched 1 only 0 0 differ 0
 1000 frame | 1000 frame 65=fb => a -a b -b 1 1 seq 0 Bytes { sample: 5 }, matched 1 only 0 0 differ 1
 1000 frame | 1000 frame 20=01 => a -a b -b matched 0 only 1 1 differ 0
-// Another stream's packet, and a late one, which does not end its side.
+// A packet of another stream, and a late packet, which does not end its side.
 1000 frame 29=09 | 1000 frame => a -a b -b matched 0 only 0 1 differ 0
 1003 frame, 1010 frame 20=01 30=3c51e500 | 1010 frame 20=01 30=3c51e500 => a a -a b -b matched 1 only 0 0 differ 0
-// A packet is due once a later one comes, so the difference is known before the end of B.
+// A packet is due when a later packet arrives. So the difference is known before the end of B.
 1000 frame, 1010 frame 20=01 30=3c51e500 | 1000 frame 65=fb, 1010 frame 20=01 30=3c51e500 => a a b b -a 1 1 seq 0 Bytes { sample: 5 }, -b matched 2 only 0 0 differ 1
 ";
 
@@ -90,7 +91,7 @@ fn put(
     Ok("")
 }
 
-/// What happens in turn when two captures are compared.
+/// What happens, in order, when two captures are compared.
 fn compared(
     alloc: Global,
     mut a: VecDeque<Record>,

@@ -22,7 +22,7 @@ pub fn plan() -> ListenPlan
     }
 }
 
-/// A difference: the numbers of both frames, the sequence number, and the way.
+/// A difference as text: the numbers of both frames, the sequence number, and how the batches differ.
 pub fn difference_text(alloc: Global, difference: Difference) -> Result<String, AllocError> {
     let Difference {
         frame_a,
@@ -33,7 +33,7 @@ pub fn difference_text(alloc: Global, difference: Difference) -> Result<String, 
     format!(in alloc; "{frame_a} {frame_b} seq {seq} {way:?}, ")
 }
 
-/// The numbers of pairs, of batches of A and of B that are in no pair, and of pairs that differ.
+/// How many pairs there are, how many batches of A and of B are in no pair, and how many pairs differ.
 pub fn counts_text(alloc: Global, counts: PairCounts) -> Result<String, AllocError> {
     let PairCounts {
         matched,
