@@ -26,7 +26,7 @@ use Rattle.listener.specs.Laws.{presented_of}
 use Rattle.listener.proofs.Due.{due_first}
 use Rattle.listener.proofs.TrueList.{batches_are}
 
--- P holds for what can be presented of each item that is in time
+-- if an item is in time, P holds for what can be presented of it
 abbrev pub HoldsOfItems : SchedulePlan → List Entry → (Presented → Type 0) → Type 0
 HoldsOfItems plan es P = (i : ℕ) (item : Item) (batch : Presented) → slice_get es i ≡ Some (OfItem item) → timed clock_spot plan (prefix_of plan es i) item ≡ Ok batch → now_at es i ≤ℤ first_instant batch → P batch
 

@@ -9,7 +9,7 @@ use Rattle.am824_gateway.specs.declared.skip.Skip.{Skip}
 use Rattle.am824_gateway.specs.Packets.{frames_after, frames_with}
 use Rattle.am824_gateway.specs.Pieces.{Given, given_by, given_with, skip_by, unless}
 
--- the frames of one batch, if the gateway has given out `given` before
+-- The frames of one batch. `given` is what the gateway gave out before it.
 abbrev frames_of : To → Shape → ℕ → Given → Presented → List SentFrame
 frames_of to shape id given batch = unless (skip_by to shape given batch) (frames_with to shape id given batch) []
 

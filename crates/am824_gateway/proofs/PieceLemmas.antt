@@ -51,7 +51,7 @@ test_is rate first k j offset batch now start b e at place begun off = sym (e �
 
 -- ---- the pieces
 
--- the pieces from sample `first` on are one that begins there, and then the pieces from its end on
+-- the first of the pieces from sample `first` on begins with this sample; the other pieces begin after its last sample
 pub first_piece : (to : To) (shape : Shape) (batch : Presented) (most first block : ℕ) → 1 ≤ most → first < batch.count
     → pieces_from to shape batch most first block
     ≡ record { first = first; count = piece_count to shape batch first; block = block }

@@ -274,7 +274,7 @@ unit_time plan prefix (OfPacket p) batch rate e =
     let some = is.some in
     record { some = rw same some; rise = λ j h. slow_rises batch (rw same (is.slow)) j }
 
--- if an item is in time, the instants of what can be presented of it rise
+-- if an item is in time, what can be presented of it has rising instants
 pub rises : (plan : ListenPlan) (records : List Record) → HoldsOfItems (schedule_plan plan) (entries_in plan records) HasRisingInstants
 rises plan records i item batch there e early =
     let rate = rate_at (items_in plan records) i (OfItem item) (all_rated (deliveries_of plan records)) there in

@@ -17,7 +17,7 @@ drop_here xs ys n e = subst (λ (k : ℕ). drop k (xs ++ ys) ≡ ys) e (drop-app
 dropped : (m n k : ℕ) (xs : List ℕ) → n + m ≡ k → drop m (drop n xs) ≡ drop k xs
 dropped m n k xs e = drop-drop m n xs ∙ ap (λ (i : ℕ). drop i xs) e
 
--- ---- the first a values or quadlets, and the b after them
+-- ---- the first `a` elements and the `b` elements after them
 
 labels_both : (a b : ℕ) (v : List ℕ) → labelled (a + b) v ≡ labelled a v ++ labelled b (drop (3 * a) v)
 labels_both a zero v = (let same : a + 0 ≡ a = omega arith in rw same (sym (append-nil (labelled a v))))
@@ -65,8 +65,8 @@ back (suc n) v h =
 
 -- ---- part of a list with its labels added or removed
 
--- If labels are added to values and then removed from b quadlets after the first a, the result is the b values after
--- the first a.
+-- Add labels to values, and remove them from the `b` quadlets after the first `a` quadlets. The result is the `b`
+-- values after the first `a` values.
 pub labels_part : (a b d : ℕ) (v : List ℕ) → 3 * (a + b + d) ≤ length v → unlabelled b (take (4 * b) (drop (4 * a) (labelled (a + b + d) v))) ≡ take (3 * b) (drop (3 * a) v)
 labels_part a b d v h =
     let group : a + b + d ≡ a + (b + d) = omega arith in
@@ -77,7 +77,8 @@ labels_part a b d v h =
     let here = take_here (labelled b (drop (3 * a) v)) (labelled d (drop (3 * b) (drop (3 * a) v))) (4 * b) (length_labelled b (drop (3 * a) v) rest) in
     rw (group, whole, first, both, here) (back b (drop (3 * a) v) rest)
 
--- If labels are removed from quadlets, the b values after the first a are those of the b quadlets after the first a.
+-- Remove the labels of quadlets. The `b` values after the first `a` values are those of the `b` quadlets after the
+-- first `a` quadlets.
 pub values_part : (a b d : ℕ) (q : List ℕ) → 4 * (a + b + d) ≤ length q → take (3 * b) (drop (3 * a) (unlabelled (a + b + d) q)) ≡ unlabelled b (take (4 * b) (drop (4 * a) q))
 values_part a b d q h =
     let group : a + b + d ≡ a + (b + d) = omega arith in

@@ -22,8 +22,8 @@ abbrev pub cuts_from : ℕ → Presented → List Piece → List Cut
 cuts_from n batch [] = []
 cuts_from n batch (p ∷ pieces) = record { number = n; batch = batch; piece = p } ∷ cuts_from (suc n) batch pieces
 
--- The pieces of these batches of a stream of this shape, if the gateway has given out `given` before. A skipped batch
--- has no pieces.
+-- The pieces of these batches of a stream of this shape. `given` is what the gateway gave out before them. A skipped
+-- batch has no pieces.
 abbrev pub cuts_after : To → Shape → Given → List Presented → List Cut
 cuts_after to shape given [] = []
 cuts_after to shape given (batch ∷ batches) =
@@ -39,7 +39,7 @@ cut_frame to shape id c = piece_frame to shape id c.number c.batch c.piece
 abbrev pub cut_instant : Cut → ℤ
 cut_instant c = sample_instant c.batch c.piece.first
 
--- the batches that a gateway does not skip, if it has given out `given` before
+-- The batches that a gateway does not skip. `given` is what it gave out before them.
 abbrev pub given_batches : To → Shape → Given → List Presented → List Presented
 given_batches to shape given [] = []
 given_batches to shape given (batch ∷ batches) =

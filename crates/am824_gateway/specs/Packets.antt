@@ -111,14 +111,14 @@ abbrev pub frames_from : To → Shape → ℕ → ℕ → Presented → List Pie
 frames_from to shape id n batch [] = []
 frames_from to shape id n batch (p ∷ pieces) = piece_frame to shape id n batch p ∷ frames_from to shape id (suc n) batch pieces
 
--- the frames of a batch that is not skipped, if the gateway has given out `given` before
+-- The frames of a batch that is not skipped. `given` is what the gateway gave out before it.
 abbrev pub frames_with : To → Shape → ℕ → Given → Presented → List SentFrame
 frames_with to shape id given batch = frames_from to shape id given.packets batch (pieces_of to shape batch given.block)
 
 -- ---- all batches
 
--- The frames of these batches of a stream of this shape, if the gateway has given out `given` before. A skipped batch
--- has no frames.
+-- The frames of these batches of a stream of this shape. `given` is what the gateway gave out before them. A skipped
+-- batch has no frames.
 abbrev pub frames_after : To → Shape → ℕ → Given → List Presented → List SentFrame
 frames_after to shape id given [] = []
 frames_after to shape id given (batch ∷ batches) =

@@ -107,7 +107,7 @@ pub record Given : Type 0 where
 abbrev pub nothing_given : Given
 nothing_given = record { batches = 0; packets = 0; block = 0; last = None }
 
--- each value that has a label has that of linear audio of 24 bits
+-- each value that has a label has the label of linear audio of 24 bits
 abbrev pub has_labels : To → List ℕ → Bool
 has_labels Am824 bytes = true
 has_labels Aaf bytes = are_linear bytes
@@ -125,8 +125,8 @@ abbrev pub overlaps : Option ℤ → Presented → Bool
 overlaps None batch = false
 overlaps (Some last) batch = int_le (sample_instant batch 0) last
 
--- Why a batch of a stream of this shape is skipped, if the gateway has given out `given` before. `None` if it is not
--- skipped.
+-- Why a batch of a stream of this shape is skipped; `None` if it is not. `given` is what the gateway gave out before
+-- it.
 abbrev pub skip_by : To → Shape → Given → Presented → Option Skip
 skip_by to shape given batch =
     if not (has_shape to shape batch) then Some ShapeOff

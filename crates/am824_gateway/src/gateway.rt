@@ -108,7 +108,7 @@ impl Current {
     }
 }
 
-/// Whether each value has the label of linear audio of 24 bits, if it has a label.
+/// Whether each value that has a label has the label of linear audio of 24 bits.
 fn has_labels(to: To, bytes: &[u8]) -> bool
     ensures { result ≡ has_labels_by to bytes.now }
 {

@@ -162,7 +162,7 @@ fn write_frame(out: &mut [u8], to: To, shape: Shape, id: u64)
     write_packet(&mut out[ETHERNET_HEADER..], to, shape, id);
 }
 
-/// The headers of a frame without samples, with zeros after those of PCM.
+/// The headers of a frame without samples. The headers of PCM are shorter, and zeros follow them.
 pub(crate) fn first_headers(to: To, shape: Shape, id: u64) -> [u8; AM824_HEADERS]
     requires { IsShape shape }
     ensures { HasHeaders to shape id result }

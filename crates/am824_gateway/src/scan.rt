@@ -113,9 +113,10 @@ impl Scan {
         }
     }
 
-    /// Looks at the next record of a capture, given its bytes. Of packets with samples, it looks only at those of the
-    /// stream that their reader accepts and whose rate is known, because other packets are never presented. Each packet
-    /// of H.264 of the stream is a fault, even a malformed one. After a fault the scan promises nothing.
+    /// Looks at the next record of a capture, given its bytes. Only packets of the stream are tested. A packet of audio
+    /// is tested only if its reader accepts it, it has samples, and their rate is known, because other packets of audio
+    /// are never presented. Each packet of H.264 is a fault, even a malformed one. After a fault the scan promises
+    /// nothing.
     ///
     /// The fault is the first of these that holds: `Kind`, `Format`, `Rate`, `Channels`, `Label`.
     pub fn note(&mut self, bytes: &[u8]) -> Result<(), ScanFault>

@@ -95,8 +95,7 @@ put-sorted a (y ∷ ys) s h = at (int_lt (first_instant y.batch) (first_instant 
         let le = le-of (first_instant y.batch) (first_instant a) e in
         ((record { instants = le; sides = λ p q. absurd (cc) }, all-weaker (MayPrecede y) (MayPrecede (of_side A a)) (λ z m. record { instants = le-le (first_instant a) (first_instant y.batch) (first_instant z.batch) le m.instants; sides = λ p q. absurd (cc) }) ys s.0), s)
 
--- if no batch of A in a list begins before `a`, the list's batches of A are `a` and the earlier ones after `a` is put
--- into it
+-- if no batch of A in a list begins before `a`, putting `a` into the list puts it before the list's other batches of A
 put-a : (a : Presented) (l : List Sided) → NoneBefore a l → batches_of A (put_before (of_side A a) l) ≡ a ∷ batches_of A l
 put-a a [] h = refl
 put-a a (y ∷ ys) h = at y.side y.batch h (int_lt (first_instant y.batch) (first_instant a)) refl (put-a a ys (none-tail a y ys h))
@@ -314,8 +313,8 @@ unsettled-b ea eb (x ∷ l) h =
 
 -- ---- what a matching was given, and what its sides present
 
--- A presents `xs` and then `more_a`, and B presents `ys` and then `more_b`, each in order. A side that has ended in the
--- matching has ended, and presents no more batches.
+-- A presents `xs` and then `more_a`, and B presents `ys` and then `more_b`, each in order. If a side has ended in the
+-- matching, its listener has ended, too, and the side presents no more batches.
 pub record GoesOn (xs ys more_a more_b : List Presented) (over_a over_b : Bool) (m : MatchingState) : Type 0 where
   pub order_a : IsInOrder (xs ++ more_a)
   pub order_b : IsInOrder (ys ++ more_b)
@@ -383,7 +382,7 @@ merged-all xs ys more_a more_b given over_a over_b m s g =
     ap (λ (l : List Presented). merged l (ys ++ more_b)) a ∙ ap (merged (batches_of A s.done ++ rest_of m.next_a more_a)) b
     ∙ merged-after s.done (rest_of m.next_a more_a) (rest_of m.next_b more_b) sorted (order-back (batches_of A s.done) (rest_of m.next_a more_a) oa) (order-back (batches_of B s.done) (rest_of m.next_b more_b) ob) ca cb
 
--- a side is settled by the batches that are not done yet, or `done` ends with a batch of it
+-- side `s` is settled by the batches that are not done yet, or `done` ends with a batch of side `s`
 covers-at : (s : Which) (done rest : List Sided) (ended over : Bool) (next : Option Presented) (more : List Presented) (lack : Bool) → lacks ended next ≡ lack → (ended ≡ true → over ≡ true) → (lacks ended next ≡ true → EndsOn s done) → batches_of s rest ≡ rest_of next more → Covered over s done rest
 covers-at s done rest true over next more lack l is ends e = inl (ap (λ v. v || list_any (λ y. is_side s y.side) rest) (is refl))
 covers-at s done rest false over None more lack l is ends e = inr (ends refl)
@@ -437,7 +436,7 @@ idle-ended m none idle = at (wanted-at (lacks m.ended_a m.next_a) (lacks m.ended
     at (inr (inl w)) = let e : Some B ≡ None = sym w ∙ none in absurd (cc)
     at (inr (inr (la, lb))) = let t = through-at m.ended_a m.ended_b m.next_a m.next_b la lb idle in (t.2, t.3)
 
--- if the matching is idle, no batch is known of those that are not done yet
+-- if the matching is idle, none of the batches that are not done yet is known
 rest-idle : (ra rb : List Presented) (more_a more_b : List Presented) (over_a over_b : Bool) (m : MatchingState) → ra ≡ rest_of m.next_a more_a → rb ≡ rest_of m.next_b more_b → IsInOrder ra → IsInOrder rb → IsIdle m
     → (m.ended_a ≡ true → more_a ≡ []) → (m.ended_b ≡ true → more_b ≡ []) → IsAsked more_a more_b over_a over_b m
     → (wanted m ≡ Some A) ⊎ ((wanted m ≡ Some B) ⊎ ((lacks m.ended_a m.next_a ≡ false) × (lacks m.ended_b m.next_b ≡ false))) → known over_a over_b (merged ra rb) ≡ []
