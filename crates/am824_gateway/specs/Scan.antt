@@ -57,7 +57,7 @@ pub record Row : Type 0 where
 abbrev pub row : ScanFault → Bool → Row
 row fault holds = record { fault = fault; holds = holds }
 
--- the first fault of the list that the packet has
+-- the fault of the first row that holds
 abbrev pub first_of : List Row → Option ScanFault
 first_of [] = None
 first_of (r ∷ rows) = if r.holds then Some r.fault else first_of rows
@@ -74,9 +74,9 @@ abbrev pub other_rate : Shape → ℕ → Bool
 other_rate first rate = is_none (fdf_of rate) || not (rate == first.rate)
 
 -- The faults of a packet of samples, in the order in which they are tested. `Kind`: the packet has the wanted format
--- already. `Format`: its samples do not have 24 bits, all used. `Rate`: IEC 61883-6 does not have its rate, or the rate
--- differs from that of the first packet. `Channels`: a data block cannot have its number of channels, or the number
--- differs from that of the first packet. `Label`: a quadlet is not linear audio of 24 bits.
+-- already. `Format`: PCM samples do not have 24 bits, or not all bits of them are used. `Rate`: IEC 61883-6 does not
+-- have the rate, or the rate differs from that of the first packet. `Channels`: a data block cannot have this number of
+-- channels, or the number differs from that of the first packet. `Label`: a quadlet is not linear audio of 24 bits.
 abbrev pub fault_rows : To → Shape → Samples → List Row
 fault_rows to first s =
     row Kind (same_format s.format to) ∷

@@ -54,7 +54,7 @@ pub record IsNotedAs (bytes : List ℕ) (seen : Seen) : Type 0 where
   pub reserved : has_reserved (packet_of (packet_in bytes)) ≡ seen.reserved
   pub stamp : stamp_is_off (packet_of (packet_in bytes)) ≡ seen.stamp_wrong
 
--- for each of these records, `check` makes a note and finds nothing, if it has made `notes` before
+-- If `check` has made `notes` before, it makes a note about each of these records, and finds nothing.
 abbrev pub FindsNothingAfter : List Seen → List Record → Type 0
 FindsNothingAfter notes [] = ⊤
 FindsNothingAfter notes (r ∷ records) =

@@ -138,8 +138,7 @@ none-below k lo hi (y ∷ u) h lt =
 abbrev Paired-at : ℕ → List Paired → ℕ
 Paired-at k ps = length (filter (is_in k) ps)
 
--- Below `place`, the batch at position k is in as many further pairs as it occurs in `u`, or in fewer. From `place` on,
--- it is in one further pair or in none.
+-- If k is below `place`, `times` is at most the number of batches of `u` at position k. Otherwise `times` is at most 1.
 abbrev Bound : ℕ → ℕ → List Placed → ℕ → Type 0
 Bound k place u times = (k < place → times ≤ length (filter (at k) u)) × (place ≤ k → times ≤ 1)
 

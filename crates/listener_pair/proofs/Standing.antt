@@ -255,8 +255,8 @@ window-more done s r b then e =
     e ∙ ap (λ n. window r n (unpaired_with (at_place (length done) (of_side s b)) (unpaired done))) (sym (more-done done (of_side s b)))
     ∙ ap (window r (length (done ++ of_side s b ∷ []))) (sym (unpaired-next done (of_side s b)))
 
--- After a batch was worked through, the matching was given the same lists as before. If the batch made a pair that
--- differs, one more difference was returned.
+-- The matching has worked through one more batch of the same lists. If the batch made a pair that differs, one more
+-- difference was returned.
 pub record Advances (xs ys : List Presented) (given : ℕ) (old new : MatchingState) (difference : Option Difference) : Type 0 where
   pub stands : StandsFor xs ys (given + length (option_to_list difference)) new
   pub first : IfSome difference (λ d. slice_get (differences (known_of new xs ys)) given ≡ Some d)

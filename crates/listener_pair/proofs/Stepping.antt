@@ -69,7 +69,7 @@ comes s old new entered place counts side same enters tells is_place is_counts =
     subst (λ (o : Option Presented). IfSome o (λ batch. EntersSide s (placed old.place s batch) (risen old.place) old new (made_on s (placed old.place s batch) old))) h.1 enters in
     record { batch = h.0; next = h.1; pair = pair; steps = stepped s h.0 old new place counts pair same on is_place (is_counts pair told); tells = told.difference }
 
--- after the step, the matching was given the same lists, and has returned one more difference if d is one
+-- after the step, the matching was given the same lists, and has returned one more difference if `d` is a difference
 pub step-stands : (s : Which) (b : Presented) (old new : MatchingState) (pair : Option Paired) (d : Option Difference) → next_side old ≡ Some s → next_of s old ≡ Some b → Steps s b old new pair → d ≡ difference_by_pair pair
     → (xs ys : List Presented) (given : ℕ) → StandsFor xs ys given old → StandsFor xs ys (given + length (option_to_list d)) new
 step-stands s b old new pair d side is t e xs ys given h =

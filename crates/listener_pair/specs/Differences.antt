@@ -12,7 +12,8 @@ use Rattle.listener_pair.specs.Merged.{Sided, is_side}
 use Rattle.listener_pair.specs.Pairs.{Paired, pairs, unpaired}
 use Rattle.listener_pair.specs.Ways.{way_of}
 
--- `way`, in which a batch of A and a batch of B differ, with the numbers of their frames and their sequence number
+-- the difference of a batch of A and a batch of B that differ in this way: the numbers of their frames, their sequence
+-- number, and the way
 abbrev pub differ_in : Presented → Presented → Way → Difference
 differ_in a b way = record { frame_a = a.frame; frame_b = b.frame; seq = a.seq; way = way }
 

@@ -10,8 +10,8 @@ use Rattle.listener_pair.specs.Merged.{Sided, is_side}
 
 -- ---- what may be a pair
 
--- The first instants of a batch of A and a batch of B differ by at most 64 times the duration of A's batch, which A's
--- line gives.
+-- The first instants of a batch of A and a batch of B differ by at most 64 times the duration of A's batch. A's line
+-- gives this duration.
 abbrev pub are_near : Presented → Presented → Bool
 are_near a b = nat_le (unsigned_abs (first_instant a -ℤ first_instant b) * a.line.den) (64 * a.count * a.line.num)
 

@@ -44,7 +44,7 @@ impl Timed {
         &self.batch
     }
 
-    /// The memory of the samples.
+    /// Returns the bytes of the batch, with their memory.
     pub fn into_samples(self) -> Bytes
         ensures { result ≡ self.bytes }
     {

@@ -357,7 +357,7 @@ told-from : (l : List Presented) (a : Presented) (after : List Presented) → Ar
 told-from [] a after h = h.0
 told-from (v ∷ l) a after h = told-from l a after h.1
 
--- No batch of `before` and of `after` is packet n.
+-- No batch of `before` or `after` is packet n.
 record Others (by : Bool) (p : PacketJournal) (n : ℕ) (before after : List Presented) : Type 0 where
   before_all : AllByRecursion (IsElse by p n) before
   after_all : AllByRecursion (IsElse by p n) after

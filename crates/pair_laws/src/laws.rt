@@ -61,9 +61,9 @@ pub fn what_was_given_stays()
         → take given (differences (known_by new (records ++ more) (others ++ more_others))) ≡ take given (differences (known_by old records others)) }
 {}
 
-/// What is known while a pair wants more of one capture, for example because that capture cannot be read on. It is what
-/// is due of that capture's records so far, merged with all that is shown of the other capture, however far the other
-/// capture is read. After both are closed, all that both show is known.
+/// A pair may want more of one capture, for example because that capture cannot be read on. What is known then is the
+/// known part of what is due of that capture's records so far, and of all that is shown of the other capture, however
+/// far the other capture is read. After both are closed, all that both show is known.
 pub fn what_a_fault_leaves_is_known()
     ensures a { (plan : ListenPlan) (records others more : List Record) (given : ℕ) (pair : PairState) → StandsFor records others given pair → HavePlan plan pair → EndsAreClosed pair → wanted_by pair ≡ Some A → is_closed pair.a ≡ false → (is_closed pair.b ≡ true → more ≡ [])
         → known_by pair records others ≡ known false true (merged (presented_of (due_of plan records)) (presented_of (shown_of plan (others ++ more)))) }

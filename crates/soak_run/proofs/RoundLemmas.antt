@@ -59,7 +59,7 @@ counted_none d begun pipe counts giving shown empty live none is = record {
   room = let few = begun.few in omega (arith, none, few);
 }
 
--- if a receiver and its pipe had ended in the same way before a round, they have after it
+-- if a receiver and its pipe agree before a round on how they ended, they agree after it
 ends_on : (h h' : Hearing) (a b : Pipe) → ended_with a ≡ ended h → EndsWith ended h h' a b → ended_with b ≡ ended h'
 ends_on h h' a b is with =
     elim (ended_with a) as (λ (e : Option Pull). ended_with a ≡ e → ended_with b ≡ ended h') [

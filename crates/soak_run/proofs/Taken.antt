@@ -47,7 +47,7 @@ all_deliverable packets input talker ds few input_is talker_is ds_is =
     (All-weaker (IsCopy packets) (IsDeliverable (soak_talker (soak_input packets))) (λ d. one_deliverable packets d few) (deliveries_of packets)
     (All-from_recursion (IsCopy packets) (deliveries_of packets) (are_copies packets))))
 
--- what is counted of all deliveries are the counts of `soak_counts`
+-- the counts of all deliveries are `soak_counts`
 pub counted_all : (packets : ℕ) (input : List ℕ) (talker : Talking) (ds : List (ℤ × ℕ)) (counts : SoakCounts) → input ≡ soak_input packets → talker ≡ soak_talker input → ds ≡ deliveries_of packets
     → counts ≡ outcomes (length ds) (shown_of soak_listener (map (captured (stream_of talker.plan talker.input)) ds)) → counts ≡ soak_counts packets
 unfolding soak_counts soak_records soak_stream

@@ -53,7 +53,7 @@ copy_of seed n k = (pos (arrival_of soak_plan n + delay_by (draw_after seed (dra
 abbrev pub copies : ℕ → ℕ → List (ℤ × ℕ)
 copies seed n = map (copy_of seed n) (range_with_len 0 (copies_of seed n))
 
--- the copies of the first n packets, one packet after another
+-- the copies of the first `packets` packets, one packet after another
 abbrev pub all_copies : ℕ → ℕ → List (ℤ × ℕ)
 all_copies seed packets = flat_map (copies seed) (range_with_len 0 packets)
 

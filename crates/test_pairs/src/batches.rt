@@ -25,7 +25,7 @@ fn byte(text: &str) -> u8 {
     text.parse::<u8>().unwrap_or(0)
 }
 
-/// The parts of a text before and after a sign. Without the sign, all of the text is before it, and `other` after it.
+/// The parts of a text before and after a sign. Without the sign, the parts are the whole text and `other`.
 fn split<'a>(text: &'a str, sign: char, other: &'a str) -> (&'a str, &'a str) {
     text.split_once(sign).unwrap_or((text, other))
 }

@@ -64,7 +64,7 @@ const ROWS: &str = "\
 0@0*1 | 0@0*1/44100 => matched 1 only 0 0 differ 0
 ";
 
-/// Gives the matching the next batch of the wanted side, or its end.
+/// Gives the matching the next batch of the wanted side, or the side's end.
 fn put(matching: &mut Matching, which: Which, next: Option<Batch>)
     requires { wanted matching.old ≡ Some which }
 {

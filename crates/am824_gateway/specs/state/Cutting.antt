@@ -11,7 +11,7 @@ use Rattle.am824_gateway.specs.declared.scan.Shape.{Shape}
 use Rattle.am824_gateway.specs.declared.scan.To.{To}
 use Rattle.am824_gateway.specs.Pieces.{block_after, going_on, is_late, is_nominal, most_frames, pieces_of}
 
--- A piece begins at this sample of a batch, at this rate, and a packet has at most `most` samples.
+-- A piece begins at this sample of a batch. The nominal rate is `rate`, and a packet has at most `most` sample frames.
 pub record BeginsPiece (rate most : ℕ) (batch : Presented) (i : Instant) : Type 0 where
   pub is : IsInstantOf i batch
   pub inside : i.j < batch.count

@@ -34,7 +34,8 @@ without_passed place (y ∷ ys) = if nat_le place (y.place + 512) then y ∷ ys 
 abbrev pub paired_with : Placed → Placed → Paired
 paired_with later earlier = record { earlier = earlier; later = later }
 
--- the pair that x makes with a batch of `other`, the batches that wait on the other side; none if it makes no pair
+-- The pair that x makes with a batch of `other`; none if it makes no pair. `other` are the batches that wait on the
+-- other side.
 abbrev pub made : Placed → List Placed → Option Paired
 made x other = option_map (paired_with x) (find (takes x) other)
 
