@@ -16,7 +16,7 @@ abbrev pub are_near : Presented → Presented → Bool
 are_near a b = nat_le (unsigned_abs (first_instant a -ℤ first_instant b) * a.line.den) (64 * a.count * a.line.num)
 
 -- A batch of A and a batch of B may present the same packet or unit. If neither batch is a unit of H.264, they are near
--- each other. If both are units, they are at the same instant.
+-- each other. If one is a unit, both are units and at the same instant.
 unfoldable pub within_reach : Presented → Presented → Bool
 within_reach a b =
     if is_unit a || is_unit b

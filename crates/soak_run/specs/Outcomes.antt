@@ -15,7 +15,7 @@ abbrev pub is_late : Shown → Bool
 is_late (Flag frame seq Late) = true
 is_late shown = false
 
--- an item is flagged as a repeat: its packet arrived before
+-- an item is flagged as a repeat: its packet was accepted before
 abbrev pub is_repeat : Shown → Bool
 is_repeat (Flag frame seq Repeat) = true
 is_repeat shown = false

@@ -37,9 +37,9 @@ pub fn nothing_talked_is_skipped()
     talked_keeps_headline();
 }
 
-/// Let a gateway convert a capture of an audio plan in which a scan finds no fault, under any stream ID. A listener
-/// without a clock, with a buffer of at least the default size, has room for all that the gateway makes. So the
-/// gateway's promises of what listeners present are true for this listener.
+/// Let a gateway convert what a listener without a clock presents of a capture of an audio plan, under any stream ID.
+/// Let a scan find no fault in that capture. Another listener without a clock, with a buffer of at least the default
+/// size, has room for all that the gateway makes. So the gateway's promises of what listeners present are true for it.
 pub fn default_listeners_hear_turned_captures()
     ensures { (to : ToValue) (plan : TalkPlan) (input places : List ℕ) (listen : ListenPlan) (id : ℕ) (hearing : ListenPlan) → ListensTo plan input listen → listen.clock ≡ None → first_fault to listen.stream (captured plan input places) ≡ None
         → id < 2 ^ 64 → HasDefaultRoom id hearing → Hears id hearing (map record_of (frames_made to listen id (captured plan input places))) }
