@@ -1,4 +1,4 @@
--- Where start codes and the ends of units are.
+-- Where start codes begin and where NAL units end.
 use Rattle.std.proofs.Common.{◌≡◌, ℕ, zero, suc, ◌+◌, ◌-◌, ◌<◌, ◌≤◌, true, false, inl, inr, List, [], ◌∷◌, length, take, drop, get_or, leb, Option, None, Some, refl, sym, ap, subst, ◌∙◌, arith}
 use Rattle.std.specs.Prelude.{filter, find, unwrap_or}
 use Rattle.std.specs.List.{cons_option, filter_map, last_or, range_with_len}
@@ -11,7 +11,7 @@ use Rattle.memchr.proofs.lemmas.MatchLemmas.{OccursAt-true, occurs_at-true}
 use Rattle.cvf_format.specs.AnnexB.{end_behind, is_end, is_other_byte, is_start_code, places, start_code, three_zeros, unit_behind, units_from}
 use Rattle.cvf_format.proofs.PlaceLemmas.{FirstPlace, NonePasses, filter_none, filter_skip, filter_there, first_place, find_none, find_skip, find_there}
 
--- ---- a needle in the rest of the bytes
+-- ---- a needle in a suffix of the bytes
 
 occurs_there : (hay needle : List ℕ) (from k : ℕ) → from ≤ length hay → OccursAt (drop from hay) needle k → OccursAt hay needle (from + k)
 occurs_there hay needle from k within o = record {
@@ -47,7 +47,7 @@ first_there hay needle from within (Some k) found = (
   occurs_there hay needle from k within found.1,
 )
 
--- a needle that is first found here in the slice that the code searches is first found there in all bytes
+-- if `needle` is first found at k in the bytes from `from` on, it is first found at `from` + k in all bytes
 pub found_there : (hay needle : List ℕ) (from : ℕ) → from ≤ length hay → (r s : Option ℕ) → r ≡ s
     → FindsNeedle (take (length hay - from) (drop from hay)) needle 0 r → IsFirst (OccursAt hay needle) from (length hay + 1) (option_map (λ k. from + k) s)
 found_there hay needle from within r s e found =
@@ -73,7 +73,6 @@ three_stand bytes at c two more third = record {
       three_read bytes at 0 0 c first (two.reads 1 (omega arith)) third;
 }
 
--- three bytes that begin with two zeros hold two zeros
 two_of_three : (bytes : List ℕ) (at c : ℕ) → OccursAt bytes (0 ∷ 0 ∷ c ∷ []) at → OccursAt bytes (0 ∷ 0 ∷ []) at
 two_of_three bytes at c o = record {
   fits = omega (arith, o.fits);
@@ -89,7 +88,7 @@ two_of_three bytes at c o = record {
     two_read bytes at p q (suc zero) lt = q
     two_read bytes at p q (suc (suc j)) lt = absurd (omega arith)
 
--- a unit ends at two zeros that are followed by a byte of at most 1
+-- a unit ends before two zero bytes if the byte after them is at most 1
 third_ends : (bytes : List ℕ) (at : ℕ) → OccursAt bytes (0 ∷ 0 ∷ []) at → at + 2 < length bytes → get_or bytes (at + 2) 0 ≤ 1 → is_end bytes at ≡ true
 third_ends bytes at two more few = ends_by (get_or bytes (at + 2) 0) refl few
   where
@@ -109,7 +108,7 @@ third_passes bytes at two many =
     not_there : (c : ℕ) → c ≤ 1 → OccursAt bytes (0 ∷ 0 ∷ c ∷ []) at → ⊥
     not_there c few o = let third : get_or bytes (at + 2) 0 ≡ c = o.reads 2 (omega arith) in let fits : at + 2 < length bytes = omega (arith, o.fits) in let more = many fits in absurd (omega arith)
 
--- no unit ends at a place without two zeros
+-- if two zero bytes do not begin at `at`, no unit ends there
 passes_without : (bytes : List ℕ) (at : ℕ) → ¬ OccursAt bytes (0 ∷ 0 ∷ []) at → is_end bytes at ≡ false
 passes_without bytes at none =
     or_from (occurs_at bytes start_code at) (occurs_at bytes three_zeros at)
@@ -139,7 +138,7 @@ end_none bytes at within none =
     let rest : NonePasses (is_end bytes) at (at + (length bytes - at)) = λ k low high. none k low (omega arith) in
     ap (λ (o : Option ℕ). unwrap_or o (length bytes)) (find_none (is_end bytes) (length bytes - at) at rest)
 
--- the code's test of the third byte tells whether a unit ends there
+-- the code's test of the byte after two zero bytes is true exactly if a unit ends before them
 pub third_tells : (bytes : List ℕ) (at : ℕ) → OccursAt bytes (0 ∷ 0 ∷ []) at → at + 2 < length bytes → leb (get_or bytes (at + 2) 0) 1 ≡ is_end bytes at
 third_tells bytes at two more =
     elim (leb_tells (get_or bytes (at + 2) 0) 1) [
@@ -186,7 +185,7 @@ not_code bytes k at j code e few = false_from_ne_true (is_start_code bytes k) (�
     zero_there (suc zero) few here e one = let z = here.reads 1 (omega arith) in let same : get_or bytes (at + 2) 0 ≡ 0 = rw (← e) z in absurd (omega arith)
     zero_there (suc (suc j)) few here e one = absurd (omega arith)
 
--- no start code begins between a start code and the end of what is after it
+-- no start code begins between the start code at `code` and the end of the unit after it
 pub code_apart : (bytes : List ℕ) (code : ℕ) → OccursAt bytes start_code code → NonePasses (is_start_code bytes) (code + 1) (end_behind bytes (code + 3))
 code_apart bytes code there k from below =
     let ends = end_first bytes (code + 3) (omega (arith, there.fits)) in
@@ -201,7 +200,8 @@ none_codes bytes low high none k from below = false_from_ne_true (is_start_code 
 pub codes_none : (bytes : List ℕ) (at : ℕ) → at ≤ length bytes → Nowhere (OccursAt bytes start_code) at (length bytes + 1) → units_from bytes at ≡ []
 codes_none bytes at within none = units_none bytes at within (none_codes bytes at (length bytes) (λ k low high. none k low (omega arith)))
 
--- the units from a place on are the unit after the first start code there, if there is one, and the units after that start code
+-- If the first start code from `at` on is at `code`, the units from `at` on are the unit after that start code, if it
+-- has one, and then the units from `code` + 1 on.
 pub code_found : (bytes : List ℕ) (at code : ℕ) → NoneBefore (OccursAt bytes start_code) at (length bytes + 1) code → OccursAt bytes start_code code
     → units_from bytes at ≡ cons_option (unit_behind bytes code) (units_from bytes (code + 1))
 code_found bytes at code first there =
@@ -214,7 +214,7 @@ unit_passed bytes code k there behind before =
     let ends = end_first bytes (code + 3) (omega (arith, there.fits)) in
     units_skipped bytes (code + 1) k behind (omega (arith, ends.within)) (λ i low high. code_apart bytes code there i low (omega arith))
 
--- the unit that the code found after a start code is the one that is there
+-- the code returns the NAL unit after the start code at `code`
 pub unit_is : (bytes : List ℕ) (code end : ℕ) (r s : Option (ℕ × ℕ)) → end ≡ end_behind bytes (code + 3)
     → r ≡ option_map (λ (last : ℕ). (code + 3, last + 1)) (last_or None (places (is_other_byte bytes) (code + 3) end)) → r ≡ s → unit_behind bytes code ≡ s
 unit_is bytes code end r s ends value is =

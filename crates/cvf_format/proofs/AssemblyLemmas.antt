@@ -1,4 +1,4 @@
--- What an assembler keeps after one more packet or cut.
+-- What an assembler keeps after one more packet or one more cut.
 use Rattle.std.proofs.Common.{◌≡◌, ℕ, suc, ◌+◌, ◌%◌, ◌<◌, ◌≤◌, ◌==◌, Bool, true, false, inl, inr, ℤ, List, [], ◌∷◌, ◌++◌, length, Option, None, Some, refl, sym, ap, subst, ◌∙◌, arith, length-append}
 use Rattle.std.specs.Prelude.{◌&&◌, not, nat_le, nat_lt, if◌then◌else◌, map}
 use Rattle.std.proofs.lemmas.List.{map-append, length-map}
@@ -22,11 +22,11 @@ keeps_marks : (a : Assembly) (w : List Fragment) → KeepsAll a w → a.held ≡
 keeps_marks a [] k = k
 keeps_marks a (f ∷ rest) k = k.marks
 
--- the packets that the last event gave up, given the stretches before and after it
+-- the packets that an event gave up, from the stretches before and after the event
 abbrev pub lost_of : List Fragment → List Fragment → List Fragment
 lost_of before after = if is_joined after then [] else waiting before
 
--- What an assembler keeps after an event, given the stretches before and after it.
+-- What the assembler `a` keeps after an event. `before` and `after` are the stretches before and after the event.
 pub record Left (a : Assembly) (before after : List Fragment) : Type 0 where
   pub waits : KeepsAll a (waiting after)
   pub lost : a.lost ≡ map mark_of (lost_of before after)
@@ -84,7 +84,7 @@ within_fails r e a b = let t = within_so r a b in absurd cc
 length_unit_more : (g : Fragment) (gs : List Fragment) (f : Fragment) → length (unit_of (g ∷ (gs ++ f ∷ []))) ≡ length (unit_of (g ∷ gs)) + length f.body
 length_unit_more g gs f = ap length (unit_more g gs f) ∙ length-append (unit_of (g ∷ gs)) f.body
 
--- a stretch that exceeds the limits exceeds them with one more fragment, too
+-- a stretch that exceeds the limits still exceeds them with one more fragment
 pub stays_long : (g : Fragment) (gs : List Fragment) (f : Fragment) → is_within (g ∷ gs) ≡ false → is_within (g ∷ (gs ++ f ∷ [])) ≡ false
 stays_long g gs f e = by (is_within (g ∷ (gs ++ f ∷ []))) refl
   where
@@ -94,9 +94,10 @@ stays_long g gs f e = by (is_within (g ∷ (gs ++ f ∷ []))) refl
         let l = within_lengths (g ∷ (gs ++ f ∷ [])) k in
         absurd (within_fails (g ∷ gs) e (omega (arith, length_unit_more g gs f, l.0)) (omega (arith, length-append gs (f ∷ []), l.1)))
 
--- ---- what is returned for a stretch, depending on whether it is within the limits and complete
+-- ---- what is returned for a stretch: empty or too long, just too long, or within the limits
 
--- A stretch that is empty or exceeded the limits before its last packet: nothing waits, and the packet is lost as `Broken`.
+-- What follows if a stretch is empty or exceeded the limits before its last packet. No packet waits, and the last
+-- packet is lost as `Broken`.
 record Overlong (r : List Fragment) : Type 0 where
   waits : waiting r ≡ []
   apart : is_joined r ≡ false
@@ -119,7 +120,8 @@ overlong g gs f e =
       piece = rw (long, front, e) refl;
     }
 
--- A stretch that exceeds the limits only with its last packet: nothing waits, and the packet is lost as `Long`.
+-- What follows if a stretch exceeds the limits only with its last packet. No packet waits, and the last packet is lost
+-- as `Long`.
 record JustLong (r : List Fragment) : Type 0 where
   waits : waiting r ≡ []
   apart : is_joined r ≡ false
@@ -138,7 +140,7 @@ just_long g gs f e long =
       piece = rw (long, front, e) refl;
     }
 
--- all packets that waited are given up if the last packet did not join them
+-- if the last packet did not join the packets that waited, it gave up all of them
 gives_all : (a : Assembly) (before after : List Fragment) → KeepsAll a (waiting before) → is_joined after ≡ false → a.held ≡ map mark_of (lost_of before after)
 gives_all a before after k e = rw e (keeps_marks a (waiting before) k)
 
@@ -326,7 +328,7 @@ room_is a g gs f k =
     let most = lt_le (length a.held) (length (g ∷ (gs ++ f ∷ []))) most_fragments count in
     rw (bytes, most) refl
 
--- The packets that wait, if a packet continues their unit.
+-- The packet `f` continues the unit of the waiting packets `r`, which are `first` and then `rest`.
 record Waits (a : Assembly) (r : List Fragment) (f : Fragment) : Type 0 where
   first : Fragment
   rest : List Fragment
@@ -363,7 +365,7 @@ waits_here a (g ∷ gs) f k here = by (is_within (g ∷ gs)) (is_complete (g ∷
           goes = sym (here_is a g gs f kept q) ∙ here;
         }
 
--- if a packet continues nothing and begins nothing, no stretch within the limits ends with it
+-- if a packet neither begins a unit nor continues the waiting unit, no stretch within the limits ends with it
 nothing_here : (a : Assembly) (r : List Fragment) (f : Fragment) → KeepsAll a (waiting r) → begins f.part ≡ false → goes_on_here a f ≡ false → Overlong (step r f)
 nothing_here a [] f k e here = rw e overlong_none
 nothing_here a (g ∷ gs) f k e here = by (is_within (g ∷ gs)) (is_complete (g ∷ gs)) (continues g gs f) refl refl refl
@@ -421,7 +423,7 @@ pushed_apart a events f rest here s =
     let after = nothing_here a r f s.waits rest here in
     pushed_by _ _ events f (lost_left a r (step r f) s.waits after) (lost_answers a r (step r f) s.waits after)
 
--- the stretch after a packet that continues the waiting unit is the waiting packets and this one
+-- if `f` continues the stretch `r`, the stretch after `f` is `r` and then `f`
 step_here : (r : List Fragment) (g : Fragment) (gs : List Fragment) (f : Fragment) → r ≡ g ∷ gs → continues g gs f ≡ true → step r f ≡ g ∷ (gs ++ f ∷ [])
 step_here r g gs f is goes = rw (is, goes) refl
 

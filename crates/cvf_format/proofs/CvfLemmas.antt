@@ -58,7 +58,7 @@ shared_so nal_headers v bytes ((subtype, _), ((sv, (version, shown)), (seq, (tu,
 rest_so : (nal_headers : Layout Cvf) (v : Cvf) (bytes : List ℕ) → Spells (cvf_layout nal_headers) v bytes → Spells nal_headers v bytes
 rest_so nal_headers v bytes (_, (_, (_, (_, (_, (_, (_, (_, (_, (_, (_, (_, (_, rest))))))))))))) = rest
 
--- The bits of the headers of a fragment (RFC 6184, 5.8).
+-- The header bits of a fragment (RFC 6184, 5.8).
 record Fragment (v : Cvf) (bytes : List ℕ) : Type 0 where
   reference : bits 28 0 3 bytes ≡ reference_of v.nal
   kind : bits 28 3 5 bytes ≡ fu_a
@@ -129,7 +129,7 @@ accepted_so bytes e =
 
 -- ---- the part and the first byte of a NAL unit
 
--- the bits of a packet's headers follow from the part of the NAL unit that it carries
+-- what a packet carries of its NAL unit decides whether its type is FU-A, and its bits S and E
 single_bits : (fragment start end : Bool) → cond fragment (fragment_of start end) Single ≡ Single → fragment ≡ false
 single_bits false start end e = refl
 single_bits true true end e = absurd cc
@@ -157,7 +157,6 @@ last_bits true false false e = absurd cc
 not_fu_a : (type : ℕ) → is_single_type type ≡ true → eqb type fu_a ≡ false
 not_fu_a type single = unequal type fu_a (λ e. let there : is_single_type fu_a ≡ true = subst (λ (t : ℕ). is_single_type t ≡ true) e single in absurd cc)
 
--- the first byte of the NAL unit of a fragment, and of a unit that is carried whole
 nal_fragment : (bytes : List ℕ) → is_fragment bytes ≡ true → nal_of bytes ≡ bits 28 0 3 bytes * 32 + bits 29 3 5 bytes
 nal_fragment bytes e = rw e refl
 
@@ -173,7 +172,7 @@ type_there reference type nal e below = omega arith
 nal_whole : (nal reference type : ℕ) → reference ≡ reference_of nal → type ≡ type_of nal → nal ≡ reference * 32 + type
 nal_whole nal reference type e f = omega arith
 
--- bytes that are accepted and name a fragment spell its headers
+-- accepted bytes of a fragment spell the fragment's headers
 fragment_spelled : (part : NalPart) (bytes : List ℕ) → Accepted bytes → part_of bytes ≡ part → is_fragment bytes ≡ true
     → is_set 29 0 bytes ≡ starts part → is_set 29 1 bytes ≡ ends part → Shared (cvf_of bytes) bytes → Spells (cvf_layout fragment_headers) (cvf_of bytes) bytes
 fragment_spelled part bytes known is fragment start end shared =
@@ -209,7 +208,7 @@ nal_spelled Last bytes known is shared =
     let b = last_bits (is_fragment bytes) (is_set 29 0 bytes) (is_set 29 1 bytes) is in
     fragment_spelled Last bytes known is b.0 b.1 b.2 shared
 
--- the type of the NAL unit in accepted bytes is one of a single unit
+-- the NAL type in accepted bytes is that of a single NAL unit, 1 to 23
 type_accepted : (fragment : Bool) (bytes : List ℕ) → Accepted bytes → is_fragment bytes ≡ fragment → is_single_type (type_of (nal_of bytes)) ≡ true
 type_accepted true bytes known is =
     rw (← type_there (bits 28 0 3 bytes) (bits 29 3 5 bytes) (nal_of bytes) (nal_fragment bytes is) (bits-below 29 3 5 bytes)) (known.fragment_type is)
@@ -240,7 +239,7 @@ cvf_spelled bytes e =
       reserved = refl;
     }
 
--- packets with equal fields are equal
+-- the packet with these fields
 abbrev packet : StreamHeader → Bool → Bool → ℕ → ℕ → ℕ → NalPart → List ℕ → Bool → Cvf
 packet header ptv marker evt h264_timestamp nal part body reserved = record {
   header = header;
@@ -259,7 +258,7 @@ same_packet : (a a' : StreamHeader) (b b' c c' : Bool) (d d' e e' f f' : ℕ) (g
     → packet a b c d e f g h i ≡ packet a' b' c' d' e' f' g' h' i'
 same_packet a a' b b' c c' d d' e e' f f' g g' h h' i i' p q r s t u v w x = rw (p, q, r, s, t, u, v, w, x) refl
 
--- The part and the first byte of the NAL unit are those that the bytes name.
+-- The bytes name `part` as the part of the NAL unit, and `nal` as its first byte.
 record Named (part : NalPart) (nal : ℕ) (bytes : List ℕ) : Type 0 where
   part_is : part ≡ part_of bytes
   nal_is : nal ≡ nal_of bytes
@@ -331,7 +330,7 @@ length_of_headers First v = refl
 length_of_headers Middle v = refl
 length_of_headers Last v = refl
 
--- bytes that hold what a writer puts into the headers spell the packet with reserved bits 0
+-- if bytes hold the headers as the writer writes them, they spell those of the packet with every reserved bit 0
 held_plain : (part : NalPart) (v : Cvf) (bytes : List ℕ) → Holds (layout_of part) v bytes → Spells (layout_of part) (plain_cvf v) bytes
 held_plain Single v bytes h = held_spells (layout_of Single) (plain_cvf v) bytes refl h
 held_plain First v bytes h = held_spells (layout_of First) (plain_cvf v) bytes refl h
@@ -397,7 +396,8 @@ accepted_again bytes v whole s h long =
     let nal = headers_accepted v.part v bytes refl whole.type (omega (arith, whole.data_length)) h in
     or_else-accepted _ _ (or_else-accepted _ _ start shared) (or_else-accepted _ _ format nal)
 
--- bytes that hold what a writer puts into the headers, followed by the body, spell the packet with reserved bits 0
+-- if bytes hold the headers as the writer writes them, and then the body, they spell the packet with every reserved bit
+-- 0
 held : (bytes : List ℕ) (v : Cvf) → IsWritableCvf v → Holds (layout_of v.part) v bytes → 24 + v.header.data_length ≤ length bytes
     → v.body ≡ body_of v.part v.header.data_length bytes → SpellsCvf bytes (plain_cvf v)
 held bytes v whole f long body =
@@ -423,7 +423,7 @@ cvf_again v rest whole fits =
     let body : v.body ≡ body_of v.part v.header.data_length bytes = rw behind (sym (take_at v.body rest (24 + v.header.data_length - header_size v.part) (omega (arith, whole.data_length)))) in
     rw regrouped (held bytes v whole f long body)
 
--- ---- bytes without a set reserved bit and without trailing bytes are those that are written for their packet
+-- ---- bytes that set no reserved bit and end with their packet are the bytes that are written for it
 
 all_told : (part : NalPart) → is_told (layout_of part) ≡ true
 all_told Single = refl

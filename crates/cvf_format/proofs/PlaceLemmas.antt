@@ -1,11 +1,11 @@
--- The first, the last and all of adjacent places that pass a test.
+-- Which indexes of a range pass a test: the first, the last, and all of them.
 use Rattle.std.proofs.Common.{◌≡◌, ℕ, zero, suc, ◌+◌, ◌-◌, ◌<◌, ◌≤◌, Bool, true, false, cond, not, eqb, ◌⊎◌, List, [], ◌∷◌, Option, None, Some, refl, sym, ap, subst, ◌∙◌, inl, inr, arith}
 use Rattle.std.proofs.lemmas.Bool.{cases_lt}
 use Rattle.avtp_base.proofs.RowLemmas.{unequal}
 use Rattle.std.specs.Prelude.{filter, find, unwrap_or}
 use Rattle.std.specs.List.{range_with_len, last_or}
 
--- no place from `low` up to `high` passes the test
+-- no index from `low` to below `high` passes the test
 abbrev pub NonePasses : (ℕ → Bool) → ℕ → ℕ → Type 0
 NonePasses test low high = (k : ℕ) → low ≤ k → k < high → test k ≡ false
 
@@ -78,7 +78,7 @@ none_before test low high none here k from below =
       | inr at ↦ let e : k ≡ low = omega arith in rw e here
     ]
 
--- the last of the places from `low` up to `high` that pass the test is k, if k passes and no later one does
+-- if k passes the test and no later index below `high` does, k is the last index that passes
 pub last_place : (test : ℕ → Bool) (low high k : ℕ) → low ≤ k → k < high → test k ≡ true → NonePasses test (k + 1) high
     → last_or None (filter test (range_with_len low (high - low))) ≡ Some k
 last_place test low high k order within passes none =
@@ -92,7 +92,7 @@ last_none test low high order none = last_kept test (high - low) low None (λ i 
 pub other_byte : (byte : ℕ) → (byte ≡ 0 → ⊥) → not (eqb byte 0) ≡ true
 other_byte byte some = ap not (unequal byte 0 some)
 
--- The first place from `low` up to `high` that passes the test, and `high` if none does.
+-- The first index from `low` to below `high` that passes the test, or `high` if no index passes.
 pub record FirstPlace (test : ℕ → Bool) (low high first : ℕ) : Type 0 where
   pub from : low ≤ first
   pub within : first ≤ high
@@ -124,7 +124,7 @@ first_place test (suc n) low high e =
           }
     ] refl
 
--- The last place from `low` up to `high` that passes the test.
+-- The last index from `low` to below `high` that passes the test.
 pub record LastPlace (test : ℕ → Bool) (low high last : ℕ) : Type 0 where
   pub from : low ≤ last
   pub within : last < high

@@ -1,4 +1,4 @@
--- The test of a stretch agrees with the rules.
+-- `is_stretch` is true of exactly the packets that the rules call a stretch.
 use Rattle.std.proofs.Common.{◌≡◌, ◌+◌, ◌%◌, ◌≤◌, Bool, true, false, ◌⊎◌, inl, inr, ℤ, pos, List, [], ◌∷◌, ◌++◌, length, Option, None, Some, refl, sym, ap, subst, ◌∙◌, arith, append_assoc, eq-eqb, eqb-true}
 use Rattle.std.specs.Prelude.{◌&&◌, if◌then◌else◌, map}
 use Rattle.std.specs.List.{All, list_any, list_all}
@@ -67,7 +67,7 @@ head_has t f o is h = subst (λ (o : Option ℤ). IfSome o (λ stamp. stamp ≡ 
 head_of : (t : ℤ) (f : Fragment) (o : Option ℤ) → f.instant ≡ o → HasInstant t f → IfSome o (λ stamp. stamp ≡ t)
 head_of t f o is h = subst (λ (o : Option ℤ). IfSome o (λ stamp. stamp ≡ t)) is h
 
--- a list of stamps, with the first packet's stamp in front if it has one
+-- the list of instants, preceded by the instant of one more packet if that packet has one
 abbrev with_stamp : Option ℤ → List ℤ → List ℤ
 with_stamp None ts = ts
 with_stamp (Some t) ts = t ∷ ts

@@ -1,4 +1,4 @@
--- Each packet is settled once, and the stretch at the end of a list is the only one.
+-- Each packet is settled once, and a list of events ends with at most one stretch.
 use Rattle.std.proofs.Common.{◌≡◌, Bool, true, false, List, [], ◌∷◌, ◌++◌, length, refl, sym, ap, ◌∙◌, append_assoc}
 use Rattle.std.specs.Prelude.{not, nat_lt, map}
 use Rattle.std.proofs.Math.Bool.{and-false}
@@ -10,7 +10,7 @@ use Rattle.cvf_format.proofs.AssemblyLemmas.{begins_not_goes, joined_none, lost_
 
 -- ---- one event
 
--- the packets that waited and this packet are either settled by it or wait after it
+-- Each packet that waited, and the new packet itself, is either settled by the new packet or waits after it.
 abbrev AddsUp : List Fragment → Fragment → List Fragment → Type 0
 AddsUp before f after = waiting before ++ f ∷ [] ≡ (lost_of before after ++ settled_as (piece_of after) f after) ++ waiting after
 
@@ -21,7 +21,7 @@ lost_itself g gs f e = by (is_within (before_last (g ∷ gs))) refl
     by true p = rw (e, p) refl
     by false p = rw (e, p) refl
 
--- the packet did not join those that waited, and is lost: it settles all of them and itself
+-- if a packet does not join the waiting packets and is lost, it settles them and itself
 adds_lost : (before : List Fragment) (f : Fragment) (after : List Fragment) → is_joined after ≡ false → settled_as (piece_of after) f after ≡ f ∷ [] → waiting after ≡ [] → AddsUp before f after
 adds_lost before f after j s w = rw (j, s, w) (sym (append_none (waiting before ++ f ∷ [])))
 
@@ -36,7 +36,7 @@ adds_one before f = by (is_within (f ∷ [])) (is_complete (f ∷ [])) refl refl
     by true true p q = adds_lost before f (f ∷ []) refl (rw (p, q) refl) (rw (p, q) refl)
     by true false p q = rw (p, q) (ap (λ (xs : List Fragment). xs ++ f ∷ []) (sym (append_none (waiting before))))
 
--- a stretch that is within the limits with one more packet was within them before, and waited
+-- if a stretch is within the limits after one more packet continued it, all its earlier packets were waiting
 was_waiting : (g : Fragment) (gs : List Fragment) (f : Fragment) → continues g gs f ≡ true → is_within (g ∷ (gs ++ f ∷ [])) ≡ true → waiting (g ∷ gs) ≡ g ∷ gs
 was_waiting g gs f goes within = by (is_within (g ∷ gs)) (is_complete (g ∷ gs)) refl refl
   where
@@ -110,7 +110,7 @@ ends_more events (f ∷ rest) =
     ∙ ap (λ (fs : List Fragment). fs ++ rest) (after_packet events f)
     ∙ append_assoc (after_cuts events) (f ∷ []) rest
 
--- no packet of a stretch, except the first, begins a unit
+-- packets are not linked if one of them, after the first, does not continue a unit
 not_linked : (x : Fragment) (xs : List Fragment) (f : Fragment) (rest : List Fragment) → goes_on f.part ≡ false → are_linked x (xs ++ f ∷ rest) ≡ false
 not_linked x [] f rest e = rw (e, and-false (not (completes x.part))) refl
 not_linked x (y ∷ ys) f rest e = rw (not_linked y ys f rest e) (and-false (follows x y))

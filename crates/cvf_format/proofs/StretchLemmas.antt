@@ -1,4 +1,4 @@
--- What one more event does to the stretch at the end of a list.
+-- How one more event changes the stretch at the end of the events.
 use Rattle.std.proofs.Common.{◌≡◌, ℕ, ◌-◌, Bool, true, false, ℤ, List, [], ◌∷◌, ◌++◌, length, Option, None, Some, refl, ap, ◌∙◌, arith, length-append}
 use Rattle.std.specs.Prelude.{◌&&◌, if◌then◌else◌}
 use Rattle.std.specs.List.{list_any, list_all, flat_map}
@@ -89,7 +89,8 @@ equal_stamps : (ts : List ℤ) (g : Fragment) (t : Option ℤ) → g.instant ≡
 equal_stamps ts g None e = rw (e, append_none ts, agree_none (first_stamp ts), and-true (all_equal ts)) refl
 equal_stamps ts g (Some t) e = rw e (equal_more ts t)
 
--- a packet continues a stretch: it continues the unit of the last packet, and has no different instant
+-- The packet continues the unit of the stretch's last packet. If both the packet and the stretch have an instant, these
+-- are equal.
 abbrev pub continues : Fragment → List Fragment → Fragment → Bool
 continues f rest g = follows (last_of f rest) g && agree (first_stamp (stamps (f ∷ rest))) g.instant
 
@@ -127,14 +128,14 @@ follows_goes_on : (f g : Fragment) → follows f g ≡ true → goes_on g.part �
 follows_goes_on f g e =
     and_right _ _ (and_left _ _ (and_left _ _ e))
 
--- no stretch begins after the first packet of a stretch
+-- if each packet of `rest` continues the unit of the packet before it, `rest` ends with no stretch
 rest_none : (f : Fragment) (rest : List Fragment) → are_linked f rest ≡ true → stretch_of rest ≡ []
 rest_none f [] e = refl
 rest_none f (g ∷ rest) e =
     let g_goes : goes_on g.part ≡ true = follows_goes_on f g (and_left (follows f g) (are_linked g rest) e) in
     rw (not_stretch g rest (goes_not_begins g.part g_goes)) (rest_none g rest (and_right (follows f g) (are_linked g rest) e))
 
--- the stretch that one packet makes alone; empty if it begins no unit
+-- the stretch that one packet makes alone; empty if the packet does not begin a unit
 abbrev pub alone : Fragment → List Fragment
 alone g = if begins g.part then g ∷ [] else []
 

@@ -1,4 +1,4 @@
--- The list of units has exactly the NAL units of the bytes, in order.
+-- `nal_units` lists exactly the NAL units of the bytes, in order.
 use Rattle.std.proofs.Common.{◌≡◌, ◌≢◌, ℕ, zero, suc, ◌+◌, ◌-◌, ◌<◌, ◌≤◌, Bool, true, false, cond, not, eqb, eq-eqb, ◌⊎◌, inl, inr, List, ◌∷◌, length, get_or, Option, None, Some, refl, sym, ap, subst, ◌∙◌, arith}
 use Rattle.std.specs.Prelude.{filter, Contains, AllPairs, All}
 use Rattle.std.specs.List.{cons_option, filter_map, last_or, range_with_len}
@@ -32,7 +32,7 @@ contains_option : {X : Type 0} (o : Option X) (ys : List X) (x : X) → Contains
 contains_option None ys x c = inr c
 contains_option (Some y) ys x c = elim (contains_cases y ys x c) [ inl same ↦ inl (ap (λ z. Some z) same) | inr later ↦ inr later ]
 
--- ---- the items that come from places which pass a test
+-- ---- the items of the indexes that pass a test
 
 record Comes {X : Type 0} (test : ℕ → Bool) (gives : ℕ → Option X) (low high : ℕ) (x : X) (place : ℕ) : Type 0 where
   from : low ≤ place
@@ -82,7 +82,7 @@ comes_there {X} test gives (suc n) low x place p =
           rw (t, g) (contains_here x later)
     ]
 
--- items come in the order of the places from which they come
+-- items are in the order of the indexes that give them
 comes_in_order : {X : Type 0} (R : X → X → Type 0) (test : ℕ → Bool) (gives : ℕ → Option X) (high : ℕ)
     → ((x y : X) (i j : ℕ) → Comes test gives 0 high x i → Comes test gives (i + 1) high y j → R x y)
     → (n low : ℕ) → low + n ≡ high → AllPairs R (filter_map gives (filter test (range_with_len low n)))
@@ -105,7 +105,7 @@ comes_in_order {X} R test gives high apart (suc n) low e =
 
 -- ---- the unit after a start code
 
--- a place where the test says that a unit ends is one where a unit ends by the definition
+-- if `is_end` is true at an index, a unit ends there by the definition
 ends_so : (bytes : List ℕ) (at : ℕ) → (is_end bytes at ≡ true) ⊎ (at ≡ length bytes) → IsEnd bytes at
 ends_so bytes at (inl t) = elim (or_cases (occurs_at bytes start_code at) (occurs_at bytes three_zeros at) t) [
   | inl code ↦ inl (OccursAt-true bytes start_code at code)

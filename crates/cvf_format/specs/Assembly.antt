@@ -1,12 +1,13 @@
--- What an assembler keeps of the packets that it was given.
+-- What an assembler keeps of the packets that are pushed.
 use Rattle.std.specs.Prelude.{◌≡◌, ℕ, ◌+◌, ◌%◌, Bool, if◌then◌else◌, ℤ, List, [], ◌∷◌, map, Option, None, Some}
 use Rattle.cvf_format.specs.declared.cvf.CvfView.{CvfView}
 use Rattle.cvf_format.specs.declared.piece.Mark.{Mark}
 use Rattle.cvf_format.specs.Stretches.{Fragment, Event, mark_of, unit_of, stamps, held, lost_marks, whole_unit, sequence_numbers}
 
--- The state of an assembler: the bytes of the unit so far; the marks of the packets that wait and of those that were given up
--- last; the first byte of the unit, and the sequence number and the instant that the next fragment must have; and whether the
--- unit is whole.
+-- The state of an assembler. `bytes` are those of the unit so far, and `whole` is true if the unit is complete. `held`
+-- are the marks of the packets that wait for the rest of their unit. `lost` are the marks of the packets that were
+-- given up last. The next fragment must have the unit's first byte `nal`, the sequence number `next_seq`, and no
+-- instant other than `instant`.
 pub record Assembly : Type 0 where
   pub bytes : List ℕ
   pub held : List Mark
@@ -16,7 +17,7 @@ pub record Assembly : Type 0 where
   pub instant : Option ℤ
   pub whole : Bool
 
--- the fragment in a packet with this mark, this instant and this view
+-- the fragment in a packet with this mark, instant and view
 abbrev pub fragment_of : Mark → Option ℤ → CvfView → Fragment
 fragment_of mark instant view = record {
   mark = mark;
@@ -26,23 +27,23 @@ fragment_of mark instant view = record {
   body = view.body.now;
 }
 
--- the greatest number of bytes that the body of a packet can have
+-- the length in bytes of the longest body of a packet
 abbrev pub longest_body : ℕ
 longest_body = 65530
 
 -- ---- the state that a list of events leaves
 
--- the first instant of a list, and `None` of an empty one
+-- the first instant of a list; `None` if the list is empty
 abbrev pub first_stamp : List ℤ → Option ℤ
 first_stamp [] = None
 first_stamp (instant ∷ rest) = Some instant
 
--- the last packet of a list that begins with this one
+-- the last packet of a list of at least one packet
 abbrev pub last_of : Fragment → List Fragment → Fragment
 last_of fragment [] = fragment
 last_of fragment (next ∷ rest) = last_of next rest
 
--- the packets that the assembler keeps, at least one: they wait for the rest of their unit
+-- the assembler keeps the packets `first` and then `rest`, which wait for the next fragment of their unit
 pub record Keeps (a : Assembly) (first : Fragment) (rest : List Fragment) : Type 0 where
   pub marks : a.held ≡ map mark_of (first ∷ rest)
   pub bytes : a.bytes ≡ unit_of (first ∷ rest)
@@ -50,17 +51,17 @@ pub record Keeps (a : Assembly) (first : Fragment) (rest : List Fragment) : Type
   pub next_seq : a.next_seq ≡ ((last_of first rest).mark.seq + 1) % sequence_numbers
   pub instant : a.instant ≡ first_stamp (stamps (first ∷ rest))
 
--- the packets that the assembler keeps, possibly none: they wait for the rest of their unit
+-- the assembler keeps these packets, possibly none, which wait for the next fragment of their unit
 abbrev pub KeepsAll : Assembly → List Fragment → Type 0
 KeepsAll a [] = a.held ≡ []
 KeepsAll a (first ∷ rest) = Keeps a first rest
 
--- the bytes of the unit that an assembler shows; none if the unit is not whole
+-- the bytes of the unit that the assembler shows; empty if the unit is not complete
 abbrev pub shown_unit : Assembly → List ℕ
 shown_unit a = if a.whole then a.bytes else []
 
--- An assembler that was given these events, and no others: it keeps the packets that wait, the marks of those that the last
--- event gave up, and the unit that it completed.
+-- The state of the assembler `a` after exactly these events. It keeps the packets that wait, the marks of the packets
+-- that the last event gave up, and the unit that the last event completed.
 pub record StandsFor (a : Assembly) (events : List Event) : Type 0 where
   pub waits : KeepsAll a (held events)
   pub lost : a.lost ≡ lost_marks events

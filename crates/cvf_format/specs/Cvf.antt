@@ -67,23 +67,23 @@ fu_a = 28
 
 -- ---- the tables
 
--- the bit S of a fragment: it is the first of its NAL unit (RFC 6184, 5.8)
+-- bit S of a fragment: whether it is the first of its NAL unit (RFC 6184, 5.8)
 abbrev pub starts : NalPart → Bool
 starts First = true
 starts Single = false
 starts Middle = false
 starts Last = false
 
--- the bit E of a fragment: it is the last of its NAL unit (RFC 6184, 5.8)
+-- bit E of a fragment: whether it is the last of its NAL unit (RFC 6184, 5.8)
 abbrev pub ends : NalPart → Bool
 ends Last = true
 ends Single = false
 ends First = false
 ends Middle = false
 
--- The table of an H.264 packet: 28 bytes that whole NAL units and fragments share, and then the given headers of the unit. The
--- two format bits of the stream header are reserved, and a view shows them. The stated length counts from the H.264 timestamp
--- on, so a packet that ends within that timestamp is refused by the stated length.
+-- The table of an H.264 packet: 28 bytes that are the same for whole NAL units and fragments, and then `nal_headers`.
+-- The two format bits of the stream header are reserved, and a view shows them. The stated length includes the H.264
+-- timestamp. A packet that ends within that timestamp is therefore refused for its stated length.
 abbrev pub cvf_layout : Layout Cvf → Layout Cvf
 cvf_layout nal_headers = stream_layout (λ v. v.header)
     (reserved_shown 2 (λ v. v.header.format_bits) ∷ [])
@@ -110,18 +110,18 @@ fragment_headers =
     reserved 1 ∷
     holds 5 (λ v. type_of v.nal) ∷ []) ∷ []
 
--- the headers of the NAL unit in a packet, given what the packet carries of it
+-- the headers of the NAL unit in a packet that carries this part of the unit
 abbrev pub headers_of : NalPart → Layout Cvf
 headers_of Single = single_headers
 headers_of First = fragment_headers
 headers_of Middle = fragment_headers
 headers_of Last = fragment_headers
 
--- the table of an H.264 packet, given what the packet carries of its NAL unit
+-- the table of an H.264 packet that carries this part of its NAL unit
 abbrev pub layout_of : NalPart → Layout Cvf
 layout_of part = cvf_layout (headers_of part)
 
--- the size in bytes of all headers of a packet, given what it carries of its NAL unit
+-- the size in bytes of all headers of a packet that carries this part of its NAL unit
 abbrev pub header_size : NalPart → ℕ
 header_size Single = 29
 header_size First = 30
@@ -130,8 +130,8 @@ header_size Last = 30
 
 -- ---- the rows
 
--- The rows of format, format subtype and stated length, in this order; they come after those that all formats share.
--- The stated length counts the H.264 timestamp and the byte of the NAL type.
+-- The rows of format, format subtype and stated length, in this order. They follow the rows that all formats share. The
+-- stated length includes the H.264 timestamp and the byte of the NAL type.
 abbrev pub format_rows : List ℕ → List Row
 format_rows bytes =
     row CvfFormat 16 (not (bits 16 0 8 bytes == rfc_format)) ∷
@@ -143,12 +143,12 @@ format_rows bytes =
 abbrev pub is_fragment : List ℕ → Bool
 is_fragment bytes = bits 28 3 5 bytes == fu_a
 
--- the row that refuses a field that the stated length cuts off, if `holds` is true
+-- the row that refuses a field as cut off by the stated length, if `holds` is true
 abbrev pub cut_off : Field → ℕ → Bool → Row
 cut_off field at holds = record { refusal = record { field = field; at = at; short = true }; holds = holds }
 
--- The rows of the NAL unit's headers, which come last: the type is neither that of a single unit nor FU-A; the FU header is cut
--- off, has both S and E, or names a type that is not that of a single unit.
+-- The rows of the NAL unit's headers, which come last. They refuse a type that is neither that of a single unit nor
+-- FU-A. They refuse an FU header that is cut off, has both S and E, or names a type other than that of a single unit.
 abbrev pub nal_rows : List ℕ → List Row
 nal_rows bytes =
     row NalType 28 (not (is_single_type (bits 28 3 5 bytes) || is_fragment bytes)) ∷
@@ -156,7 +156,7 @@ nal_rows bytes =
     row FuHeader 29 (is_fragment bytes && is_set 29 0 bytes && is_set 29 1 bytes) ∷
     row FuHeader 29 (is_fragment bytes && not (is_single_type (bits 29 3 5 bytes))) ∷ []
 
--- why bytes are not an H.264 packet
+-- why the bytes are refused as an H.264 packet; `None` if they are accepted
 abbrev pub cvf_refusal : List ℕ → Option Refusal
 cvf_refusal bytes =
     or_else (kind_refusal cvf_subtype bytes)
@@ -172,7 +172,7 @@ sets_reserved part bytes = any_set (reserved_ranges (layout_of part)) bytes
 abbrev pub body_of : NalPart → ℕ → List ℕ → List ℕ
 body_of part stated bytes = take (24 + stated - header_size part) (drop (header_size part) bytes)
 
--- The bytes spell this H.264 packet, whose NAL unit has a type from 1 to 23; anything may follow its stated length.
+-- The bytes spell this H.264 packet, whose NAL unit has a type from 1 to 23. Any bytes may follow the stated length.
 pub record SpellsCvf (bytes : List ℕ) (v : Cvf) : Type 0 where
   pub accepted : cvf_refusal bytes ≡ None
   pub fields : Spells (layout_of v.part) v bytes
@@ -180,13 +180,13 @@ pub record SpellsCvf (bytes : List ℕ) (v : Cvf) : Type 0 where
   pub body : v.body ≡ body_of v.part v.header.data_length bytes
   pub reserved : v.reserved ≡ sets_reserved v.part bytes
 
--- which fragment of its NAL unit a packet with these bits S and E carries
+-- the part of its NAL unit that a fragment with these bits S and E carries
 abbrev pub fragment_of : Bool → Bool → NalPart
 fragment_of true end = First
 fragment_of false true = Last
 fragment_of false false = Middle
 
--- what a packet carries of its NAL unit, given its type and its FU header
+-- the part of its NAL unit that a packet carries, according to its NAL type and its FU header
 abbrev pub part_of : List ℕ → NalPart
 part_of bytes = if is_fragment bytes then fragment_of (is_set 29 0 bytes) (is_set 29 1 bytes) else Single
 
@@ -209,7 +209,7 @@ cvf_of bytes = record {
   reserved = sets_reserved (part_of bytes) bytes;
 }
 
--- an H.264 packet that can be written: no row refuses it, and its length is that of its headers and its body
+-- an H.264 packet that can be written: no row refuses it, and its stated length is that of its headers and its body
 pub record IsWritableCvf (v : Cvf) : Type 0 where
   pub subtype : v.header.subtype ≡ cvf_subtype
   pub evt : v.evt < 2 ^ 4

@@ -4,23 +4,23 @@ use Rattle.std.specs.List.{All}
 use Rattle.std.specs.Option.{IfSome}
 use Rattle.cvf_format.specs.Stretches.{Fragment, Event, packet, begins, goes_on, completes, sequence_numbers}
 
--- A packet continues the unit of the packet before it: it has a middle or last fragment, the packet before did not complete the
--- unit, both carry the same first byte of the unit, and the sequence number is the next one.
+-- The packet `after` continues the unit of the packet `before`. It carries a middle or last fragment, and `before` did
+-- not complete the unit. Both carry the same first byte of the unit. The sequence number of `after` is the next one.
 pub record GoesOn (before after : Fragment) : Type 0 where
   pub incomplete : completes before.part ≡ false
   pub part : goes_on after.part ≡ true
   pub nal : after.nal ≡ before.nal
   pub seq : after.mark.seq ≡ (before.mark.seq + 1) % sequence_numbers
 
--- Packets are a stretch: the first begins a unit, each other one continues the unit of the packet before it, and all
--- that have a timestamp have the same instant.
+-- The packets are a stretch. The first packet begins a unit. Each other packet continues the unit of the packet before
+-- it. All packets with a timestamp have the same instant.
 pub record IsStretch (packets : List Fragment) : Type 0 where
   pub some : packets ≢ []
   pub first : (first : Fragment) (rest : List Fragment) → packets ≡ first ∷ rest → begins first.part ≡ true
   pub others : (front : List Fragment) (before after : Fragment) (rest : List Fragment) → packets ≡ front ++ before ∷ (after ∷ rest) → GoesOn before after
   pub one_instant : (instant : ℤ) × All (λ (f : Fragment). IfSome f.instant (λ stamp. stamp ≡ instant)) packets
 
--- the events end with these packets, and these are a stretch
+-- the events end with the packets `stretch`, which are a stretch
 pub record EndsWith (events : List Event) (stretch : List Fragment) : Type 0 where
   pub front : List Event
   pub is : events ≡ front ++ map packet stretch

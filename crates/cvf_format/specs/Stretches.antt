@@ -14,17 +14,17 @@ use Rattle.cvf_format.specs.declared.piece.Piece.TheVariants as variant
 abbrev pub longest_unit : ℕ
 longest_unit = 4194304
 
--- the greatest number of packets that one NAL unit is put together from
+-- the greatest number of packets from which one NAL unit is put together
 abbrev pub most_fragments : ℕ
 most_fragments = 4096
 
--- how many sequence numbers there are; after the last one they begin again at 0
+-- the number of different sequence numbers; 255 is followed by 0
 abbrev pub sequence_numbers : ℕ
 sequence_numbers = 256
 
 -- ---- events
 
--- a packet that carries a NAL unit or a fragment of one, with its instant if it is stamped
+-- A packet that carries a NAL unit or a fragment of one. `instant` is its presentation time, if it has a timestamp.
 pub record Fragment : Type 0 where
   pub mark : Mark
   pub instant : Option ℤ
@@ -51,21 +51,21 @@ after_cuts (packet fragment ∷ events) =
 
 -- ---- stretches
 
--- a packet begins a NAL unit: it carries a whole one or a first fragment
+-- a packet that carries this part begins a NAL unit: the part is a whole unit or a first fragment
 abbrev pub begins : NalPart → Bool
 begins Single = true
 begins First = true
 begins Middle = false
 begins Last = false
 
--- a packet continues a NAL unit: it carries a middle or last fragment
+-- a packet that carries this part continues a NAL unit: the part is a middle or last fragment
 abbrev pub goes_on : NalPart → Bool
 goes_on Single = false
 goes_on First = false
 goes_on Middle = true
 goes_on Last = true
 
--- a packet completes a NAL unit: it carries a whole one or a last fragment
+-- a packet that carries this part completes a NAL unit: the part is a whole unit or a last fragment
 abbrev pub completes : NalPart → Bool
 completes Single = true
 completes First = false
@@ -80,12 +80,12 @@ follows before after =
     && (after.nal == before.nal)
     && (after.mark.seq == (before.mark.seq + 1) % sequence_numbers)
 
--- each packet of the list continues the NAL unit of the packet before it; `before` is the one before the first
+-- Each packet of the list continues the NAL unit of the packet before it. `before` is the packet before the list.
 abbrev pub are_linked : Fragment → List Fragment → Bool
 are_linked before [] = true
 are_linked before (after ∷ rest) = follows before after && are_linked after rest
 
--- the instants of the packets that are stamped
+-- the instants of the packets that have one
 abbrev pub stamps : List Fragment → List ℤ
 stamps fragments = filter_map (λ (f : Fragment). f.instant) fragments
 
@@ -94,13 +94,13 @@ abbrev pub all_equal : List ℤ → Bool
 all_equal [] = true
 all_equal (instant ∷ rest) = list_all (int_eq instant) rest
 
--- Adjacent packets are a stretch: the first begins a unit, each other one continues the unit of the packet before it, and all
--- that have a timestamp have the same instant.
+-- The packets are a stretch. The first packet begins a unit. Each other packet continues the unit of the packet before
+-- it. All packets with a timestamp have the same instant.
 unfoldable pub is_stretch : List Fragment → Bool
 is_stretch [] = false
 is_stretch (first ∷ rest) = begins first.part && are_linked first rest && all_equal (stamps (first ∷ rest))
 
--- the longest stretch with which a list ends; empty if it ends with none
+-- the longest stretch at the end of a list of packets; empty if the list ends with no stretch
 abbrev pub stretch_of : List Fragment → List Fragment
 stretch_of [] = []
 stretch_of (first ∷ rest) = if is_stretch (first ∷ rest) then first ∷ rest else stretch_of rest
@@ -111,7 +111,7 @@ last_stretch events = stretch_of (after_cuts events)
 
 -- ---- units
 
--- the bytes of the unit of a stretch: its first byte, which each fragment carries, and all bodies
+-- the bytes of the unit of a stretch: the unit's first byte, which each fragment carries, and then all bodies
 abbrev pub unit_of : List Fragment → List ℕ
 unit_of [] = []
 unit_of (first ∷ rest) = first.nal ∷ flat_map (λ (f : Fragment). f.body) (first ∷ rest)
@@ -132,7 +132,8 @@ before_last items = take (length items - 1) items
 
 -- ---- what becomes of the packets
 
--- the packets of a stretch if they wait for the rest of their unit: the stretch is within the limits and not complete
+-- The packets of a stretch that wait for the rest of their unit: all if the stretch is within the limits and not
+-- complete, otherwise none.
 abbrev pub waiting : List Fragment → List Fragment
 waiting stretch = if is_within stretch && not (is_complete stretch) then stretch else []
 
@@ -140,43 +141,45 @@ waiting stretch = if is_within stretch && not (is_complete stretch) then stretch
 abbrev pub held : List Event → List Fragment
 held events = waiting (last_stretch events)
 
--- the stretch exceeds the limits, but did not before its last packet
+-- the stretch exceeds the limits only with its last packet
 abbrev pub is_passed : List Fragment → Bool
 is_passed stretch = not (is_within stretch) && is_within (before_last stretch)
 
--- what becomes of the last packet of this stretch, or of a packet that is in no stretch, as far as is known when it comes
+-- What becomes of the last packet of the stretch, as far as is known when it arrives. The stretch is empty if the
+-- packet is in no stretch.
 abbrev pub piece_of : List Fragment → Piece
 piece_of [] = variant.Lost Broken
 piece_of (first ∷ rest) =
     if is_within (first ∷ rest) then (if is_complete (first ∷ rest) then variant.Whole else variant.Held)
     else if is_passed (first ∷ rest) then variant.Lost Long else variant.Lost Broken
 
--- what becomes of the last packet of these events, as far as is known when it comes
+-- what becomes of the packet of the last event, as far as is known when it arrives
 abbrev pub piece : List Event → Piece
 piece events = piece_of (last_stretch events)
 
--- the last packet of a stretch continued the unit of the packets before it, within the limits
+-- the last packet of the stretch continued the unit of the packets before it, and the stretch is within the limits
 abbrev pub is_joined : List Fragment → Bool
 is_joined stretch = nat_lt 1 (length stretch) && is_within stretch
 
--- the packets that waited before the last event, and that it gave up
+-- the waiting packets that the last event gave up
 abbrev pub given_up : List Event → List Fragment
 given_up events = if is_joined (last_stretch events) then [] else held (before_last events)
 
--- why the last packet of a stretch gave up the packets that waited: it made their unit too long, or did not continue it
+-- why the last packet of a stretch gave up the waiting packets: `Long` if it made their unit too long, otherwise
+-- `Broken`
 abbrev pub reason_of : List Fragment → Lost
 reason_of [] = Broken
 reason_of (first ∷ rest) = if is_passed (first ∷ rest) then Long else Broken
 
--- why the last event gave up the packets that waited before it
+-- why the last event gave up the waiting packets
 abbrev pub reason : List Event → Lost
 reason events = reason_of (last_stretch events)
 
--- the bytes of the unit of a stretch; none if the stretch is not complete or not within the limits
+-- the bytes of the unit of a stretch; empty if the stretch is not complete or not within the limits
 abbrev pub whole_of : List Fragment → List ℕ
 whole_of stretch = if is_within stretch && is_complete stretch then unit_of stretch else []
 
--- the bytes of the unit that the last event completed; none if it completed none
+-- the bytes of the unit that the last event completed; empty if it completed none
 abbrev pub whole_unit : List Event → List ℕ
 whole_unit events = whole_of (last_stretch events)
 

@@ -13,7 +13,7 @@ use std::alloc::Global;
 /// The start code, which comes before each unit.
 const START_CODE: [u8; 3] = [0, 0, 1];
 
-/// The first place from `from` on at which the needle is found.
+/// The first index from `from` on at which `needle` is found.
 fn find_from(bytes: &[u8], needle: &[u8], from: usize) -> Option<usize>
     requires { from ≤ length bytes.now }
     ensures { IsFirst (OccursAt bytes.now needle.now) from (length bytes.now + 1) result }
@@ -49,7 +49,7 @@ fn end_of_unit(bytes: &[u8], from: usize) -> usize
     bytes.len()
 }
 
-/// A range of bytes without the zero bytes at its end; `None` if all its bytes are 0.
+/// The range from `from` to before `end` without the zero bytes at its end; `None` if all its bytes are 0.
 fn without_zeros(bytes: &[u8], from: usize, end: usize) -> Option<(usize, usize)>
     requires order { from ≤ end }
     requires inside { end ≤ length bytes.now }
@@ -65,9 +65,9 @@ fn without_zeros(bytes: &[u8], from: usize, end: usize) -> Option<(usize, usize)
     None
 }
 
-/// The first NAL unit whose start code is at `from` or after it: the place of its first byte, and the place after its
-/// last; `None` if there is none. Called with 0, and then with the end of each unit, it finds all units in order.
-/// `from` must be at most the number of bytes.
+/// The first NAL unit whose start code begins at or after `from`: the index of its first byte, and the index after its
+/// last byte. `None` if there is none. Called first with 0, and then with the end of each unit, it finds all units in
+/// order. `from` must be at most the number of bytes.
 pub fn next_unit(bytes: &[u8], from: usize) -> Option<(usize, usize)>
     requires { from ≤ length bytes.now }
     ensures next { MatchOption result (units_from bytes.now from ≡ []) (λ unit. units_from bytes.now from ≡ unit ∷ units_from bytes.now unit.1) }
@@ -86,12 +86,12 @@ pub fn next_unit(bytes: &[u8], from: usize) -> Option<(usize, usize)>
     None
 }
 
-/// The NAL units of a byte stream, in order: for each, the place of its first byte, and the place after its last.
+/// The NAL units of a byte stream, in order: for each, the index of its first byte, and the index after its last byte.
 ///
-/// A start code is 00 00 01. A unit begins after a start code and ends before the next 00 00 01 or 00 00 00, or at the end of
-/// the bytes. Zero bytes at its end are dropped, and so is a unit that has no other bytes. Bytes before the first start code
-/// belong to no unit, and neither do those from 00 00 00 to the next start code. Returns `NoMemory` if the list cannot be
-/// allocated; nothing else is allocated.
+/// A start code is 00 00 01. A unit begins after a start code and ends before the next 00 00 01 or 00 00 00, or at the
+/// end of the bytes. Zero bytes at the end of a unit are dropped. A unit of zero bytes only is left out. Bytes before
+/// the first start code belong to no unit. Bytes from 00 00 00 to the next start code belong to no unit either. Returns
+/// `NoMemory` if the list cannot be allocated; nothing else is allocated.
 pub fn split_annex_b(alloc: Global, bytes: &[u8]) -> Result<Vec<(usize, usize)>, NoMemory>
     ensures units { IfOk result (λ units. AreUnits bytes.now units.items) }
     ensures value { IfOk result (λ units. units.items ≡ nal_units bytes.now) }

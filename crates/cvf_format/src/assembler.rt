@@ -17,17 +17,19 @@ const LONGEST_UNIT: usize = 4_194_304;
 /// The greatest number of fragments of a unit.
 const MOST_FRAGMENTS: usize = 4_096;
 
-/// Puts NAL units together from the packets of a stream, in the order in which they came.
+/// Puts NAL units together from the packets of a stream, which are pushed in the order of their arrival.
 ///
-/// A unit is one packet, or a first fragment and those after it, up to a last one. Each carries the same first byte of the unit,
-/// and has the next sequence number. All that are stamped must have the same presentation time.
+/// One packet carries a whole unit; or a first fragment, any middle fragments and a last fragment carry it. All
+/// fragments carry the same first byte of the unit, and each has the next sequence number. All fragments with a
+/// timestamp must have the same presentation time.
 ///
-/// What becomes of a packet depends on the longest stretch of packets that ends with it. The assembler keeps only that stretch.
+/// What becomes of a packet depends on the longest stretch of packets that ends with it. The assembler keeps only that
+/// stretch.
 #[derive(Drop)]
 pub struct Assembler {
-    /// The unit so far, or the last one that is whole.
+    /// The bytes of the unit so far, or of a complete unit if `whole` is true.
     bytes: Vec<u8>,
-    /// The marks of the fragments that wait.
+    /// The marks of the fragments that wait for the rest of their unit.
     held: Vec<Mark>,
     /// The marks of the fragments that were given up last.
     lost: Vec<Mark>,
@@ -125,11 +127,13 @@ impl Assembler {
         })
     }
 
-    /// Takes a packet, with its mark and, if it is stamped, its presentation time in nanoseconds of gPTP.
+    /// Takes a packet with its mark and its presentation time in nanoseconds of gPTP. A packet without a timestamp has
+    /// no presentation time.
     ///
-    /// A unit is whole when its last packet comes. A packet that does not continue the waiting unit gives it up. A packet that
-    /// would make the unit longer than 4,194,304 bytes or 4,096 fragments gives it up, too, and is lost with it. A packet that
-    /// completes a unit must have a timestamp, and a body has at most 65,530 bytes. Allocates nothing.
+    /// A unit is complete when its last packet is pushed. A packet that does not continue the waiting unit gives it up.
+    /// A packet that would make the unit longer than 4,194,304 bytes or 4,096 fragments is lost, and gives up the
+    /// waiting unit, too. A packet that completes a unit must have a timestamp. A body has at most 65,530 bytes.
+    /// Allocates nothing.
     pub fn push(&mut self, mark: Mark, instant: Option<i64>, view: &CvfView<'_>) -> Pushed
         requires body { length view.now.body.now ≤ longest_body }
         requires stamped { IsTrue (completes view.now.part) → IsSome instant }
@@ -146,8 +150,8 @@ impl Assembler {
         self.push_packet(mark, instant, view)
     }
 
-    /// The mark of fragment `i`, counted from 0, among those that the last packet or cut gave up, in the order in which they
-    /// came. `i` must be below their number.
+    /// The mark of fragment `i`, counted from 0, among the fragments that the last packet or cut gave up, in the order
+    /// of their arrival. `i` must be below their number.
     pub fn lost_mark(&self, i: u32) -> Mark
         requires { i < length self.now.lost }
         ensures { (events : List Event) → StandsFor self.now events → slice_get (lost_marks events) i ≡ Some result }
@@ -164,15 +168,15 @@ impl Assembler {
         self.give_up()
     }
 
-    /// The bytes of the unit that the last packet completed; none if it completed none.
+    /// The bytes of the unit that the last packet completed; empty if it completed none.
     pub fn unit(&self) -> &[u8]
         ensures { (events : List Event) → StandsFor self.now events → result.now ≡ whole_unit events }
     {
         self.shown()
     }
 
-    /// The size of the unit that this packet would complete, or 0 if it would complete none, so that the caller can
-    /// reserve memory before it pushes the packet. The packet must meet the requirements of `push`.
+    /// The size of the unit that this packet would complete, or 0 if it would complete none. The caller can reserve
+    /// memory for the unit before it pushes the packet. The packet must meet the requirements of `push`.
     pub fn unit_with(&self, mark: Mark, instant: Option<i64>, view: &CvfView<'_>) -> usize
         requires { length view.now.body.now ≤ longest_body }
         ensures { (events : List Event) → StandsFor self.now events

@@ -11,7 +11,7 @@ pub const FU_A: u8 = 28;
 /// What a packet carries of a NAL unit (RFC 6184, 5.6 and 5.8).
 #[derive(Clone, Copy, Debug, PartialEq, Eq)]
 pub enum NalPart {
-    /// All of it.
+    /// The whole unit.
     Single,
     /// The first fragment.
     First,
@@ -31,10 +31,10 @@ pub struct CvfView<'a> {
     pub marker: bool,
     /// The event field (evt), 0 to 15, whose meaning the upper layer defines.
     pub evt: u8,
-    /// The H.264 timestamp, in nanoseconds of gPTP modulo 2^32 like the header's.
+    /// The H.264 timestamp, in nanoseconds of gPTP modulo 2^32.
     pub h264_timestamp: u32,
-    /// The first byte of the NAL unit: F in one bit, NRI in two, and the type, 1 to 23, in five. All fragments of a unit carry
-    /// this byte, in their two headers.
+    /// The first byte of the NAL unit: F in one bit, NRI in two, and the type, 1 to 23, in five. Each fragment of a
+    /// unit carries this byte, split between its two headers.
     pub nal: u8,
     pub part: NalPart,
     /// The bytes that this packet carries of the NAL unit, without the unit's first byte.

@@ -1,7 +1,7 @@
 //! What becomes of the fragments of NAL units.
 
-/// Which packet a fragment came in: its frame of the capture, counted from 1, its sequence number, and its arrival in
-/// nanoseconds of gPTP.
+/// The packet that a fragment arrived in: its frame of the capture, counted from 1, its sequence number, and its
+/// arrival in nanoseconds of gPTP.
 #[derive(Clone, Copy, Debug, PartialEq, Eq)]
 pub struct Mark {
     pub frame: u64,
@@ -18,10 +18,10 @@ pub enum Lost {
     Long,
 }
 
-/// What becomes of a packet, as far as is known when it comes.
+/// What becomes of a packet, as far as is known when it arrives.
 #[derive(Clone, Copy, Debug, PartialEq, Eq)]
 pub enum Piece {
-    /// Its unit is whole.
+    /// It completes its unit.
     Whole,
     /// It waits for the rest of its unit.
     Held,
@@ -29,12 +29,12 @@ pub enum Piece {
     Lost(Lost),
 }
 
-/// What happened when a packet came.
+/// What happened when a packet was pushed.
 #[derive(Clone, Copy, Debug, PartialEq, Eq)]
 pub struct Pushed {
-    /// The number of earlier fragments that it gave up.
+    /// The number of earlier fragments that the packet gave up.
     pub lost: u32,
-    /// Why it gave them up; `Broken` if there are none.
+    /// Why the packet gave up earlier fragments; `Broken` if it gave up none.
     pub why: Lost,
     /// What becomes of the packet itself.
     pub piece: Piece,

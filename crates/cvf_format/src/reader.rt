@@ -83,7 +83,7 @@ fn nal_part(pdu: &[u8], stated: u16) -> Result<NalPart, Refusal>
     Err(refused(Field::NalType, 28))
 }
 
-/// The first byte of the NAL unit, which a fragment has in two parts.
+/// The first byte of the NAL unit, which a fragment carries in two parts.
 #[tactic(auto, using(crate::proofs::NalLemmas::joined))]
 fn nal_at(pdu: &[u8], part: NalPart) -> u8
     requires inside { size_of_header part ≤ length pdu.now }
@@ -145,11 +145,11 @@ fn read_packet(pdu: &[u8]) -> Result<CvfView<'_>, Refusal>
 
 /// Reads a packet.
 ///
-/// Refuses the first of these that applies, in this order: a field of the stream header that the slice cuts off; a subtype
-/// other than CVF; a version other than 0; a format other than that of RFC payloads; a format subtype other than H.264; a
-/// stated length below 5, or beyond the end of the slice; a NAL type that is neither that of a single unit, 1 to 23, nor FU-A;
-/// a fragment without an FU header, or one that is both first and last, or whose type is not 1 to 23. A body may be empty.
-/// Accepts set reserved bits, and ignores what follows the stated length.
+/// Refuses the first of these that applies, in this order: a field of the stream header that the slice cuts off; a
+/// subtype other than CVF; a version other than 0; a format other than that of RFC payloads; a format subtype other
+/// than H.264; a stated length below 5, or beyond the end of the slice; a NAL type that is neither that of a single
+/// unit, 1 to 23, nor FU-A; a fragment that has no FU header, is both first and last, or has a type other than 1 to 23.
+/// A body may be empty. Accepts set reserved bits, and ignores what follows the stated length.
 #[inline(always)]
 pub fn read_cvf(pdu: &[u8]) -> Result<CvfView<'_>, Refusal>
     ensures exact { Reads cvf_shape (cvf_refusal pdu.now) (cvf_of pdu.now) result }

@@ -5,19 +5,19 @@ ghost use Rattle.cvf_format.specs.Settled.{packets, settled, settled_by};
 ghost use Rattle.cvf_format.specs.StretchRules.{EndsWith, IsStretch};
 ghost use Rattle.cvf_format.specs.Stretches.{Event, Fragment, given_up, held, is_stretch, last_stretch, longest_unit, most_fragments, whole_unit};
 
-/// The test of a stretch agrees with the rules.
+/// `is_stretch` is true of exactly the packets that the rules call a stretch.
 pub fn stretches_by_the_rules()
     ensures { (packets : List Fragment) → (is_stretch packets ≡ true) ↔ IsStretch packets }
 {}
 
-/// Events end with at most one stretch, which is the one that the last event belongs to.
+/// A list of events ends with at most one stretch. It is the one that `last_stretch` returns.
 pub fn one_stretch()
     ensures one { (events : List Event) (stretch : List Fragment) → EndsWith events stretch → last_stretch events ≡ stretch }
     ensures some { (events : List Event) → (last_stretch events ≡ []) ⊎ EndsWith events (last_stretch events) }
 {}
 
-/// Each packet is settled exactly once, in the order in which the packets came: a later event gives it up, it is lost when it
-/// comes, it is in a unit that a packet completes, or it waits at the end.
+/// Each packet is settled exactly once, in the order in which the packets arrived. A later event gives it up, it is
+/// lost when it arrives, it is in a unit that a packet completes, or it waits at the end.
 pub fn each_packet_once()
     ensures all { (events : List Event) → packets events ≡ settled [] events ++ held events }
     ensures next { (before : List Event) (event : Event) → held before ++ packets (event ∷ []) ≡ settled_by before event ++ held (before ++ event ∷ []) }

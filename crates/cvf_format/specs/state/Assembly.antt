@@ -1,5 +1,5 @@
--- Kept for proofs: what the code's own parts hold and do. No clause of a public call rests on it.
--- What an assembler keeps of the packets that it was given.
+-- Kept for proofs: what the code's own parts hold and do. No clause of a public call rests on it. What an assembler
+-- keeps of the packets that are pushed.
 use Rattle.std.specs.Prelude.{◌≡◌, ℕ, ◌+◌, ◌%◌, ◌==◌, nat_le, nat_lt, Bool, true, false, not, ◌&&◌, if◌then◌else◌, ℤ, List, [], ◌∷◌, ◌++◌, length, Option, None, Some}
 use Rattle.std.specs.Ordering.{int_eq}
 use Rattle.cvf_format.specs.declared.cvf.NalPart.{NalPart}
@@ -11,7 +11,7 @@ use Rattle.cvf_format.specs.declared.piece.Piece.TheVariants as variant
 use Rattle.cvf_format.specs.Stretches.{Fragment, Event, held, given_up, reason, piece, goes_on, begins, completes, sequence_numbers, longest_unit, most_fragments}
 use Rattle.cvf_format.specs.Assembly.{Assembly, StandsFor}
 
--- the last of these events was a packet, and the assembler returned this for it
+-- the last of these events is a packet, for which the assembler returned `pushed`
 pub record IsPushed (a : Assembly) (events : List Event) (pushed : Pushed) : Type 0 where
   pub stands : StandsFor a events
   pub lost : pushed.lost ≡ length (given_up events)
@@ -26,16 +26,16 @@ agree None b = true
 agree (Some a) None = true
 agree (Some a) (Some b) = int_eq a b
 
--- the packet continues the unit that waits
+-- the packet continues the waiting unit
 unfoldable pub goes_on_here : Assembly → Fragment → Bool
 goes_on_here a f = not (length a.held == 0)
     && (goes_on f.part && (f.nal == a.nal && (f.mark.seq == a.next_seq && agree a.instant f.instant)))
 
--- the unit that waits has room for a fragment with this body
+-- the waiting unit has room for a fragment with this body
 unfoldable pub has_room : Assembly → List ℕ → Bool
 has_room a body = nat_le (length a.bytes + length body) longest_unit && nat_lt (length a.held) most_fragments
 
--- all packets that waited were given up
+-- the assembler after it gave up all waiting packets
 abbrev pub gave_up : Assembly → Assembly
 gave_up a = record a { held = []; lost = a.held; whole = false }
 
@@ -49,7 +49,7 @@ broken = Broken
 abbrev pub lost_for : Lost → Piece
 lost_for why = variant.Lost why
 
--- what becomes of a packet that is in a unit
+-- what becomes of a packet that joins a unit
 abbrev pub settled : NalPart → Piece
 settled part = if completes part then variant.Whole else variant.Held
 
