@@ -40,7 +40,7 @@ all-placed P a (suc n) (suc i) h all =
     let e : a + 1 + i ≡ a + suc i = omega arith in
     subst P e (all-placed P (a + 1) n i (omega arith) (All-tail P a (range_with_len (a + 1) n) all))
 
--- ---- pairs that are taken
+-- ---- pairs that are joined
 
 below : (a b : ℕ) → a < b → nat_lt a b ≡ true
 below a b h = grind (arith, nat_tests)

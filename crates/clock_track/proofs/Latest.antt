@@ -1,4 +1,4 @@
--- The last pair that covers an instant, without a search.
+-- Facts about the last pair that covers an instant. The search for the pair is no part of them.
 use Rattle.std.proofs.Common.{◌≡◌, ℕ, ◌+◌, ◌-◌, ◌*◌, ◌^◌, ◌≤◌, Bool, true, false, ℤ, pos, List, [], ◌∷◌, All, Option, Some, None, refl, ap, arith}
 use Rattle.std.specs.Prelude.{IfSome, nat_lt, if◌then◌else◌}
 use Rattle.std.specs.List.{filter_map, range_with_len}
@@ -31,7 +31,7 @@ last_is rate instant (x ∷ xs) = cases (find_last (λ pair. covers pair rate in
       none_behind = h.none_behind;
     }
 
--- ---- each of the list is joined
+-- ---- each pair of the list is joined
 
 pub by_is : (shift : ℤ) (row : ClockRow) (first second : ℕ) → IfSome (joined_by shift row first second) IsJoined
 by_is shift row first second = cases (nat_lt first (2 ^ 62)) (nat_lt second (2 ^ 62)) (is_joined (pair_of shift row first second)) refl

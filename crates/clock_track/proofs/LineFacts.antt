@@ -101,11 +101,11 @@ most_den p rate is fits =
 pub spaced : (i down rate step : ℕ) → 8 * step ≤ 9 * (i * 1000000000 * down) → 8 * (rate * step) ≤ 9000000000 * (i * rate * down)
 spaced i down rate step h = let times : rate * (8 * step) ≤ rate * (9 * (i * 1000000000 * down)) = mul-le-mul_left rate h in omega arith
 
--- the greatest spacing, if the clock's frequency is the stream's rate
+-- if the clock's frequency is the stream's rate, the spacing is at most 9/8 of the nominal spacing
 pub spaced_own : (i down rate d : ℕ) → 1 ≤ down → 8 * (d * (rate * down)) ≤ 9 * (i * 1000000000 * down) → 8 * (rate * d) ≤ 9000000000 * i
 spaced_own i down rate d some h = at_most down (8 * (rate * d)) (9000000000 * i) some (omega arith)
 
--- the least spacing
+-- the spacing is at least 7/8 of the nominal spacing
 pub spaced_least : (i down rate step : ℕ) → 7 * (i * 1000000000 * down) ≤ 8 * step → 7000000000 * (i * rate * down) ≤ 8 * (rate * step)
 spaced_least i down rate step h = let times : rate * (7 * (i * 1000000000 * down)) ≤ rate * (8 * step) = mul-le-mul_left rate h in omega arith
 
@@ -133,7 +133,7 @@ below_times z n w h =
     (λ g. g)
     (λ g. let m = times_more (pos n) z w (omega (arith, ints)) in absurd (omega (arith, ints)))
 
--- the number of the event is below the interval
+-- the number of the nearest event is not negative
 event_from : (z : ℤ) (d : ℕ) → 1 ≤ d → pos 0 ≤ℤ z → pos 0 ≤ℤ floor_of z (2 * d)
 event_from z d some h =
     let q : ℤ = floor_of z (2 * d) in

@@ -1,4 +1,4 @@
--- The last of a list that passes a test, item by item.
+-- The last item of a list that passes a test, found item by item.
 use Rattle.std.proofs.Common.{◌≡◌, is_some, ℕ, zero, suc, ◌+◌, ◌-◌, ◌<◌, ◌≤◌, length, Bool, true, false, ℤ, List, [], ◌∷◌, ◌++◌, All, Option, Some, None, refl, sym, ap, ◌∙◌, subst, arith}
 use Rattle.std.specs.Prelude.{IfSome, if◌then◌else◌, slice_get, take}
 use Rattle.std.specs.List.{cons_option, filter_map, flat_map, range_with_len}
@@ -24,7 +24,7 @@ last_by : {X : Type 0} (f : X → Option Pair) (test : Pair → Bool) (xs : List
 last_by f test xs x None e = rw e (ap (λ (l : List Pair). find_last test l) (append-nil (filter_map f xs)))
 last_by f test xs x (Some p) e = rw e (kept_last test (filter_map f xs) p (test p) refl)
 
--- with one more item, the last pair that passes is the one that this item gives, if that passes
+-- if the pair of `x` passes, it is the last pair that passes; otherwise the last such pair is one of `xs`
 pub last-more : {X : Type 0} (f : X → Option Pair) (test : Pair → Bool) (xs : List X) (x : X)
     → find_last test (filter_map f (xs ++ x ∷ [])) ≡ option_or (kept test (f x)) (find_last test (filter_map f xs))
 last-more f test xs x = ap (λ (l : List Pair). find_last test l) (filter_map-append f xs (x ∷ [])) ∙ last_by f test xs x (f x) refl
@@ -44,7 +44,7 @@ last-split test (x ∷ xs) ys = ap (λ (o : Option Pair). last_of_two o (if test
     three None b c = refl
     three (Some p) b c = refl
 
--- ---- places
+-- ---- indexes
 
 range-by : (a b n : ℕ) → a + n ≡ b → range_with_len a (suc n) ≡ range_with_len a n ++ b ∷ []
 range-by a b zero e = let same : a ≡ b = omega arith in ap (λ (x : ℕ). x ∷ []) same
@@ -68,7 +68,7 @@ or-none (Some x) p e = absurd cc
 
 -- ---- one step of a search
 
--- the pairs inside a packet from one place to another, up to the last of them
+-- the last pair that passes is the pair at index `left` - 1, if it passes, and otherwise the last one before that index
 pub between-found : (shift : ℤ) (row : ClockRow) (test : Pair → Bool) (first left a b : ℕ) (r whole : Option Pair) → first < left
     → a ≡ timestamp row (left - 1) → b ≡ timestamp row (left - 1 + 1) → r ≡ kept test (joined_by shift row a b)
     → find_last test (filter_map (inside shift row) (range_with_len first (left - first))) ≡ whole
@@ -83,7 +83,7 @@ between-found shift row test first left a b r whole some p q e same =
     ap (λ (o : Option Pair). option_or o (find_last test (filter_map f xs))) here ∙ sym (last-more f test xs (left - 1))
     ∙ ap (λ (l : List ℕ). find_last test (filter_map f l)) (sym split) ∙ same
 
--- the pairs inside a packet, up to the last group of them
+-- the last pair that passes is in the last group, or else in the groups before it
 pub group-found : (f : ℕ → Option Pair) (test : Pair → Bool) (first left : ℕ) (r whole : Option Pair) → first ≤ left
     → r ≡ find_last test (filter_map f (range_with_len first (left - first)))
     → find_last test (filter_map f (range_with_len 0 left)) ≡ whole
@@ -115,7 +115,6 @@ take-next [] k row e = absurd cc
 take-next (x ∷ xs) zero row e = let same : x ≡ row = cc in rw same refl
 take-next (x ∷ xs) (suc k) row e = ap (λ (l : List ClockRow). x ∷ l) (take-next xs k row e)
 
--- the first `left` packets are those before the last of them, and that one
 take-more : (rows : List ClockRow) (left : ℕ) (row : ClockRow) → 0 < left → slice_get rows (left - 1) ≡ Some row → take left rows ≡ take (left - 1) rows ++ row ∷ []
 take-more rows left row some e =
     let next : left ≡ suc (left - 1) = omega arith in
@@ -124,7 +123,8 @@ take-more rows left row some e =
 given : (b c : Bool) (o r : Option Pair) → b ≡ c → r ≡ (if b then o else None) → r ≡ (if c then o else None)
 given b c o r u f = rw (← u) f
 
--- a search through the first packets finds what the last of them gives, or else what the packets before it give
+-- the last pair that passes is one of the last packet, if one of these passes, and otherwise one of the packets before
+-- it
 row-found : (g : List ClockRow → List Pair) (h : ClockRow → List Pair) (test : Pair → Bool) (rows : List ClockRow) (left : ℕ) (row : ClockRow) (r whole : Option Pair)
     → ((xs : List ClockRow) (x : ClockRow) → g (xs ++ x ∷ []) ≡ g xs ++ h x)
     → 0 < left → slice_get rows (left - 1) ≡ Some row → r ≡ (if row.usable then find_last test (h row) else None)
@@ -179,7 +179,6 @@ pairs-found pairs test rows left r whole some within is same =
     let at = row_at rows (left - 1) (omega arith) in
     row-found (flat_map pairs) pairs test rows left at.0 r whole (λ xs x. flat_map-append pairs xs (x ∷ []) ∙ ap (λ (l : List Pair). flat_map pairs xs ++ l) (append-nil (pairs x))) some at.1 (is at.0 at.1) same
 
--- at first all packets are left, and at the end none
 pub all-taken : (rows : List ClockRow) (n : ℕ) → n ≡ length rows → take n rows ≡ rows
 all-taken rows n e = rw e (take-length rows)
 
@@ -194,7 +193,7 @@ one-row pairs test row other o r e f u is =
     let same : row ≡ other = cc in
     given-back other.usable (find_last test (pairs other)) r (ap (λ (x : ClockRow). x.usable) (sym same) ∙ u) (is ∙ ap (λ (x : ClockRow). find_last test (pairs x)) same)
 
--- a pair inside the packet comes last
+-- if a pair inside the packet passes, the last pair that passes is inside the packet
 pub inside-last : (shift : ℤ) (used_rows : List ClockRow) (test : Pair → Bool) (row other : ClockRow) (o : Option ClockRow) (r : Option Pair) → o ≡ Some row → row.usable ≡ true
     → r ≡ find_last test (filter_map (inside shift row) (range_with_len 0 (timestamps row - 1))) → is_some r ≡ true
     → o ≡ Some other → r ≡ (if other.usable then find_last test (pairs_at shift used_rows other) else None)
@@ -204,7 +203,7 @@ inside-last shift used_rows test row other o r e u is some f =
     one-row (pairs_at shift used_rows) test row other o r e f u
     (sym (or-some r (find_last test xs) some) ∙ ap (λ (p : Option Pair). option_or p (find_last test xs)) is ∙ sym (last-split test xs ys))
 
--- if no pair inside the packet passes, one that ends at its first timestamp comes last
+-- if no pair inside the packet passes, the last pair that passes ends at the packet's first timestamp
 pub across-last : (shift : ℤ) (used_rows : List ClockRow) (test : Pair → Bool) (row other : ClockRow) (o : Option ClockRow) (p r : Option Pair) → o ≡ Some row → row.usable ≡ true
     → p ≡ find_last test (filter_map (inside shift row) (range_with_len 0 (timestamps row - 1))) → is_some p ≡ false
     → r ≡ find_last test (filter_map (across shift row) used_rows)
@@ -222,7 +221,7 @@ row-is (x ∷ xs) (suc k) row all e = row-is xs k row (All-tail IsNotable x xs a
 
 -- ---- what is found
 
--- what is found is one of the list, and passes
+-- the pair that is found has the property `P` of all pairs of the list, and passes the test
 pub found-in : (P : Pair → Type 0) (test : Pair → Bool) (xs : List Pair) → All P xs → IfSome (find_last test xs) (λ p. P p × (test p ≡ true))
 found-in P test [] all = tt
 found-in P test (x ∷ xs) all = cases (find_last test xs) (test x) refl (found-in P test xs (All-tail P x xs all))

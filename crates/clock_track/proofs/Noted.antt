@@ -22,7 +22,7 @@ rows-noted xs kept =
 all-one : {X : Type 0} (P : X → Type 0) (xs : List X) (x : X) → All P xs → P x → All P (xs ++ x ∷ [])
 all-one P xs x all is = All-append P xs (x ∷ []) all (All-cons P x [] is (All-nil P))
 
--- the packets that are kept, without the oldest of 64, and one more
+-- the buffer `new` holds the last 63 packets of `old`, and then `kept`
 abbrev pub IsNoted : Buffer Kept → Buffer Kept → Kept → Type 0
 IsNoted old new kept = new ≡ buffer (keep_last 63 old.items ++ kept ∷ []) 64
 
@@ -43,7 +43,7 @@ window-noted shift old new kept spare left is e room notable bounds left_room co
       bounds = subst (λ (l : List Kept). All (HasBounds shift) l) (sym items) (all-one (HasBounds shift) (keep_last 63 old.items) kept (All-drop (HasBounds shift) (length old.items - 63) old.items is.bounds) bounds);
     }
 
--- the clock has noted the packets so far and this one
+-- if the clock kept the window of `rows`, it now keeps the window of `rows` and then `row`
 pub stands-noted : (old new : Buffer Kept) (kept : Kept) (rows : List ClockRow) (row : ClockRow) → IsNoted old new kept → kept_row kept ≡ row → row.usable ≡ true → map kept_row old.items ≡ window rows
     → map kept_row new.items ≡ window (rows ++ row ∷ [])
 stands-noted old new kept rows row e same usable stands =
@@ -52,7 +52,7 @@ stands-noted old new kept rows row e same usable stands =
     ∙ ap (λ (r : ClockRow). drop (length (map kept_row old.items) - 63) (map kept_row old.items) ++ r ∷ []) same
     ∙ window-more (map kept_row old.items) rows row stands usable
 
--- the bounds that are kept with a packet
+-- the bounds that are kept with a packet hold the packet's pairs
 pub bounds-kept : (shift : ℤ) (items : List Kept) (k : ℕ) (kept : Kept) (row : ClockRow) → slice_get items k ≡ Some kept → All (HasBounds shift) items → slice_get (map kept_row items) k ≡ Some row
     → HasPairs shift row kept.bounds × AreGroups shift row kept.groups.items
 bounds-kept shift [] k kept row e all there = absurd cc

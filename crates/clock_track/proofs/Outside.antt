@@ -23,7 +23,7 @@ use Rattle.clock_track.proofs.TooLate.{none-found, none-more}
 
 -- ---- one pair
 
--- half a sample by a joined pair is at most the lead
+-- half the spacing of samples, according to a joined pair, is at most the lead
 led : (i down rate lead s : ℕ) → IsLead rate lead → 8 * s ≤ 9 * (i * 1000000000 * down) → 1 ≤ i * down → s < 2 * ((lead + 1) * (i * rate * down))
 led i down rate lead s is most some =
     elim (cases_lt 562500000 (rate * (lead + 1))) [
@@ -65,7 +65,7 @@ not_covering p bounds rate lead instant is joined within outside = cases (covers
         ])
     cases false e = refl
 
--- ---- the pairs that end in a packet
+-- ---- the pairs whose later point is in a packet
 
 abbrev test : ℕ → ℤ → Pair → Bool
 test rate instant pair = covers pair rate instant
@@ -102,7 +102,7 @@ if-some : (P Q : Pair → Type 0) (o : Option Pair) → ((p : Pair) → P p → 
 if-some P Q None more h = tt
 if-some P Q (Some p) more h = more p h
 
--- the bounds of one pair more
+-- if bounds are widened to hold pair `i`, they hold the pairs from `first` to `i`
 pub inside-more : (shift : ℤ) (row : ClockRow) (old new : Bounds) (first i : ℕ) (o : Option Pair) (a b : ℕ) → HasInside shift row old first i
     → a ≡ timestamp row i → b ≡ timestamp row (i + 1) → o ≡ joined_by shift row a b → IfSome o (λ pair. IsWithin new pair) → ((other : Pair) → IsWithin old other → IsWithin new other)
     → HasInside shift row new first (i + 1)
@@ -116,7 +116,6 @@ inside-more shift row old new first i o a b has p q e here more j from to =
           subst (λ (k : ℕ). IfSome (inside shift row k) (λ pair. IsWithin new pair)) (sym same) there
     ]
 
--- the bounds of all pairs inside a packet
 pub all-inside : (shift s : ℤ) (row : ClockRow) (bounds : Bounds) (count : ℕ) → s ≡ shift → count ≡ timestamps row → HasInside s row bounds 0 (count - 1) → HasInside shift row bounds 0 (timestamps row - 1)
 all-inside shift s row bounds count e f has i from to = subst (λ (z : ℤ). IfSome (inside z row i) (λ pair. IsWithin bounds pair)) e (has i from (omega arith))
 
@@ -143,7 +142,7 @@ across-empty shift row before bounds e = cases (seems_next row before) (nat_lt 0
     cases true false d e = tt
     cases false b d e = tt
 
--- a packet without timestamps has no pairs
+-- any bounds hold the pairs of a packet without timestamps
 pub pairs-empty : (shift : ℤ) (row : ClockRow) (bounds : Bounds) → timestamps row ≡ 0 → HasPairs shift row bounds
 pairs-empty shift row bounds e = record {
   inside = λ i from to. absurd (omega arith);
@@ -161,14 +160,14 @@ by-late shift row bounds first second e = cases (nat_lt first (2 ^ 62)) (nat_lt 
 not_below : (a b : ℕ) → b ≤ a → nat_lt a b ≡ false
 not_below a b h = grind (arith, nat_tests)
 
--- no pair ends at a first timestamp that is not a point
+-- if the first timestamp of a packet is not a point, bounds of the pairs inside the packet hold all its pairs
 pub pairs-late : (shift : ℤ) (row : ClockRow) (bounds : Bounds) → HasInside shift row bounds 0 (timestamps row - 1) → 2 ^ 62 ≤ timestamp row 0 → HasPairs shift row bounds
 pairs-late shift row bounds has late = record {
   inside = has;
   across = λ before. across-by shift row before bounds (λ first. by-late shift row bounds first (timestamp row 0) (not_below (timestamp row 0) (2 ^ 62) late));
 }
 
--- what is longest for one pair of a clock is longest for each
+-- no joined pair of the same clock and interval as `pair` has a period longer than `longest`
 abbrev pub IsLongest : Pair → ℕ → Type 0
 IsLongest pair longest = (d : ℕ) → 8 * (d * pair.up) ≤ 9 * nominal pair → d ≤ longest
 
@@ -193,7 +192,8 @@ widened-inside shift row old new later end first last has wider i from to =
     if-some (λ pair. IsWithin old pair) (λ pair. IsWithin new pair) (inside shift row i)
     (λ p is. let low = is.from in let high = is.to in record { from = omega (arith, ints); to = omega (arith, ints) }) (has i from to)
 
--- bounds that are widened for each pair that ends at a packet's first timestamp
+-- if bounds of the pairs inside a packet are widened by the longest period after the first timestamp, they hold all
+-- pairs of the packet
 pub pairs-wide : (shift : ℤ) (row : ClockRow) (old new : Bounds) (pair : Pair) (longest : ℕ) → HasInside shift row old 0 (timestamps row - 1) → Widens old new pair.later (pair.later +ℤ pos longest)
     → pair ≡ pair_of shift row (timestamp row 0) (timestamp row 0) → IsLongest pair longest → HasPairs shift row new
 pairs-wide shift row old new pair longest has wider same is =
@@ -207,7 +207,7 @@ pairs-wide shift row old new pair longest has wider same is =
 
 -- ---- groups of the pairs inside a packet
 
--- no pair of a group covers an instant that is outside its bounds
+-- no pair of a group covers an instant that is outside the group's bounds
 pub group-none : (shift : ℤ) (row : ClockRow) (groups : List Bounds) (g end rate lead : ℕ) (instant : ℤ) → IsLead rate lead → AreGroups shift row groups → 32 * g < end → end ≤ 32 * g + 32 → end ≤ timestamps row - 1
     → IfSome (slice_get groups g) (λ bounds. IsOutside bounds instant lead) × IsSome (slice_get groups g)
     → find_last (test rate instant) (filter_map (inside shift row) (range_with_len (32 * g) (end - 32 * g))) ≡ None
@@ -228,11 +228,10 @@ last-or (z ∷ zs) x y (suc k) e = elim (last-or zs x y k e) [
   | inr last ↦ inr (ap (λ (n : ℕ). suc n) last.0, last.1)
 ]
 
--- no groups have bounds
 pub no-groups : (shift : ℤ) (row : ClockRow) → AreGroups shift row []
 no-groups shift row g bounds there = absurd cc
 
--- the bounds of one group more
+-- the groups still have true bounds after the bounds of one more group are appended
 pub groups-more : (shift s : ℤ) (row : ClockRow) (groups : List Bounds) (bounds : Bounds) (first last : ℕ) → s ≡ shift → AreGroups shift row groups → first ≡ 32 * length groups
     → ((end : ℕ) → end ≤ 32 * length groups + 32 → end ≤ timestamps row - 1 → end ≤ last) → HasInside s row bounds first last → AreGroups shift row (groups ++ bounds ∷ [])
 groups-more shift s row groups bounds first last same are e most has g other there end within inner = elim (last-or groups bounds other g there) [

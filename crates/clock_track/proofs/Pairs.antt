@@ -1,4 +1,4 @@
--- Two points, and what the tests of them say.
+-- What the tests of a pair of points say.
 use Rattle.std.proofs.Common.{◌≡◌, ℕ, ◌-◌, ◌*◌, ◌≤◌, Bool, true, false, ℤ, pos, negsuc, ◌-ℤ◌, ◌≤ℤ◌, ◌<ℤ◌, refl, arith}
 use Rattle.std.specs.Prelude.{nat_le, int_le, int_lt, if◌then◌else◌}
 use Rattle.std.proofs.lemmas.Bool.{le-leb}
@@ -11,7 +11,7 @@ by_difference : (a b : ℕ) (z : ℤ) → z ≡ pos b -ℤ pos a → at_least_0 
 by_difference a b (pos n) e = omega (arith, ints)
 by_difference a b (negsuc n) e = omega (arith, ints)
 
--- the period of two points that are not before 0
+-- if no point is negative, the period is the difference of the points
 pub period-natural : (a b : ℕ) → at_least_0 (pos b -ℤ pos a) ≡ b - a
 period-natural a b = by_difference a b (pos b -ℤ pos a) refl
 

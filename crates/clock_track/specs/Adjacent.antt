@@ -1,4 +1,4 @@
--- Two adjacent timestamps of a clock's packets that a listener joins.
+-- Which adjacent timestamps of a clock's packets a listener joins.
 use Rattle.std.specs.Prelude.{◌≡◌, ℕ, ◌+◌, ◌-◌, ◌^◌, ◌<◌, true, false, ℤ, List, ◌++◌, replicate}
 use Rattle.clock_track.specs.declared.clock_row.ClockRow.{ClockRow}
 use Rattle.clock_track.specs.declared.pair.Pair.{Pair}
@@ -6,7 +6,8 @@ use Rattle.clock_track.specs.Examples.{worked_row, worked_rows}
 use Rattle.clock_track.specs.Pairs.{IsJoined}
 use Rattle.clock_track.specs.Rows.{pair_of, seems_next, timestamp, timestamps}
 
--- two timestamps are accepted as adjacent points of a packet's clock: both are below 2^62, and they are joined
+-- the timestamps `first` and `second` are accepted as adjacent points of a packet's clock: both are below 2^62, and
+-- their pair is joined
 pub record AreTaken (shift : ℤ) (row : ClockRow) (first second : ℕ) : Type 0 where
   pub earlier : first < 2 ^ 62
   pub later : second < 2 ^ 62
@@ -25,7 +26,8 @@ pub record AreInside (shift : ℤ) (row : ClockRow) (i : ℕ) : Type 0 where
 abbrev pub pair_across : ℤ → ClockRow → ClockRow → Pair
 pair_across shift row before = pair_of shift row (timestamp before (timestamps before - 1)) (timestamp row 0)
 
--- the last timestamp of a packet and the first of another, which seems to be the next one, are accepted as adjacent points
+-- the last timestamp of `before` and the first of `row` are accepted as adjacent points, and `row` seems to be the next
+-- packet
 pub record AreAcross (shift : ℤ) (row before : ClockRow) : Type 0 where
   pub next : seems_next row before ≡ true
   pub some_before : 0 < timestamps before
@@ -34,10 +36,10 @@ pub record AreAcross (shift : ℤ) (row before : ClockRow) : Type 0 where
 
 -- ---- the last packets
 
--- a clock packet of the worked clock that joins no other, because its number is not next to any other's
+-- a packet of the worked clock that is joined with no other, because no packet has an adjacent sequence number
 abbrev pub lone_row : ClockRow
 lone_row = worked_row 100 false 48000 1006000000
 
--- The two worked packets, whose points are 2 ms apart, followed by this many lone ones.
+-- The two worked packets, whose points are 2 ms apart, and then `others` packets that are joined with no other.
 abbrev pub followed_rows : ℕ → List ClockRow
 followed_rows others = worked_rows 48000 false ++ replicate others lone_row

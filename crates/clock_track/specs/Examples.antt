@@ -8,7 +8,7 @@ use Rattle.clock_track.specs.declared.pair.Pair.{Pair}
 abbrev pub second_pair : Pair
 second_pair = record { earlier = pos 1002000000; later = pos 1005333333; interval = 147; up = 44100; down = 1 }
 
--- a clock packet of one timestamp, with an interval of 96 events of a base frequency
+-- a clock packet with one timestamp, an interval of 96 events, and this base frequency in Hz
 abbrev pub worked_row : ℕ → Bool → ℕ → ℕ → ClockRow
 worked_row seq mr base timestamp = record {
   usable = true;

@@ -5,7 +5,7 @@ use Rattle.clock_track.specs.declared.clock_row.ClockRow.{ClockRow}
 use Rattle.clock_track.specs.declared.pair.Pair.{Pair}
 use Rattle.clock_track.specs.Pairs.{Spot}
 
--- a point is a timestamp below 2^62, shifted by at most a second
+-- the instant can be a point: a timestamp below 2^62, shifted by at most a second
 pub record IsPoint (instant : ℤ) : Type 0 where
   pub from : neg_ℤ (pos 1000000000) ≤ℤ instant
   pub to : instant <ℤ pos (2 ^ 62 + 1000000000)
@@ -15,7 +15,7 @@ pub record IsNear (base instant : ℤ) : Type 0 where
   pub from : (base -ℤ pos (2 ^ 51)) ≤ℤ instant
   pub to : instant ≤ℤ (base +ℤ pos (2 ^ 51))
 
--- the numbers of a pair are as small as the format makes them: a base frequency has 29 bits, and an interval 16
+-- the numbers of the pair are within the limits of the format: a base frequency has 29 bits, and an interval 16
 pub record IsSmall (p : Pair) : Type 0 where
   pub earlier : IsPoint p.earlier
   pub later : IsPoint p.later
@@ -26,8 +26,8 @@ pub record IsSmall (p : Pair) : Type 0 where
   pub some_down : 1 ≤ p.down
   pub down : p.down ≤ 1001
 
--- A packet that gives points: a code of pull, a base frequency of 29 bits and an interval of the format, and at most
--- 8,191 whole timestamps.
+-- The fields of a packet that gives points are within the limits of the format. The pull is at most 5, the base
+-- frequency has 29 bits, and the interval 16. There are at most 8,191 timestamps, all whole.
 pub record IsRow (row : ClockRow) : Type 0 where
   pub pull : row.pull ≤ 5
   pub some_frequency : 1 ≤ row.base_frequency
@@ -37,29 +37,29 @@ pub record IsRow (row : ClockRow) : Type 0 where
   pub whole : length row.payload % 8 ≡ 0
   pub size : length row.payload ≤ 65528
 
--- A packet can be noted: if it gives points, its numbers are those of the format.
+-- The packet can be noted: if it gives points, its fields are within the limits of the format.
 abbrev pub IsNotable : ClockRow → Type 0
 IsNotable row = row.usable ≡ true → IsRow row
 
--- what may be added to timestamps: at most a second, forward or back
+-- the shift can be added to timestamps: it is at most a second, forward or back
 pub record IsShift (shift : ℤ) : Type 0 where
   pub from : neg_ℤ (pos 1000000000) ≤ℤ shift
   pub to : shift ≤ℤ pos 1000000000
 
 -- ---- a line that a clock returns
 
--- The limits of the line that a clock returns for a stream of this rate and an instant, and of the sample's number on it.
+-- The limits of what a clock returns for a stream of this rate and an instant: the line, and the sample's number on it.
 pub record IsClockLine (rate : ℕ) (instant : ℤ) (spot : Spot) : Type 0 where
   pub some_num : 1 ≤ spot.line.num
   pub num : spot.line.num ≤ 2 ^ 60
   pub some_den : 1 ≤ spot.line.den
   pub den : spot.line.den ≤ 2 ^ 60
-  -- samples are at least 7/8 of their nominal spacing apart, and at most 9/8
+  -- the spacing of samples is 7/8 to 9/8 of the nominal spacing
   pub least : 7000000000 * spot.line.den ≤ 8 * (rate * spot.line.num)
   pub spacing : 8 * (rate * spot.line.num) ≤ 9000000000 * spot.line.den
   pub from : pos 0 ≤ℤ spot.from
   pub to : spot.from <ℤ pos 65535
-  -- sample 0 is a point, or at the instant itself
+  -- sample 0 of the line is at a point, or at the instant itself
   pub base : (spot.line.base ≡ instant) ⊎ IsPoint spot.line.base
-  -- about a million samples before and after it are within 2^51 ns
+  -- the 2^20 samples before sample 0 and the 2^20 after it are within 2^51 ns of it
   pub near : (k : ℤ) → neg_ℤ (pos (2 ^ 20)) ≤ℤ k → k ≤ℤ pos (2 ^ 20) → IsNear spot.line.base (instant_at spot.line k)

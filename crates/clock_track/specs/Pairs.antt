@@ -1,5 +1,5 @@
--- Two points of a media clock: reference timestamps that are an interval of events of a nominal frequency apart (IEEE
--- 1722-2016, 10), and the line of events after them. Fractions are compared as whole numbers, multiplied out.
+-- Two points of a media clock, and the line of events after them (IEEE 1722-2016, 10). The points are reference
+-- timestamps, one interval of events apart. Fractions are multiplied out and compared as whole numbers.
 use Rattle.std.specs.Prelude.{◌≡◌, ℕ, ◌*◌, ◌==◌, ◌≤◌, nat_le, if◌then◌else◌, Bool, false, ℤ, pos, negsuc, ◌+ℤ◌, ◌-ℤ◌, ◌*ℤ◌, ◌≤ℤ◌, ◌<ℤ◌, int_le, int_lt}
 use Rattle.clock_track.specs.declared.pair.Pair.{Pair}
 use Rattle.time_unfold.specs.declared.line.Line.{Line}
@@ -7,7 +7,8 @@ use Rattle.time_unfold.specs.Lines.{floor_of}
 
 -- ---- the frequency
 
--- the numerator of the factor of the base frequency that a code of pull names (IEEE 1722-2016, 10)
+-- the numerator of the factor that a code of pull names; the base frequency is multiplied by this factor (IEEE
+-- 1722-2016, 10)
 abbrev pub pull_up : ℕ → ℕ
 pull_up pull =
     if pull == 1 then 1000 else
@@ -15,7 +16,7 @@ pull_up pull =
     if pull == 3 then 24 else
     if pull == 4 then 25 else 1
 
--- the denominator of the factor of the base frequency that a code of pull names (IEEE 1722-2016, 10)
+-- the denominator of the factor that a code of pull names (IEEE 1722-2016, 10)
 abbrev pub pull_down : ℕ → ℕ
 pull_down pull =
     if pull == 1 then 1001 else
@@ -26,16 +27,16 @@ pull_down pull =
 
 -- ---- two points
 
--- a number that is not below 0, and 0 for any other
+-- the number, or 0 if it is negative
 abbrev pub at_least_0 : ℤ → ℕ
 at_least_0 (pos n) = n
 at_least_0 (negsuc n) = 0
 
--- the time from the earlier point to the later, in nanoseconds; 0 if the second is not later
+-- the time from the earlier point to the later in nanoseconds, or 0 if it is negative
 abbrev pub period : Pair → ℕ
 period p = at_least_0 (p.later -ℤ p.earlier)
 
--- the nominal time of the interval, times `up`: it is nominal p / up nanoseconds
+-- the nominal time of the interval in nanoseconds, times `up`
 abbrev pub nominal : Pair → ℕ
 nominal p = p.interval * 1000000000 * p.down
 
@@ -48,21 +49,22 @@ pub record IsJoined (p : Pair) : Type 0 where
 abbrev pub IsSpaced : Pair → Type 0
 IsSpaced p = 3 * nominal p ≤ 4 * (period p * p.up)
 
--- ---- the samples of a stream by a pair
+-- ---- the samples of a stream according to a pair
 
--- the numerator of the samples' spacing by a pair, which is step_num p / step_den p rate nanoseconds
+-- the numerator of the spacing of samples according to a pair, which is step_num p / step_den p rate nanoseconds
 abbrev pub step_num : Pair → ℕ
 step_num p = period p * p.up
 
--- the denominator of the samples' spacing by a pair, for a stream of this rate
+-- the denominator of the spacing of samples according to a pair, for a stream of this rate
 abbrev pub step_den : Pair → ℕ → ℕ
 step_den p rate = p.interval * rate * p.down
 
--- the time from half a sample before the later point to an instant, in nanoseconds, times 2 * step_den p rate
+-- the time in nanoseconds from half a sample before the later point to an instant, times 2 * step_den p rate
 abbrev pub reach : Pair → ℕ → ℤ → ℤ
 reach p rate instant = (instant -ℤ p.later) *ℤ pos (2 * step_den p rate) +ℤ pos (step_num p)
 
--- A pair covers the instants from half a sample before its later point to half a sample before one more period.
+-- The pair covers the instant. A pair covers the instants of one period, which begins half a sample before its later
+-- point.
 pub record Covers (p : Pair) (rate : ℕ) (instant : ℤ) : Type 0 where
   pub from : pos 0 ≤ℤ reach p rate instant
   pub to : reach p rate instant <ℤ pos (2 * (period p * step_den p rate))
@@ -84,9 +86,9 @@ event_line p = record { base = p.later; num = period p; den = p.interval }
 abbrev pub nearest_event : Pair → ℤ → ℤ
 nearest_event p instant = floor_of ((instant -ℤ p.later) *ℤ pos (2 * p.interval) +ℤ pos (period p)) (2 * period p)
 
--- By a pair, the line of a sample that is stamped with an instant, and the sample's number on that line. If the clock's frequency
--- is the stream's rate, the sample is at the nearest event. Otherwise samples are counted from the instant, in the pair's
--- spacing.
+-- The line of a sample with this presentation time according to a pair, and the sample's number on that line. If the
+-- clock's frequency is the stream's rate, the sample is at the nearest event. Otherwise samples are counted from the
+-- presentation time, in the pair's spacing.
 abbrev pub spot_by : Pair → ℕ → ℤ → Spot
 spot_by p rate instant =
     if p.up == rate * p.down
@@ -100,7 +102,7 @@ abbrev pub is_joined : Pair → Bool
 is_joined p =
     if nat_le (7 * nominal p) (8 * step_num p) then nat_le (8 * step_num p) (9 * nominal p) else false
 
--- whether a pair covers an instant: from half a sample before its later point to half a sample before one more period
+-- whether a pair covers an instant; it covers those of one period, which begins half a sample before its later point
 abbrev pub covers : Pair → ℕ → ℤ → Bool
 covers p rate instant =
     if int_le (pos 0) (reach p rate instant) then int_lt (reach p rate instant) (pos (2 * (period p * step_den p rate))) else false

@@ -9,7 +9,7 @@ use Rattle.clock_track.specs.Pairs.{Covers, Spot, covers, is_joined, pull_down, 
 
 -- ---- the timestamps of a packet
 
--- how many timestamps a packet has
+-- the number of timestamps of a packet
 abbrev pub timestamps : ClockRow → ℕ
 timestamps row = length row.payload / 8
 
@@ -19,7 +19,7 @@ timestamp row i = bits (8 * i) 0 64 row.payload
 
 -- ---- two adjacent timestamps
 
--- the pair of two timestamps of a packet's clock, each with the listener's shift added
+-- the pair of two timestamps of a packet's clock, each with `shift` added
 abbrev pub pair_of : ℤ → ClockRow → ℕ → ℕ → Pair
 pair_of shift row first second = record {
   earlier = pos first +ℤ shift;
@@ -29,18 +29,19 @@ pair_of shift row first second = record {
   down = pull_down row.pull;
 }
 
--- two timestamps of the clock that a packet describes, as a pair, if both are below 2^62 and the pair is joined
+-- the pair of two timestamps of a packet's clock, if both are below 2^62 and the pair is joined
 abbrev pub joined_by : ℤ → ClockRow → ℕ → ℕ → Option Pair
 joined_by shift row first second =
     if nat_lt first (2 ^ 62) then
     if nat_lt second (2 ^ 62) then
     if is_joined (pair_of shift row first second) then Some (pair_of shift row first second) else None else None else None
 
--- the joined pair of timestamps i and i + 1 of one packet, if they are joined
+-- the pair of timestamps i and i + 1 of one packet, if it is joined
 abbrev pub inside : ℤ → ClockRow → ℕ → Option Pair
 inside shift row i = joined_by shift row (timestamp row i) (timestamp row (i + 1))
 
--- a packet has the number after that of the other, and the clock neither restarted nor changed between them
+-- `row` has the sequence number after that of `before`, and the clock neither restarted nor changed between the two
+-- packets
 abbrev pub seems_next : ClockRow → ClockRow → Bool
 seems_next row before =
     if row.seq == (before.seq + 1) % 256 then
@@ -48,7 +49,8 @@ seems_next row before =
     if row.base_frequency == before.base_frequency then
     if row.pull == before.pull then row.interval == before.interval else false else false else false else false
 
--- the joined pair of the last timestamp of a packet and the first of the next, if they are joined
+-- the pair of the last timestamp of `before` and the first of `row`, if `row` seems to be the next packet and the pair
+-- is joined
 abbrev pub across : ℤ → ClockRow → ClockRow → Option Pair
 across shift row before =
     if seems_next row before then
@@ -58,8 +60,8 @@ across shift row before =
 
 -- ---- all pairs
 
--- the joined pairs whose later point this packet has, in the order of the later points; pairs with the same later point are in
--- the order of the earlier ones
+-- The joined pairs whose later point is in this packet, in the order of the later points. Pairs with the same later
+-- point are in the order of their earlier points.
 abbrev pub pairs_at : ℤ → List ClockRow → ClockRow → List Pair
 pairs_at shift rows row =
     filter_map (across shift row) rows ++ filter_map (inside shift row) (range_with_len 0 (timestamps row - 1))
@@ -82,7 +84,7 @@ window rows = last_of 64 (used rows)
 abbrev pub latest : ℤ → ℤ → ℕ → List ClockRow → Option Pair
 latest shift instant rate rows = find_last (λ pair. covers pair rate instant) (joined_pairs shift rows)
 
--- the pair is one of the list that covers the instant, and no pair after it does
+-- `pair` is in the list and covers the instant, and no later pair in the list covers the instant
 pub record IsLastCovering (rate : ℕ) (instant : ℤ) (pairs : List Pair) (pair : Pair) : Type 0 where
   pub before : List Pair
   pub behind : List Pair
@@ -90,12 +92,13 @@ pub record IsLastCovering (rate : ℕ) (instant : ℤ) (pairs : List Pair) (pair
   pub covers : Covers pair rate instant
   pub none_behind : All (λ other. ¬ Covers other rate instant) behind
 
--- the pair is the last of the list that covers the instant, or there is none and none of the list covers it
+-- The pair is the last one in the list that covers the instant. If it is `None`, no pair in the list covers the
+-- instant.
 abbrev pub IsLatest : ℕ → ℤ → List Pair → Option Pair → Type 0
 IsLatest rate instant pairs None = All (λ pair. ¬ Covers pair rate instant) pairs
 IsLatest rate instant pairs (Some pair) = IsLastCovering rate instant pairs pair
 
--- The line of a sample that is stamped with an instant, and the sample's number on that line, according to a clock's packets so
--- far; `None` if no pair covers the instant.
+-- The line of a sample with this presentation time, and the sample's number on that line, according to a clock's
+-- packets so far. `None` if no pair covers the presentation time.
 abbrev pub clock_spot : List ClockRow → ℤ → ℤ → ℕ → Option Spot
 clock_spot rows shift instant rate = option_map (λ pair. spot_by pair rate instant) (latest shift instant rate (window rows))

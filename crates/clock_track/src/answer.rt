@@ -2,11 +2,11 @@
 
 use time_unfold::Line;
 
-/// The answer of a clock for a sample that is stamped with an instant.
+/// What a clock says of a sample with a given presentation time.
 #[derive(Clone, Copy, Debug, PartialEq, Eq)]
 pub enum ClockAnswer {
-    /// It is the sample with this number of this line.
+    /// The sample has the number `offset` on `line`.
     OnLine { line: Line, offset: u64 },
-    /// No two points of the clock cover the instant.
+    /// No pair of points of the clock covers the presentation time.
     NoClock,
 }

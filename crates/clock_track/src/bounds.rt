@@ -6,14 +6,15 @@ ghost use Rattle.clock_track.specs.state.Bounds.{IsOutside, IsPair, IsWithin, Wi
 
 use crate::pair::Pair;
 
-/// No pair has its later point before `earliest`, or one period after its later point is later than `latest`.
+/// Bounds of some pairs: no later point is before `earliest`, and no pair's end, one period after its later point, is
+/// after `latest`.
 #[derive(Clone, Copy, Debug)]
 pub struct Bounds {
     pub earliest: i64,
     pub latest: i64,
 }
 
-/// Bounds of no pair.
+/// The bounds of an empty set of pairs.
 pub fn no_bounds() -> Bounds {
     Bounds {
         earliest: i64::MAX,
@@ -21,7 +22,7 @@ pub fn no_bounds() -> Bounds {
     }
 }
 
-/// The bounds, widened for a pair whose later point and end are these.
+/// The bounds, widened to hold a pair with this later point and this end.
 pub fn widened(bounds: &Bounds, later: i64, end: i64) -> Bounds
     ensures { Widens bounds.now result later end }
 {
@@ -39,7 +40,7 @@ pub fn widened(bounds: &Bounds, later: i64, end: i64) -> Bounds
     }
 }
 
-/// The bounds, widened for a pair if there is one.
+/// The bounds, widened to hold `pair` if there is one.
 pub fn widened_by(bounds: &Bounds, pair: Option<Pair>) -> Bounds
     requires { IfSome pair IsPair }
     ensures pair { IfSome pair (IsWithin result) }
@@ -51,8 +52,8 @@ pub fn widened_by(bounds: &Bounds, pair: Option<Pair>) -> Bounds
     }
 }
 
-/// Whether no pair within the bounds covers an instant. `lead` is the longest time by which a pair covers instants before its
-/// later point, in nanoseconds.
+/// Whether no pair within the bounds covers `instant`. `lead` is the longest time from an instant to the later point of
+/// a pair that covers the instant, in nanoseconds.
 pub fn excludes(bounds: &Bounds, instant: i64, lead: u64) -> bool
     ensures { IsTrue result → IsOutside bounds.now instant lead }
 {

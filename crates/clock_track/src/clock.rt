@@ -19,20 +19,20 @@ use circular_buffer::HeapCircularBuffer;
 use std::alloc::Global;
 use std::marker::Model;
 
-/// The bytes of the most timestamps that a packet has.
+/// The length in bytes of the most timestamps that a packet can have.
 const ROOM: usize = 65_528;
 
-/// The most groups of pairs that a packet has.
+/// The greatest number of groups of pairs in a packet.
 const GROUPS: usize = 256;
 
-/// Room for the timestamps of a packet, and for bounds of groups of its pairs.
+/// Memory for a packet's timestamps, and for the bounds of its groups of pairs.
 #[derive(Drop)]
 struct Room {
     payload: Vec<u8>,
     groups: Vec<Bounds>,
 }
 
-/// What is kept of a packet, in memory that is reused: noting a packet allocates nothing.
+/// What is kept of a packet. Its memory is reused, so noting a packet allocates nothing.
 #[derive(Drop)]
 struct Kept {
     usable: bool,
@@ -42,14 +42,14 @@ struct Kept {
     pull: u8,
     interval: u16,
     payload: Vec<u8>,
-    /// Bounds of the pairs that end in the packet.
+    /// Bounds of the pairs whose later point is in the packet.
     bounds: Bounds,
     /// Bounds of each 32 pairs inside the packet.
     groups: Vec<Bounds>,
 }
 
 impl Kept {
-    /// The packet, with its timestamps in the given room. Allocates nothing.
+    /// The packet, with its timestamps copied into `room`. Allocates nothing.
     fn in_room(room: Room, points: &Points<'_>, shift: i64) -> Self
         requires room { IsRoom room }
         requires row { IsRow (row_of points.now) }
@@ -95,7 +95,7 @@ impl Kept {
     }
 }
 
-/// The packets in a ring.
+/// The packets that a clock keeps, in a ring buffer.
 #[derive(Clone, Copy)]
 struct Ring<'a> {
     rows: &'a HeapCircularBuffer<Kept>,
@@ -132,7 +132,7 @@ impl Rows for Ring<'_> {
     }
 }
 
-/// Room for the timestamps of one more packet: unused room, or that of the oldest packet, which is dropped.
+/// Room for one more packet: unused room, or that of the oldest packet, which is dropped.
 fn take_room(rows: &mut HeapCircularBuffer<Kept>, spare: &mut Vec<Room>) -> Room
     requires room { All HasRoom rows.old.items }
     requires spare { All IsRoom spare.old.items }
@@ -154,7 +154,7 @@ fn take_room(rows: &mut HeapCircularBuffer<Kept>, spare: &mut Vec<Room>) -> Room
     }
 }
 
-/// Puts a packet after those that are kept, which are fewer than 64.
+/// Appends a packet to the kept packets, which must be fewer than 64.
 fn put_behind(rows: &mut HeapCircularBuffer<Kept>, kept: Kept)
     requires capacity { rows.old.capacity ≡ 64 }
     requires room { length rows.old.items < 64 }
@@ -165,12 +165,12 @@ fn put_behind(rows: &mut HeapCircularBuffer<Kept>, kept: Kept)
     };
 }
 
-/// A media clock (IEEE 1722-2016, 10), which keeps the last 64 of its packets that give points.
+/// A media clock (IEEE 1722-2016, 10). It keeps the last 64 of its packets that give points.
 #[derive(Drop)]
 pub struct Clock {
     shift: i64,
     rows: HeapCircularBuffer<Kept>,
-    /// Room for the packets that are missing to make 64.
+    /// Room for further packets, until 64 are kept.
     spare: Vec<Room>,
 }
 
@@ -188,7 +188,8 @@ impl Model for Clock {
 }
 
 impl Clock {
-    /// A clock of no packets. `shift` nanoseconds, at most a second either way, are added to each of its timestamps.
+    /// A clock without packets. `shift` is added to each of its timestamps; it is in nanoseconds, at most a second
+    /// forward or back.
     pub fn new(alloc: Global, shift: i64) -> Result<Self, NoMemory>
         requires { IsShift shift }
         ensures empty { IfOk result (λ clock. StandsFor clock []) }
@@ -204,9 +205,9 @@ impl Clock {
         Ok(Clock { shift, rows, spare })
     }
 
-    /// Notes a packet of the clock, and drops the oldest of 64. A packet that gives no points is ignored. In any other packet
-    /// there are at most 8,191 timestamps, all whole, the pull is at most 5, the base frequency 1 to 2^29 - 1, and the interval
-    /// at least 1. Allocates nothing.
+    /// Notes a packet of the clock. If 64 packets are kept already, the oldest is dropped. A packet that gives no
+    /// points is ignored. A packet that gives points must have at most 8,191 timestamps, all whole. Its pull must be at
+    /// most 5, its base frequency 1 to 2^29 - 1, and its interval at least 1. Allocates nothing.
     pub fn note(&mut self, points: &Points<'_>)
         requires { IsNotable (row_of points.now) }
         ensures noted { (rows : List ClockRowValue) → StandsFor self.old rows → StandsFor self.new (rows ++ row_of points.now ∷ []) }
@@ -218,9 +219,9 @@ impl Clock {
         }
     }
 
-    /// The line of a sample that is stamped with an instant, in nanoseconds of gPTP, and the sample's number on that line, for a
-    /// stream of a rate in Hz: the answer of `line_over` for all packets that were noted. It is `NoClock` exactly if no pair
-    /// covers the instant. The rate is at least 1. Allocates nothing.
+    /// The line of the sample whose presentation time is `instant`, in nanoseconds of gPTP, and the sample's number on
+    /// that line. The stream has `rate` samples a second, at least 1. The answer is that of `line_over` for all packets
+    /// that were noted. It is `NoClock` exactly if no pair covers the instant. Allocates nothing.
     pub fn line_for(&self, instant: i64, rate: u32) -> ClockAnswer
         requires { 1 ≤ rate }
         ensures value { (rows : List ClockRowValue) → StandsFor self.now rows → answered result ≡ clock_spot rows self.now.shift instant rate }

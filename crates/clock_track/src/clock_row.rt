@@ -2,7 +2,7 @@
 
 use avtp_base::Bytes;
 
-/// The points in a clock packet (IEEE 1722-2016, 10), with its timestamps borrowed.
+/// A clock packet (IEEE 1722-2016, 10), with borrowed timestamps.
 #[derive(Clone, Copy, Debug)]
 pub struct Points<'a> {
     /// The packet gives points: it is well formed, of the type for audio samples, and its timestamps are certain.
@@ -21,7 +21,7 @@ pub struct Points<'a> {
     pub payload: &'a [u8],
 }
 
-/// What is kept of a clock packet: its points, with timestamps of its own.
+/// A clock packet that owns its timestamps.
 #[derive(Debug, Drop)]
 pub struct ClockRow {
     pub usable: bool,
@@ -37,7 +37,7 @@ impl ClockRow {
     ghost use Rattle.std.specs.Prelude.{◌≡◌};
     ghost use Rattle.clock_track.specs.Views.{row_of};
 
-    /// The clock packet with its timestamps borrowed.
+    /// The clock packet, with borrowed timestamps.
     pub fn points(&self) -> Points<'_>
         ensures { row_of result ≡ self.now }
     {

@@ -7,15 +7,16 @@ ghost use Rattle.clock_track.specs.Pairs.{Covers, IsJoined, spot_by};
 ghost use Rattle.clock_track.specs.Adjacent.{AreAcross, AreInside, followed_rows, pair_across, pair_inside};
 ghost use Rattle.clock_track.specs.Rows.{IsLatest, clock_spot, joined_pairs, latest, window};
 
-/// The pair that gives a sample its line is joined and covers the instant, and no later pair in the list of joined pairs covers
-/// it. If no pair gives a line, no joined pair covers the instant.
+/// The pair that gives a sample its line is joined and covers the sample's instant. No later pair in the list of joined
+/// pairs covers that instant. If no pair gives a line, no joined pair covers the instant.
 pub fn last_covering_pair_counts()
     ensures joined { (shift : ℤ) (rows : List ClockRow) → All IsJoined (joined_pairs shift rows) }
     ensures latest { (shift instant : ℤ) (rate : ℕ) (rows : List ClockRow) → IsLatest rate instant (joined_pairs shift rows) (latest shift instant rate rows) }
 {}
 
-/// A clock of 44.1 kHz and 147 events, and a stream of 48 kHz whose packets are 125,000 ns apart. The second point is 3,333,333
-/// ns after the first, so packets 0 to 26 have no line, and packets 27 to 53 have one by these two points.
+/// A clock of 44.1 kHz has a timestamp every 147 events, and a stream of 48 kHz has a packet every 125,000 ns. The
+/// clock's second point is 3,333,333 ns after the first, so packets 0 to 26 have no line. Packets 27 to 53 have the
+/// line of these two points.
 pub fn second_point_is_waited_for()
     ensures joined { IsJoined second_pair }
     ensures before { (n : ℕ) → n ≤ 26 → ¬ Covers second_pair 48000 (pos (1002000000 + n * 125000)) }
@@ -23,9 +24,10 @@ pub fn second_point_is_waited_for()
     ensures spot { (instant : ℤ) → spot_by second_pair 48000 instant ≡ record { line = record { base = instant; num = 146999985300; den = 7056000 }; from = pos 0 } }
 {}
 
-/// Two packets of one point each, 2 ms apart. At 48 kHz and 96 events a timestamp is the nearest event; at 44.1 kHz the samples
-/// of a stream of 48 kHz are counted from the timestamp on, 19,140.625 ns apart. Earlier than half a sample before the second
-/// point there is no line, and across a restart there is none.
+/// Two clock packets have one point each, 2 ms and 96 events apart. The stream has 48 kHz. If the clock has 48 kHz, the
+/// stamped sample is the clock's nearest event. If the clock has 44.1 kHz, samples are counted from the timestamp,
+/// 19,140.625 ns apart. An instant more than half a sample before the second point has no line. If the clock restarted
+/// between the packets, there is no line.
 pub fn worked_lines_are_so()
     ensures own { clock_spot (worked_rows 48000 false) (pos 0) (pos 1004125000) 48000 ≡ Some (record { line = record { base = pos 1004000000; num = 2000000; den = 96 }; from = pos 6 }) }
     ensures other { clock_spot (worked_rows 44100 false) (pos 0) (pos 1004125000) 48000 ≡ Some (record { line = record { base = pos 1004125000; num = 88200000000; den = 4608000 }; from = pos 0 }) }
@@ -33,15 +35,16 @@ pub fn worked_lines_are_so()
     ensures restarted { clock_spot (worked_rows 48000 true) (pos 0) (pos 1004125000) 48000 ≡ None }
 {}
 
-/// If the packets of two adjacent timestamps that are joined are among the last 64, and the pair covers an instant, the
-/// clock has a line for the instant: for two timestamps of one packet, and for the last one of a packet and the first of
-/// the next.
+/// Two adjacent timestamps of a clock are joined, and their packets are among the last 64. Then the clock has a line
+/// for each instant that their pair covers. The timestamps are in one packet, or are the last of one packet and the
+/// first of the next.
 pub fn covering_pairs_are_found()
     ensures inside { (shift instant : ℤ) (rate i : ℕ) (rows : List ClockRow) (row : ClockRow) → Contains (window rows) row → AreInside shift row i → Covers (pair_inside shift row i) rate instant → clock_spot rows shift instant rate ≢ None }
     ensures across { (shift instant : ℤ) (rate : ℕ) (rows : List ClockRow) (row before : ClockRow) → Contains (window rows) row → Contains (window rows) before → AreAcross shift row before → Covers (pair_across shift row before) rate instant → clock_spot rows shift instant rate ≢ None }
 {}
 
-/// The two worked packets give a line while they are among the last 64 that came: if at most 62 others came after them.
+/// The two worked packets give a line while they are among the last 64 packets, that is, if at most 62 others arrived
+/// after them.
 pub fn last_64_packets_count()
     ensures last { clock_spot (followed_rows 62) (pos 0) (pos 1004125000) 48000 ≡ Some (record { line = record { base = pos 1004000000; num = 2000000; den = 96 }; from = pos 6 }) }
     ensures dropped { clock_spot (followed_rows 63) (pos 0) (pos 1004125000) 48000 ≡ None }

@@ -43,7 +43,7 @@ impl Rows for Listed<'_> {
     }
 }
 
-/// The rows from the first of the last 64 that give points to the end.
+/// The rows from the 64th last row that gives points; all rows if fewer than 64 rows give points.
 fn recent(rows: &[ClockRow]) -> &[ClockRow]
     requires { All IsNotable rows.now }
     ensures window { used result.now ≡ window rows.now }
@@ -60,7 +60,7 @@ fn recent(rows: &[ClockRow]) -> &[ClockRow]
     &rows[start..]
 }
 
-/// The line of an instant from the packets that are kept, whatever keeps them.
+/// The line of an instant according to the packets `rows`.
 pub fn line_among<R: Rows>(rows: &R, query: &Query) -> ClockAnswer
     requires rows { All IsNotable (R.rows rows.now) }
     requires bounded { R.bounded rows.now query.now.shift }
@@ -76,21 +76,24 @@ pub fn line_among<R: Rows>(rows: &R, query: &Query) -> ClockAnswer
     }
 }
 
-/// The line of a sample that is stamped with an instant, in nanoseconds of gPTP, and the sample's number on that line, according
-/// to a media clock, for a stream of a rate in Hz (IEEE 1722-2016, 10). The clock is that of the last 64 rows that give points;
-/// `shift` nanoseconds, at most a second either way, are added to each of its timestamps.
+/// The line of the sample whose presentation time is `instant`, in nanoseconds of gPTP, and the sample's number on that
+/// line, according to a media clock (IEEE 1722-2016, 10). The stream has `rate` samples a second. The clock consists of
+/// the last 64 rows that give points. `shift` is added to each of its timestamps; it is in nanoseconds, at most a
+/// second forward or back.
 ///
-/// Two timestamps below 2^62 are a pair if they are adjacent in a packet, or are the last of one packet and the first of another
-/// that has the next number with the same restart bit, frequency and interval; and if the time between them is within 1/8 of the
-/// nominal time of the interval. A pair covers the instants from half a sample before its later point to half a sample before one
-/// more period. The last pair that covers the instant counts: the one whose later point comes last, and among pairs with the same
-/// later point, the one whose earlier point comes last. The answer is `NoClock` exactly if there is none.
+/// Two adjacent timestamps below 2^62 are a pair if the time between them is within 1/8 of the nominal time of the
+/// interval. They are adjacent in one packet, or are the last of one packet and the first of another. The other packet
+/// must have the next sequence number, and the same restart bit, frequency and interval.
 ///
-/// If the clock's frequency is the rate, the sample is the nearest event of the clock, on the line of its events; otherwise
-/// samples are counted from the instant, in the pair's spacing.
+/// A pair covers the instants of one period, which begins half a sample before its later point. The last pair that
+/// covers the instant counts. Pairs are in the order of their later points in the packets. Pairs with the same later
+/// point are in the order of their earlier points. The answer is `NoClock` exactly if no pair covers the instant.
 ///
-/// A row that gives points has whole timestamps, at most 8,191 of them, a pull of at most 5, a base frequency of 1 to 2^29 - 1
-/// and an interval of at least 1. The rate is at least 1.
+/// If the clock's frequency is the stream's rate, the sample is the event of the clock that is nearest to the instant,
+/// on the line of the clock's events. Otherwise samples are counted from the instant, in the pair's spacing.
+///
+/// A row that gives points must have at most 8,191 timestamps, all whole. Its pull must be at most 5, its base
+/// frequency 1 to 2^29 - 1, and its interval at least 1. `rate` must be at least 1.
 pub fn line_over(rows: &[ClockRow], shift: i64, instant: i64, rate: u32) -> ClockAnswer
     requires rows { All IsNotable rows.now }
     requires shift { IsShift shift }

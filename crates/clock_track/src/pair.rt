@@ -42,7 +42,7 @@ fn doubled(period: u64, den: u64) -> i128
 }
 
 impl Pair {
-    /// The time from one point to the other; 0 if the second is not later.
+    /// The time from `earlier` to `later`, or 0 if it is negative.
     fn period(&self) -> u64
         requires { IsSmall self.now }
         ensures { result ≡ period_of self.now }
@@ -63,7 +63,7 @@ impl Pair {
         self.later + self.period() as i64
     }
 
-    /// The longest period that a joined pair of this clock has.
+    /// The longest period that a joined pair of this clock can have.
     pub(crate) fn longest_period(&self) -> u64
         requires { IsSmall self.now }
         ensures value { (d : ℕ) → 8 * (d * self.now.up) ≤ 9 * nominal_of self.now → d ≤ result }
@@ -72,7 +72,7 @@ impl Pair {
         9 * self.nominal() / (8 * self.up)
     }
 
-    /// The nominal time of the interval, times `up`.
+    /// The nominal time of the interval in nanoseconds, times `up`.
     fn nominal(&self) -> u64
         requires { IsSmall self.now }
         ensures value { result ≡ nominal_of self.now }
@@ -110,8 +110,8 @@ impl Pair {
         u64::from(self.interval) * u64::from(rate) * self.down
     }
 
-    /// Whether the pair covers an instant, for a stream of this rate: from half a sample before its later point to half
-    /// a sample before one more period.
+    /// Whether the pair covers an instant, for a stream of this rate. A pair covers the instants of one period, which
+    /// begins half a sample before its later point.
     #[tactic(auto, using(crate::proofs::Pairs::covers_so))]
     pub fn covers(&self, rate: u32, instant: i64) -> bool
         requires small { IsSmall self.now }
@@ -124,8 +124,8 @@ impl Pair {
         0 <= reach && reach < doubled(self.period(), den)
     }
 
-    /// Whether an instant is before all that a pair with this later point covers in a stream of this rate, whatever its earlier
-    /// point.
+    /// Whether joined pairs with this later point cover only later instants, in a stream of this rate, whatever the
+    /// earlier point.
     pub fn is_after(&self, rate: u32, instant: i64) -> bool
         requires { IsSmall self.now }
         ensures { IsTrue result ↔ IsAfter self.now rate instant }
@@ -133,8 +133,8 @@ impl Pair {
         scaled(instant, self.later, 2 * self.nominal(), self.step_den(rate)) < 0
     }
 
-    /// The number of the event nearest to an instant, from the later point on, if the clock's frequency is the stream's
-    /// rate.
+    /// The number of the clock's event that is nearest to an instant, counted from the later point. The clock's
+    /// frequency must be the stream's rate.
     fn nearest_event(&self, rate: u32, instant: i64) -> u64
         requires rate { 1 ≤ rate }
         requires covering { IsCovering rate instant self.now }
@@ -143,13 +143,13 @@ impl Pair {
     {
         let period = self.period();
         let behind = scaled(instant, self.later, period, u64::from(self.interval));
-        // The number is never negative, because the pair covers the instant, so rounding down is rounding towards zero.
+        // The number is not negative, because the pair covers the instant.
         behind.div_euclid(i128::from(2 * period)) as u64
     }
 
-    /// The line of a sample that is stamped with an instant covered by the pair, and the sample's number on that line, in a
-    /// stream of this rate. If the clock's frequency is the rate, the sample is at the nearest event; otherwise samples are
-    /// counted from the instant, in the pair's spacing.
+    /// The line of a sample whose presentation time is `instant`, and the sample's number on that line, in a stream of
+    /// this rate. The pair must cover the instant. If the clock's frequency is the rate, the sample is at the nearest
+    /// event. Otherwise samples are counted from the instant, in the pair's spacing.
     pub fn answer(&self, rate: u32, instant: i64) -> ClockAnswer
         requires rate { 1 ≤ rate }
         requires covering { IsCovering rate instant self.now }

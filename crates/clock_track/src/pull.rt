@@ -3,7 +3,8 @@
 ghost use Rattle.std.specs.Prelude.{◌≡◌, ◌≤◌};
 ghost use Rattle.clock_track.specs.Pairs.{pull_down as pull_down_of, pull_up as pull_up_of};
 
-/// The numerator of the factor of the base frequency that a code of pull names (IEEE 1722-2016, 10).
+/// The numerator of the factor that the code `pull` names. The base frequency is multiplied by this factor (IEEE
+/// 1722-2016, 10).
 pub fn pull_up(pull: u8) -> u64
     ensures value { result ≡ pull_up_of pull }
     ensures some { 1 ≤ result }
@@ -18,7 +19,7 @@ pub fn pull_up(pull: u8) -> u64
     }
 }
 
-/// The denominator of the factor of the base frequency that a code of pull names.
+/// The denominator of the factor that the code `pull` names.
 pub fn pull_down(pull: u8) -> u64
     ensures value { result ≡ pull_down_of pull }
     ensures some { 1 ≤ result }

@@ -18,25 +18,25 @@ use crate::pair::Pair;
 use crate::pull::{pull_down, pull_up};
 use avtp_base::octets::u64_at;
 
-/// How many pairs inside a packet have bounds together.
+/// The number of pairs inside a packet that share one `Bounds`.
 const GROUP: usize = 32;
 
-/// Timestamps from here on are not points.
+/// A timestamp of this value or more is not a point.
 const POINTS_END: u64 = 1 << 62;
 
-/// What is looked for: a pair that covers this instant, for a stream of this rate in Hz. `shift` is added to the clock's
-/// timestamps.
+/// What is searched for: a pair that covers `instant`, for a stream of `rate` samples a second. `shift` is added to the
+/// clock's timestamps.
 #[derive(Clone, Copy)]
 pub struct Query {
     pub shift: i64,
     pub instant: i64,
     pub rate: u32,
-    /// The longest time by which a pair covers instants before its later point, in nanoseconds.
+    /// The longest time from an instant to the later point of a pair that covers the instant, in nanoseconds.
     pub lead: u64,
 }
 
-/// The longest time by which a pair covers instants before its later point, in nanoseconds, in a stream of a rate in Hz: 9/8 of
-/// half a sample.
+/// The longest time from an instant to the later point of a pair that covers the instant, in nanoseconds. It is 9/8 of
+/// half a sample of a stream of `rate` samples a second.
 pub fn lead_of(rate: u32) -> u64
     requires { 1 ≤ rate }
     ensures { IsLead rate result }
@@ -44,11 +44,11 @@ pub fn lead_of(rate: u32) -> u64
     562_500_000 / u64::from(rate)
 }
 
-/// The packets of a clock by their places, the oldest first.
+/// The packets of a clock by their indexes, the oldest first.
 pub trait Rows {
     ghost rows: { Self → List ClockRowValue };
 
-    /// What is known of the packets' pairs holds if this is added to the timestamps.
+    /// The bounds of the packets' pairs are true if this shift is added to the timestamps.
     ghost bounded: { Self → ℤ → Type 0 };
 
     fn count(&self) -> usize
@@ -58,12 +58,13 @@ pub trait Rows {
         requires { place < length (rows self.now) }
         ensures { slice_get (rows self.now) place ≡ Some (row_of result) };
 
-    /// Bounds of the pairs that end in a packet, if they are known.
+    /// Bounds of the pairs whose later point is in the packet at index `place`, if they are known.
     fn bounds(&self, place: usize) -> Option<Bounds>
         requires { place < length (rows self.now) }
         ensures { (shift : ℤ) (row : ClockRowValue) → bounded self.now shift → slice_get (rows self.now) place ≡ Some row → IfSome result (HasPairs shift row) };
 
-    /// Bounds of each 32 pairs inside a packet, for as many pairs as they are known.
+    /// Bounds of each 32 pairs inside the packet at index `place`, from the first pair on. Later pairs may have no
+    /// bounds.
     fn groups(&self, place: usize) -> &[Bounds]
         requires { place < length (rows self.now) }
         ensures { (shift : ℤ) (row : ClockRowValue) → bounded self.now shift → slice_get (rows self.now) place ≡ Some row → AreGroups shift row result.now };
@@ -99,7 +100,7 @@ fn pair_of(row: &Points<'_>, shift: i64, first: u64, second: u64) -> Pair
     }
 }
 
-/// The pair of two timestamps, if both are points and they are joined.
+/// The pair of two timestamps, if both are points and the pair is joined.
 fn joined(row: &Points<'_>, shift: i64, first: u64, second: u64) -> Option<Pair>
     requires row { IsRow (row_of row.now) }
     requires shift { IsShift shift }
@@ -113,7 +114,7 @@ fn joined(row: &Points<'_>, shift: i64, first: u64, second: u64) -> Option<Pair>
     if pair.is_joined() { Some(pair) } else { None }
 }
 
-/// The pair of two timestamps, if both are points, they are joined, and they cover the instant.
+/// The pair of two timestamps, if both are points, and the pair is joined and covers the instant.
 fn covering(row: &Points<'_>, query: &Query, first: u64, second: u64) -> Option<Pair>
     requires row { IsRow (row_of row.now) }
     requires shift { IsShift query.now.shift }
@@ -132,7 +133,7 @@ fn covering(row: &Points<'_>, query: &Query, first: u64, second: u64) -> Option<
     }
 }
 
-/// Bounds of the pairs inside a packet whose earlier timestamps are those from `first` to before `end`.
+/// Bounds of the pairs inside a packet whose earlier timestamp is one of `first` to `end` - 1.
 fn bounds_inside(row: &Points<'_>, shift: i64, first: usize, end: usize) -> Bounds
     requires row { IsRow (row_of row.now) }
     requires shift { IsShift shift }
@@ -149,7 +150,7 @@ fn bounds_inside(row: &Points<'_>, shift: i64, first: usize, end: usize) -> Boun
     bounds
 }
 
-/// The end of a group, for a packet with this many pairs.
+/// The index after the last pair of a group, in a packet with this many pairs.
 fn group_end(group: usize, pairs: usize) -> usize
     requires { 32 * group < pairs }
     ensures within { result ≤ pairs }
@@ -162,7 +163,7 @@ fn group_end(group: usize, pairs: usize) -> usize
     }
 }
 
-/// Replaces `groups` by bounds of each 32 pairs inside a packet. Pairs that there is no memory for have none.
+/// Replaces `groups` by bounds of each 32 pairs inside a packet. If memory runs out, later pairs have no bounds.
 pub fn bound_groups(groups: &mut Vec<Bounds>, row: &Points<'_>, shift: i64)
     requires row { IsRow (row_of row.now) }
     requires shift { IsShift shift }
@@ -180,7 +181,7 @@ pub fn bound_groups(groups: &mut Vec<Bounds>, row: &Points<'_>, shift: i64)
     }
 }
 
-/// Bounds of the pairs that end in a packet, whatever the packets before it.
+/// Bounds of the pairs whose later point is in a packet, whatever packets precede it.
 pub fn bounds_of(row: &Points<'_>, shift: i64) -> Bounds
     requires row { IsRow (row_of row.now) }
     requires shift { IsShift shift }
@@ -203,7 +204,8 @@ pub fn bounds_of(row: &Points<'_>, shift: i64) -> Bounds
     )
 }
 
-/// The last pair that covers the instant, of those inside a packet whose earlier timestamps are from `first` to before `end`.
+/// The last pair that covers the instant, of the pairs inside a packet whose earlier timestamp is one of `first` to
+/// `end` - 1.
 fn latest_between(row: &Points<'_>, first: usize, end: usize, query: &Query) -> Option<Pair>
     requires row { IsRow (row_of row.now) }
     requires shift { IsShift query.now.shift }
@@ -222,7 +224,7 @@ fn latest_between(row: &Points<'_>, first: usize, end: usize, query: &Query) -> 
     None
 }
 
-/// Whether the instant is known to be outside the bounds of a group of the pairs inside a packet.
+/// Whether a group of pairs has bounds, and the instant is outside these bounds.
 fn is_past_group(groups: &[Bounds], group: usize, query: &Query) -> bool
     ensures { IsTrue result → IfSome (slice_get groups.now group) (λ bounds. IsOutside bounds query.now.instant query.now.lead) × IsSome (slice_get groups.now group) }
 {
@@ -232,7 +234,7 @@ fn is_past_group(groups: &[Bounds], group: usize, query: &Query) -> bool
     }
 }
 
-/// The last pair that covers the instant, of the pairs of a group before `end`.
+/// The last pair of a group, before index `end`, that covers the instant.
 fn latest_of_group(
     row: &Points<'_>,
     groups: &[Bounds],
@@ -274,7 +276,8 @@ fn latest_inside(row: &Points<'_>, groups: &[Bounds], query: &Query) -> Option<P
     None
 }
 
-/// Whether a packet has the number after another's, and the clock neither restarted nor changed.
+/// Whether `row` has the sequence number after that of `before`, and the clock neither restarted nor changed between
+/// the two packets.
 fn seems_next(row: &Points<'_>, before: &Points<'_>) -> bool
     ensures { result ≡ seems_next_of (row_of row.now) (row_of before.now) }
 {
@@ -285,7 +288,7 @@ fn seems_next(row: &Points<'_>, before: &Points<'_>) -> bool
         && row.interval == before.interval
 }
 
-/// The pair of the last timestamp of a packet and the first of the next, if it covers the instant.
+/// The pair of the last timestamp of `before` and the first of `row`, if it is joined and covers the instant.
 fn covering_across(row: &Points<'_>, before: &Points<'_>, query: &Query) -> Option<Pair>
     requires row { IsRow (row_of row.now) }
     requires shift { IsShift query.now.shift }
@@ -302,8 +305,8 @@ fn covering_across(row: &Points<'_>, before: &Points<'_>, query: &Query) -> Opti
     covering(row, query, timestamp(before, count - 1), timestamp(row, 0))
 }
 
-/// The pair of the last timestamp of the packet at a place and the first of the next, if that packet gives points and
-/// the pair covers the instant.
+/// The pair of the last timestamp of the packet at index `place` and the first of `row`. There is none if that packet
+/// gives no points, or if the pair is not joined or does not cover the instant.
 fn covering_from<R: Rows>(rows: &R, place: usize, row: &Points<'_>, query: &Query) -> Option<Pair>
     requires place { place < length (R.rows rows.now) }
     requires row { IsRow (row_of row.now) }
@@ -319,8 +322,8 @@ fn covering_from<R: Rows>(rows: &R, place: usize, row: &Points<'_>, query: &Quer
     }
 }
 
-/// Whether no pair that ends at the first timestamp of a packet can cover the instant: there is no such timestamp, it is not a
-/// point, or it is too late, whatever the other point.
+/// Whether the first timestamp of a packet is missing, is not a point, or is too late. Then no pair with this later
+/// point covers the instant, whatever the earlier point.
 fn is_too_late(row: &Points<'_>, query: &Query) -> bool
     requires row { IsRow (row_of row.now) }
     requires shift { IsShift query.now.shift }
@@ -334,7 +337,7 @@ fn is_too_late(row: &Points<'_>, query: &Query) -> bool
         || pair_of(row, query.shift, first, first).is_after(query.rate, query.instant)
 }
 
-/// The last pair that ends at the first timestamp of a packet and covers the instant.
+/// The last pair that covers the instant and whose later point is the first timestamp of a packet.
 fn latest_across<R: Rows>(rows: &R, row: &Points<'_>, query: &Query) -> Option<Pair>
     requires row { IsRow (row_of row.now) }
     requires shift { IsShift query.now.shift }
@@ -355,7 +358,8 @@ fn latest_across<R: Rows>(rows: &R, row: &Points<'_>, query: &Query) -> Option<P
     None
 }
 
-/// Whether the instant is known to be outside the bounds of the pairs that end in the packet at a place.
+/// Whether the instant is known to be outside the bounds of the pairs whose later point is in the packet at index
+/// `place`.
 fn is_outside<R: Rows>(rows: &R, place: usize, query: &Query) -> bool
     requires bounded { R.bounded rows.now query.now.shift }
     requires place { place < length (R.rows rows.now) }
@@ -368,8 +372,8 @@ fn is_outside<R: Rows>(rows: &R, place: usize, query: &Query) -> bool
     }
 }
 
-/// The last pair that covers the instant and whose later point is in the packet at this place; none if the packet gives no
-/// points.
+/// The last pair that covers the instant and whose later point is in the packet at index `place`. There is none if the
+/// packet gives no points.
 fn latest_at<R: Rows>(rows: &R, place: usize, query: &Query) -> Option<Pair>
     requires rows { All IsNotable (R.rows rows.now) }
     requires bounded { R.bounded rows.now query.now.shift }
@@ -393,8 +397,8 @@ fn latest_at<R: Rows>(rows: &R, place: usize, query: &Query) -> Option<Pair>
     latest_across(rows, &row, query)
 }
 
-/// The last joined pair of a clock's packets that covers the instant. The search begins at the end of the list of all joined
-/// pairs, and stops at the first that covers.
+/// The last joined pair of a clock's packets that covers the instant. The search goes backwards through all joined
+/// pairs, and stops at the first pair that covers the instant.
 pub fn latest<R: Rows>(rows: &R, query: &Query) -> Option<Pair>
     requires rows { All IsNotable (R.rows rows.now) }
     requires bounded { R.bounded rows.now query.now.shift }

@@ -8,41 +8,42 @@ use Rattle.clock_track.specs.Limits.{IsSmall}
 use Rattle.clock_track.specs.Pairs.{IsJoined, period}
 use Rattle.clock_track.specs.Rows.{across, inside, timestamps}
 
--- a joined pair of numbers as small as the format makes them
+-- a joined pair with numbers within the limits of the format
 pub record IsPair (pair : Pair) : Type 0 where
   pub small : IsSmall pair
   pub joined : IsJoined pair
 
--- a pair is within bounds
+-- the pair's later point, and its end one period later, are within the bounds
 pub record IsWithin (bounds : Bounds) (pair : Pair) : Type 0 where
   pub from : bounds.earliest ≤ℤ pair.later
   pub to : (pair.later +ℤ pos (period pair)) ≤ℤ bounds.latest
 
--- the new bounds hold what the old ones do, and a pair with this later point and end
+-- the bounds `new` hold each pair that `old` holds, and a pair with this later point and this end
 pub record Widens (old new : Bounds) (later end : ℤ) : Type 0 where
   pub earliest : new.earliest ≤ℤ old.earliest
   pub from : new.earliest ≤ℤ later
   pub latest : old.latest ≤ℤ new.latest
   pub to : end ≤ℤ new.latest
 
--- an instant is after the bounds, or longer than the lead before them
+-- the instant is after the bounds, or before them by more than the lead
 abbrev pub IsOutside : Bounds → ℤ → ℕ → Type 0
 IsOutside bounds instant lead = (bounds.latest ≤ℤ instant) ⊎ ((instant +ℤ pos lead) <ℤ bounds.earliest)
 
--- in a stream of this rate a joined pair covers no instant that is longer than the lead before its later point: the lead is
--- at least 9/8 of half the nominal spacing
+-- In a stream of this rate, no joined pair covers an instant that is more than the lead before its later point. The
+-- lead is at least 9/8 of half the nominal spacing.
 abbrev pub IsLead : ℕ → ℕ → Type 0
 IsLead rate lead = (d : ℕ) → rate * d ≤ 562500000 → d ≤ lead
 
--- the joined pairs inside a packet from one place to before another are within the bounds
+-- the joined pairs inside a packet, with indexes from `first` to below `end`, are within the bounds
 abbrev pub HasInside : ℤ → ClockRow → Bounds → ℕ → ℕ → Type 0
 HasInside shift row bounds first end = (i : ℕ) → first ≤ i → i < end → IfSome (inside shift row i) (λ pair. IsWithin bounds pair)
 
--- the joined pairs inside a packet are within bounds of 32 pairs each, as far as these go
+-- Each of the `groups` holds the joined pairs among 32 pairs inside a packet, from the first pair on. Later pairs may
+-- have no bounds.
 abbrev pub AreGroups : ℤ → ClockRow → List Bounds → Type 0
 AreGroups shift row groups = (g : ℕ) (bounds : Bounds) → slice_get groups g ≡ Some bounds → (end : ℕ) → end ≤ 32 * g + 32 → end ≤ timestamps row - 1 → HasInside shift row bounds (32 * g) end
 
--- the joined pairs that end in a packet are within the bounds
+-- the joined pairs whose later point is in a packet are within the bounds
 pub record HasPairs (shift : ℤ) (row : ClockRow) (bounds : Bounds) : Type 0 where
   pub inside : HasInside shift row bounds 0 (timestamps row - 1)
   pub across : (before : ClockRow) → IfSome (across shift row before) (λ pair. IsWithin bounds pair)

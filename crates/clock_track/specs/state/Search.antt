@@ -5,11 +5,11 @@ use Rattle.clock_track.specs.declared.pair.Pair.{Pair}
 use Rattle.clock_track.specs.declared.search.Query.{Query}
 use Rattle.clock_track.specs.Pairs.{covers}
 
--- the test of a pair
+-- whether a pair covers the instant of a query
 abbrev pub test_of : Query → Pair → Bool
 test_of query pair = covers pair query.rate query.instant
 
--- what passes a test
+-- the pair if it passes the test, otherwise `None`
 abbrev pub kept : (Pair → Bool) → Option Pair → Option Pair
 kept test None = None
 kept test (Some pair) = if test pair then Some pair else None

@@ -20,19 +20,20 @@ kept_row kept = record {
   payload = kept.payload.items;
 }
 
--- any packet's timestamps fit
+-- the timestamps of any packet fit into the room
 abbrev pub IsRoom : Room → Type 0
 IsRoom room = 65528 ≤ vec_capacity room.payload
 
 abbrev pub HasRoom : Kept → Type 0
 HasRoom kept = 65528 ≤ vec_capacity kept.payload
 
--- the bounds of the pairs that end in the packet are true
+-- the bounds that are kept with a packet hold its pairs
 pub record HasBounds (shift : ℤ) (kept : Kept) : Type 0 where
   pub all : HasPairs shift (kept_row kept) kept.bounds
   pub groups : AreGroups shift (kept_row kept) kept.groups.items
 
--- the packets that are kept and the spare room together make 64
+-- The kept packets and the spare rooms are 64 together. Each has room for any packet's timestamps, and the bounds of
+-- each packet hold its pairs.
 pub record IsWindow (shift : ℤ) (rows : Buffer Kept) (spare : Vec Room) : Type 0 where
   pub capacity : rows.capacity ≡ 64
   pub count : length rows.items + vec_len spare ≡ 64

@@ -6,7 +6,7 @@ use Rattle.std.proofs.lemmas.Int.{ints, to_z-of_z, fits_signed_from_abs, unsigne
 use Rattle.std.specs.Int.{w128}
 use Rattle.clock_track.proofs.pair.scaled.Goals as goal
 
--- the difference of two signed numbers of 64 bits, times an unsigned one, is at most 2 ^ 125 from 0
+-- the difference of two signed 64-bit numbers, times a number below 2^61, is at most 2^125 in absolute value
 bounded : (x y : ℤ) (n : ℕ) → FitsSigned w64 x → FitsSigned w64 y → n < 2 ^ 61 → unsigned_abs ((x -ℤ y) *ℤ pos n) ≤ 2 ^ 125
 bounded x y n fits fits_too small =
     let z : ℤ = x -ℤ y in

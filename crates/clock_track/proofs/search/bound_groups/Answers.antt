@@ -1,4 +1,4 @@
--- The bounds of each group are put after those of the groups before it.
+-- The bounds of each group are appended to those of the groups before it.
 use Rattle.std.proofs.Common.{◌≡◌, ◌*◌, ℤ, List, length, refl, sym, ap, subst, w64, to_z, of_z, arith, rules}
 use Rattle.std.proofs.lemmas.Int.{ints}
 use Rattle.clock_track.specs.declared.bounds.Bounds.{Bounds}

@@ -3,7 +3,7 @@ use Rattle.clock_track.specs.state.Bounds.{AreGroups}
 use Rattle.clock_track.specs.Views.{row_of}
 use Rattle.clock_track.proofs.search.bound_groups.Given as goal
 
--- the groups so far have bounds
+-- `groups` holds the bounds of the groups so far
 abbrev pub invariant-loop-groups : goal.invariant-loop-groups
 invariant-loop-groups l = record {
   few : 32 * vec_len l.groups ≤ l.pairs + 31;

@@ -3,7 +3,7 @@ use Rattle.clock_track.specs.state.Bounds.{HasInside}
 use Rattle.clock_track.specs.Views.{row_of}
 use Rattle.clock_track.proofs.search.bounds_inside.Given as goal
 
--- the pairs so far are within the bounds
+-- the pairs before index `i` are within the bounds
 abbrev pub invariant-loop-i : goal.invariant-loop-i
 invariant-loop-i l = HasInside l.shift (row_of l.row) l.bounds l.first l.i
 

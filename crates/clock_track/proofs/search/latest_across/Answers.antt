@@ -1,4 +1,4 @@
--- The last packet that is left gives the pair that is found, or is left out of the search.
+-- The last of the remaining packets gives the result, or is dropped from the search.
 use Rattle.std.proofs.Common.{ap, sym, ◌∙◌, List, arith}
 use Rattle.std.specs.List.{filter_map}
 use Rattle.time_unfold.specs.Stamps.{find_last}

@@ -6,7 +6,7 @@ use Rattle.clock_track.specs.state.Search.{test_of}
 use Rattle.clock_track.specs.Views.{row_of}
 use Rattle.clock_track.proofs.search.latest_across.Given as goal
 
--- the packets that are left give the pair that is looked for
+-- the result is among the pairs of the first `left` packets
 abbrev pub invariant-loop-left : goal.invariant-loop-left
 invariant-loop-left g l = record {
   within : l.left ≤ length (g.R.Rows.rows l.rows);

@@ -1,4 +1,4 @@
--- A pair inside the packet comes last; if there is none, one that ends at its first timestamp does.
+-- In the list of pairs, those inside the packet come after those that end at the packet's first timestamp.
 use Rattle.std.proofs.Common.{sym, ◌∙◌}
 use Rattle.clock_track.specs.Rows.{used}
 use Rattle.clock_track.specs.state.Search.{test_of}

@@ -6,7 +6,7 @@ use Rattle.clock_track.specs.state.Search.{test_of}
 use Rattle.clock_track.specs.Views.{row_of}
 use Rattle.clock_track.proofs.search.latest_between.Given as goal
 
--- what is left holds the pair that is looked for
+-- the result is among the pairs before index `left`
 abbrev pub invariant-loop-left : goal.invariant-loop-left
 invariant-loop-left l = record {
   within : l.left ≤ l.end;

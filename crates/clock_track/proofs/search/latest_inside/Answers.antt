@@ -1,4 +1,4 @@
--- The last group that is left decides, or is left out of the search.
+-- The last of the remaining groups gives the result, or is dropped from the search.
 use Rattle.std.proofs.Common.{◌*◌, ◌-◌, ◌/◌, sym, ◌∙◌, arith}
 use Rattle.clock_track.specs.Rows.{inside}
 use Rattle.clock_track.specs.state.Search.{test_of}

@@ -1,4 +1,4 @@
--- The packets that are kept are those of the window.
+-- The packets that the clock keeps are those of the window.
 use Rattle.std.proofs.Common.{◌≡◌, ℤ, All, ap, sym, subst, ◌∙◌, map, w64, to_z, of_z, arith}
 use Rattle.std.proofs.lemmas.Int.{ints}
 use Rattle.clock_track.specs.Rows.{used, window}

@@ -1,4 +1,4 @@
--- The packet is put after those that are kept, in the room of the oldest of 64.
+-- The packet is appended to the kept packets. If these are 64, the oldest is dropped and its room is reused.
 use Rattle.std.proofs.Common.{[], ◌∷◌, ◌+◌, ◌++◌, ap, sym, ◌∙◌, ◌≡◌, ℤ, w64, to_z, of_z, arith, subst, length, vec_len}
 use Rattle.std.proofs.lemmas.Int.{ints}
 use Rattle.circular_buffer.specs.Buffer.{Buffer, buffer}
