@@ -1,4 +1,4 @@
--- A stamp with the wanted number is the right one, or it is far away.
+-- A stamp with the wanted sequence number is the right one, or its instant is far away.
 use Rattle.std.proofs.Common.{◌≡◌, ◌≢◌, inl, inr, ℕ, zero, suc, ◌+◌, ◌-◌, ◌*◌, ◌/◌, ◌%◌, ◌<◌, ◌≤◌, Bool, true, false, pos, neg_ℤ, Some, None, is_some, refl, sym, ◌∙◌, arith}
 use Rattle.std.specs.Prelude.{nat_lt, ◌==◌, if◌then◌else◌}
 use Rattle.std.specs.Int.{div_ceil}
@@ -16,7 +16,7 @@ use Rattle.stream_journal.specs.Conforming.{IsAudio, is_stamped}
 use Rattle.stream_journal.specs.Heads.{AreApart, behind}
 use Rattle.stream_journal.proofs.Spacing.{IsBefore, before_stamp, spaced}
 
--- ---- how far back a stamp is looked for
+-- ---- how far back the wanted stamp is
 
 pub record IsBack (count packets samples : ℕ) : Type 0 where
   pub some : 1 ≤ packets
@@ -55,7 +55,7 @@ back_of Eight n count far some e = eight_back n count far (n % 8 == 0) refl some
 back_of (Blocks dbc interval) n count far some e =
     blocks_back (dbc % interval) count far (dbc % interval == 0) (nat_lt 7 (div_ceil (dbc % interval) count)) refl refl some e
 
--- ---- the arithmetic of both sides
+-- ---- the arithmetic of the distance on both sides
 
 ahead : (dn dk p q r count index back d m : ℕ) → r ≤ 1000000000 → 4 * (dn * r) + 3 * m * (count * 1000000000) ≤ 4 * (dk * r)
     → IsBefore r dk p index → back * 1000000000 < q * r + r → IsBack count d back → 1 ≤ count → 256 ≤ m + d
@@ -91,7 +91,7 @@ stamped_within j is k instant known e =
 head_by : (j : Journal) (k instant : ℕ) → j.stamp k ≡ Some instant → head_of j k ≡ Some (record { instant = pos instant; first = neg_ℤ (pos (stamped_index (rule_of j.kind k))) })
 head_by j k instant e = rw e refl
 
--- a stamped packet is due before its stamp
+-- a packet with a timestamp is due before the timestamp's instant by the time of the samples before the stamped one
 pub due_before : (j : Journal) → IsAudio j → (k instant : ℕ) → k < j.packets → j.stamp k ≡ Some instant → IsBefore j.rate (j.due k) instant (stamped_index (rule_of j.kind k))
 due_before j is k instant known e =
     before_stamp (j.due k) instant (stamped_index (rule_of j.kind k)) j.rate (let some = is.rate_from in omega arith)

@@ -1,4 +1,5 @@
--- How far a packet's first sample by the clock can be from the time when it is due, and what follows for two packets.
+-- How far the first instant of a packet by the clock can be from the instant at which the packet is due, and what
+-- follows for two packets.
 use Rattle.std.proofs.Common.{zero-mul, ◌≡◌, inl, inr, ℕ, ◌+◌, ◌-◌, ◌*◌, ◌%◌, ◌<◌, ◌≤◌, Bool, true, false, ℤ, pos, neg_ℤ, ◌+ℤ◌, ◌-ℤ◌, ◌*ℤ◌, ◌≤ℤ◌, ◌<ℤ◌, Option, Some, None, refl, sym, ap, ◌∙◌, subst, arith}
 use Rattle.std.specs.Prelude.{◌==◌, nat_le, if◌then◌else◌, option_map, option_and_then}
 use Rattle.std.specs.Option.{option_or}
@@ -102,7 +103,7 @@ on_line j is clock agrees n instant p q x = cases (pair.up == j.rate * pair.down
 
 -- ---- a number of samples later on a line
 
--- `z` nanoseconds are less than 9 packets' time, on either side; a packet's time is w / rate
+-- `z` nanoseconds, positive or negative, are less than the time of 9 packets; a packet's time is w / rate
 pub record IsClose (rate w : ℕ) (z : ℤ) : Type 0 where
   pub above : (z *ℤ pos (8 * rate)) <ℤ pos (72 * w)
   pub below : (neg_ℤ z *ℤ pos (8 * rate)) <ℤ pos (72 * w)
@@ -117,7 +118,7 @@ swapped z a b =
     let h : a * (up y + down z * b) ≡ a * (down y + up z * b) = ap (λ (n : ℕ). a * n) f in
     omega (arith, ints)
 
--- a distance of less than this many steps and one nanosecond is less than 9 packets' time
+-- a distance of less than 7 * `count` steps and one nanosecond is less than the time of 9 packets
 close_by : (z : ℤ) (rate count num den : ℕ) → 1 ≤ den → 1 ≤ rate → rate ≤ count * 1000000000 → 8 * (rate * num) ≤ 9000000000 * den
     → (z *ℤ pos den) <ℤ pos (7 * count * num + den) → (z *ℤ pos (8 * rate)) <ℤ pos (72 * (count * 1000000000))
 close_by z rate count num den some some_rate slow spacing h =
@@ -146,7 +147,7 @@ difference_times x y d =
     let f : d * (up z + down x + up y) ≡ d * (down z + up x + down y) = ap (λ (n : ℕ). d * n) e in
     omega (arith, ints)
 
--- samples at most k numbers apart on a line are less than k steps and one nanosecond apart; the first is at the instant
+-- if two samples of a line are at most k numbers apart, their instants are less than k steps and one nanosecond apart
 apart_by : (line : Line) (from first instant at : ℤ) (k : ℕ) → 1 ≤ line.den → neg_ℤ (pos k) ≤ℤ first → first ≤ℤ pos k
     → instant_at line from ≡ instant → instant_at line (from +ℤ first) ≡ at
     → (((at -ℤ instant) *ℤ pos line.den) <ℤ pos (k * line.num + line.den)) × ((neg_ℤ (at -ℤ instant) *ℤ pos line.den) <ℤ pos (k * line.num + line.den))
@@ -195,7 +196,7 @@ by_clock j is clock agrees n x known a =
     let some = is.some in
     close_on j.rate j.count spot.line spot.from a.head.first a.head.instant x (omega arith) (omega arith) reach.from reach.to here.den here.spacing here.at at
 
--- the packet is due near its head, too
+-- the instant at which a packet is due is near the packet's head
 pub by_nominal : (j : Journal) → IsAudio j → (n : ℕ) (head : Head) → n < j.packets → head_of j n ≡ Some head → IsClose j.rate (j.count * 1000000000) (pos (j.due n) -ℤ head.instant)
 by_nominal j is n head known e =
     let reach = reach_of j is n head known e in
@@ -207,7 +208,7 @@ by_nominal j is n head known e =
     close_on j.rate j.count (nominal_line head.instant j.rate) (pos 0) head.first head.instant (pos (j.due n)) (omega arith) (omega arith) reach.from reach.to (omega arith) (omega arith)
     (at_start head.instant 1000000000 j.rate) due
 
--- two instants with the same first instant by the clock are less than 36 packets' time apart
+-- two packets whose first instant is x are not due 192 packets' time apart or more
 too_near : (rate w : ℕ) (x p q : ℤ) (a b : ℕ) → IsClose rate w (x -ℤ p) → IsClose rate w (pos a -ℤ p) → IsClose rate w (x -ℤ q) → IsClose rate w (pos b -ℤ q)
     → 4 * (a * rate) + 768 * w ≤ 4 * (b * rate) → ⊥
 too_near rate w x p q a b c d e f h =

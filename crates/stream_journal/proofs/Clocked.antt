@@ -1,4 +1,4 @@
--- A stream with a clock, both of which keep the rules.
+-- A stream and its clock, which both keep the rules.
 use Rattle.std.proofs.Common.{◌≡◌, inl, inr, ◌↔◌, ℕ, zero, suc, ◌+◌, ◌-◌, ◌*◌, ◌<◌, ◌≤◌, ℤ, pos, ◌+ℤ◌, ◌-ℤ◌, ◌*ℤ◌, ◌≤ℤ◌, ◌<ℤ◌, Some, refl, sym, ap, ◌∙◌, subst, arith}
 use Rattle.std.proofs.lemmas.Int.{ints}
 use Rattle.time_unfold.specs.declared.head_rule.Head.{Head}
@@ -63,7 +63,7 @@ clock_is base from to = record {
 stamp_of : (n instant : ℕ) → Some (1002000000 + n * 125000) ≡ Some instant → 1002000000 + n * 125000 ≡ instant
 stamp_of n instant e = cc
 
--- how a pair covers an instant
+-- the pair whose later point is `later` covers `instant`, in numbers
 record IsOver (base instant later : ℕ) : Type 0 where
   from : pos 0 ≤ℤ ((pos instant -ℤ pos later) *ℤ pos 9216000 +ℤ pos (2000000 * (base * 1)))
   to : ((pos instant -ℤ pos later) *ℤ pos 9216000 +ℤ pos (2000000 * (base * 1))) <ℤ pos 18432000000000
@@ -84,7 +84,7 @@ one_later base instant a b x y =
     let k = y.to in
     omega (arith, ints)
 
--- the number of a point in the list of all
+-- the index of a point in the list of all points
 abbrev count_of : Place → ℕ
 count_of p = p.packet * 2 + p.at
 
@@ -117,7 +117,7 @@ one_pair base n instant p q r s x y =
 floor_is : (z q : ℤ) (d : ℕ) → 0 < d → (q *ℤ pos d) ≤ℤ z → z <ℤ ((q +ℤ pos 1) *ℤ pos d) → floor_of z d ≡ q
 floor_is z q d some from to = floor_only z (floor_of z d) q d (floor_below z d some) (floor_above z d some) from to
 
--- a timestamp that is k packets after the later point is at an event, because a packet is 6 events long
+-- a timestamp k packets after the later point is at an event, because a packet is 6 events long
 on_line_by : (instant later d k : ℕ) → d ≡ 2000000 → instant ≡ later + k * 125000
     → instant_at (record { base = pos later; num = d; den = 96 }) (floor_of ((pos instant -ℤ pos later) *ℤ pos 192 +ℤ pos d) (2 * d)) ≡ pos instant
 on_line_by instant later d k e f =
@@ -178,7 +178,7 @@ conforms base from to = record {
   clock = clock_is base from to;
 }
 
--- the first two points are joined
+-- the second point follows the first
 first_two : (base : ℕ) → Follows (clock base) (at_place 0 0) (at_place 0 1)
 first_two base = record {
   first = record { packet = omega arith; at = omega arith };

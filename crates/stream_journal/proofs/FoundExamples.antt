@@ -1,4 +1,4 @@
--- Stamps and clock packets of small journals that are at hand.
+-- Stamps and clock packets of small journals are at hand.
 use Rattle.std.proofs.Common.{true, subst, inl, ◌≡◌, inr, ℕ, zero, suc, ◌<◌, false, pos, ◌+ℤ◌, [], ◌∷◌, All, Some, refl, arith}
 use Rattle.std.specs.Prelude.{get_or, replicate}
 use Rattle.avtp_base.specs.Octets.{bits}
@@ -93,7 +93,7 @@ two_at_hand = record {
   later_packet = record { row = row_of_two 1; kept = (1, omega arith, refl); is = second_row };
 }
 
--- ---- what is known by the packets that came
+-- ---- what is known from the packets that arrived
 
 pub nine_known : IsKnown false restarted (pos 0) 2000000 0 (came 9 1001125000) (8 ∷ replicate 15 16) []
 nine_known = record {

@@ -24,7 +24,7 @@ use Rattle.stream_journal.proofs.Apart.{back_of, stamped_within}
 use Rattle.stream_journal.proofs.OneInstant.{no_restart}
 use Rattle.stream_journal.proofs.TrueHeads.{flag_of, head_back, true_heads}
 
--- ---- the packet is due where it is counted
+-- ---- the packet is due at the counted instant
 
 counted_due : (j : Journal) → IsAudio j → (n : ℕ) (far : Distance) (stamp : Stamp) → n < j.packets → j.stamp n ≡ None → distance (rule_of j.kind n) n j.count ≡ Some far
     → (is : IsHeadOf j n far stamp) → j.due n ≡ behind j is.is.instant far.samples
@@ -36,7 +36,7 @@ counted_due j is n far stamp known none back h =
     let there : pos (j.due n) ≡ pos (behind j h.is.instant far.samples) = rw (instant, first) at at in
     omega (arith, ints)
 
--- ---- it is near
+-- ---- the counted instant is near the expected one
 
 difference : (x y : ℕ) → unsigned_abs (pos x -ℤ pos y) ≡ (x - y) + (y - x)
 difference x y = omega (arith, ints)
@@ -103,8 +103,8 @@ below_256 : (interval : ℕ) (dbc : ℕ → ℕ) (count packets : ℕ) → Block
 below_256 interval dbc count packets is zero known = is.first
 below_256 interval dbc count packets is (suc n) known = let next = is.next n known in omega arith
 
--- The block that packet a stamps is the one that packet b is counted from: b has no stamped block, its first block is t blocks
--- after that of a, and the stamped block is in packet a.
+-- The stamped block of packet a is the block from which packet b is counted. The first block of b is t blocks after the
+-- first block of a, and b has no stamped block.
 abbrev IsOneBlock : ℕ → ℕ → ℕ → ℕ → ℕ → Type 0
 IsOneBlock interval a b t count =
     a < 256 → b < 256 → b ≡ (a + t) % 256 → 1 ≤ b % interval → b % interval ≤ t → t + 1 ≤ b % interval + count → count ≤ (interval - b % interval) % interval
@@ -163,7 +163,7 @@ same_blocks (Am824 interval dbc) count packets n far some is known back e index 
     equal_so ((dbc k + stamped_index (Blocks (dbc k) interval)) % 256) ((dbc n + 256 - dbc n % interval) % 256)
     (one_block interval (dbc k) (dbc n) (far.packets * count) count is.standard small small_too next far_is.some (omega arith) (omega arith) few index)
 
--- ---- it fits
+-- ---- the stamp fits
 
 all_so : (a b c d e : Bool) → a ≡ true → b ≡ true → c ≡ true → d ≡ true → e ≡ true → (if a then if b then if c then if d then e else false else false else false else false) ≡ true
 all_so a b c d e p q r s t = rw (p, q, r, s, t) refl
@@ -197,9 +197,9 @@ at_hand_fits j is lead c far stamp un near h =
     (same_blocks j.kind j.count j.packets n far is.some is.blocks un.came.known h.back un.back index (not_stamped j is n un.came.known un.none))
     (near_true (c.arrival + lead) (behind j h.is.instant far.samples) j.rate j.count reach))
 
--- ---- it is found
+-- ---- the stamp is found
 
--- packet n is counted from one stamp
+-- a packet is counted from at most one stamp
 one_stamp : (j : Journal) (n : ℕ) (far : Distance) (x y : Stamp) → IsHeadOf j n far x → IsHeadOf j n far y → x ≡ y
 one_stamp j n far x y a b =
     let e = a.is.stamped in
@@ -224,7 +224,7 @@ found_so j is lead room c far stamps stamp un all near hand =
     found_by j (wanted j lead c far) room c.number far stamps stamp (found room (wanted j lead c far) stamps) h (at_hand_fits j is lead c far stamp un near h) hand.kept
     (find_last-found (wanted j lead c far) (last_of room stamps)) (true_heads j is lead room c far stamps un all)
 
--- ---- nothing else is found
+-- ---- no other stamp is found
 
 last_is_near : (a b c d e : Bool) → (if a then if b then if c then if d then e else false else false else false else false) ≡ true → e ≡ true
 last_is_near true true true true e h = h

@@ -39,7 +39,7 @@ taken_by c shift m row p q first second is earlier later joined e f = record {
 
 -- ---- in one packet
 
--- the packet of both points, and their joined pair
+-- if two joined points are at hand in one packet and cover the instant, a line is found
 inside_found : (c : ClockJournal) (shift instant : ℤ) (rate : ℕ) (rows : List ClockRow) (p q : Place) → (h : ArePointsAtHand c shift rows p q) → IsJoined (pair_at c p q) → Covers (pair_at c p q) rate instant
     → q.packet ≡ p.packet → q.at ≡ suc p.at → clock_spot rows shift instant rate ≢ None
 inside_found c shift instant rate rows p q h joined covers e f =

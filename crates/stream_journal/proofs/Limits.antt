@@ -26,7 +26,7 @@ pulls pull = ((λ is. is.pull), pulled_is pull)
 
 -- ---- periods
 
--- the time from a point to the next
+-- the time from point `i` to the next point
 abbrev gap : ℕ → ℕ → ℕ
 gap late i = point (unsteady late) (at_place 0 (suc i)) - point (unsteady late) (at_place 0 i)
 
@@ -58,7 +58,7 @@ periods late p q f =
     by (inl g) e = inl (g.0, e ∙ g.1)
     by (inr g) e = inr (g.0, e ∙ g.1)
 
--- a period is the nominal one, or a little longer
+-- the period is the nominal one, or at most `late` nanoseconds longer
 record IsLong (late d : ℕ) : Type 0 where
   from : 2000000 ≤ d
   to : d ≤ 2000000 + late

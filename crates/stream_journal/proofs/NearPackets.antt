@@ -12,7 +12,7 @@ use Rattle.stream_journal.specs.Near.{IsNear}
 use Rattle.stream_journal.proofs.ByClock.{IsClose, by_clock, by_nominal, difference_times}
 use Rattle.stream_journal.proofs.Spacing.{spaced as due_spaced}
 
--- a packet's first instant is less than 18 packets' time from where it is due
+-- the first instant `x` is less than the time of 18 packets before or after the instant `due`
 record IsNearDue (rate w : ℕ) (x due : ℤ) : Type 0 where
   above : ((x -ℤ due) *ℤ pos (8 * rate)) <ℤ pos (144 * w)
   below : ((due -ℤ x) *ℤ pos (8 * rate)) <ℤ pos (144 * w)
@@ -31,7 +31,7 @@ near_due rate w x due p c d =
     let d4 = d.below in
     record { above = omega (arith, ints); below = omega (arith, ints) }
 
--- two instants are at most as far apart as their difference
+-- one instant is later than the other by at most the absolute difference
 not_further : (x y : ℤ) → (y -ℤ x) ≤ℤ pos (unsigned_abs (x -ℤ y))
 not_further x y = of_difference (x -ℤ y) (y -ℤ x) (omega (arith, ints))
   where
@@ -39,7 +39,8 @@ not_further x y = of_difference (x -ℤ y) (y -ℤ x) (omega (arith, ints))
     of_difference (pos k) w e = omega (arith, ints)
     of_difference (negsuc k) w e = omega (arith, ints)
 
--- packets that are due 192 packets' time apart do not have first instants at most 72 packets' time apart
+-- packets that are due at least the time of 192 packets apart have first instants more than the time of 72 packets
+-- apart
 too_near : (rate w : ℕ) (x y : ℤ) (a b : ℕ) → IsNearDue rate w x (pos a) → IsNearDue rate w y (pos b) → unsigned_abs (x -ℤ y) * rate ≤ 72 * w → 4 * (a * rate) + 768 * w ≤ 4 * (b * rate) → ⊥
 too_near rate w x y a b c d near h =
     let k : ℕ = unsigned_abs (x -ℤ y) in
@@ -95,12 +96,12 @@ exactly rate w x due some e =
 nominal_near : (j : Journal) → IsAudio j → (n : ℕ) (x : ℤ) → n < j.packets → IsAtNominal j n 0 x → IsNearDue j.rate (j.count * 1000000000) x (pos (j.due n))
 nominal_near j is n x known a = exactly j.rate (j.count * 1000000000) x (pos (j.due n)) (let some = is.some in omega arith) (a.at ∙ sym (is.first_instants n a.head known a.is_head))
 
--- the first sample of a packet of audio is at this instant
+-- the first sample of an audio packet is at this instant
 abbrev AtAudio : Bool → Journal → ℕ → ℤ → Type 0
 AtAudio true j n x = IsAtByClock j n 0 x
 AtAudio false j n x = IsAtNominal j n 0 x
 
--- packets whose first instants are near are the same packet, by the clock and without
+-- audio packets with equal sequence numbers and near first instants are the same packet, with the clock and without
 by_both : (by_clock : Bool) (j : Journal) → IsAudio j → IsClock j.clock → AgreesWithClock j → (n m : ℕ) (x y : ℤ) → n < j.packets → m < j.packets → n % 256 ≡ m % 256
     → AtAudio by_clock j n x → AtAudio by_clock j m y → IsNear j 72 x y → n ≡ m
 by_both true j is clock agrees n m x y known there seq a b near = one_packet j is n m x y known there seq (clock_near j is clock agrees n x known a) (clock_near j is clock agrees m y there b) near

@@ -11,7 +11,7 @@ use Rattle.time_unfold.specs.declared.head_rule.Head.{Head}
 use Rattle.stream_journal.specs.Journal.{IsAt, IsAtBy, IsAtByClock, IsAtNominal, Journal, Kind, DenseAaf, SparseAaf, Am824, H264, head_from, head_of, instant_by, nominal_instant, own_head, rule_of}
 use Rattle.stream_journal.specs.Conforming.{AgreesWithClock, Conforms, HoldsEight, IsOfKind}
 
--- a head is a timestamp of the journal
+-- the instant of a head is a timestamp of the journal
 pub record IsStamped (j : Journal) (head : ℤ) : Type 0 where
   pub number : ℕ
   pub instant : ℕ

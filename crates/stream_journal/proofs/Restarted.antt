@@ -1,4 +1,4 @@
--- A sparse talker that restarts, packet by packet.
+-- A sparse talker that restarts keeps the rules, packet by packet.
 use Rattle.std.proofs.Common.{◌≡◌, inl, inr, ℕ, zero, suc, ◌+◌, ◌-◌, ◌%◌, ◌<◌, ◌≤◌, Bool, true, false, pos, Option, Some, None, is_some, refl, subst, arith}
 use Rattle.std.specs.Prelude.{IfSome, ◌==◌, if◌then◌else◌}
 use Rattle.std.proofs.lemmas.Bool.{cases_lt}
@@ -24,7 +24,7 @@ each_below P (suc m) each n h = elim (cases_lt n m) [
 
 -- ---- the rules
 
--- a packet that has a head is due at its first sample
+-- if packet n has a head, it is due at the instant of its first sample
 abbrev IsDue : ℕ → Type 0
 IsDue n = IfSome (head_of restarted n) (λ head. pos (restarted_due n) ≡ nominal_instant restarted head 0)
 

@@ -1,4 +1,4 @@
--- How far apart packets are due, and when a sample is due that is counted from a stamp.
+-- How far apart packets are due, and when a sample that is counted from a stamp is due.
 use Rattle.std.proofs.Common.{◌≡◌, ℕ, zero, suc, ◌+◌, ◌-◌, ◌*◌, ◌<◌, ◌≤◌, ℤ, pos, neg_ℤ, ◌+ℤ◌, ◌-ℤ◌, refl, ap, inl, inr, subst, arith}
 use Rattle.std.proofs.Math.Nat.{mul-le-mul_left}
 use Rattle.std.proofs.lemmas.Bool.{cases_lt}
@@ -10,7 +10,7 @@ use Rattle.stream_journal.specs.Journal.{Journal}
 use Rattle.stream_journal.specs.Conforming.{IsApart, IsAudio}
 use Rattle.time_unfold.proofs.Floors.{one_more}
 
--- ---- first instants add up
+-- ---- spacings of adjacent packets add up
 
 one_further : (r w m a b c : ℕ) → 4 * (a * r) + 3 * m * w ≤ 4 * (b * r) → 4 * (b * r) + 3 * w ≤ 4 * (c * r) → 4 * (a * r) + 3 * suc m * w ≤ 4 * (c * r)
 one_further r w m a b c h g = omega arith
@@ -25,7 +25,7 @@ spaced j is n (suc m) h =
 
 -- ---- a packet and its own stamp
 
--- a first sample is this many samples before a stamped one
+-- a packet is due `index` samples before its timestamp, up to the rounding of one nanosecond
 pub record IsBefore (rate due stamp index : ℕ) : Type 0 where
   pub from : due * rate + index * 1000000000 ≤ stamp * rate
   pub to : stamp * rate < due * rate + rate + index * 1000000000

@@ -72,7 +72,7 @@ inside c is m i (suc k) known within =
     }) in
     rw e (omega arith)
 
--- a later point of a packet is not before an earlier one
+-- in a packet, a point at a greater index is not earlier
 to_last : (c : ClockJournal) → IsClock c → (m i l : ℕ) → m < c.packets → i ≤ l → l < length (c.points m) → point c (at_place m i) ≤ point c (at_place m l)
 to_last c is m i l known from within =
     let e : i + (l - i) ≡ l = omega arith in
@@ -103,13 +103,13 @@ span c is m l (suc k) known last =
     let next = rises c is (at_place (suc m + k) end) (at_place (suc (suc m + k)) 0) (across c is (suc m + k) end (omega arith) (omega arith)) in
     rw e (add_up (point c (at_place m l)) (point c (at_place (suc m + k) 0)) (point c (at_place (suc m + k) end)) (point c (at_place (suc (suc m + k)) 0)) (up_of c) (time_of c) k before within next)
 
--- ---- what seems to be next is next
+-- ---- points that seem adjacent are adjacent
 
--- the points of an earlier packet, or of the same one, are not joined
+-- two points are not joined if the second is not later than the first
 not_joined_back : (p q up time : ℕ) → 1 ≤ time → q ≤ p → 7 * time ≤ 8 * ((q - p) * up) → ⊥
 not_joined_back p q up time some h least = let none : q - p ≡ 0 = omega arith in let least = rw none at least in omega arith
 
--- points that are two or more packets apart are not joined
+-- two points are not joined if they are at least 3/2 of the nominal time of the interval apart
 not_joined_far : (p q up time k : ℕ) → 1 ≤ time → 1 ≤ k → 4 * (p * up) + 3 * suc k * time ≤ 4 * (q * up) → 8 * ((q - p) * up) ≤ 9 * time → ⊥
 not_joined_far p q up time k some more far most = elim (cases_lt p q) [
   | inl below ↦

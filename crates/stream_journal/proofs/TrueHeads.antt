@@ -1,4 +1,4 @@
--- What is found among true stamps is the head.
+-- What a listener finds among true stamps is the journal's head.
 use Rattle.std.proofs.Common.{◌≡◌, ◌⊎◌, inl, inr, ℕ, ◌+◌, ◌-◌, ◌*◌, ◌%◌, ◌<◌, ◌≤◌, Bool, true, false, pos, ◌-ℤ◌, List, All, Option, Some, None, refl, sym, ap, ◌∙◌, arith}
 use Rattle.std.specs.Prelude.{◌==◌, nat_le, if◌then◌else◌, unsigned_abs, IfSome}
 use Rattle.std.proofs.Math.Nat.{mul-le-mul_left}
@@ -22,7 +22,7 @@ use Rattle.stream_journal.proofs.Apart.{apart, back_of}
 difference : (x y : ℕ) → unsigned_abs (pos x -ℤ pos y) ≡ (x - y) + (y - x)
 difference x y = omega (arith, ints)
 
--- the arithmetic of the refusal; d is how far x and p are apart
+-- the arithmetic of the refusal; x and p are at most d apart
 refused_by : (x p due r w d : ℕ) → due * r < x * r + 128 * w → x * r < due * r + 128 * w → p ≤ x + d → x ≤ p + d
     → (due * r + 189 * w < p * r) ⊎ (p * r + 189 * w < due * r) → 60 * w < d * r
 refused_by x p due r w d from to above below (inl h) =
@@ -45,7 +45,7 @@ audio_of (H264 part) n count far e = absurd cc
 not_le : (a b : ℕ) → b < a → nat_le a b ≡ false
 not_le a b h = grind (arith, nat_tests)
 
--- the numbers that `is_near` compares
+-- if x and p are more than the time of 60 packets apart, the comparison of `is_near` is false
 near_by : (x p r count : ℕ) → 60 * (count * 1000000000) < ((x - p) + (p - x)) * r → nat_le (unsigned_abs (pos x -ℤ pos p) * r) (60 * count * 1000000000) ≡ false
 near_by x p r count h = rw (difference x p) (not_le (((x - p) + (p - x)) * r) (60 * count * 1000000000) (omega arith))
 
@@ -89,7 +89,7 @@ fits_so want stamp h =
     let parts = all_true (stamp.seq == want.seq) (same_flag stamp.mr want.mr) (stamp.rate == want.rate) (same_block stamp.block want.block) (is_near want stamp) h in
     record { seq = one_number stamp.seq want.seq parts.0; mr = one_flag stamp.mr want.mr parts.1; near = parts.2 }
 
--- a number is determined by its remainder modulo 256 within a circle
+-- the sequence number that is wanted, d before n, is that of a packet k with k + d equal to n modulo 256
 in_circle : (k d n s : ℕ) → d ≤ 7 → s ≡ k % 256 → s ≡ (n % 256 + 256 - d) % 256 → (k + d) % 256 ≡ n % 256
 in_circle k d n s few e f = omega arith
 
@@ -121,7 +121,7 @@ pub true_heads : (j : Journal) → IsAudio j → (lead room : ℕ) (c : Copy) (f
 true_heads j is lead room c far stamps un all =
     found_by j is lead room c far stamps (found room (wanted j lead c far) stamps) un all (find_last-found (wanted j lead c far) (last_of room stamps))
 
--- ---- it is the journal's head
+-- ---- the stamp gives the journal's head
 
 pub flag_of : (a b : Bool) → a ≡ b → same_flag a b ≡ true
 flag_of true true e = refl

@@ -1,4 +1,4 @@
--- A line that a listener finds among copies of a clock's packets is one of the list of all points.
+-- A line that a listener finds from copies of a clock's packets is a line of the list of all points.
 use Rattle.std.proofs.Common.{◌≡◌, inl, inr, ℕ, suc, ◌+◌, ◌-◌, ◌%◌, ◌^◌, ◌<◌, ◌≤◌, Bool, true, false, ℤ, pos, ◌+ℤ◌, List, [], ◌∷◌, All, Option, Some, None, length, refl, sym, ap, ◌∙◌, subst, arith}
 use Rattle.std.specs.Prelude.{◌==◌, nat_lt, if◌then◌else◌, option_map, IfSome}
 use Rattle.std.specs.List.{filter_map, range_with_len}
@@ -27,7 +27,7 @@ use Rattle.stream_journal.proofs.TrueHeads.{one_flag}
 pub count_is : (c : ClockJournal) (shift : ℤ) (m : ℕ) (row : ClockRow) → IsRowOf c shift m row → timestamps row ≡ length (c.points m)
 count_is c shift m row is = let size = is.size in omega arith
 
--- two timestamps of rows are two points of the clock
+-- if two timestamps of a row are two points of the clock, the row's pair is the clock's pair
 pub same_pair : (c : ClockJournal) (shift : ℤ) (row : ClockRow) (m : ℕ) (p q : Place) (first second : ℕ) → IsRowOf c shift m row
     → pos (point c p) ≡ pos first +ℤ shift → pos (point c q) ≡ pos second +ℤ shift → pair_of shift row first second ≡ pair_at c p q
 same_pair c shift row m p q first second is e f = rw (e, f, is.interval, is.base, is.pull) refl

@@ -1,4 +1,4 @@
--- The timestamp of a copy means what was stamped.
+-- The timestamp of a copy is unfolded to the instant that was sent.
 use Rattle.std.proofs.Common.{◌≡◌, ℕ, ◌^◌, ◌%◌, pos, Some, refl, arith}
 use Rattle.std.proofs.lemmas.Int.{ints}
 use Rattle.time_unfold.specs.Time.{unfolded}

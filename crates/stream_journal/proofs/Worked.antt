@@ -8,7 +8,7 @@ use Rattle.stream_journal.specs.Conforming.{AgreesWithClock, Conforms, IsAudio, 
 use Rattle.stream_journal.specs.Regular.{IsRegularClock}
 use Rattle.stream_journal.specs.Examples.{three_packets}
 
--- a clock of no packets keeps every rule
+-- a clock without packets keeps every rule
 pub no_clock-is : IsClock no_clock
 no_clock-is = record {
   interval = omega arith;
@@ -27,7 +27,7 @@ no_clock-regular = record {
   holds = λ n k e h g. absurd (omega arith);
 }
 
--- a clock of no packets covers nothing
+-- a clock without packets covers no timestamp
 pub no_clock-agrees : (j : Journal) → j.clock.packets ≡ 0 → AgreesWithClock j
 no_clock-agrees j none = record {
   one = λ n i p q r s a b. let h = a.joined.follows.first in absurd (omega arith);

@@ -1,4 +1,4 @@
--- What a listener knows of a clock's packets, and where it puts samples by them.
+-- What a listener knows of a clock's packets, and where it puts samples according to them.
 use Rattle.std.specs.Prelude.{◌≡◌, ℕ, ◌*◌, ◌%◌, ◌<◌, true, ℤ, pos, ◌+ℤ◌, length, get_or}
 use Rattle.clock_track.specs.declared.clock_row.ClockRow.{ClockRow}
 use Rattle.clock_track.specs.declared.pair.Pair.{Pair}
@@ -7,7 +7,7 @@ use Rattle.clock_track.specs.Rows.{timestamp}
 use Rattle.stream_journal.specs.Clocks.{ClockJournal, IsJoinedAt, Place, pair_at}
 use Rattle.stream_journal.specs.Journal.{Journal}
 
--- The row is a copy of the clock's packet m. Its timestamps plus `shift`, which the listener adds, are the clock's points.
+-- The row is a copy of the clock's packet m. Its timestamps plus `shift` are the clock's points.
 pub record IsRowOf (c : ClockJournal) (shift : ℤ) (m : ℕ) (row : ClockRow) : Type 0 where
   pub known : m < c.packets
   pub seq : row.seq ≡ m % 256
@@ -18,19 +18,20 @@ pub record IsRowOf (c : ClockJournal) (shift : ℤ) (m : ℕ) (row : ClockRow) :
   pub size : length row.payload ≡ 8 * length (c.points m)
   pub points : (i : ℕ) → i < length (c.points m) → pos (get_or (c.points m) i 0) ≡ pos (timestamp row i) +ℤ shift
 
--- A row that gives points is a copy of some packet of the clock: any packet may be missing, come again, or come in any order.
+-- A row that gives points is a copy of some packet of the clock. Any packet may be missing, arrive again, or arrive in
+-- any order.
 abbrev pub IsTrueRow : ClockJournal → ℤ → ClockRow → Type 0
 IsTrueRow c shift row = row.usable ≡ true → (m : ℕ) × IsRowOf c shift m row
 
--- the pair is of two adjacent points of the clock that are joined
+-- the pair consists of two adjacent points of the clock that are joined
 pub record IsTruePair (c : ClockJournal) (pair : Pair) : Type 0 where
   pub earlier : Place
   pub later : Place
   pub joined : IsJoinedAt c earlier later
   pub same : pair ≡ pair_at c earlier later
 
--- the spot is where a sample that is stamped with an instant lies, by a joined pair of the clock's points that covers the
--- instant
+-- The spot is that of a sample whose presentation time is `instant`. It follows from a joined pair of the clock's
+-- points that covers `instant`.
 pub record IsSpotAt (j : Journal) (instant : ℤ) (spot : Spot) : Type 0 where
   pub earlier : Place
   pub later : Place

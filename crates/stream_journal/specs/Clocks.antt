@@ -1,11 +1,12 @@
--- The media clock of a talker: the packets of its reference timestamps (IEEE 1722-2016, 10), and which of these are
--- adjacent in the list of all.
+-- The media clock of a talker: the packets of its reference timestamps (IEEE 1722-2016, 10), and which points are
+-- adjacent in the list of all points.
 use Rattle.std.specs.Prelude.{◌≡◌, ◌⊎◌, ℕ, suc, ◌*◌, ◌%◌, ◌<◌, Bool, false, pos, List, [], length, get_or}
 use Rattle.clock_track.specs.declared.pair.Pair.{Pair}
 use Rattle.clock_track.specs.Pairs.{IsJoined, pull_down, pull_up}
 
--- The packets of a clock, counted from 0, and their points: the timestamps plus what the listener adds to each. All packets
--- have one base frequency, in Hz, one pull and one interval. A new run of the clock begins where `mr` changes.
+-- The packets of a clock, counted from 0, and their points. A point is a timestamp plus what the listener adds to it.
+-- All packets have one base frequency in Hz, one pull and one interval. A new run of the clock begins where `mr`
+-- changes.
 pub record ClockJournal : Type 0 where
   pub base : ℕ
   pub pull : ℕ
@@ -14,42 +15,43 @@ pub record ClockJournal : Type 0 where
   pub points : ℕ → List ℕ
   pub mr : ℕ → Bool
 
--- the clock of a talker that sends none
+-- the clock of a talker that sends no clock
 abbrev pub no_clock : ClockJournal
 no_clock = record { base = 1; pull = 0; interval = 1; packets = 0; points = λ n. []; mr = λ n. false }
 
--- where a point is: in which packet, and at which index there, both from 0
+-- the position of a point: its packet, and its index in the packet, both counted from 0
 pub record Place : Type 0 where
   pub packet : ℕ
   pub at : ℕ
 
--- a point has this place: the clock has the packet, and the packet has a point at the index
+-- a point has this position: the clock has the packet, and the packet has a point at the index
 pub record IsPlace (c : ClockJournal) (p : Place) : Type 0 where
   pub packet : p.packet < c.packets
   pub at : p.at < length (c.points p.packet)
 
--- the point at a place
+-- the point at a position
 abbrev pub point : ClockJournal → Place → ℕ
 point c p = get_or (c.points p.packet) p.at 0
 
--- q is the place after p: the next index of the packet, or after its last one the first of the next packet
+-- q is the position after p: the next index of the packet or, after the packet's last point, the first index of the
+-- next packet
 abbrev pub IsNext : ClockJournal → Place → Place → Type 0
 IsNext c p q =
     ((q.packet ≡ p.packet) × (q.at ≡ suc p.at))
     ⊎ ((q.packet ≡ suc p.packet) × (q.at ≡ 0) × (suc p.at ≡ length (c.points p.packet)))
 
--- p and q are places of points, and q is the place after p in the list of all points
+-- p and q are positions of points, and q is the one after p in the list of all points
 pub record Follows (c : ClockJournal) (p q : Place) : Type 0 where
   pub first : IsPlace c p
   pub second : IsPlace c q
   pub next : IsNext c p q
 
--- the packets at p and q have the same `mr`; adjacent points are in one run if this holds
+-- The packets of p and q have the same `mr`. Adjacent points are in one run if this holds.
 abbrev pub InOneRun : ClockJournal → Place → Place → Type 0
 InOneRun c p q = c.mr p.packet ≡ c.mr q.packet
 
--- the points at two places as a pair, with the interval between timestamps in events, and the clock's frequency up / down: its
--- base frequency times the factor of its pull (IEEE 1722-2016, 10)
+-- The points at two positions as a pair, with the number of events between timestamps. The clock's frequency is up /
+-- down: its base frequency times the factor of its pull (IEEE 1722-2016, 10).
 abbrev pub pair_at : ClockJournal → Place → Place → Pair
 pair_at c p q = record {
   earlier = pos (point c p);
@@ -59,20 +61,20 @@ pair_at c p q = record {
   down = pull_down c.pull;
 }
 
--- p and q are adjacent places of one run, and the points there are joined
+-- p and q are adjacent positions of one run, and the points there are joined
 pub record IsJoinedAt (c : ClockJournal) (p q : Place) : Type 0 where
   pub follows : Follows c p q
   pub one_run : InOneRun c p q
   pub joined : IsJoined (pair_at c p q)
 
--- A listener takes two points for adjacent: two of one packet, or the last of one packet and the first of another whose
--- sequence number is the next one.
+-- A listener considers the points at p and q adjacent. They are adjacent in one packet, or are the last of one packet
+-- and the first of another. The other packet has the next sequence number.
 abbrev pub SeemNext : ClockJournal → Place → Place → Type 0
 SeemNext c p q =
     ((q.packet ≡ p.packet) × (q.at ≡ suc p.at))
     ⊎ ((q.packet % 256 ≡ suc p.packet % 256) × (q.at ≡ 0) × (suc p.at ≡ length (c.points p.packet)))
 
--- a pair of points that a listener joins if it has copies of the clock's packets
+-- a listener joins the points at p and q if it has copies of their packets
 pub record SeemsJoined (c : ClockJournal) (p q : Place) : Type 0 where
   pub first : IsPlace c p
   pub second : IsPlace c q

@@ -1,5 +1,5 @@
--- The rules that a talker keeps. Everything that is promised of listeners rests on these alone: a proof uses each of them. They
--- are this project's own if no standard is named.
+-- The rules that a talker keeps. All promises about listeners rest on these rules alone, and a proof uses each rule. A
+-- rule is this project's own if no standard is named.
 use Rattle.std.specs.Prelude.{◌≡◌, ◌≢◌, ◌⊎◌, ◌↔◌, ℕ, suc, ◌+◌, ◌*◌, ◌%◌, ◌==◌, ◌<◌, ◌≤◌, nat_lt, Bool, true, ⊤, pos, Some, is_some}
 use Rattle.time_unfold.specs.declared.head_rule.Head.{Head}
 use Rattle.time_unfold.specs.declared.head_rule.HeadRule.{HeadRule}
@@ -19,41 +19,44 @@ HoldsEight packets mr =
 
 -- ---- audio
 
--- Which packets are stamped: all, every eighth, or those that have a block whose count is a multiple of the interval.
+-- Which packets have a timestamp: all, every eighth, or those with a block whose count is a multiple of the interval.
 abbrev pub is_stamped : HeadRule → ℕ → ℕ → Bool
 is_stamped Own n count = true
 is_stamped Eight n count = n % 8 == 0
 is_stamped (Blocks dbc interval) n count = nat_lt (stamped_index (Blocks dbc interval)) count
 
--- Block counts continue from packet to packet, from any first count, and the interval is one of the standard's (IEC 61883-6).
+-- Block counts continue from packet to packet, from any first count. The interval is one of the standard's (IEC
+-- 61883-6).
 pub record BlocksGoOn (interval : ℕ) (dbc : ℕ → ℕ) (count packets : ℕ) : Type 0 where
   pub standard : (interval ≡ 8) ⊎ ((interval ≡ 16) ⊎ (interval ≡ 32))
   pub first : dbc 0 < 256
   pub next : (n : ℕ) → suc n < packets → dbc (suc n) ≡ (dbc n + count) % 256
 
--- the packets of an AM824 stream continue the count of data blocks (IEC 61883-6); other kinds have no blocks to count
+-- The packets of an AM824 stream continue the count of data blocks (IEC 61883-6). Other kinds have no blocks to count.
 abbrev pub HasBlocks : Kind → ℕ → ℕ → Type 0
 HasBlocks DenseAaf count packets = ⊤
 HasBlocks SparseAaf count packets = ⊤
 HasBlocks (Am824 interval dbc) count packets = BlocksGoOn interval dbc count packets
 HasBlocks (H264 part) count packets = ⊤
 
--- At least `quarters` quarters of a packet's time, which is count / rate seconds, pass from one instant to the other.
+-- From the first instant to the second, at least `quarters` quarters of a packet's time pass. A packet's time is count
+-- / rate seconds.
 abbrev pub IsApart : Journal → ℕ → ℕ → ℕ → Type 0
 IsApart j quarters from to = 4 * (from * j.rate) + quarters * (j.count * 1000000000) ≤ 4 * (to * j.rate)
 
--- An audio stream: packets of one kind, one rate and one count, stamped as the format says, and evenly spaced.
+-- An audio stream: its packets have one kind, one rate and one count, have timestamps as the format says, and are
+-- evenly spaced.
 pub record IsAudio (j : Journal) : Type 0 where
-  -- the nominal rates that the formats name are between these
+  -- the nominal rates that the formats name are from 8,000 to 192,000 Hz
   pub rate_from : 8000 ≤ j.rate
   pub rate_to : j.rate ≤ 192000
   pub some : 1 ≤ j.count
-  -- packets are stamped as the format says
+  -- packets have timestamps as the format says
   pub stamps : (n : ℕ) → n < j.packets → is_some (j.stamp n) ≡ is_stamped (rule_of j.kind n) n j.count
   pub blocks : HasBlocks j.kind j.count j.packets
-  -- first instants are at least 3/4 of a packet's time apart
+  -- first samples of adjacent packets are at least 3/4 of a packet's time apart
   pub spacing : (n : ℕ) → suc n < j.packets → IsApart j 3 (j.due n) (j.due (suc n))
-  -- a packet that has a head is due at its first sample
+  -- a packet that has a head is due at the instant of its first sample
   pub first_instants : (n : ℕ) (head : Head) → n < j.packets → head_of j n ≡ Some head → pos (j.due n) ≡ nominal_instant j head 0
 
 -- ---- H.264
@@ -66,14 +69,14 @@ Begins part = (part ≡ Single) ⊎ (part ≡ First)
 abbrev pub Ends : Part → Type 0
 Ends part = (part ≡ Single) ⊎ (part ≡ Last)
 
--- Each packet is stamped, or exactly those that end a NAL unit.
+-- Either each packet has a timestamp, or exactly the packets that end a NAL unit have one.
 abbrev pub StampsUnits : Journal → (ℕ → Part) → Type 0
 StampsUnits j part =
     ((n : ℕ) → n < j.packets → is_some (j.stamp n) ≡ true)
     ⊎ ((n : ℕ) → n < j.packets → (is_some (j.stamp n) ≡ true) ↔ Ends (part n))
 
--- A stream of H.264. The packets of one access unit share one instant, and different access units have different instants:
--- packets due at the same instant are of the same access unit.
+-- A stream of H.264. The packets of one access unit share one instant, and different access units have different
+-- instants. Packets that are due at the same instant belong to one access unit.
 pub record IsVideo (j : Journal) (part : ℕ → Part) : Type 0 where
   pub stamps : StampsUnits j part
   pub one_instant : (n instant : ℕ) → n < j.packets → j.stamp n ≡ Some instant → instant ≡ j.due n
@@ -81,39 +84,39 @@ pub record IsVideo (j : Journal) (part : ℕ → Part) : Type 0 where
   pub first : 1 ≤ j.packets → Begins (part 0)
   pub last : (n : ℕ) → j.packets ≡ suc n → Ends (part n)
   pub beside : (n : ℕ) → suc n < j.packets → Ends (part n) ↔ Begins (part (suc n))
-  -- the fragments of a unit are of one access unit
+  -- the fragments of a NAL unit belong to one access unit
   pub unit : (n : ℕ) → suc n < j.packets → ¬ Ends (part n) → j.due (suc n) ≡ j.due n
-  -- an access unit has at most 255 packets, from its first to its last
+  -- an access unit has at most 255 packets
   pub few : (n m : ℕ) → m < j.packets → j.due n ≡ j.due m → m < n + 255
 
 -- ---- the clock
 
--- A clock that keeps the rules. Adjacent points of one run are in one packet or in adjacent packets with equal `mr`. A new run
--- begins with a new packet and the other `mr`, which tells the runs apart.
+-- A clock that keeps the rules. Adjacent points of one run are in one packet, or in adjacent packets with equal `mr`. A
+-- new run begins with a new packet, and with the other value of `mr`.
 pub record IsClock (c : ClockJournal) : Type 0 where
   pub interval : 1 ≤ c.interval
   -- each packet has a point
   pub some : (n : ℕ) → n < c.packets → IsPlace c (record { packet = n; at = 0 })
-  -- each point is at least 3/4 of the nominal interval after the one before it, over all runs
+  -- each point is at least 3/4 of the nominal interval after the point before it, even in another run
   pub spaced : (p q : Place) → Follows c p q → IsSpaced (pair_at c p q)
-  -- adjacent points of a run are within 1/8 of the nominal interval
+  -- adjacent points of a run are 7/8 to 9/8 of the nominal interval apart
   pub even : (p q : Place) → Follows c p q → InOneRun c p q → IsJoined (pair_at c p q)
 
 -- ---- the clock and the timestamps of an audio stream
 
--- the timestamp of packet n is at this instant, and the joined pair of the points at p and q covers it
+-- the timestamp of packet n is `instant`, and the joined pair of the points at p and q covers it
 pub record IsCovered (j : Journal) (n instant : ℕ) (p q : Place) : Type 0 where
   pub known : n < j.packets
   pub stamped : j.stamp n ≡ Some instant
   pub joined : IsJoinedAt j.clock p q
   pub covers : Covers (pair_at j.clock p q) j.rate (pos instant)
 
--- The clock fits the timestamps of an audio stream: at most one joined pair covers each, and if the clock's frequency
--- is the stream's rate, a covered timestamp is the instant of an event.
+-- The clock fits the timestamps of an audio stream. At most one joined pair covers each timestamp. If the clock's
+-- frequency is the stream's rate, a covered timestamp is the instant of an event.
 pub record AgreesWithClock (j : Journal) : Type 0 where
-  -- at most one joined pair of the whole list of points covers a timestamp
+  -- of all joined pairs of the clock's points, at most one covers a timestamp
   pub one : (n instant : ℕ) (p q r s : Place) → IsCovered j n instant p q → IsCovered j n instant r s → (p ≡ r) × (q ≡ s)
-  -- if the clock's frequency is the stream's rate, the timestamp is the instant of an event
+  -- if the clock's frequency is the stream's rate, a covered timestamp is the instant of an event
   pub exact : (n instant : ℕ) (p q : Place) → IsCovered j n instant p q → IsOfRate (pair_at j.clock p q) j.rate
       → instant_at (spot_by (pair_at j.clock p q) j.rate (pos instant)).line (spot_by (pair_at j.clock p q) j.rate (pos instant)).from ≡ pos instant
 
@@ -126,7 +129,7 @@ IsOfKind SparseAaf j = IsAudio j × AgreesWithClock j
 IsOfKind (Am824 interval dbc) j = IsAudio j × AgreesWithClock j
 IsOfKind (H264 part) j = IsVideo j part
 
--- The journal of a talker that keeps the rules.
+-- The talker of this journal keeps the rules.
 pub record Conforms (j : Journal) : Type 0 where
   pub kind : IsOfKind j.kind j
   pub holds : HoldsEight j.packets j.mr

@@ -4,7 +4,7 @@ use Rattle.stream_journal.specs.Clocks.{ClockJournal, no_clock}
 use Rattle.stream_journal.specs.Delivered.{Copy}
 use Rattle.stream_journal.specs.Journal.{Journal, DenseAaf, SparseAaf, Am824, H264, Part, Single, First, Middle, Last}
 
--- Three packets of 6 sample frames at 48 kHz, `spacing` nanoseconds apart, each of them stamped.
+-- Three packets of 6 sample frames at 48 kHz, `spacing` nanoseconds apart. Each packet has a timestamp.
 abbrev pub three_packets : ℕ → Journal
 three_packets spacing = record {
   kind = DenseAaf;
@@ -17,12 +17,13 @@ three_packets spacing = record {
   clock = no_clock;
 }
 
--- when packet n is due: 125 microseconds after the one before it, and for packet 10 a millisecond later than that
+-- the instant at which packet n is due: 125 microseconds after the packet before it, or 1,125 microseconds for packet
+-- 10
 abbrev pub restarted_due : ℕ → ℕ
 restarted_due n = if nat_lt n 10 then 1002000000 + n * 125000 else 1004250000 + (n - 10) * 125000
 
--- Twenty packets of 6 sample frames at 48 kHz in sparse mode, of which every eighth is stamped, with a restart at packet 10
--- that begins a millisecond late.
+-- Twenty packets of 6 sample frames at 48 kHz in sparse mode. Every eighth packet has a timestamp. The media clock
+-- restarts at packet 10, which is a millisecond late.
 abbrev pub restarted : Journal
 restarted = record {
   kind = SparseAaf;
@@ -35,11 +36,12 @@ restarted = record {
   clock = no_clock;
 }
 
--- a copy of a packet, given the packet's number and the copy's arrival
+-- a copy of the packet with this number, with this arrival
 abbrev pub came : ℕ → ℕ → Copy
 came number arrival = record { number = number; arrival = arrival }
 
--- What reaches a listener of `restarted`: packet 8 is lost, packet 5 comes twice, and packet 18 comes before packet 17.
+-- What reaches a listener of `restarted`. Packet 8 is lost, packet 5 arrives twice, and packet 18 arrives before packet
+-- 17.
 abbrev pub restarted_copies : List Copy
 restarted_copies =
     came 0 1000000000 ∷
@@ -64,7 +66,8 @@ restarted_copies =
     came 19 1003375000 ∷
     []
 
--- Eight packets of 6 data blocks of AM824, which count their blocks from 0, and are due and stamped as these lists say.
+-- Eight packets of 6 data blocks of AM824. Their blocks are counted from 0. The two lists say when the packets are due,
+-- and which timestamps they have.
 abbrev pub blocks_of_six : ℕ → ℕ → List ℕ → List (Option ℕ) → Journal
 blocks_of_six rate interval dues stamps = record {
   kind = Am824 interval (λ n. n * 6 % 256);
@@ -77,20 +80,21 @@ blocks_of_six rate interval dues stamps = record {
   clock = no_clock;
 }
 
--- At 48 kHz every eighth block is stamped: blocks 0, 2 and 4 of three packets, and no block of the fourth.
+-- At 48 kHz every eighth block has a timestamp: block 0 of packet 0, block 2 of packet 1, block 4 of packet 2, and no
+-- block of packet 3.
 abbrev pub each_eighth : Journal
 each_eighth = blocks_of_six 48000 8
     (1002000000 ∷ 1002124999 ∷ 1002249999 ∷ 1002374999 ∷ 1002500000 ∷ 1002624999 ∷ 1002749999 ∷ 1002874999 ∷ [])
     (Some 1002000000 ∷ Some 1002166666 ∷ Some 1002333333 ∷ None ∷ Some 1002500000 ∷ Some 1002666666 ∷ Some 1002833333 ∷ None ∷ [])
 
--- At 96 kHz every sixteenth block is stamped: block 0 of packet 0, block 4 of packet 2 and block 2 of packet 5.
+-- At 96 kHz every sixteenth block has a timestamp: block 0 of packet 0, block 4 of packet 2 and block 2 of packet 5.
 abbrev pub each_sixteenth : Journal
 each_sixteenth = blocks_of_six 96000 16
     (1002000000 ∷ 1002062500 ∷ 1002124999 ∷ 1002187499 ∷ 1002249999 ∷ 1002312499 ∷ 1002374999 ∷ 1002437499 ∷ [])
     (Some 1002000000 ∷ None ∷ Some 1002166666 ∷ None ∷ None ∷ Some 1002333333 ∷ None ∷ None ∷ [])
 
--- What reaches a listener of `each_sixteenth`: packet 2 is lost, and with it the timestamp that packets 3 and 4 are counted
--- from.
+-- What reaches a listener of `each_sixteenth`. Packet 2 is lost, and with it the timestamp from which packets 3 and 4
+-- are counted.
 abbrev pub sixteenth_copies : List Copy
 sixteenth_copies =
     came 0 1000000000 ∷
@@ -102,8 +106,8 @@ sixteenth_copies =
     came 7 1000437500 ∷
     []
 
--- Sixty-four packets of 6 sample frames at 48 kHz, each of them stamped, with a clock of some base frequency whose two packets
--- have two points each, 96 events or 2 ms apart.
+-- Sixty-four packets of 6 sample frames at 48 kHz, each with a timestamp. The clock has the base frequency `base`. It
+-- has two packets of two points each, and adjacent points are 96 events or 2 ms apart.
 abbrev pub clocked : ℕ → Journal
 clocked base = record {
   kind = DenseAaf;
@@ -130,8 +134,8 @@ video_part (suc zero) = First
 video_part (suc (suc zero)) = Middle
 video_part (suc (suc (suc n))) = Last
 
--- Four packets of H.264: a whole NAL unit, and a unit of three fragments that is stamped on its last one, in two access units a
--- thirtieth of a second apart.
+-- Four packets of H.264: a whole NAL unit, and a unit of three fragments of which the last has a timestamp. The two
+-- units are in access units a thirtieth of a second apart.
 abbrev pub video : Journal
 video = record {
   kind = H264 video_part;
@@ -150,7 +154,7 @@ video = record {
 abbrev pub pulled : ℕ → ClockJournal
 pulled pull = record no_clock { pull = pull }
 
--- a clock of three points at 48 kHz, 96 events apart, of which the last is `late` nanoseconds late
+-- a clock of 48 kHz with three points, 96 events apart; the last point is `late` nanoseconds late
 abbrev pub unsteady : ℕ → ClockJournal
 unsteady late = record {
   base = 48000;
@@ -161,8 +165,8 @@ unsteady late = record {
   mr = λ m. false;
 }
 
--- Three points at 44.1 kHz of which the last is 4,000 ns early, so that both pairs cover some instants, and a packet at one of
--- these instants.
+-- A clock of 44.1 kHz with three points, of which the last is 4,000 ns early. Both pairs of points cover some instants,
+-- and a packet is due at one of these instants.
 abbrev pub overlapped : Journal
 overlapped = record {
   kind = DenseAaf;
@@ -182,7 +186,7 @@ overlapped = record {
   };
 }
 
--- `packets` whole NAL units in one access unit, each of them stamped
+-- `packets` whole NAL units in one access unit, each with a timestamp
 abbrev pub one_access_unit : ℕ → Journal
 one_access_unit packets = record {
   kind = H264 (λ n. Single);

@@ -1,4 +1,4 @@
--- Stamps and clock packets that a listener has from small journals.
+-- Stamps and clock packets of small journals, as a listener has them.
 use Rattle.std.specs.Prelude.{ℕ, ◌+◌, ◌*◌, ◌%◌, false, List, [], ◌∷◌, ◌++◌, replicate}
 use Rattle.clock_track.specs.declared.clock_row.ClockRow.{ClockRow}
 use Rattle.clock_track.specs.Examples.{worked_row}
@@ -7,11 +7,11 @@ use Rattle.time_unfold.specs.declared.stamp.Stamp.{Stamp}
 use Rattle.stream_journal.specs.Examples.{restarted}
 use Rattle.stream_journal.specs.Heads.{stamp_at}
 
--- how far before packet 9 of `restarted` the packet is that it is counted from: one packet of 6 sample frames
+-- the distance from packet 9 of `restarted` back to the packet from which it is counted: one packet of 6 sample frames
 abbrev pub one_back : Distance
 one_back = record { packets = 1; samples = 6 }
 
--- The stamp of packet 8 of `restarted`, followed by that of packet 16 this many times.
+-- The stamp of packet 8 of `restarted`, and then `others` times the stamp of packet 16.
 abbrev pub followed_stamps : ℕ → List Stamp
 followed_stamps others = stamp_at restarted 8 1003000000 ∷ replicate others (stamp_at restarted 16 1005000000)
 

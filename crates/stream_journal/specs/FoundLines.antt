@@ -5,17 +5,17 @@ use Rattle.clock_track.specs.Rows.{window}
 use Rattle.stream_journal.specs.Clocks.{ClockJournal, Follows, InOneRun, Place, point}
 use Rattle.stream_journal.specs.ClockRows.{IsRowOf}
 
--- a copy of the clock's packet m is among the last 64 packets that came and give points
+-- a copy of the clock's packet m is one of the last 64 packets that give points
 pub record IsKept (c : ClockJournal) (shift : ℤ) (rows : List ClockRow) (m : ℕ) : Type 0 where
   pub row : ClockRow
   pub kept : Contains (window rows) row
   pub is : IsRowOf c shift m row
 
--- The timestamp of a point, before a listener adds `shift`, is below 2^62 ns.
+-- The point's timestamp, without the `shift` that a listener adds, is below 2^62 ns.
 abbrev pub IsTaken : ClockJournal → ℤ → Place → Type 0
 IsTaken c shift p = pos (point c p) <ℤ (pos (2 ^ 62) +ℤ shift)
 
--- Two adjacent points of one run are at hand: copies of their packets are among the last 64 that came.
+-- Two adjacent points of one run are at hand: copies of their packets are among the last 64 packets that give points.
 pub record ArePointsAtHand (c : ClockJournal) (shift : ℤ) (rows : List ClockRow) (p q : Place) : Type 0 where
   pub follows : Follows c p q
   pub one_run : InOneRun c p q

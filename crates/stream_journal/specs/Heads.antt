@@ -1,4 +1,4 @@
--- The stamps that a listener notes for copies, and the stamp that it looks for among them.
+-- The stamps that a listener notes for copies, and the stamp that it searches for.
 use Rattle.std.specs.Prelude.{◌≡◌, ◌≢◌, ℕ, ◌+◌, ◌-◌, ◌*◌, ◌/◌, ◌%◌, ◌<◌, ◌≤◌, ◌⊎◌, pos, Some, None}
 use Rattle.time_unfold.specs.declared.head_rule.Distance.{Distance}
 use Rattle.time_unfold.specs.declared.stamp.Stamp.{Stamp}
@@ -7,7 +7,7 @@ use Rattle.time_unfold.specs.Heads.{counted_block, distance, stamped_block}
 use Rattle.stream_journal.specs.Journal.{Journal, head_of, rule_of}
 use Rattle.stream_journal.specs.Delivered.{Copy, IsDelivered}
 
--- the stamp that a listener notes for a copy of packet k, which is stamped with an instant
+-- the stamp that a listener notes for a copy of packet k, whose timestamp is this instant
 abbrev pub stamp_at : Journal → ℕ → ℕ → Stamp
 stamp_at j k instant = record {
   seq = k % 256;
@@ -17,7 +17,7 @@ stamp_at j k instant = record {
   instant = pos instant;
 }
 
--- the stamp is what a listener notes for a copy of packet k, which the journal stamps
+-- the stamp is what a listener notes for a copy of packet k, which has a timestamp in the journal
 pub record IsStampOf (j : Journal) (k : ℕ) (stamp : Stamp) : Type 0 where
   pub known : k < j.packets
   pub instant : ℕ
@@ -29,7 +29,7 @@ pub record IsTrue (j : Journal) (stamp : Stamp) : Type 0 where
   pub number : ℕ
   pub is : IsStampOf j number stamp
 
--- what a listener looks for, to count a copy of a packet without a timestamp from a stamp `far` back
+-- what a listener searches for, to count a copy of a packet without a timestamp from a stamp at the distance `far`
 abbrev pub wanted : Journal → ℕ → Copy → Distance → Want
 wanted j lead c far = record {
   seq = (c.number % 256 + 256 - far.packets) % 256;
@@ -42,14 +42,14 @@ wanted j lead c far = record {
   count = j.count;
 }
 
--- A copy of a packet without a timestamp reached a listener that expects packets `lead` nanoseconds before their first instant,
--- and the packet is counted from a stamp `far` back.
+-- A copy of a packet without a timestamp reached a listener, which expects packets `lead` nanoseconds before their
+-- first instant. The packet is counted from a stamp at the distance `far`.
 pub record IsUnstamped (j : Journal) (lead : ℕ) (c : Copy) (far : Distance) : Type 0 where
   pub came : IsDelivered j lead c
   pub none : j.stamp c.number ≡ None
   pub back : distance (rule_of j.kind c.number) c.number j.count ≡ Some far
 
--- packet k has the sequence number of the packet that packet n is counted from, but is another packet
+-- packet k is not the packet from which packet n is counted, but has the same sequence number
 pub record IsOther (n k : ℕ) (far : Distance) : Type 0 where
   pub same : (k + far.packets) % 256 ≡ n % 256
   pub other : k + far.packets ≢ n
@@ -60,18 +60,18 @@ pub record IsHeadOf (j : Journal) (n : ℕ) (far : Distance) (stamp : Stamp) : T
   pub is : IsStampOf j (n - far.packets) stamp
   pub one_run : j.mr (n - far.packets) ≡ j.mr n
 
--- the instant `samples` samples after another one, at the stream's rate
+-- the instant of the sample that is `samples` samples after the sample at `instant`, at the stream's rate
 abbrev pub behind : Journal → ℕ → ℕ → ℕ
 behind j instant samples = instant + samples * 1000000000 / j.rate
 
--- more than `times` packets' time pass from one instant to another
+-- the instant `to` is more than the time of `times` packets after the instant `from`
 abbrev pub IsFarther : Journal → ℕ → ℕ → ℕ → Type 0
 IsFarther j times from to = from * j.rate + times * (j.count * 1000000000) < to * j.rate
 
--- two instants are more than `times` packets' time apart
+-- the two instants are more than the time of `times` packets apart
 abbrev pub AreApart : Journal → ℕ → ℕ → ℕ → Type 0
 AreApart j times x y = IsFarther j times x y ⊎ IsFarther j times y x
 
--- Packet n is counted from this stamp: its first sample is `far.samples` samples after the stamped one.
+-- Packet n is counted from this stamp: its first sample is `far.samples` samples after the stamp's instant.
 abbrev pub IsCountedFrom : Journal → ℕ → Distance → Stamp → Type 0
 IsCountedFrom j n far stamp = head_of j n ≡ Some (record { instant = stamp.instant; first = pos far.samples })

@@ -1,5 +1,5 @@
--- The journal of a talker: what it sent, as far as time is concerned. Packets are counted from 0, not modulo 256, and instants
--- are whole nanoseconds of gPTP, not modulo 2^32.
+-- The journal of a talker: when each packet is due, and the timestamps that it sent. Packets are counted from 0, not
+-- modulo 256. Instants are whole nanoseconds of gPTP, not modulo 2^32.
 use Rattle.std.specs.Prelude.{◌≡◌, ℕ, ◌-◌, nat_le, if◌then◌else◌, Bool, true, false, ℤ, pos, neg_ℤ, ◌+ℤ◌, Option, Some, None, option_map, option_and_then}
 use Rattle.std.specs.Option.{option_or}
 use Rattle.time_unfold.specs.declared.head_rule.Distance.{Distance}
@@ -20,7 +20,7 @@ pub data Part : Type 0 where
   Middle : Part
   Last : Part
 
--- The kind of a stream's packets, with the facts about each packet that only this kind has.
+-- The kind of a stream's packets, with the facts that only packets of this kind have.
 pub data Kind : Type 0 where
   DenseAaf : Kind
   SparseAaf : Kind
@@ -29,23 +29,23 @@ pub data Kind : Type 0 where
   -- H.264, with the part of a unit that each packet carries
   H264 : (ℕ → Part) → Kind
 
--- A talker's stream. An audio stream has one nominal rate in Hz and one count of sample frames or data blocks in each
--- packet; for H.264 they have no meaning.
+-- A talker's stream. An audio stream has one nominal rate in Hz, and one count of sample frames or data blocks in each
+-- packet. Rate and count have no meaning for H.264.
 pub record Journal : Type 0 where
   pub kind : Kind
   pub rate : ℕ
   pub count : ℕ
   -- the number of packets
   pub packets : ℕ
-  -- the instant of each packet's first sample or of its access unit
+  -- the instant of each packet's first sample, or of its access unit
   pub due : ℕ → ℕ
-  -- the instant of the stamped sample or access unit, in the packets that have a timestamp
+  -- the instant in a packet's timestamp, if it has one
   pub stamp : ℕ → Option ℕ
   -- the media clock restart bit of each packet
   pub mr : ℕ → Bool
   pub clock : ClockJournal
 
--- how packet n is stamped; a packet of H.264 has its own timestamp or none
+-- The rule that says how packet n gets its instants from timestamps. A packet of H.264 has its own timestamp or none.
 abbrev pub rule_of : Kind → ℕ → HeadRule
 rule_of DenseAaf n = Own
 rule_of SparseAaf n = Eight
@@ -54,13 +54,13 @@ rule_of (H264 part) n = Own
 
 -- ---- the instants of a packet's samples
 
--- the head of packet n by its own timestamp, if it has one
+-- the head of packet n according to its own timestamp, if it has one
 abbrev pub own_head : Journal → ℕ → Option Head
 own_head j n =
     option_map (λ instant. record { instant = pos instant; first = neg_ℤ (pos (stamped_index (rule_of j.kind n))) }) (j.stamp n)
 
--- the head of packet n by the timestamp of the packet `far.packets` before it, if that is stamped and both have the
--- same `mr`
+-- the head of packet n according to the timestamp of the packet `far.packets` before it, if that packet has a timestamp
+-- and both have the same `mr`
 abbrev pub head_from : Journal → ℕ → Distance → Option Head
 head_from j n far =
     if nat_le far.packets n then
@@ -68,7 +68,8 @@ head_from j n far =
     option_map (λ instant. record { instant = pos instant; first = pos far.samples }) (j.stamp (n - far.packets))
     else None else None
 
--- The head of packet n: by its own timestamp, or else by that of the packet that it is counted from, if there is one.
+-- The head of packet n: according to its own timestamp, or else to that of the packet from which it is counted. `None`
+-- if neither has a timestamp.
 abbrev pub head_of : Journal → ℕ → Option Head
 head_of j n = option_or (own_head j n) (option_and_then (head_from j n) (distance (rule_of j.kind n) n j.count))
 
@@ -76,19 +77,20 @@ head_of j n = option_or (own_head j n) (option_and_then (head_from j n) (distanc
 abbrev pub nominal_instant : Journal → Head → ℕ → ℤ
 nominal_instant j head k = instant_at (nominal_line head.instant j.rate) (head.first +ℤ pos k)
 
--- the instant of sample k of a packet with this head, by a pair of the clock's points
+-- the instant of sample k of a packet with this head, according to a pair of the clock's points
 abbrev pub instant_by : Pair → Journal → Head → ℕ → ℤ
 instant_by pair j head k =
     let spot = spot_by pair j.rate head.instant in
     instant_at spot.line ((spot.from +ℤ head.first) +ℤ pos k)
 
--- Without a clock, sample k of packet n is at this instant: counted from the packet's head at the nominal rate.
+-- Without a clock, sample k of packet n is at this instant, counted from the packet's head at the nominal rate.
 pub record IsAtNominal (j : Journal) (n k : ℕ) (instant : ℤ) : Type 0 where
   pub head : Head
   pub is_head : head_of j n ≡ Some head
   pub at : instant ≡ nominal_instant j head k
 
--- With the clock, sample k of packet n is at this instant: by a joined pair that covers the packet's head.
+-- With the clock, sample k of packet n is at this instant, according to a joined pair that covers the instant of the
+-- packet's head.
 pub record IsAtByClock (j : Journal) (n k : ℕ) (instant : ℤ) : Type 0 where
   pub head : Head
   pub is_head : head_of j n ≡ Some head
@@ -98,8 +100,8 @@ pub record IsAtByClock (j : Journal) (n k : ℕ) (instant : ℤ) : Type 0 where
   pub covers : Covers (pair_at j.clock earlier later) j.rate head.instant
   pub at : instant ≡ instant_by (pair_at j.clock earlier later) j head k
 
--- Sample k of packet n is at this instant, in a stream of this kind, by the clock or at the nominal rate. A unit of H.264 has
--- one sample, at the instant at which its packets are due.
+-- Sample k of packet n is at this instant in a stream of this kind, with the clock or at the nominal rate. A NAL unit
+-- of H.264 has one sample, at the instant at which its packets are due.
 abbrev pub IsAtBy : Kind → Bool → Journal → ℕ → ℕ → ℤ → Type 0
 IsAtBy DenseAaf true j n k instant = IsAtByClock j n k instant
 IsAtBy DenseAaf false j n k instant = IsAtNominal j n k instant
@@ -109,7 +111,7 @@ IsAtBy (Am824 interval dbc) true j n k instant = IsAtByClock j n k instant
 IsAtBy (Am824 interval dbc) false j n k instant = IsAtNominal j n k instant
 IsAtBy (H264 part) by_clock j n k instant = (k ≡ 0) × (instant ≡ pos (j.due n))
 
--- Sample k of packet n is at this instant, for listeners with the clock or without. A packet of audio without a head has no
--- instants; with the clock, a packet whose head no joined pair covers has none either.
+-- Sample k of packet n is at this instant, for listeners with the clock or without. An audio packet without a head has
+-- no instants. With the clock, a packet also has no instants if no joined pair covers its head.
 abbrev pub IsAt : Bool → Journal → ℕ → ℕ → ℤ → Type 0
 IsAt by_clock j n k instant = IsAtBy j.kind by_clock j n k instant

@@ -1,4 +1,4 @@
--- When a listener knows where a packet's samples are, in terms of the journal: by which packets came.
+-- When a listener knows the instants of a packet's samples, from the journal and the packets that arrived.
 use Rattle.std.specs.Prelude.{◌≡◌, ◌⊎◌, ℕ, ◌+◌, ℤ, Bool, true, List, Contains, None, Some, is_some, option_map}
 use Rattle.std.specs.List.{filter_map}
 use Rattle.time_unfold.specs.declared.head_rule.Distance.{Distance}
@@ -14,13 +14,13 @@ use Rattle.stream_journal.specs.FoundLines.{IsTaken}
 use Rattle.stream_journal.specs.Heads.{stamp_at}
 use Rattle.stream_journal.specs.Journal.{Journal, head_of, rule_of}
 
--- the stamps of the packets that came, in the order in which they came; a packet without a timestamp has none
+-- the stamps of the packets that arrived, in the order of their arrival; a packet without a timestamp has no stamp
 abbrev pub stamps_in : Journal → List ℕ → List Stamp
 stamps_in j came = filter_map (λ n. option_map (stamp_at j n) (j.stamp n)) came
 
--- A copy of a packet without a timestamp can be counted if: the packet that it is counted from came with a timestamp, which is
--- among the last `room` that came; there is no restart between the two; and the copy is expected at most 60 packets' time from
--- its first instant.
+-- A copy of a packet without a timestamp can be counted. The packet from which it is counted has a timestamp among the
+-- last `room` that arrived. There is no restart between the two packets. The copy is expected at most the time of 60
+-- packets before or after its first instant.
 pub record IsCounted (j : Journal) (lead room : ℕ) (c : Copy) (came : List ℕ) : Type 0 where
   pub none : j.stamp c.number ≡ None
   pub far : Distance
@@ -29,12 +29,12 @@ pub record IsCounted (j : Journal) (lead room : ℕ) (c : Copy) (came : List ℕ
   pub at_hand : IsAtHand j room c.number far (stamps_in j came) stamp
   pub expected : IsExpected j lead c
 
--- A copy of a packet has a timestamp, or can be counted from that of a packet before it.
+-- A copy of a packet has a timestamp, or can be counted from the timestamp of an earlier packet.
 abbrev pub IsTimed : Journal → ℕ → ℕ → Copy → List ℕ → Type 0
 IsTimed j lead room c came = (is_some (j.stamp c.number) ≡ true) ⊎ IsCounted j lead room c came
 
--- Two adjacent points of one run of the clock cover an instant, and copies of their packets are among the last 64 of the
--- clock that came. The listener adds `shift` to the clock's timestamps.
+-- Two adjacent points of one run of the clock cover the instant. Copies of their packets are among the last 64 clock
+-- packets that arrived. The listener adds `shift` to the clock's timestamps.
 pub record IsCoveredBy (c : ClockJournal) (shift : ℤ) (rate : ℕ) (came : List ℕ) (instant : ℤ) : Type 0 where
   pub earlier : Place
   pub later : Place
@@ -46,9 +46,9 @@ pub record IsCoveredBy (c : ClockJournal) (shift : ℤ) (rate : ℕ) (came : Lis
   pub later_came : Contains (last_of 64 came) later.packet
   pub covers : Covers (pair_at c earlier later) rate instant
 
--- A listener to which these packets of the stream and of the clock came knows where the samples of a copy of an audio packet are.
--- The packet has a timestamp, or the packet that it is counted from is among the last 16 + `look` that came; and if the listener
--- has the clock, two of its points cover that timestamp.
+-- A listener knows the instants of the samples of `c`, a copy of an audio packet, after these packets of the stream and
+-- of the clock. The packet has a timestamp, or is counted from one of the last 16 + `look` that arrived. If the
+-- listener has the clock, two of the clock's points cover that timestamp.
 pub record IsKnown (by_clock : Bool) (j : Journal) (shift : ℤ) (lead look : ℕ) (c : Copy) (came clock_came : List ℕ) : Type 0 where
   pub timed : IsTimed j lead (look + 16) c came
   pub covered : by_clock ≡ true → (head : Head) → head_of j c.number ≡ Some head → IsCoveredBy j.clock shift j.rate clock_came head.instant

@@ -1,4 +1,4 @@
--- Further rules that a regular talker keeps, as `avtp talk` does. Nothing that is promised of listeners rests on them. They are
+-- Further rules that a regular talker keeps, as `avtp talk` does. No promise about listeners rests on them. A rule is
 -- this project's own if no standard is named.
 use Rattle.std.specs.Prelude.{◌≡◌, ℕ, ◌+◌, ◌*◌, ◌^◌, ◌<◌, ◌≤◌, Some}
 use Rattle.clock_track.specs.declared.pair.Pair.{Pair}
@@ -7,7 +7,7 @@ use Rattle.stream_journal.specs.Clocks.{ClockJournal, Follows, InOneRun, IsPlace
 use Rattle.stream_journal.specs.Conforming.{HoldsEight}
 use Rattle.stream_journal.specs.Journal.{Journal}
 
--- all instants lie between 0 and 2^62
+-- all instants are from 0 to 2^62
 pub record AreInstants (j : Journal) : Type 0 where
   pub due : (n : ℕ) → n < j.packets → j.due n ≤ 2 ^ 62
   pub stamp : (n instant : ℕ) → n < j.packets → j.stamp n ≡ Some instant → instant ≤ 2 ^ 62
@@ -17,22 +17,24 @@ pub record IsSteady (first second : Pair) : Type 0 where
   pub longer : 4 * (period second * second.up) ≤ 4 * (period first * first.up) + 1000000000 * first.down
   pub shorter : 4 * (period first * first.up) ≤ 4 * (period second * second.up) + 1000000000 * first.down
 
--- a clock with a code of pull of the standard's (IEEE 1722-2016, 10), even periods, and runs that do not overlap
+-- A clock with a code of pull of the standard (IEEE 1722-2016, 10), with even periods, and with runs that do not
+-- overlap.
 pub record IsRegularClock (c : ClockJournal) : Type 0 where
   pub base : 1 ≤ c.base
   pub pull : c.pull ≤ 5
   pub instants : (p : Place) → IsPlace c p → point c p ≤ 2 ^ 62
-  -- adjacent periods of a run differ little
+  -- adjacent periods of a run differ little, as `IsSteady` says
   pub steady : (p q r : Place) → Follows c p q → Follows c q r → InOneRun c p q → InOneRun c q r
       → IsSteady (pair_at c p q) (pair_at c q r)
-  -- the first point of a new run is at least the last period after the last point of the run before
+  -- the first point of a new run is at least one period after the last point of the run before it; the period is the
+  -- last one of that run
   pub renewed : (p q r : Place) → Follows c p q → Follows c q r → InOneRun c p q → ¬ InOneRun c q r
       → point c q + period (pair_at c p q) ≤ point c r
   pub holds : HoldsEight c.packets c.mr
 
--- the journal keeps these rules, too
+-- the journal keeps the further rules, too
 pub record IsRegular (j : Journal) : Type 0 where
   pub instants : AreInstants j
-  -- packets that are due at the same instant, as those of an access unit of H.264, are adjacent
+  -- packets that are due at the same instant are adjacent, for example those of an access unit of H.264
   pub together : (n k m : ℕ) → n ≤ k → k ≤ m → m < j.packets → j.due n ≡ j.due m → j.due k ≡ j.due n
   pub clock : IsRegularClock j.clock

@@ -17,20 +17,20 @@ ghost use Rattle.stream_journal.specs.Known.{IsKnown};
 ghost use Rattle.stream_journal.specs.Heads.{IsTrue, IsUnstamped, stamp_at, wanted};
 ghost use Rattle.stream_journal.specs.Journal.{IsAt, head_of};
 
-/// Three packets of 6 samples at 48 kHz take 125,000 ns each. They keep the rules exactly if they are due at least 3/4 of that
-/// apart.
+/// Three packets of 6 samples at 48 kHz take 125,000 ns each. They keep the rules exactly if adjacent packets are due
+/// at least 3/4 of 125,000 ns apart.
 pub fn three_packets_conform()
     ensures { (spacing : ℕ) → Conforms (three_packets spacing) ↔ 93750 ≤ spacing }
 {}
 
-/// Copies of the packets of `restarted`, of which one was lost, one came again and two changed places, are delivered to a
-/// listener that expects packets 2 ms before their first instant.
+/// Of the packets of `restarted`, one was lost, one arrived twice, and two changed places. The copies are delivered to
+/// a listener that expects packets 2 ms before their first instant.
 pub fn restarted_copies_are_delivered()
     ensures { AreDelivered restarted 2000000 restarted_copies }
 {}
 
-/// A sparse talker that restarts at packet 10 keeps the rules. Its packet 9 is counted from packet 8; packets 10 to 15 have no
-/// head, because the restart is between them and packet 8; packet 17 is counted from packet 16.
+/// A sparse talker that restarts at packet 10 keeps the rules. Packet 9 is counted from packet 8, and packet 17 from
+/// packet 16. Packets 10 to 15 have no head, because the restart is between them and packet 8.
 pub fn restarted_talker_conforms()
     ensures conforms { Conforms restarted }
     ensures before { head_of restarted 9 ≡ Some (record { instant = pos 1003000000; first = pos 6 }) }
@@ -38,8 +38,9 @@ pub fn restarted_talker_conforms()
     ensures behind { head_of restarted 17 ≡ Some (record { instant = pos 1005000000; first = pos 6 }) }
 {}
 
-/// Talkers of AM824 with 6 blocks in a packet keep the rules. At 48 kHz packet 2 is counted from its block 4, and packet 3,
-/// which stamps none, from that block too: 2 blocks back. At 96 kHz packet 4 is counted from a block two packets back.
+/// Talkers of AM824 with 6 blocks in a packet keep the rules. At 48 kHz packet 2 is counted from its own block 4.
+/// Packet 3 has no timestamp, and is counted from that block, too, 2 blocks back. At 96 kHz packet 4 is counted from a
+/// block two packets back.
 pub fn block_talkers_conform()
     ensures eighth { Conforms each_eighth }
     ensures sixteenth { Conforms each_sixteenth }
@@ -48,8 +49,9 @@ pub fn block_talkers_conform()
     ensures two_before { head_of each_sixteenth 4 ≡ Some (record { instant = pos 1002166666; first = pos 8 }) }
 {}
 
-/// Copies of the packets of `each_sixteenth`, of which packet 2 was lost, are delivered to a listener that expects packets 2 ms
-/// before their first instant. For packet 4 it finds the stamp of packet 2 if it has that, else none.
+/// Of the packets of `each_sixteenth`, packet 2 was lost. The copies are delivered to a listener that expects packets 2
+/// ms before their first instant. For packet 4 the listener finds the stamp of packet 2 if it has this stamp, and
+/// otherwise none.
 pub fn block_copies_are_delivered()
     ensures delivered { AreDelivered each_sixteenth 2000000 sixteenth_copies }
     ensures known { found 16 (wanted each_sixteenth 2000000 (came 4 1000250000) (record { packets = 2; samples = 8 })) (stamp_at each_sixteenth 0 1002000000 ∷ stamp_at each_sixteenth 2 1002166666 ∷ [])
@@ -57,14 +59,15 @@ pub fn block_copies_are_delivered()
     ensures lost { found 16 (wanted each_sixteenth 2000000 (came 4 1000250000) (record { packets = 2; samples = 8 })) (stamp_at each_sixteenth 0 1002000000 ∷ stamp_at each_sixteenth 5 1002333333 ∷ []) ≡ None }
 {}
 
-/// A talker that sends a clock with a stream of 48 kHz, with 96 events in 2 ms, keeps the rules exactly if these 2 ms are
-/// within 1/8 of the nominal time of 96 events.
+/// A talker sends a stream of 48 kHz and a clock whose timestamps are 96 events and 2 ms apart. It keeps the rules
+/// exactly if 2 ms are within 1/8 of the nominal time of 96 events.
 pub fn clocked_talkers_conform()
     ensures { (base : ℕ) → Conforms (clocked base) ↔ (42000 ≤ base) × (base ≤ 54000) }
 {}
 
-/// If the second and third points cover a packet's timestamp, they time its samples: with a clock of the stream's own rate, on
-/// the line of the clock's events; with one of 44.1 kHz, in its spacing, from the timestamp on.
+/// If the second and third points cover a packet's timestamp, they time the packet's samples. With a clock of the
+/// stream's rate, samples are on the line of the clock's events. With a clock of 44.1 kHz, samples are counted from the
+/// timestamp in the clock's spacing.
 pub fn samples_are_clocked()
     ensures own { IsAt true (clocked 48000) 33 1 (pos 1006145833) }
     ensures other { IsAt true (clocked 44100) 33 1 (pos 1006144140) }
@@ -72,9 +75,9 @@ pub fn samples_are_clocked()
     ensures next { IsAt true (clocked 44100) 17 5 (pos 1004220703) }
 {}
 
-/// The rules at their limits: codes of pull are 0 to 5; adjacent periods differ by at most a quarter of the 20,833 ns between
-/// two events of 48 kHz; a stream that agrees with its clock has no timestamp that two joined pairs cover; an access unit has
-/// at most 255 packets.
+/// The rules at their limits. Codes of pull are 0 to 5. Adjacent periods differ by at most a quarter of the 20,833 ns
+/// between two events of 48 kHz. If a stream agrees with its clock, no two joined pairs cover one of its timestamps. An
+/// access unit has at most 255 packets.
 pub fn rules_have_limits()
     ensures pull { (pull : ℕ) → IsRegularClock (pulled pull) ↔ pull ≤ 5 }
     ensures steady { (late : ℕ) → IsRegularClock (unsteady late) ↔ late ≤ 5208 }
@@ -82,13 +85,13 @@ pub fn rules_have_limits()
     ensures few { (packets : ℕ) → Conforms (one_access_unit packets) ↔ packets ≤ 255 }
 {}
 
-/// A talker of H.264 that stamps the last fragment of each unit keeps the rules.
+/// A talker of H.264 keeps the rules if the last fragment of each unit has a timestamp.
 pub fn video_talker_conforms()
     ensures { Conforms video }
 {}
 
-/// Packet 9 of the sparse talker has no timestamp, and is counted from packet 8. A listener finds the stamp of packet 8 while
-/// it is among the last 16: if at most 15 others came after it.
+/// Packet 9 of the sparse talker has no timestamp, and is counted from packet 8. A listener finds the stamp of packet 8
+/// while it is among the last 16, that is, if at most 15 others arrived after it.
 pub fn heads_are_at_hand()
     ensures unstamped { IsUnstamped restarted 2000000 (came 9 1001125000) one_back }
     ensures expected { IsExpected restarted 2000000 (came 9 1001125000) }
@@ -98,7 +101,8 @@ pub fn heads_are_at_hand()
     ensures dropped { found 16 (wanted restarted 2000000 (came 9 1001125000) one_back) (followed_stamps 16) ≡ None }
 {}
 
-/// A listener that has both packets of the clock of a talker at 48 kHz has the points that cover packet 33.
+/// A talker sends a clock with a stream of 48 kHz. A listener that has both packets of the clock has the points that
+/// cover packet 33.
 pub fn points_are_at_hand()
     ensures all_true { All (IsTrueRow (clocked 48000).clock (pos 0)) two_rows }
     ensures at_hand { ArePointsAtHand (clocked 48000).clock (pos 0) two_rows (record { packet = 0; at = 1 }) (record { packet = 1; at = 0 }) }
@@ -106,8 +110,9 @@ pub fn points_are_at_hand()
     ensures found { clock_spot two_rows (pos 0) (pos 1006125000) 48000 ≡ Some (record { line = record { base = pos 1006000000; num = 2000000; den = 96 }; from = pos 6 }) }
 {}
 
-/// By the packets that came: packet 9 of the sparse talker can be timed while packet 8 is among the last 16 that came with a
-/// timestamp, and packet 33 of the talker with a clock while both packets of the clock are among its last 64.
+/// What is known from the packets that arrived. Packet 9 of the sparse talker is known while packet 8 is among the last
+/// 16 packets with a timestamp. Packet 33 of the talker with a clock is known while both clock packets are among the
+/// last 64.
 pub fn packets_are_known()
     ensures counted { IsKnown false restarted (pos 0) 2000000 0 (came 9 1001125000) (8 ∷ replicate 15 16) [] }
     ensures covered { IsKnown true (clocked 48000) (pos 0) 2000000 0 (came 33 1004125000) [] (0 ∷ replicate 63 1) }

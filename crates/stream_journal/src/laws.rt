@@ -21,55 +21,56 @@ ghost use Rattle.stream_journal.specs.Found.{IsAtHand, IsExpected};
 ghost use Rattle.stream_journal.specs.FoundLines.{ArePointsAtHand};
 ghost use Rattle.stream_journal.specs.Heads.{AreApart, IsCountedFrom, IsHeadOf, IsOther, IsStampOf, IsTrue, IsUnstamped, behind, wanted};
 
-/// The timestamp of a copy means the instant that the talker stamped.
+/// The timestamp of a copy, modulo 2^32, is unfolded to the instant that the talker sent.
 pub fn timestamps_are_true()
     ensures { (j : Journal) (lead : ℕ) (c : Copy) (instant : ℕ) → IsDelivered j lead c → j.stamp c.number ≡ Some instant → unfolded (instant % 2 ^ 32) (pos c.arrival) ≡ pos instant }
 {}
 
-/// Packets that are n numbers apart are due at least 3/4 of n packets' time apart, so they are due in the order of their
-/// numbers.
+/// Packets that are m numbers apart are due at least 3/4 of the time of m packets apart. Packets are due in the order
+/// of their numbers.
 pub fn packets_are_spaced()
     ensures rising { (j : Journal) (n m : ℕ) → IsAudio j → n < m → m < j.packets → j.due n < j.due m }
     ensures apart { (j : Journal) (n m : ℕ) → IsAudio j → n + m < j.packets → IsApart j (3 * m) (j.due n) (j.due (n + m)) }
 {}
 
-/// A stamped packet that has the sequence number of the packet that packet n is counted from, but is another, is at least 256
-/// numbers from it. An instant counted from it is more than 189 packets' time from the instant at which packet n is due.
+/// Packet k is not the packet from which packet n is counted, but has the same sequence number. The two are at least
+/// 256 numbers apart. An instant that is counted from the timestamp of packet k is more than the time of 189 packets
+/// from the instant at which packet n is due.
 pub fn other_stamps_are_far()
     ensures numbers { (n k : ℕ) (far : Distance) → IsOther n k far → (k + far.packets + 256 ≤ n) ⊎ (n + 256 ≤ k + far.packets) }
     ensures instants { (j : Journal) (n k instant : ℕ) (far : Distance) → IsAudio j → n < j.packets → k < j.packets → j.stamp k ≡ Some instant → distance (rule_of j.kind n) n j.count ≡ Some far → IsOther n k far → AreApart j 189 (j.due n) (behind j instant far.samples) }
 {}
 
-/// A listener that has a copy of a packet without a timestamp refuses every stamp that has the right sequence number but is of
-/// the wrong packet: the copy comes too far from the instant that would be counted from it.
+/// A listener has a copy of a packet without a timestamp. It refuses each stamp of another packet that has the right
+/// sequence number. The copy arrives too far from the instant that would be counted from such a stamp.
 pub fn other_stamps_are_refused()
     ensures candidate { (j : Journal) (lead : ℕ) (c : Copy) (far : Distance) (k : ℕ) (stamp : Stamp) (is : IsStampOf j k stamp) → candidate (wanted j lead c far) stamp ≡ pos (behind j is.instant far.samples) }
     ensures refused { (j : Journal) (lead : ℕ) (c : Copy) (far : Distance) (k : ℕ) (stamp : Stamp) → IsAudio j → IsUnstamped j lead c far → IsStampOf j k stamp → IsOther c.number k far → is_near (wanted j lead c far) stamp ≡ false }
 {}
 
-/// For a copy of a packet without a timestamp, a listener finds no other stamp than that of the packet that the copy is counted
-/// from, with no restart between the two, whatever stamps of the talker the listener has. So it finds the head that the packet
-/// has in the journal, and nothing for a packet that has none there.
+/// For a copy of a packet without a timestamp, a listener finds at most the stamp of the packet from which the copy is
+/// counted. This holds whatever stamps of the talker the listener has. It finds none if there is a restart between the
+/// two packets. So it finds the head that the packet has in the journal, or none if the packet has none there.
 pub fn heads_are_true()
     ensures stamp { (j : Journal) (lead room : ℕ) (c : Copy) (far : Distance) (stamps : List Stamp) → IsAudio j → IsUnstamped j lead c far → All (IsTrue j) stamps → IfSome (found room (wanted j lead c far) stamps) (IsHeadOf j c.number far) }
     ensures head { (j : Journal) (lead room : ℕ) (c : Copy) (far : Distance) (stamps : List Stamp) → IsAudio j → IsUnstamped j lead c far → All (IsTrue j) stamps → IfSome (found room (wanted j lead c far) stamps) (IsCountedFrom j c.number far) }
     ensures none { (j : Journal) (lead room : ℕ) (c : Copy) (far : Distance) (stamps : List Stamp) → IsAudio j → IsUnstamped j lead c far → All (IsTrue j) stamps → head_of j c.number ≡ None → found room (wanted j lead c far) stamps ≡ None }
 {}
 
-/// A sample of a conforming talker has at most one instant, with the clock and without.
+/// A sample of a conforming talker has at most one instant with the clock, and at most one without it.
 pub fn samples_have_one_instant()
     ensures { (j : Journal) (by_clock : Bool) (n k : ℕ) (x y : ℤ) → Conforms j → n < j.packets → IsAt by_clock j n k x → IsAt by_clock j n k y → x ≡ y }
 {}
 
-/// A pair of points that a listener joins over copies of the clock's packets is a joined pair of the whole list of points.
-/// Sequence numbers alone do not distinguish packets that are 256 apart; the time between their points does.
+/// If a listener joins two points from copies of the clock's packets, they are a joined pair of the list of all points.
+/// Packets that are 256 apart have the same sequence number, but their points are too far apart in time.
 pub fn joined_pairs_are_true()
     ensures { (c : ClockJournal) (p q : Place) → IsClock c → SeemsJoined c p q → IsJoinedAt c p q }
 {}
 
-/// Whatever copies of a clock's packets a listener has, each pair that it joins is a joined pair of the list of all points, and
-/// each line that it finds is that of such a pair which covers the instant. If the stream agrees with the clock, a packet's
-/// head has at most one such line, and the samples on it are at the journal's instants.
+/// A listener has any copies of a clock's packets. Each pair that it joins is a joined pair of the list of all points.
+/// Each line that it finds is that of a joined pair that covers the instant. If the stream agrees with the clock, a
+/// packet's head has at most one such line, and the samples on it are at the journal's instants.
 pub fn clock_lines_are_true()
     ensures pairs { (c : ClockJournal) (shift : ℤ) (rows : List ClockRow) → IsClock c → All (IsTrueRow c shift) rows → All (IsTruePair c) (joined_pairs shift (window rows)) }
     ensures spot { (j : Journal) (shift instant : ℤ) (rows : List ClockRow) → IsClock j.clock → All (IsTrueRow j.clock shift) rows → IfSome (clock_spot rows shift instant j.rate) (IsSpotAt j instant) }
@@ -77,28 +78,28 @@ pub fn clock_lines_are_true()
     ensures sample { (j : Journal) (n k : ℕ) (head : Head) (spot : Spot) → head_of j n ≡ Some head → IsSpotAt j head.instant spot → IsAtByClock j n k (instant_at spot.line ((spot.from +ℤ head.first) +ℤ pos k)) }
 {}
 
-/// With the clock, audio packets whose sequence numbers and first instants are equal are the same packet: 256 packets take far
-/// longer than the clock can add to the time at which a packet is due.
+/// With the clock, audio packets with equal sequence numbers and equal first instants are the same packet. The time of
+/// 256 packets is far longer than what the clock can add to the instant at which a packet is due.
 pub fn packets_by_clock_are_told_apart()
     ensures { (j : Journal) (n m : ℕ) (x : ℤ) → Conforms j → IsAudioKind j.kind → n < j.packets → m < j.packets → n % 256 ≡ m % 256 → IsAt true j n 0 x → IsAt true j m 0 x → n ≡ m }
 {}
 
-/// Audio packets whose sequence numbers are equal and whose first instants, by the clock or without, are at most 72 packets' time
-/// apart are the same packet: other packets are 256 numbers and so 192 packets' time apart, and the clock adds less than 18
-/// packets' time to the time at which a packet is due.
+/// Audio packets are the same packet if their sequence numbers are equal and their first instants are at most the time
+/// of 72 packets apart. This holds with the clock and without. Different packets with equal sequence numbers are due at
+/// least the time of 192 packets apart. The clock moves a first instant by less than the time of 18 packets.
 pub fn near_packets_are_one()
     ensures { (j : Journal) (by_clock : Bool) (n m : ℕ) (x y : ℤ) → Conforms j → IsAudioKind j.kind → n < j.packets → m < j.packets → n % 256 ≡ m % 256 → IsAt by_clock j n 0 x → IsAt by_clock j m 0 y → IsNear j 72 x y → n ≡ m }
 {}
 
-/// For a copy of a packet without a timestamp, a listener finds a stamp exactly if the stamp of the packet that it is counted
-/// from is among the last `room` stamps that came, there is no restart between the two, and the copy is expected at most 60
-/// packets' time from the packet's first instant.
+/// For a copy of a packet without a timestamp, a listener finds a stamp under exactly three conditions. The stamp is
+/// that of the packet from which the copy is counted, and is among the last `room` stamps. There is no restart between
+/// the two packets. The copy is expected at most the time of 60 packets before or after the packet's first instant.
 pub fn heads_are_found()
     ensures { (j : Journal) (lead room : ℕ) (c : Copy) (far : Distance) (stamps : List Stamp) (stamp : Stamp) → IsAudio j → HoldsEight j.packets j.mr → IsUnstamped j lead c far → All (IsTrue j) stamps → (found room (wanted j lead c far) stamps ≡ Some stamp) ↔ (IsExpected j lead c × IsAtHand j room c.number far stamps stamp) }
 {}
 
-/// If the packets of two adjacent points of one run that cover a packet's timestamp are among the last 64 packets of the clock
-/// that came, a listener finds a line for the timestamp, and it is the line of these two points.
+/// Two adjacent points of one run cover a packet's timestamp, and their packets are among the last 64 packets of the
+/// clock. Then a listener finds a line for the timestamp, and it is the line of these two points.
 pub fn lines_are_found()
     ensures some { (c : ClockJournal) (shift instant : ℤ) (rate : ℕ) (rows : List ClockRow) (p q : Place) → IsClock c → ArePointsAtHand c shift rows p q → Covers (pair_at c p q) rate instant → clock_spot rows shift instant rate ≢ None }
     ensures found { (j : Journal) (shift : ℤ) (rows : List ClockRow) (n : ℕ) (head : Head) (p q : Place) → IsClock j.clock → AgreesWithClock j → All (IsTrueRow j.clock shift) rows → n < j.packets → head_of j n ≡ Some head → ArePointsAtHand j.clock shift rows p q → Covers (pair_at j.clock p q) j.rate head.instant
