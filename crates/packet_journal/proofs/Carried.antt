@@ -58,14 +58,14 @@ kind_long subtype bytes accepted =
     let short : nat_lt (length bytes) 12 ≡ false = within.1.1.1.1.0 in
     grind (arith, nat_tests)
 
--- what every delivery of the stream shows
+-- the bytes have this subtype and a valid stream ID, which is `stream`
 record IsOfStream (subtype stream : ℕ) (bytes : List ℕ) : Type 0 where
   long : 12 ≤ length bytes
   kind : bits 0 0 8 bytes ≡ subtype
   valid : is_set 1 0 bytes ≡ true
   id : bits 4 0 64 bytes ≡ stream
 
--- the header of a delivery shows that it is of the stream
+-- if bytes have the header of a packet of the stream, they show the stream's subtype and ID
 of_stream : (j : Journal) (subtype stream n : ℕ) (h : StreamHeader) (bytes : List ℕ) → kind_refusal subtype bytes ≡ None → IsHeader j stream n h → h.subtype ≡ subtype
     → bits 0 0 8 bytes ≡ h.subtype → bits 1 0 1 bytes ≡ flag h.sv → bits 4 0 64 bytes ≡ h.stream_id → IsOfStream subtype stream bytes
 of_stream j subtype stream n h bytes accepted is kind a b c = record {
@@ -100,7 +100,7 @@ subtype_of SparseAaf = aaf_subtype
 subtype_of (Am824 interval dbc) = iec_subtype
 subtype_of (H264 part) = cvf_subtype
 
--- listeners read streams of each kind
+-- the subtype of each kind of stream is one that listeners read
 is_read : (kind : Kind) → list_any (λ (k : ℕ). subtype_of kind == k) stream_kinds ≡ true
 is_read DenseAaf = refl
 is_read SparseAaf = refl
@@ -187,7 +187,7 @@ all_delivered again shift p clock lead numbers records is all near = record {
   near = rw (numbers_again numbers) near;
 }
 
--- ---- with those of the clock
+-- ---- records of the stream and of its clock
 
 pub clock_belongs : (shift : ℤ) (p : PacketJournal) (m : ℕ) (r : Record) → IsConforming shift p → CarriesClock p m r → belongs clock_kinds p.clock r.bytes ≡ true
 clock_belongs shift p m r is c =
@@ -199,7 +199,8 @@ clock_belongs shift p m r is c =
 pub clock_copy_of : (p : PacketJournal) (m i : ℕ) (r : Record) → CarriesClock p m r → IsClockCopyOf p m (delivery i r)
 clock_copy_of p m i r c = record { known = c.known; spelled = rw (clock_frame_is p m r c).payload_is c.packet }
 
--- deliveries of records, possibly without some of the clock's
+-- The deliveries `ds` are copies of packets. The stream's packets among them have the numbers `numbers`. The other
+-- deliveries are of the clock.
 record AreKept (p : PacketJournal) (lead : ℕ) (numbers : List ℕ) (ds : List Delivery) : Type 0 where
   origins : List Origin
   copies : AreFrom p lead origins ds

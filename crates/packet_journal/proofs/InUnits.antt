@@ -55,9 +55,9 @@ middle_of First inside inner = absurd (inside (inr refl))
 middle_of Middle inside inner = refl
 middle_of Last inside inner = absurd (inner (inr refl))
 
--- ---- back to the first packet of the unit, and on to its last
+-- ---- from a packet back to the first packet of its unit, and forward to the last
 
--- no packet from one number up to another, without the latter, ends a unit
+-- no packet from `from` to below `to` ends a unit
 abbrev AreOpen : (ℕ → Part) → ℕ → ℕ → Type 0
 AreOpen part from to = (k : ℕ) → from ≤ k → k < to → Ends (part k) → ⊥
 
@@ -116,7 +116,7 @@ both_open part from n to first second k low high = elim (cases_lt k n) [
 
 -- ---- the unit
 
--- a packet after one that ends no unit begins no unit
+-- if no packet from `from` to below `to` ends a unit, no packet after `from` up to `to` begins one
 inside_of : (j : Journal) (part : ℕ → Part) → IsVideo j part → (from to k : ℕ) → AreOpen part from to → to < j.packets → from < k → k ≤ to → Begins (part k) → ⊥
 inside_of j part is from to zero inner known low high begins = absurd (omega arith)
 inside_of j part is from to (suc k) inner known low high begins = inner k (omega arith) (omega arith) ((is.beside k (omega arith)).1 begins)

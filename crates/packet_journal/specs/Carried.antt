@@ -8,7 +8,8 @@ use Rattle.packet_journal.specs.Deliveries.{avtp_ethertype}
 use Rattle.packet_journal.specs.Delivered.{Origin, OfClock, OfStream, Spells}
 use Rattle.packet_journal.specs.Packets.{PacketJournal, spelling_of}
 
--- A record holds an Ethernet frame of AVTP with packet n, captured near enough to the packet's instant.
+-- The record holds an Ethernet frame of AVTP with packet n. It was captured near enough to the packet's instant for a
+-- listener to tell which packet it is.
 pub record Carries (p : PacketJournal) (lead n : ℕ) (r : Record) : Type 0 where
   pub frame : Frame
   pub writable : IsWritableFrame frame
@@ -19,16 +20,16 @@ pub record Carries (p : PacketJournal) (lead n : ℕ) (r : Record) : Type 0 wher
   pub arrived : r.arrival ≡ pos arrival
   pub delivered : IsDelivered p.times lead (record { number = n; arrival = arrival })
 
--- the records carry the packets of these numbers, one by one
+-- the records carry the packets with these numbers, in the same order
 abbrev pub AllCarry : PacketJournal → ℕ → List ℕ → List Record → Type 0
 AllCarry p lead [] [] = ⊤
 AllCarry p lead [] (r ∷ rs) = ⊥
 AllCarry p lead (n ∷ ns) [] = ⊥
 AllCarry p lead (n ∷ ns) (r ∷ rs) = Carries p lead n r × AllCarry p lead ns rs
 
--- ---- with those of the clock
+-- ---- records of the stream and of its clock
 
--- A record holds an Ethernet frame of AVTP with packet m of the clock.
+-- The record holds an Ethernet frame of AVTP with packet m of the clock.
 pub record CarriesClock (p : PacketJournal) (m : ℕ) (r : Record) : Type 0 where
   pub known : m < p.times.clock.packets
   pub frame : Frame
@@ -37,12 +38,12 @@ pub record CarriesClock (p : PacketJournal) (m : ℕ) (r : Record) : Type 0 wher
   pub avtp : frame.ethertype ≡ avtp_ethertype
   pub packet : Spells (crf_spelling (p.clock_packet m)) frame.payload
 
--- a record carries the stream's packet n, or the clock's packet m
+-- the record carries the stream's packet n, or the clock's packet m
 abbrev pub CarriesFrom : PacketJournal → ℕ → Origin → Record → Type 0
 CarriesFrom p lead (OfStream n) r = Carries p lead n r
 CarriesFrom p lead (OfClock m) r = CarriesClock p m r
 
--- the records carry the packets of these origins, one by one
+-- the records carry the packets of these origins, in the same order
 abbrev pub AllCarryFrom : PacketJournal → ℕ → List Origin → List Record → Type 0
 AllCarryFrom p lead [] [] = ⊤
 AllCarryFrom p lead [] (r ∷ rs) = ⊥

@@ -11,48 +11,49 @@ pub record Spells (packet bytes : List ℕ) : Type 0 where
   pub trail : List ℕ
   pub whole : bytes ≡ packet ++ trail
 
--- A delivery is a copy of packet n, and arrived near enough to the packet's instant to be told from copies of other packets.
+-- The delivery is a copy of packet n. It arrived near enough to the packet's instant for a listener to tell it from
+-- copies of other packets.
 pub record IsCopyOf (p : PacketJournal) (lead n : ℕ) (d : Delivery) : Type 0 where
   pub arrival : ℕ
   pub arrived : d.arrival ≡ pos arrival
   pub delivered : IsDelivered p.times lead (record { number = n; arrival = arrival })
   pub spelled : Spells (spelling_of (p.packet n)) d.packet
 
--- a delivery is a copy of the clock's packet m
+-- the delivery is a copy of the clock's packet m
 pub record IsClockCopyOf (p : PacketJournal) (m : ℕ) (d : Delivery) : Type 0 where
   pub known : m < p.times.clock.packets
   pub spelled : Spells (crf_spelling (p.clock_packet m)) d.packet
 
--- the packet that a delivery is a copy of: one of the stream, or one of the clock
+-- the packet of which a delivery is a copy: a packet of the stream, or of the clock
 pub data Origin : Type 0 where
   OfStream : ℕ → Origin
   OfClock : ℕ → Origin
 
--- a delivery is a copy of the stream's packet n, or of the clock's packet m
+-- the delivery is a copy of the stream's packet n, or of the clock's packet m
 abbrev pub IsFrom : PacketJournal → ℕ → Origin → Delivery → Type 0
 IsFrom p lead (OfStream n) d = IsCopyOf p lead n d
 IsFrom p lead (OfClock m) d = IsClockCopyOf p m d
 
--- the deliveries are copies of the packets of these origins, one by one
+-- the deliveries are copies of the packets of these origins, in the same order
 abbrev pub AreFrom : PacketJournal → ℕ → List Origin → List Delivery → Type 0
 AreFrom p lead [] [] = ⊤
 AreFrom p lead [] (d ∷ ds) = ⊥
 AreFrom p lead (o ∷ os) [] = ⊥
 AreFrom p lead (o ∷ os) (d ∷ ds) = IsFrom p lead o d × AreFrom p lead os ds
 
--- the numbers of the stream's packets among the origins, in their order
+-- the numbers of the stream's packets among the origins, in the same order
 abbrev pub stream_numbers : List Origin → List ℕ
 stream_numbers [] = []
 stream_numbers (OfStream n ∷ os) = n ∷ stream_numbers os
 stream_numbers (OfClock m ∷ os) = stream_numbers os
 
--- Each delivery is a copy of a packet of the journal. Any packet may be missing, come again, or come in any order.
+-- Each delivery is a copy of a packet of the journal. Any packet may be missing, arrive again, or arrive in any order.
 pub record AreDelivered (p : PacketJournal) (lead : ℕ) (ds : List Delivery) : Type 0 where
   pub origins : List Origin
   pub copies : AreFrom p lead origins ds
   pub near : AreNear p.times (stream_numbers origins)
 
--- The records deliver the journal's packets to a listener of its stream, with a clock or without, that expects packets
--- `lead` nanoseconds before their first instant.
+-- The records deliver the journal's packets to a listener of its stream, with the clock or without. The listener
+-- expects packets `lead` nanoseconds before their first instant.
 abbrev pub Delivers : PacketJournal → Option ℕ → ℕ → List Record → Type 0
 Delivers p clock lead records = AreDelivered p lead (deliveries p.stream clock records)

@@ -24,32 +24,32 @@ clock_kinds = crf_subtype ∷ []
 abbrev pub packet_in : List ℕ → List ℕ
 packet_in bytes = (frame_of bytes).payload
 
--- a record is an Ethernet frame of AVTP whose payload has at least the 12 bytes up to the end of the stream id
+-- the record is an Ethernet frame of AVTP whose payload has at least 12 bytes, which end with the stream ID
 abbrev pub is_avtp : List ℕ → Bool
 is_avtp bytes =
     is_none (frame_refusal bytes)
     && ((frame_of bytes).ethertype == avtp_ethertype)
     && nat_le 12 (length (packet_in bytes))
 
--- a packet's subtype is one of these, and its stream id is valid and equal to this one
+-- the packet's subtype is one of these, and its stream ID is valid and equal to this one
 abbrev pub is_wanted : List ℕ → ℕ → Peeked → Bool
 is_wanted kinds id peeked = list_any (λ kind. peeked.subtype == kind) kinds && peeked.sv && (peeked.stream_id == id)
 
--- a record holds a packet of AVTP of one of these subtypes with this stream id
+-- the record holds a packet of AVTP with one of these subtypes and this stream ID
 abbrev pub belongs : List ℕ → ℕ → List ℕ → Bool
 belongs kinds id bytes = is_avtp bytes && is_wanted kinds id (peeked_of (packet_in bytes))
 
--- a record holds a packet of the media clock with this stream id; without a clock none does
+-- the record holds a packet of the media clock with this stream ID; false if there is no clock
 abbrev pub belongs_to_clock : Option ℕ → List ℕ → Bool
 belongs_to_clock None bytes = false
 belongs_to_clock (Some id) bytes = belongs clock_kinds id bytes
 
--- a record belongs to the stream, or to the clock if there is one
+-- the record belongs to the stream, or to the clock if there is one
 abbrev pub is_delivered : ℕ → Option ℕ → List ℕ → Bool
 is_delivered stream clock bytes = belongs stream_kinds stream bytes || belongs_to_clock clock bytes
 
--- A delivery: the number of its record in the capture, counted from 1; when it was captured; and its packet, with its
--- subtype and its sequence number.
+-- A delivery: the number of its record in the capture, counted from 1; the time at which it was captured; and its
+-- packet, with the packet's subtype and sequence number.
 pub record Delivery : Type 0 where
   pub frame : ℕ
   pub arrival : ℤ
@@ -57,7 +57,7 @@ pub record Delivery : Type 0 where
   pub seq : ℕ
   pub packet : List ℕ
 
--- the delivery that a listener gets from a record, given the record's number in the capture
+-- the delivery that a listener gets from the record with this number in the capture
 abbrev pub delivery : ℕ → Record → Delivery
 delivery frame r = record {
   frame = frame;
@@ -67,7 +67,7 @@ delivery frame r = record {
   packet = packet_in r.bytes;
 }
 
--- the deliveries among the records of a capture, in its order
+-- the deliveries among the records of a capture, in the order of the records
 abbrev pub deliveries : ℕ → Option ℕ → List Record → List Delivery
 deliveries stream clock records =
     map (λ numbered. delivery numbered.0 numbered.1)

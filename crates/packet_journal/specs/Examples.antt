@@ -10,7 +10,7 @@ use Rattle.stream_journal.specs.Journal.{Journal}
 use Rattle.stream_journal.specs.Examples.{clocked, each_eighth, restarted}
 use Rattle.packet_journal.specs.Packets.{Am824Data, PacketJournal, Pcm}
 
--- the stream header of packet n of a stereo stream of PCM of 16 bits at 48 kHz, with 6 sample frames a packet
+-- The stream header of packet n. The stream is stereo PCM of 16 bits at 48 kHz, with 6 sample frames in each packet.
 abbrev pub silent_header : Journal → ℕ → StreamHeader
 silent_header j n = record {
   subtype = 2;
@@ -40,7 +40,7 @@ silent_sparse n = record {
   reserved = false;
 }
 
--- a placeholder for the packets of a clock that sends none
+-- a placeholder for the packets of a clock if the talker sends no clock
 abbrev pub no_packet : Crf
 no_packet = record {
   sv = false;
@@ -57,7 +57,7 @@ no_packet = record {
   reserved = false;
 }
 
--- `restarted` with its packets: a sparse talker that restarts
+-- `restarted` with its packets, those of a sparse talker that restarts
 abbrev pub restarted_packets : PacketJournal
 restarted_packets = record {
   times = restarted;
@@ -81,7 +81,7 @@ silent_blocks n = record {
   reserved = false;
 }
 
--- `each_eighth` with its packets: a talker of AM824 that stamps each eighth block
+-- `each_eighth` with its packets, those of an AM824 talker; each eighth block has a timestamp
 abbrev pub block_packets : PacketJournal
 block_packets = record {
   times = each_eighth;
@@ -91,7 +91,7 @@ block_packets = record {
   clock_packet = λ m. no_packet;
 }
 
--- packet n of `clocked`: 6 silent stereo sample frames of 16 bits at 48 kHz, each packet stamped
+-- packet n of `clocked`: 6 silent stereo sample frames of 16 bits at 48 kHz, with a timestamp
 abbrev pub silent : ℕ → Aaf
 silent n = record (silent_sparse n) { header = silent_header (clocked 48000) n; sparse = false }
 
@@ -112,7 +112,7 @@ clock_data m = record {
   reserved = false;
 }
 
--- `clocked` with its packets and those of its clock
+-- `clocked` with its packets and the packets of its clock
 abbrev pub clocked_packets : PacketJournal
 clocked_packets = record {
   times = clocked 48000;

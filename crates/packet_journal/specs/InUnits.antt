@@ -1,9 +1,10 @@
--- The unit of H.264 that a packet belongs to.
+-- The NAL unit to which a packet of H.264 belongs.
 use Rattle.std.specs.Prelude.{◌≡◌, ℕ, ◌<◌, ◌≤◌}
 use Rattle.stream_journal.specs.Journal.{Journal, Part}
 use Rattle.packet_journal.specs.Units.{AreUnit}
 
--- Packet n is one of the packets that carry one unit; the talker sent all of them, and they are due at the same instant.
+-- Packet n is one of the packets that carry one NAL unit. The talker sent all packets of the unit, and they are due at
+-- the same instant.
 pub record IsInUnit (j : Journal) (part : ℕ → Part) (n : ℕ) : Type 0 where
   pub from : ℕ
   pub to : ℕ

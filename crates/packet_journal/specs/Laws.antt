@@ -6,12 +6,13 @@ use Rattle.cvf_format.specs.Cvf.{SpellsCvf, plain_cvf}
 use Rattle.crf_format.specs.Crf.{Crf, SpellsCrf, plain_crf}
 use Rattle.packet_journal.specs.Packets.{PacketView, Pcm, Am824Data, H264Data}
 
--- The reader of the packet's format refuses nothing, and the one packet that the bytes spell is this one.
+-- The reader of the packet's format accepts the bytes, and the packet that they spell is this one with every reserved
+-- bit 0.
 abbrev pub IsReadAs : PacketView → List ℕ → Type 0
 IsReadAs (Pcm v) bytes = SpellsAaf bytes (plain_aaf v)
 IsReadAs (Am824Data v) bytes = SpellsIec bytes (plain_iec v)
 IsReadAs (H264Data v) bytes = SpellsCvf bytes (plain_cvf v)
 
--- The reader of CRF refuses nothing, and the one packet that the bytes spell is this one.
+-- The reader of CRF accepts the bytes, and the packet that they spell is this one with every reserved bit 0.
 abbrev pub IsClockReadAs : Crf → List ℕ → Type 0
 IsClockReadAs v bytes = SpellsCrf bytes (plain_crf v)

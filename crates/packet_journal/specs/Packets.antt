@@ -18,7 +18,7 @@ pub data PacketView : Type 0 where
   Am824Data : Iec → PacketView
   H264Data : Cvf → PacketView
 
--- A talker's stream and its clock, with the packets that it sent; `times` is the journal of their times.
+-- A talker's stream and its clock, with the packets that the talker sent. `times` is the journal of the packets' times.
 pub record PacketJournal : Type 0 where
   pub times : Journal
   pub stream : ℕ
@@ -28,8 +28,8 @@ pub record PacketJournal : Type 0 where
 
 -- ---- which packets belong to which times
 
--- The header of packet n of a stream (IEEE 1722-2016, 4.4.4): the low 8 bits of the packet's number, the low 32 bits of its
--- timestamp if it has one, tu 0, and the journal's restart bit.
+-- The header of packet n of a stream (IEEE 1722-2016, 4.4.4). It has the low 8 bits of the packet's number, and the low
+-- 32 bits of the packet's timestamp if there is one. tu is 0, and the restart bit is the journal's.
 pub record IsHeader (j : Journal) (stream n : ℕ) (h : StreamHeader) : Type 0 where
   pub valid_id : h.sv ≡ true
   pub id : h.stream_id ≡ stream
@@ -48,7 +48,7 @@ pub record IsAafPacket (j : Journal) (mode : Bool) (stream n : ℕ) (v : Aaf) : 
   pub rate : rate_of v.nsr ≡ Some j.rate
   pub count : v.count ≡ j.count
 
--- packet n of an IEC 61883-6 stream, with the block count of its first block
+-- packet n of an IEC 61883-6 stream; its first block has the block count `dbc`
 pub record IsIecPacket (j : Journal) (interval dbc stream n : ℕ) (v : Iec) : Type 0 where
   pub writable : IsWritableIec v
   pub fits : Fits iec_layout v
@@ -58,7 +58,7 @@ pub record IsIecPacket (j : Journal) (interval dbc stream n : ℕ) (v : Iec) : T
   pub block : v.cip.dbc ≡ dbc
   pub count : v.count ≡ j.count
 
--- the part of a unit that a packet of H.264 carries
+-- the part of a NAL unit that a packet of H.264 carries
 abbrev pub part_of : NalPart → Part
 part_of SingleNal = Single
 part_of FirstNal = First
@@ -87,12 +87,12 @@ IsPacket (H264 part) j stream n (Pcm v) = ⊥
 IsPacket (H264 part) j stream n (Am824Data v) = ⊥
 IsPacket (H264 part) j stream n (H264Data v) = IsCvfPacket j (part n) stream n v
 
--- the type of a clock's packets that count audio samples (IEEE 1722-2016, 10)
+-- the type of CRF packets whose timestamps count audio samples (IEEE 1722-2016, 10)
 abbrev pub audio_sample_type : ℕ
 audio_sample_type = 1
 
--- Packet m of a clock (IEEE 1722-2016, 10): of the type for audio samples, with tu 0, the clock's base frequency, pull and
--- interval, and the packet's restart bit. Its timestamps plus what listeners add to them are its points.
+-- Packet m of a clock (IEEE 1722-2016, 10). It has the type for audio samples, tu 0, the clock's base frequency, pull
+-- and interval, and the journal's restart bit. Its timestamps plus `shift` are the journal's points.
 pub record IsClockPacket (c : ClockJournal) (shift : ℤ) (id m : ℕ) (v : Crf) : Type 0 where
   pub writable : IsWritableCrf v
   pub fits : Fits crf_layout v
@@ -108,8 +108,8 @@ pub record IsClockPacket (c : ClockJournal) (shift : ℤ) (id m : ℕ) (v : Crf)
   pub size : length v.payload ≡ 8 * length (c.points m)
   pub points : (i : ℕ) → i < length (c.points m) → pos (get_or (c.points m) i 0) ≡ pos (point_at i v.payload) +ℤ shift
 
--- The talker keeps the rules: its times conform, and its packets have these times. `shift` is what listeners add to the clock's
--- timestamps.
+-- The talker keeps the rules: the journal of its times conforms, and its packets have these times. `shift` is what
+-- listeners add to the clock's timestamps.
 pub record IsConforming (shift : ℤ) (p : PacketJournal) : Type 0 where
   pub times : Conforms p.times
   pub packets : (n : ℕ) → n < p.times.packets → IsPacket p.times.kind p.times p.stream n (p.packet n)
@@ -123,7 +123,7 @@ spelling_of (Pcm v) = aaf_spelling v
 spelling_of (Am824Data v) = iec_spelling v
 spelling_of (H264Data v) = cvf_spelling v
 
--- the samples of a packet, or what it carries of a NAL unit after the unit's first byte
+-- the samples of a packet, or the bytes that it carries of a NAL unit after the unit's first byte
 abbrev pub carried : PacketView → List ℕ
 carried (Pcm v) = v.payload
 carried (Am824Data v) = v.payload

@@ -1,43 +1,46 @@
--- The units of H.264 that a journal's packets carry, and what is presented of a packet.
+-- The NAL units that a journal's packets carry, and what is presented of a packet.
 use Rattle.std.specs.Prelude.{◌≡◌, ◌⊎◌, ℕ, suc, ◌-◌, ◌<◌, List, [], ◌∷◌, ◌++◌}
 use Rattle.std.specs.List.{flat_map, range_with_len}
 use Rattle.stream_journal.specs.Journal.{Kind, DenseAaf, SparseAaf, Am824, H264, Part, Single, First, Middle, Last}
 use Rattle.packet_journal.specs.Packets.{PacketJournal, PacketView, Pcm, Am824Data, H264Data, carried}
 
--- Packets `from` to `to` are the fragments of one unit: a first, then only middle ones, then a last (RFC 6184, 5.8).
+-- Packets `from` to `to` are the fragments of one NAL unit: a first, then only middle ones, then a last (RFC 6184,
+-- 5.8).
 pub record AreFragments (part : ℕ → Part) (from to : ℕ) : Type 0 where
   pub some : from < to
   pub first : part from ≡ First
   pub middle : (n : ℕ) → from < n → n < to → part n ≡ Middle
   pub last : part to ≡ Last
 
--- Packets `from` to `to` carry one unit: one packet has it whole, or they are its fragments.
+-- Packets `from` to `to` carry one NAL unit: they are a single packet with the whole unit, or the fragments of the
+-- unit.
 abbrev pub AreUnit : (ℕ → Part) → ℕ → ℕ → Type 0
 AreUnit part from to = ((from ≡ to) × (part to ≡ Single)) ⊎ AreFragments part from to
 
--- the first byte of the unit that a packet of H.264 has a part of
+-- the first byte of the NAL unit of which a packet of H.264 carries a part; empty for audio
 abbrev pub first_byte : PacketView → List ℕ
 first_byte (Pcm v) = []
 first_byte (Am824Data v) = []
 first_byte (H264Data v) = v.nal ∷ []
 
--- the bytes of the unit that these packets carry: its first byte, and then what each of them carries after it
+-- the bytes of the NAL unit that packets `from` to `to` carry: the unit's first byte, and then what each packet carries
+-- after that byte
 abbrev pub unit_bytes : PacketJournal → ℕ → ℕ → List ℕ
 unit_bytes p from to = first_byte (p.packet from) ++ flat_map (λ n. carried (p.packet n)) (range_with_len from (suc to - from))
 
--- the bytes are the unit that ends with packet n
+-- the bytes `unit` are the NAL unit whose last packet is packet n
 pub record IsUnitOf (p : PacketJournal) (part : ℕ → Part) (n : ℕ) (unit : List ℕ) : Type 0 where
   pub from : ℕ
   pub packets : AreUnit part from n
   pub bytes : unit ≡ unit_bytes p from n
 
--- What is presented of packet n, in a stream of this kind: its samples, or the unit of H.264 that ends with it.
+-- What is presented of packet n in a stream of this kind: its samples, or the NAL unit whose last packet it is.
 abbrev pub IsContentBy : Kind → PacketJournal → ℕ → List ℕ → Type 0
 IsContentBy DenseAaf p n bytes = bytes ≡ carried (p.packet n)
 IsContentBy SparseAaf p n bytes = bytes ≡ carried (p.packet n)
 IsContentBy (Am824 interval dbc) p n bytes = bytes ≡ carried (p.packet n)
 IsContentBy (H264 part) p n bytes = IsUnitOf p part n bytes
 
--- the bytes are what is presented of packet n: its samples, or the unit of H.264 that ends with it
+-- the bytes are what is presented of packet n: its samples, or the NAL unit whose last packet it is
 abbrev pub IsContent : PacketJournal → ℕ → List ℕ → Type 0
 IsContent p n bytes = IsContentBy p.times.kind p n bytes

@@ -29,31 +29,32 @@ pub fn carried_packet_is_delivered()
     cvf_format::laws::packet_again();
 }
 
-/// Records whose frames carry packets of a conforming talker, captured in time, deliver its journal, whichever packets they
-/// are.
+/// Frames with packets of a conforming talker were captured in time. Then their records deliver the talker's journal,
+/// whichever packets they carry.
 pub fn carried_packets_are_delivered()
     ensures { (shift : ℤ) (p : PacketJournal) (clock : Option ℕ) (lead : ℕ) (numbers : List ℕ) (records : List Record) → IsConforming shift p → AllCarry p lead numbers records → AreNear p.times numbers → Delivers p clock lead records }
 {
     cvf_format::laws::packet_again();
 }
 
-/// A record that carries a packet of the clock of a conforming talker belongs to the clock, by its kind and its id, and its
-/// delivery is a copy of the packet.
+/// A record that carries a packet of a conforming talker's clock belongs to the clock, according to its subtype and its
+/// stream ID. Its delivery is a copy of the packet.
 pub fn carried_clock_packet_is_delivered()
     ensures belongs { (shift : ℤ) (p : PacketJournal) (m : ℕ) (r : Record) → IsConforming shift p → CarriesClock p m r → belongs clock_kinds p.clock r.bytes ≡ true }
     ensures copy { (p : PacketJournal) (m frame : ℕ) (r : Record) → CarriesClock p m r → IsClockCopyOf p m (delivery frame r) }
 {}
 
-/// Records whose frames carry packets of a conforming talker's stream, captured in time, and of its clock deliver its
-/// journal, whichever packets they are, to listeners with a clock and without.
+/// Frames with packets of a conforming talker's stream and of its clock were captured, those of the stream in time.
+/// Then their records deliver the talker's journal, whichever packets they carry. This holds for listeners with the
+/// clock and without.
 pub fn records_of_both_are_delivered()
     ensures { (shift : ℤ) (p : PacketJournal) (clock : Option ℕ) (lead : ℕ) (origins : List Origin) (records : List Record) → IsConforming shift p → AllCarryFrom p lead origins records → AreNear p.times (stream_numbers origins) → Delivers p clock lead records }
 {
     cvf_format::laws::packet_again();
 }
 
-/// Each packet of H.264 belongs to one unit, of which the talker sent all packets: a first fragment, then only middle ones,
-/// then a last one, or one packet with a whole unit.
+/// Each packet of H.264 belongs to one NAL unit, and the talker sent all packets of the unit. A single packet carries
+/// the whole unit, or the packets carry a first fragment, then only middle ones, and then a last one.
 pub fn packets_are_of_units()
     ensures { (j : Journal) (part : ℕ → Part) (n : ℕ) → IsVideo j part → n < j.packets → IsInUnit j part n }
 {}

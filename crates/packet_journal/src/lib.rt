@@ -1,5 +1,5 @@
-//! The packets of a talker's journal, and which records of a capture are copies of them. This crate holds the definitions; each
-//! call states a law of them, and does nothing.
+//! The packets of a talker's journal, and which records of a capture are copies of them. This crate holds the
+//! definitions. Each call states a law of them, and does nothing.
 #![tactic(auto)]
 
 pub mod examples;
