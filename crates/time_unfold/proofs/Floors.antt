@@ -1,4 +1,4 @@
--- Divisions that round down, on numbers with a sign.
+-- Divisions of integers that round down.
 use Rattle.std.proofs.Common.{◌≡◌, ℕ, ◌+◌, ◌*◌, ◌<◌, ◌≤◌, ℤ, pos, negsuc, neg_ℤ, ◌+ℤ◌, ◌*ℤ◌, ◌≤ℤ◌, ◌<ℤ◌, ap, arith}
 use Rattle.std.proofs.Math.Nat.{mul-le-mul_left}
 use Rattle.std.proofs.lemmas.Int.{ints, by_lt_z}
@@ -6,7 +6,7 @@ use Rattle.std.proofs.lemmas.Nat.{div-add-mod'}
 use Rattle.std.specs.Int.{int_div_euclid, int_rem_euclid}
 use borrow.Author.Differences.{up, down}
 
--- a number is its quotient times the divisor, and a remainder
+-- an integer is its quotient times the divisor, plus its remainder
 pub euclid : (z : ℤ) (d : ℕ) → 0 < d → int_div_euclid z (pos d) *ℤ pos d +ℤ int_rem_euclid z (pos d) ≡ z
 euclid (pos a) d some = let split = div-add-mod' a d in omega (arith, ints)
 euclid (negsuc a) d some = let split = div-add-mod' a d in omega (arith, ints)
@@ -25,7 +25,6 @@ times_more x y d below =
     let e : d * (up x + down y) ≤ d * (up y + down x) = mul-le-mul_left d h in
     omega (arith, ints)
 
--- a product whose first factor grows by one
 pub one_more : (q : ℤ) (d : ℕ) → (q +ℤ pos 1) *ℤ pos d ≡ q *ℤ pos d +ℤ pos d
 one_more q d =
     let e : up (q +ℤ pos 1) + down q ≡ down (q +ℤ pos 1) + up q + 1 = omega (arith, ints) in
@@ -44,7 +43,7 @@ floor_below z d some = let e = euclid z d some in let r = rest_natural z d in om
 pub floor_above : (z : ℤ) (d : ℕ) → 0 < d → z <ℤ ((int_div_euclid z (pos d) +ℤ pos 1) *ℤ pos d)
 floor_above z d some = let e = euclid z d some in let r = rest_below z d some in let m = one_more (int_div_euclid z (pos d)) d in omega (arith, ints)
 
--- only the quotient that rounds down is within these bounds
+-- at most one quotient is within the bounds of rounding down
 pub floor_only : (z q r : ℤ) (d : ℕ) → (q *ℤ pos d) ≤ℤ z → z <ℤ ((q +ℤ pos 1) *ℤ pos d) → (r *ℤ pos d) ≤ℤ z → z <ℤ ((r +ℤ pos 1) *ℤ pos d) → q ≡ r
 floor_only z q r d a b c e =
     by_lt_z q r
@@ -53,7 +52,7 @@ floor_only z q r d a b c e =
     (λ g. let m = times_more (r +ℤ pos 1) q d (omega (arith, ints)) in absurd (omega (arith, ints)))
     (λ g. omega (arith, ints)))
 
--- what is left of a number after a multiple of the divisor, from 0 to below the divisor, is its remainder
+-- if z is a multiple of d plus r, and r is from 0 to below d, then r is the remainder of z
 pub rest_only : (z q r : ℤ) (d : ℕ) → 0 < d → z ≡ q *ℤ pos d +ℤ r → pos 0 ≤ℤ r → r <ℤ pos d → int_rem_euclid z (pos d) ≡ r
 rest_only z q r d some e natural below =
     let m = one_more q d in
@@ -63,7 +62,7 @@ rest_only z q r d some e natural below =
     let times : int_div_euclid z (pos d) *ℤ pos d ≡ q *ℤ pos d = ap (λ (n : ℤ). n *ℤ pos d) same in
     omega (arith, ints)
 
--- two numbers that have the same remainder, and are less than the divisor apart, are equal
+-- two integers are equal if they have the same remainder and are less than the divisor apart
 pub same_rest : (x y : ℤ) (d : ℕ) → 0 < d → int_rem_euclid x (pos d) ≡ int_rem_euclid y (pos d) → x <ℤ (y +ℤ pos d) → y <ℤ (x +ℤ pos d) → x ≡ y
 same_rest x y d some e above below =
     let p = int_div_euclid x (pos d) in

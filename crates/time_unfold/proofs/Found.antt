@@ -1,4 +1,4 @@
--- The last of a list that passes a test.
+-- The last item of a list that passes a test.
 use Rattle.std.proofs.Common.{◌≡◌, ℕ, ◌-◌, Bool, true, false, cond, List, [], ◌∷◌, ◌++◌, length, Option, Some, None, All, refl, ap, subst}
 use Rattle.std.proofs.Math.Seq.{take-append_seam, drop-append_seam}
 use Rattle.std.proofs.lemmas.List.Elements.{All-nil, All-cons, All-head, All-take, All-drop}
@@ -14,7 +14,7 @@ pub find_last-fails : {T : Type 0} (test : T → Bool) (xs : List T) (x : T) →
 find_last-fails test [] x e = rw e refl
 find_last-fails test (y ∷ xs) x e = rw (find_last-fails test xs x e) refl
 
--- a search through two lists finds what the second has, or else what the first has
+-- what is found in the second of two lists is found in both together; otherwise the first list decides
 pub find_last-behind : {T : Type 0} (test : T → Bool) (xs ys : List T) (y : T) → find_last test ys ≡ Some y → find_last test (xs ++ ys) ≡ Some y
 find_last-behind test [] ys y e = e
 find_last-behind test (x ∷ xs) ys y e = rw (find_last-behind test xs ys y e) refl
@@ -26,7 +26,7 @@ find_last-before test (x ∷ xs) ys e = rw (find_last-before test xs ys e) refl
 pub All-front : {T : Type 0} (P : T → Type 0) (xs : List T) (x : T) → All P (xs ++ x ∷ []) → All P xs
 All-front {T} P xs x all = subst (λ (l : List T). All P l) (take-append_seam xs (x ∷ [])) (All-take P (length xs) (xs ++ x ∷ []) all)
 
--- what is found in the rest of a list is found in the list; if nothing is, the first of the list may be
+-- the last stamp of `xs` that fits is the last of `x ∷ xs`; if no stamp of `xs` fits, `x` is found if it fits
 IsFound-cons : (want : Want) (x : Stamp) (xs : List Stamp) (r : Option Stamp) → find_last (fits want) xs ≡ r → IsFound want xs r → IsFound want (x ∷ xs) (find_last (fits want) (x ∷ xs))
 IsFound-cons want x xs (Some s) e is = rw e (record {
   before = x ∷ is.before;
@@ -45,12 +45,11 @@ pub find_last-found : (want : Want) (xs : List Stamp) → IsFound want xs (find_
 find_last-found want [] = All-nil (λ s. fits want s ≡ false)
 find_last-found want (x ∷ xs) = IsFound-cons want x xs (find_last (fits want) xs) refl (find_last-found want xs)
 
--- what is found is one of the list
+-- a stamp that is found has each property that all stamps have
 pub found_is : (P : Stamp → Type 0) (want : Want) (room : ℕ) (stamps : List Stamp) (stamp : Stamp) → IsLastFit want (last_of room stamps) stamp → All P stamps → P stamp
 found_is P want room stamps stamp is all =
     let last : All P (is.before ++ stamp ∷ is.behind) = subst (λ (l : List Stamp). All P l) is.place (All-drop P (length stamps - room) stamps all) in
     All-head P stamp is.behind (subst (λ (l : List Stamp). All P l) (drop-append_seam is.before (stamp ∷ is.behind)) (All-drop P (length is.before) (is.before ++ stamp ∷ is.behind) last))
 
--- the end of a list whose items all pass
 pub All-back : {T : Type 0} (P : T → Type 0) (xs ys : List T) → All P (xs ++ ys) → All P ys
 All-back {T} P xs ys all = subst (λ (l : List T). All P l) (drop-append_seam xs ys) (All-drop P (length xs) (xs ++ ys) all)

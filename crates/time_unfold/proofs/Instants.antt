@@ -1,11 +1,11 @@
--- The instant that a timestamp means.
+-- A timestamp means exactly one instant, `unfolded`.
 use Rattle.std.proofs.Common.{◌≡◌, ℕ, ◌^◌, ◌<◌, ℤ, pos, neg_ℤ, ◌*ℤ◌, ◌+ℤ◌, ◌-ℤ◌, sym, ◌∙◌, arith, lit<}
 use Rattle.std.proofs.lemmas.Int.{ints}
 use Rattle.std.specs.Int.{int_div_euclid, int_rem_euclid}
 use Rattle.time_unfold.proofs.Floors.{euclid, rest_below, rest_natural, rest_only, same_rest, neg_times}
 use Rattle.time_unfold.specs.Time.{Unfolds, unfolded}
 
--- t - first, reduced modulo d and added to `first`, leaves the remainder t
+-- if t - first is reduced modulo d and added to `first`, the result is equal to t modulo d
 around : (t : ℕ) (first : ℤ) (d : ℕ) → 0 < d → t < d → int_rem_euclid (first +ℤ int_rem_euclid (pos t -ℤ first) (pos d)) (pos d) ≡ pos t
 around t first d some small =
     let q = int_div_euclid (pos t -ℤ first) (pos d) in

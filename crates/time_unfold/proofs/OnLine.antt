@@ -1,4 +1,4 @@
--- The instants of a line.
+-- `instant_at` is the only instant of a sample on a line.
 use Rattle.std.proofs.Common.{◌≡◌, ◌<◌, ℤ, pos, ◌-ℤ◌, ◌*ℤ◌, arith}
 use Rattle.std.proofs.lemmas.Int.{ints}
 use Rattle.time_unfold.specs.declared.line.Line.{Line}

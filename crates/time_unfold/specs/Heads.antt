@@ -1,27 +1,27 @@
--- Which sample of an audio packet its timestamp belongs to, and which packet a packet without a timestamp is counted from.
--- Packets have a number: that of a talker's stream, or modulo 256.
+-- Which sample of an audio packet its timestamp belongs to, and from which packet a packet without a timestamp is
+-- counted. Packets are numbered through the stream, or modulo 256.
 use Rattle.std.specs.Prelude.{ℕ, ◌+◌, ◌-◌, ◌*◌, ◌%◌, ◌==◌, nat_lt, if◌then◌else◌, Option, Some, None}
 use Rattle.std.specs.Int.{div_ceil}
 use Rattle.time_unfold.specs.declared.head_rule.Distance.{Distance}
 use Rattle.time_unfold.specs.declared.head_rule.HeadRule.{HeadRule}
 use Rattle.time_unfold.specs.declared.head_rule.HeadRule.TheVariants.{Own, Eight, Blocks}
 
--- The sample that a packet's timestamp belongs to: the first one in AAF (IEEE 1722-2016, 7), and in IEC 61883-6 the
--- first block whose block count is a multiple of the interval.
+-- The index of the sample to which a packet's timestamp belongs. It is the first sample in AAF (IEEE 1722-2016, 7). In
+-- IEC 61883-6 it is the first block whose block count is a multiple of the interval.
 abbrev pub stamped_index : HeadRule → ℕ
 stamped_index Own = 0
 stamped_index Eight = 0
 stamped_index (Blocks dbc interval) = (interval - dbc % interval) % interval
 
--- in IEC 61883-6, the block count of the block that a packet's timestamp belongs to, modulo 256; AAF has none
+-- in IEC 61883-6, the block count, modulo 256, of the block to which a packet's timestamp belongs; `None` for AAF
 abbrev pub stamped_block : HeadRule → Option ℕ
 stamped_block Own = None
 stamped_block Eight = None
 stamped_block (Blocks dbc interval) = Some ((dbc + stamped_index (Blocks dbc interval)) % 256)
 
--- How far before packet n, of `count` samples, the sample is that the packet is counted from if it has no timestamp. In sparse
--- AAF it is the first of the last packet before it whose number is a multiple of 8. In IEC 61883-6 it is the last block before
--- the packet whose block count is a multiple of the interval, at most 7 packets back.
+-- The distance from packet n, of `count` samples, back to the sample from which it is counted if it has no timestamp.
+-- In sparse AAF this is the first sample of the last packet before it whose number is a multiple of 8. In IEC 61883-6
+-- it is the last block before the packet whose block count is a multiple of the interval, at most 7 packets back.
 abbrev pub distance : HeadRule → ℕ → ℕ → Option Distance
 distance Own n count = None
 distance Eight n count =
@@ -31,7 +31,8 @@ distance (Blocks dbc interval) n count =
     if nat_lt 7 (div_ceil (dbc % interval) count) then None else
     Some (record { packets = div_ceil (dbc % interval) count; samples = dbc % interval })
 
--- in IEC 61883-6, the block count, modulo 256, of the block that a packet without a timestamp is counted from; AAF has none
+-- in IEC 61883-6, the block count, modulo 256, of the block from which a packet without a timestamp is counted; `None`
+-- for AAF
 abbrev pub counted_block : HeadRule → Option ℕ
 counted_block Own = None
 counted_block Eight = None

@@ -7,13 +7,13 @@ use Rattle.time_unfold.specs.declared.stamp.Stamp.{Stamp}
 use Rattle.time_unfold.specs.declared.stamp.Want.{Want}
 use Rattle.time_unfold.specs.Time.{IsArrival}
 
--- the instant of a stamp is from -2^62 to below 2^62 + 2^31 ns: less than 2^31 ns after an arrival
+-- the instant of a stamp is from -2^62 to below 2^62 + 2^31 ns, because it is less than 2^31 ns after an arrival
 pub record IsStamp (stamp : Stamp) : Type 0 where
   pub from : neg_ℤ (pos (2 ^ 62)) ≤ℤ stamp.instant
   pub to : stamp.instant <ℤ pos (2 ^ 62 + 2 ^ 31)
 
--- a packet with a rate, at most 65,535 samples and a possible arrival, which comes at most 7 packets of its own length
--- after its stamp
+-- The packet has a possible arrival, a rate, and at most 65,535 samples. Its first sample is at most 7 packets of its
+-- own length after the stamped sample.
 pub record IsWant (want : Want) : Type 0 where
   pub arrival : IsArrival want.arrival
   pub rate : 1 ≤ want.rate
@@ -26,7 +26,7 @@ IsRule Own = ⊤
 IsRule Eight = ⊤
 IsRule (Blocks dbc interval) = (interval ≡ 8) ⊎ ((interval ≡ 16) ⊎ (interval ≡ 32))
 
--- a distance is at most 7 packets back, of `count` samples each
+-- a distance is at most 7 packets of `count` samples
 pub record IsBehind (count : ℕ) (far : Distance) : Type 0 where
   pub packets : far.packets ≤ 7
   pub samples : far.samples ≤ 7 * count

@@ -7,16 +7,17 @@ use Rattle.time_unfold.specs.declared.line.Line.{Line}
 abbrev pub floor_of : ℤ → ℕ → ℤ
 floor_of numerator denominator = int_div_euclid numerator (pos denominator)
 
--- the instant of sample k of a line: its base and k steps of num / den nanoseconds, rounded down to a whole one
+-- the instant of sample k of a line: k steps of num / den nanoseconds after its base, rounded down to a whole
+-- nanosecond
 abbrev pub instant_at : Line → ℤ → ℤ
 instant_at line k = line.base +ℤ floor_of (k *ℤ pos line.num) line.den
 
--- An instant is that of sample k of a line, defined without a division: it is the last whole nanosecond that is not after the
--- sample.
+-- The instant is that of sample k of a line, defined without a division: it is the last whole nanosecond that is not
+-- after the sample.
 pub record IsAt (line : Line) (k instant : ℤ) : Type 0 where
   pub not_after : ((instant -ℤ line.base) *ℤ pos line.den) ≤ℤ (k *ℤ pos line.num)
   pub last : (k *ℤ pos line.num) <ℤ (((instant -ℤ line.base) +ℤ pos 1) *ℤ pos line.den)
 
--- samples at a nominal rate, counted from one at the instant
+-- samples at a nominal rate, of which sample 0 is at this instant
 abbrev pub nominal_line : ℤ → ℕ → Line
 nominal_line instant rate = record { base = instant; num = 1000000000; den = rate }

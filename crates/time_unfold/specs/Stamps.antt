@@ -1,4 +1,4 @@
--- Which stamp a packet without a timestamp is counted from.
+-- The stamp from which a packet without a timestamp is counted.
 use Rattle.std.specs.Prelude.{◌≡◌, ℕ, ◌*◌, ◌-◌, ◌==◌, Bool, true, false, nat_le, if◌then◌else◌, ℤ, pos, ◌+ℤ◌, ◌-ℤ◌, unsigned_abs, List, [], ◌∷◌, ◌++◌, length, drop, All, Option, Some, None}
 use Rattle.time_unfold.specs.declared.stamp.Stamp.{Stamp}
 use Rattle.time_unfold.specs.declared.stamp.Want.{Want}
@@ -17,17 +17,17 @@ same_flag true other = other
 same_flag false true = false
 same_flag false false = true
 
--- where the packet's first sample would be, counted from the stamp at the nominal rate
+-- the instant of the packet's first sample, counted from the stamp at the nominal rate
 abbrev pub candidate : Want → Stamp → ℤ
 candidate want stamp = instant_at (nominal_line stamp.instant want.rate) (pos want.back)
 
--- The packet's first sample, counted from the stamp, is within 60 packets' time of the instant at which the packet is expected.
--- Its sequence number alone does not distinguish a stamp from the one 256 packets away.
+-- The packet's first sample, counted from the stamp, is at most the time of 60 packets from the instant at which the
+-- packet is expected. The sequence number alone does not distinguish a stamp from the stamp 256 packets away.
 abbrev pub is_near : Want → Stamp → Bool
 is_near want stamp =
     nat_le (unsigned_abs ((want.arrival +ℤ pos want.lead) -ℤ candidate want stamp) * want.rate) (60 * want.count * 1000000000)
 
--- the stamp fits what is looked for: sequence number, restart bit, rate and block count are equal, and it is near
+-- the stamp fits: it has the wanted sequence number, restart bit, rate and block count, and it is near
 abbrev pub fits : Want → Stamp → Bool
 fits want stamp =
     if stamp.seq == want.seq then
@@ -48,11 +48,11 @@ find_last {T} test (x ∷ xs) = last_or (find_last test xs) (if test x then Some
 abbrev pub last_of : {T : Type 0} → ℕ → List T → List T
 last_of n xs = drop (length xs - n) xs
 
--- the stamp that the packet is counted from: the last one that fits among the last `room` of the list
+-- the stamp from which the packet is counted: the last one that fits, of the last `room` stamps of the list
 abbrev pub found : ℕ → Want → List Stamp → Option Stamp
 found room want stamps = find_last (fits want) (last_of room stamps)
 
--- the stamp is one of the list that fits, and no stamp after it fits
+-- the stamp is in the list and fits, and no later stamp in the list fits
 pub record IsLastFit (want : Want) (stamps : List Stamp) (stamp : Stamp) : Type 0 where
   pub before : List Stamp
   pub behind : List Stamp
@@ -60,7 +60,7 @@ pub record IsLastFit (want : Want) (stamps : List Stamp) (stamp : Stamp) : Type 
   pub this_fits : fits want stamp ≡ true
   pub none_behind : All (λ other. fits want other ≡ false) behind
 
--- the stamp is the last of the list that fits, or there is none and none of the list fits
+-- The stamp is the last one in the list that fits. If it is `None`, no stamp in the list fits.
 abbrev pub IsFound : Want → List Stamp → Option Stamp → Type 0
 IsFound want stamps None = All (λ stamp. fits want stamp ≡ false) stamps
 IsFound want stamps (Some stamp) = IsLastFit want stamps stamp

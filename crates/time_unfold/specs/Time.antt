@@ -3,7 +3,7 @@
 use Rattle.std.specs.Prelude.{◌≡◌, ℕ, ◌^◌, ℤ, pos, neg_ℤ, ◌+ℤ◌, ◌-ℤ◌, ◌≤ℤ◌, ◌<ℤ◌}
 use Rattle.std.specs.Int.{int_rem_euclid}
 
--- when a packet was captured: from 0 to 2^62
+-- the time at which a packet was captured, from 0 to 2^62
 pub record IsArrival (arrival : ℤ) : Type 0 where
   pub from : pos 0 ≤ℤ arrival
   pub to : arrival ≤ℤ pos (2 ^ 62)
@@ -13,14 +13,14 @@ pub record IsInstant (instant : ℤ) : Type 0 where
   pub from : neg_ℤ (pos (2 ^ 62)) ≤ℤ instant
   pub to : instant <ℤ pos (2 ^ 63)
 
--- The instant that a timestamp means in a packet of this arrival: of all instants with these low 32 bits, the one that
--- is at most 2^31 ns before the arrival or less than 2^31 ns after it.
+-- The instant that a timestamp means in a packet with this arrival. Of all instants with these low 32 bits, it is the
+-- one that is at most 2^31 ns before the arrival or less than 2^31 ns after it.
 pub record Unfolds (timestamp : ℕ) (arrival instant : ℤ) : Type 0 where
   pub low_bits : int_rem_euclid instant (pos (2 ^ 32)) ≡ pos timestamp
   pub from : (arrival -ℤ pos (2 ^ 31)) ≤ℤ instant
   pub to : instant <ℤ (arrival +ℤ pos (2 ^ 31))
 
--- the instant that a timestamp means in a packet of this arrival, counted from 2^31 ns before the arrival
+-- the instant that a timestamp means in a packet with this arrival, counted from 2^31 ns before the arrival
 unfoldable pub unfolded : ℕ → ℤ → ℤ
 unfolded timestamp arrival =
     let first = arrival -ℤ pos (2 ^ 31) in

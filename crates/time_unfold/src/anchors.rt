@@ -1,4 +1,4 @@
-//! The stamps that the packets of a running stream are counted from.
+//! The last stamps of a running stream, from which packets without a timestamp are counted.
 
 ghost use Rattle.std.specs.Prelude.{◌≡◌, ◌++◌, ◌∷◌, [], IfOk, IfSome, List};
 ghost use Rattle.time_unfold.specs.declared.stamp.Stamp.{Stamp as StampValue};
@@ -42,8 +42,8 @@ impl Anchors {
         Ok(Anchors { stamps })
     }
 
-    /// Notes a stamp, and drops the oldest if there is no room for one more. Its instant is from -2^62 to below 2^62 +
-    /// 2^31 ns. Allocates nothing.
+    /// Notes a stamp. If there is no room for one more, the oldest stamp is dropped. The stamp's instant must be from
+    /// -2^62 to below 2^62 + 2^31 ns. Allocates nothing.
     pub fn note(&mut self, stamp: Stamp)
         requires { IsStamp stamp }
         ensures noted { (stamps : List StampValue) → KeepsLast self.old stamps → KeepsLast self.new (stamps ++ stamp ∷ []) }
@@ -52,8 +52,8 @@ impl Anchors {
         self.stamps.push_back(stamp);
     }
 
-    /// The stamp that a packet without one is counted from: what `head_among` returns for all stamps that were noted. `None`
-    /// exactly if none of the held ones fits. Allocates nothing.
+    /// The stamp from which a packet without a timestamp is counted: what `head_among` returns for all stamps that were
+    /// noted. `None` exactly if no stamp that is kept fits. Allocates nothing.
     pub fn find(&self, want: &Want) -> Option<Stamp>
         requires { IsWant want.now }
         ensures value { (stamps : List StampValue) → KeepsLast self.now stamps → result ≡ found self.now.room want.now stamps }

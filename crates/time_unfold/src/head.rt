@@ -1,4 +1,4 @@
-//! The stamp that a packet without one is counted from.
+//! The stamp from which a packet without a timestamp is counted.
 
 ghost use Rattle.std.specs.Prelude.{◌≡◌, ◌≤◌, ◌*◌, All, IfSome};
 ghost use Rattle.time_unfold.specs.Limits.{IsStamp, IsWant};
@@ -9,7 +9,8 @@ use crate::stamp::{Stamp, Want};
 
 const NANOSECONDS: u64 = 1_000_000_000;
 
-/// The farthest that a packet may be from its stamp, in packets of its own length.
+/// How far the first sample of a packet, counted from a stamp, may be from the expected instant, in packets of the same
+/// length.
 const REACH: u64 = 60;
 
 fn candidate(stamp: &Stamp, want: &Want) -> i64
@@ -48,7 +49,7 @@ fn fits(stamp: &Stamp, want: &Want) -> bool
         && is_near(stamp, want)
 }
 
-/// The last of the stamps that fits.
+/// The last of the stamps that fit.
 pub fn last_fit(stamps: &[Stamp], want: &Want) -> Option<Stamp>
     requires stamps { All IsStamp stamps.now }
     requires want { IsWant want.now }
@@ -65,13 +66,16 @@ pub fn last_fit(stamps: &[Stamp], want: &Want) -> Option<Stamp>
     None
 }
 
-/// The stamp that a packet without one is counted from: the last one that fits among the last `room` of the list. `None`
-/// exactly if none of them fits. A stamp fits if it has the wanted sequence number, media clock restart bit, rate and block
-/// count, and if the packet's first sample, counted from it, is within 60 packets' time of the arrival plus the lead (sparse
-/// timestamps: IEEE 1722-2016, 7; block counts: IEC 61883-6).
+/// The stamp from which a packet without a timestamp is counted: the last one that fits, of the last `room` stamps of
+/// the list. `None` exactly if none of these fits.
 ///
-/// The stamps are in the order in which they came, with instants from -2^62 to below 2^62 + 2^31 ns. The packet has a rate of
-/// at least 1 Hz and at most 65,535 samples, and the stamped sample is at most 7 such packets before its first.
+/// A stamp fits if it has the wanted sequence number, media clock restart bit, rate and block count, and if it is near.
+/// It is near if the packet's first sample, counted from it, is at most the time of 60 packets from the packet's
+/// arrival plus the lead (sparse timestamps: IEEE 1722-2016, 7; block counts: IEC 61883-6).
+///
+/// The stamps are in the order of their arrival, with instants from -2^62 to below 2^62 + 2^31 ns. The packet has a
+/// rate of at least 1 Hz and at most 65,535 samples. The stamped sample is at most 7 packets of this length before the
+/// packet's first sample.
 pub fn head_among(stamps: &[Stamp], room: u32, want: &Want) -> Option<Stamp>
     requires stamps { All IsStamp stamps.now }
     requires want { IsWant want.now }

@@ -1,44 +1,45 @@
-//! Which sample of a packet its timestamp belongs to, and how far back the sample is that a packet without a timestamp is
-//! counted from.
+//! The sample of a packet to which its timestamp belongs, and the distance back to the sample from which a packet
+//! without a timestamp is counted.
 
 ghost use Rattle.std.specs.Prelude.{◌≡◌, ◌≤◌, ◌<◌, ℕ, IfSome};
 ghost use Rattle.time_unfold.specs.Heads.{counted_block as counted_block_of, distance as distance_of, stamped_block as stamped_block_of, stamped_index as stamped_index_of};
 ghost use Rattle.time_unfold.specs.Limits.{IsBehind, IsRule};
 
-/// Every eighth packet of a sparse stream is stamped (IEEE 1722-2016, 7).
+/// Of the packets of a sparse stream, every eighth has a timestamp (IEEE 1722-2016, 7).
 const SPARSE: u32 = 8;
 
-/// How many packets back a stamped sample may be.
+/// The greatest number of packets back to a stamped sample.
 const FARTHEST: u32 = 7;
 
-/// Which sample of a packet its timestamp belongs to, and how a packet without one is counted from another packet.
+/// The sample of a packet to which its timestamp belongs, and the way to count a packet without a timestamp from
+/// another packet.
 #[derive(Clone, Copy, Debug, PartialEq, Eq)]
 pub enum HeadRule {
-    /// AAF: each packet stamps its first sample (IEEE 1722-2016, 7).
+    /// AAF: each packet has a timestamp, which belongs to its first sample (IEEE 1722-2016, 7).
     Own,
-    /// AAF in sparse mode: the packets whose sequence number is a multiple of 8 stamp their first sample (IEEE
-    /// 1722-2016, 7).
+    /// AAF in sparse mode: a packet whose sequence number is a multiple of 8 has a timestamp, which belongs to its
+    /// first sample (IEEE 1722-2016, 7).
     Eight,
     /// IEC 61883-6: the timestamp belongs to the data block whose block count is a multiple of `interval`. The first
     /// block of the packet has the count `dbc`, modulo 256.
     Blocks { dbc: u8, interval: u32 },
 }
 
-/// The stamped sample that a packet is counted from.
+/// The stamped sample from which a packet is counted.
 #[derive(Clone, Copy, Debug, PartialEq, Eq)]
 pub struct Head {
-    /// Its instant, in nanoseconds of gPTP.
+    /// The instant of the stamped sample, in nanoseconds of gPTP.
     pub instant: i64,
-    /// The number of the packet's first sample, counted from the stamped one.
+    /// The number of the packet's first sample, counted from the stamped sample.
     pub first: i64,
 }
 
-/// How far before a packet the stamped sample is that the packet is counted from.
+/// The distance from a packet back to the stamped sample from which it is counted.
 #[derive(Clone, Copy, Debug, PartialEq, Eq)]
 pub struct Distance {
     /// The number of packets.
     pub packets: u32,
-    /// The number of samples from the stamped one to the packet's first.
+    /// The number of samples from the stamped sample to the packet's first.
     pub samples: u32,
 }
 
@@ -75,9 +76,9 @@ fn block_distance(dbc: u8, interval: u32, count: u32) -> Option<Distance>
 }
 
 impl HeadRule {
-    /// The sample, counted from 0, that the timestamp of a packet belongs to: the first in AAF (IEEE 1722-2016, 7), and
-    /// in IEC 61883-6 the first block whose block count is a multiple of the interval, which is 8, 16 or 32. The packet
-    /// may have fewer samples than that.
+    /// The sample, counted from 0, to which the timestamp of a packet belongs. It is the first sample in AAF (IEEE
+    /// 1722-2016, 7). In IEC 61883-6 it is the first block whose block count is a multiple of the interval, which is 8,
+    /// 16 or 32. The packet may end before that block.
     pub fn stamped_index(self) -> u32
         requires { IsRule self }
         ensures value { result ≡ stamped_index_of self }
@@ -89,8 +90,8 @@ impl HeadRule {
         }
     }
 
-    /// The block count, modulo 256, of the block that the timestamp of a packet belongs to (IEC 61883-6); none for AAF.
-    /// The interval is 8, 16 or 32.
+    /// The block count, modulo 256, of the block to which the timestamp of a packet belongs (IEC 61883-6); `None` for
+    /// AAF. The interval is 8, 16 or 32.
     pub fn stamped_block(self) -> Option<u8>
         requires { IsRule self }
         ensures { result ≡ stamped_block_of self }
@@ -103,8 +104,8 @@ impl HeadRule {
         }
     }
 
-    /// The block count of the block that a packet without a timestamp is counted from (IEC 61883-6); none for AAF. The interval
-    /// is 8, 16 or 32.
+    /// The block count of the block from which a packet without a timestamp is counted (IEC 61883-6); `None` for AAF.
+    /// The interval is 8, 16 or 32.
     pub fn counted_block(self) -> Option<u8>
         requires { IsRule self }
         ensures { result ≡ counted_block_of self }
@@ -117,11 +118,12 @@ impl HeadRule {
         }
     }
 
-    /// How far back the sample is that a packet without a timestamp is counted from. In sparse AAF it is the first of the last
-    /// packet before it whose sequence number is a multiple of 8; in IEC 61883-6 it is the last block before the packet whose
-    /// block count is a multiple of the interval. It is `None` for AAF that is not sparse, if the packet itself has the stamped
-    /// sample, and if that sample is more than 7 packets back. The packet has 1 to 65,535 samples, and the interval is 8, 16 or
-    /// 32.
+    /// The distance back to the sample from which a packet without a timestamp is counted. In sparse AAF this is the
+    /// first sample of the last packet before it whose sequence number is a multiple of 8. In IEC 61883-6 it is the
+    /// last block before the packet whose block count is a multiple of the interval.
+    ///
+    /// `None` for AAF that is not sparse, if the packet's own first sample is a stamped one, and if the stamped sample
+    /// is more than 7 packets back. The packet has 1 to 65,535 samples, and the interval is 8, 16 or 32.
     pub fn distance(self, seq: u8, count: u32) -> Option<Distance>
         requires rule { IsRule self }
         requires some { 1 ≤ count }

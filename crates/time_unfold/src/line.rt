@@ -3,7 +3,7 @@
 ghost use Rattle.std.specs.Prelude.{◌≡◌, ◌≤◌};
 ghost use Rattle.time_unfold.specs.Lines.{floor_of};
 
-/// A fraction, rounded down. Most need only a division in 64 bits.
+/// The quotient, rounded down. Most calls need only a division in 64 bits.
 #[inline(always)]
 fn floor(numerator: i128, denominator: u64) -> i128
     requires { 1 ≤ denominator }
@@ -15,8 +15,8 @@ fn floor(numerator: i128, denominator: u64) -> i128
     }
 }
 
-/// Samples at evenly spaced instants: sample 0 is at `base`, in nanoseconds of gPTP, and each later one `num / den` nanoseconds
-/// after the one before.
+/// Samples at evenly spaced instants. Sample 0 is at `base`, in nanoseconds of gPTP. Each later sample is `num / den`
+/// nanoseconds after the sample before it.
 #[derive(Clone, Copy, Debug, PartialEq, Eq)]
 pub struct Line {
     pub base: i64,
@@ -29,9 +29,9 @@ impl Line {
     ghost use Rattle.time_unfold.specs.Time.{IsInstant};
     ghost use Rattle.time_unfold.specs.Lines.{IsAt, instant_at};
 
-    /// The instant of sample `k`, rounded down to a whole nanosecond. Samples before sample 0 have a negative number.
+    /// The instant of sample `k`, rounded down to a whole nanosecond. Samples before sample 0 have negative numbers.
     ///
-    /// `den` is at least 1, and the instant is from -2^62 to below 2^63 ns.
+    /// `den` must be at least 1, and the instant must be from -2^62 to below 2^63 ns.
     pub fn at(&self, k: i64) -> i64
         requires steps { 1 ≤ self.now.den }
         requires instant { IsInstant (instant_at self.now k) }

@@ -1,4 +1,4 @@
-//! The stamped packets that samples are counted from, and what a packet without a timestamp looks for among them.
+//! The stamps from which samples are counted, and what a packet without a timestamp looks for among them.
 
 /// A packet's timestamp, as an instant.
 #[derive(Clone, Copy, Debug, PartialEq, Eq)]
@@ -15,23 +15,23 @@ pub struct Stamp {
     pub instant: i64,
 }
 
-/// The stamp that a packet without one looks for.
+/// What a packet without a timestamp looks for: the stamp from which it is counted.
 #[derive(Clone, Copy, Debug, PartialEq, Eq)]
 pub struct Want {
     /// The sequence number of the stamped packet.
     pub seq: u8,
-    /// Its media clock restart bit.
+    /// The media clock restart bit of the stamped packet.
     pub mr: bool,
-    /// The block count of its stamped block (IEC 61883-6); none for AAF.
+    /// The block count of the stamped packet's stamped block (IEC 61883-6); none for AAF.
     pub block: Option<u8>,
-    /// Its nominal rate, in Hz.
+    /// The nominal rate of the stamped packet, in Hz.
     pub rate: u32,
-    /// When the packet without a stamp was captured, in nanoseconds of gPTP.
+    /// When the packet without a timestamp was captured, in nanoseconds of gPTP.
     pub arrival: i64,
-    /// How long before its first instant a packet is expected, in nanoseconds.
+    /// The time by which a packet is expected before its first sample, in nanoseconds.
     pub lead: u32,
-    /// The number of the packet's first sample, counted from the stamped one.
+    /// The number of the first sample of the packet without a timestamp, counted from the stamped sample.
     pub back: u32,
-    /// The number of the packet's samples.
+    /// The number of samples of the packet without a timestamp.
     pub count: u32,
 }

@@ -1,4 +1,4 @@
--- The end of the list is searched.
+-- The last `room` stamps of the list are searched.
 use Rattle.std.proofs.Common.{◌-◌, Option, arith, length, drop, sym, subst}
 use Rattle.std.proofs.lemmas.List.{length-drop, take_all}
 use Rattle.time_unfold.specs.declared.stamp.Stamp.{Stamp}

@@ -1,4 +1,4 @@
--- The last stamp that is left fits and is the result, or is left out of the search.
+-- The last of the remaining stamps is the result if it fits, and is dropped otherwise.
 use Rattle.std.proofs.Common.{◌≡◌, true, false, All, List, [], sym, ap, ◌∙◌, subst}
 use Rattle.std.proofs.lemmas.List.{nil_from_length}
 use Rattle.time_unfold.specs.declared.stamp.Stamp.{Stamp}

@@ -3,7 +3,7 @@ use Rattle.time_unfold.specs.Limits.{IsStamp}
 use Rattle.time_unfold.specs.Stamps.{find_last, fits}
 use Rattle.time_unfold.proofs.head.last_fit.Given as goal
 
--- the stamps that are left hold the one that is looked for
+-- the result is found among the stamps `rest`
 abbrev pub invariant-loop-last : goal.invariant-loop-last
 invariant-loop-last l = record {
   stamps : All IsStamp l.rest;

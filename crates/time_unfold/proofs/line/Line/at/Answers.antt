@@ -1,4 +1,5 @@
--- In 128 bits nothing wraps, so the code computes `instant_at`; the lemmas say that it is the only instant of the sample.
+-- In 128 bits nothing wraps, so the code computes `instant_at`. The lemmas say that this is the only instant of the
+-- sample.
 use Rattle.std.proofs.Common.{◌≡◌, ℕ, ◌^◌, ◌<◌, ℤ, pos, ◌-◌, ◌*ℤ◌, sym, subst, arith, lit<, FitsSigned, w64, to_z, of_z}
 use Rattle.std.proofs.lemmas.Int.{ints, to_z-of_z, fits_signed_mul}
 use Rattle.std.specs.Int.{w128}
@@ -6,7 +7,7 @@ use Rattle.time_unfold.specs.Lines.{IsAt, floor_of}
 use Rattle.time_unfold.proofs.OnLine.{instant_at-at, one_at}
 use Rattle.time_unfold.proofs.line.Line.at.Goals as goal
 
--- the product of a signed and an unsigned number of 64 bits, in 128 bits
+-- the product of a signed and an unsigned 64-bit number does not wrap in 128 bits
 product : (k : ℤ) (num : ℕ) (a b : ℤ) → FitsSigned w64 k → num < 2 ^ 64 → a ≡ k → b ≡ pos num → to_z w128 (of_z w128 (to_z w128 (of_z w128 a) *ℤ to_z w128 (of_z w128 b))) ≡ k *ℤ pos num
 product k num a b fits small p q =
     let left : to_z w128 (of_z w128 a) ≡ k = omega (arith, ints) in
@@ -15,7 +16,7 @@ product k num a b fits small p q =
     fits_signed_mul w128 k (pos num) (2 ^ 63) (2 ^ 64 - 1) (omega (arith, ints)) (omega (arith, ints)) (lit< tt) in
     rw (left, right) (to_z-of_z w128 (k *ℤ pos num) within)
 
--- the steps from the base
+-- the code divides the product of `k` and `num` by `den`, and rounds down
 steps_of : (c : goal.After-floor) → c.floor.result ≡ floor_of (c.args.k *ℤ pos c.args.self.now.num) c.args.self.now.den
 steps_of c =
     let k : c.from.result ≡ c.args.k = omega (arith, ints) in
