@@ -128,7 +128,7 @@ aaf_spelled bytes e =
       reserved = refl;
     }
 
--- packets with equal fields are equal
+-- the packet with these fields
 abbrev packet : StreamHeader → AafFormat → ℕ → ℕ → ℕ → Bool → ℕ → ℕ → List ℕ → Bool → Aaf
 packet header format nsr channels depth sparse evt count payload reserved = record {
   header = header;
@@ -148,7 +148,7 @@ same_packet : (a a' : StreamHeader) (b b' : AafFormat) (c c' d d' e e' : ℕ) (f
     → packet a b c d e f g h i j ≡ packet a' b' c' d' e' f' g' h' i' j'
 same_packet a a' b b' c c' d d' e e' f f' g g' h h' i i' j j' p q r s t u v w x y = rw (p, q, r, s, t, u, v, w, x, y) refl
 
--- What the bits of the bytes are, if these spell the packet.
+-- If the bytes spell the packet, their bits are its fields.
 record Fields (bytes : List ℕ) (v : Aaf) : Type 0 where
   subtype : bits 0 0 8 bytes ≡ v.header.subtype
   version : bits 1 1 3 bytes ≡ 0
@@ -242,7 +242,8 @@ accepted_again bytes v whole j long =
     ) in
     or_else-accepted _ _ (or_else-accepted _ _ start shared) (or_else-accepted _ _ samples lengths)
 
--- bytes that hold what a writer puts into the header, followed by the payload, spell the packet with reserved bits 0
+-- if bytes hold the header as the writer writes it, and then the payload, they spell the packet with every reserved bit
+-- 0
 held : (bytes : List ℕ) (v : Aaf) → IsWritableAaf v → Holds aaf_layout v bytes → 24 + v.header.data_length ≤ length bytes
     → v.payload ≡ take v.header.data_length (drop 24 bytes) → SpellsAaf bytes (plain_aaf v)
 held bytes v whole f long payload =
@@ -263,7 +264,7 @@ aaf_again v rest whole fits =
     omega (arith, length-append (spelling aaf_layout v) (v.payload ++ rest), length-append v.payload rest, whole.data_length) in
     rw regrouped (held (spelling aaf_layout v ++ (v.payload ++ rest)) v whole f long (sym (take_at v.payload rest v.header.data_length (sym whole.data_length))))
 
--- ---- the bytes of the format's own bits
+-- ---- the bytes of the bits that only this format has
 
 code-below : (f : AafFormat) → code_of f < 5
 code-below Float32 = omega arith
@@ -271,7 +272,7 @@ code-below Int32 = omega arith
 code-below Int24 = omega arith
 code-below Int16 = omega arith
 
--- The bounds of the numbers in a packet whose fields fit their bits.
+-- The bounds of the numbers in a packet whose fields fit into their bits.
 record Bounds (v : Aaf) : Type 0 where
   nsr : v.nsr < 16
   channels : v.channels < 1024
@@ -331,7 +332,7 @@ fits_whole v samples flags whole (subtype, (second, (seq, (tu, (id, (timestamp, 
       ),
     )
 
--- ---- bytes without a set reserved bit and without trailing bytes are those that are written for their packet
+-- ---- bytes that set no reserved bit and end with their packet are the bytes that are written for it
 
 pub aaf_only : (bytes : List ℕ) (v : Aaf) → AreBytes bytes → SpellsAaf bytes v → v.reserved ≡ false → length bytes ≡ 24 + v.header.data_length
     → bytes ≡ aaf_spelling v

@@ -40,14 +40,14 @@ aaf_shape v = record {
   reserved = v.reserved;
 }
 
--- the value of byte 16 of a packet for a format of samples
+-- byte 16 of a packet with samples of this format
 abbrev pub code_of : AafFormat → ℕ
 code_of Float32 = 1
 code_of Int32 = 2
 code_of Int24 = 3
 code_of Int16 = 4
 
--- the format of samples that a byte names, if it is a PCM format
+-- the format of samples that byte 16 names; `None` if this is no PCM format
 abbrev pub named_format : ℕ → Option AafFormat
 named_format code =
     if code == 1 then Some Float32 else
@@ -62,7 +62,7 @@ width_of Int32 = 4
 width_of Int24 = 3
 width_of Int16 = 2
 
--- the sample rate in Hz that a code (nsr) names
+-- the sample rate in Hz that the code `nsr` names; `None` for other codes and for 0, which means user-specified
 abbrev pub rate_of : ℕ → Option ℕ
 rate_of nsr =
     if nsr == 1 then Some 8000 else
@@ -76,11 +76,12 @@ rate_of nsr =
     if nsr == 9 then Some 192000 else
     if nsr == 10 then Some 24000 else None
 
--- the format of samples that byte 16 of a packet names, or Int16 if it names none, which is refused
+-- The format of samples that byte 16 of a packet names. It is Int16 if byte 16 names no PCM format, but such a packet
+-- is refused.
 abbrev pub format_of : List ℕ → AafFormat
 format_of bytes = unwrap_or (named_format (bits 16 0 8 bytes)) Int16
 
--- the size in bytes of a sample frame, which has one sample of each channel
+-- the size in bytes of a sample frame, which has one sample for each channel
 abbrev pub frame_size : ℕ → AafFormat → ℕ
 frame_size channels format = channels * width_of format
 
@@ -98,7 +99,7 @@ aaf_layout = stream_layout (λ v. v.header)
 abbrev pub sets_reserved : List ℕ → Bool
 sets_reserved bytes = any_set (reserved_ranges aaf_layout) bytes
 
--- The rows of format, sample rate, channels and bit depth, in this order; they come after those that all formats share.
+-- The rows of format, sample rate, channels and bit depth, in this order. They follow the rows that all formats share.
 abbrev pub sample_rows : List ℕ → List Row
 sample_rows bytes =
     row Format 16 (is_none (named_format (bits 16 0 8 bytes))) ∷
@@ -106,22 +107,22 @@ sample_rows bytes =
     row ChannelsPerFrame 17 (bits 17 6 10 bytes == 0) ∷
     row BitDepth 19 (nat_lt (8 * width_of (format_of bytes)) (bits 19 0 8 bytes)) ∷ []
 
--- the rows of the stated length, which come last: it is more than what follows the header, or not a whole number of sample
--- frames
+-- The rows of the stated length, which come last. They refuse a length that exceeds the bytes after the header, or is
+-- not a whole number of sample frames.
 abbrev pub length_rows : List ℕ → List Row
 length_rows bytes =
     row StreamDataLength 20 (exceeds 24 (bits 20 0 16 bytes) (length bytes)) ∷
     row StreamDataLength 20
     (not (bits 20 0 16 bytes % frame_size (bits 17 6 10 bytes) (format_of bytes) == 0)) ∷ []
 
--- Why bytes are not a PCM packet. In a packet that is cut off, bytes 16 to 19, 22 and 23 are refused by their names in the
--- stream header: `format_data` and `format_flags`.
+-- Why the bytes are refused as a PCM packet; `None` if they are accepted. If a packet is cut off in bytes 16 to 19, or
+-- in bytes 22 and 23, the refusal names the field `format_data` or `format_flags` of the stream header.
 abbrev pub aaf_refusal : List ℕ → Option Refusal
 aaf_refusal bytes =
     or_else (kind_refusal aaf_subtype bytes)
     (or_else (first_row (sample_rows bytes)) (first_row (length_rows bytes)))
 
--- The bytes spell this PCM packet; anything may follow its stated length.
+-- The bytes spell this PCM packet. Any bytes may follow the stated length.
 pub record SpellsAaf (bytes : List ℕ) (v : Aaf) : Type 0 where
   pub accepted : aaf_refusal bytes ≡ None
   pub fields : Spells aaf_layout v bytes
@@ -144,7 +145,7 @@ aaf_of bytes = record {
   reserved = sets_reserved bytes;
 }
 
--- a PCM packet that can be written: no row refuses it, and its count and its length are those of its payload
+-- a PCM packet that can be written: no row refuses it, and its count and its stated length are those of its payload
 pub record IsWritableAaf (v : Aaf) : Type 0 where
   pub subtype : v.header.subtype ≡ aaf_subtype
   pub nsr : v.nsr ≤ 10

@@ -2,7 +2,7 @@
 
 use avtp_header::StreamHeader;
 
-/// The format of a sample, whose highest byte comes first.
+/// The format of a sample. The highest byte comes first.
 #[derive(Clone, Copy, Debug, PartialEq, Eq)]
 pub enum AafFormat {
     Float32,
@@ -20,7 +20,7 @@ pub struct AafView<'a> {
     pub nsr: u8,
     /// The channels of each sample frame, 1 to 1023.
     pub channels: u16,
-    /// The bits of a sample that are used; 0 means all.
+    /// The number of used bits of a sample; 0 means all.
     pub depth: u8,
     /// Sparse timestamp mode: one packet in eight has a timestamp.
     pub sparse: bool,
@@ -28,7 +28,7 @@ pub struct AafView<'a> {
     pub evt: u8,
     /// The number of sample frames.
     pub count: u32,
-    /// The samples, channel by channel in each sample frame.
+    /// The samples. Each sample frame has one sample for each channel, in order.
     pub payload: &'a [u8],
     /// A reserved bit is set.
     pub reserved: bool,

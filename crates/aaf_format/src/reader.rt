@@ -12,8 +12,8 @@ use avtp_base::rows::refused;
 use avtp_base::{Field, Refusal};
 use avtp_header::{StreamHeader, exceeds, read_header_of, subtype};
 
-/// The sample rate in Hz of a nominal sample rate code. `None` for 0, which means user-specified, and for codes above
-/// 10, which are reserved.
+/// The sample rate in Hz that the code `nsr` names. `None` for 0, which means user-specified, and for codes above 10,
+/// which are reserved.
 pub fn rate_of(nsr: u8) -> Option<u32>
     ensures { result ≡ rate_of_code nsr }
 {
