@@ -226,7 +226,7 @@ same_packet : (a a' : StreamHeader) (b b' c c' d d' e e' : ℕ) (f f' : Cip) (g 
     → packet a b c d e f g h i ≡ packet a' b' c' d' e' f' g' h' i'
 same_packet a a' b b' c c' d d' e e' f f' g g' h h' i i' p q r s t u v w x = rw (p, q, r, s, t, u, v, w, x) refl
 
--- What the bits of the bytes are, if these spell the packet.
+-- If the bytes spell the packet, their bits are its fields.
 record Fields (bytes : List ℕ) (v : Iec) : Type 0 where
   subtype : bits 0 0 8 bytes ≡ v.header.subtype
   version : bits 1 1 3 bytes ≡ 0
@@ -379,7 +379,8 @@ accepted_again bytes v whole j long =
     or_else-accepted _ _ (or_else-accepted _ _ start shared)
     (or_else-accepted _ _ carrier (or_else-accepted _ _ first (or_else-accepted _ _ second blocks)))
 
--- bytes that hold what a writer puts into the headers, followed by the payload, spell the packet with reserved bits 0
+-- if bytes hold the headers as the writer writes them, and then the payload, they spell the packet with every reserved
+-- bit 0
 held : (bytes : List ℕ) (v : Iec) → IsWritableIec v → Holds iec_layout v bytes → 24 + v.header.data_length ≤ length bytes
     → v.payload ≡ take (v.header.data_length - 8) (drop 32 bytes) → SpellsIec bytes (plain_iec v)
 held bytes v whole f long payload =
@@ -407,7 +408,7 @@ iec_again v rest whole fits =
     let size : length v.payload ≡ v.header.data_length - 8 = omega (arith, whole.data_length) in
     rw regrouped (held (spelling iec_layout v ++ (v.payload ++ rest)) v whole f long (sym (take_at v.payload rest (v.header.data_length - 8) size)))
 
--- ---- the bytes of the format's own bits
+-- ---- the bytes of the bits that only this format has
 
 pub cip_fits : (c : Cip) → c.sid < 2 ^ 6 → c.dbs ≤ 256 → c.dbc < 256 → c.fdf < 256 → c.syt < 65536 → Fits (cip_layout (λ (c : Cip). c)) c
 cip_fits c sid dbs dbc fdf syt = (
@@ -437,7 +438,7 @@ fits_whole v gv info flags whole e (subtype, ((sv, (version, (mr, (_, tv)))), (s
   ),
 )
 
--- ---- bytes without a set reserved bit and without trailing bytes are those that are written for their packet
+-- ---- bytes that set no reserved bit and end with their packet are the bytes that are written for it
 
 pub iec_only : (bytes : List ℕ) (v : Iec) → AreBytes bytes → SpellsIec bytes v → v.reserved ≡ false → length bytes ≡ 24 + v.header.data_length
     → bytes ≡ iec_spelling v

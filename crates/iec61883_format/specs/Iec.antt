@@ -1,6 +1,6 @@
--- IEC 61883-6 packets in AVTP: the encapsulation of IEEE 1722-2016, 5, and the CIP header of IEC 61883-1, two quadlets after
--- the stream header. Which packets are accepted is this project's profile: audio blocks with nothing split or packed, and
--- no-data packets.
+-- IEC 61883-6 packets in AVTP: the encapsulation of IEEE 1722-2016, 5, and the CIP header of IEC 61883-1, which is two
+-- quadlets after the stream header. This project's profile says which packets are accepted: audio blocks with nothing
+-- split or packed, and no-data packets.
 use Rattle.std.specs.Prelude.{◌≡◌, ◌⊎◌, ℕ, ◌+◌, ◌-◌, ◌*◌, ◌/◌, ◌%◌, ◌==◌, ◌^◌, ◌<◌, ◌≤◌, Bool, false, not, ◌&&◌, ◌||◌, nat_lt, if◌then◌else◌, List, [], ◌∷◌, ◌++◌, length, take, drop, Option, Some, None}
 use Rattle.time_unfold.specs.declared.head_rule.HeadRule.TheVariants.{Blocks}
 use Rattle.time_unfold.specs.Heads.{stamped_index}
@@ -47,7 +47,7 @@ iec_shape v = record {
 abbrev pub cip_tag : ℕ
 cip_tag = 1
 
--- the two bits that mark the second quadlet of the CIP header; those of the first are 0 (IEC 61883-1)
+-- the two bits that mark the second quadlet of the CIP header; the same bits of the first quadlet are 0 (IEC 61883-1)
 abbrev pub second_mark : ℕ
 second_mark = 2
 
@@ -59,11 +59,12 @@ audio_format = 0x10
 abbrev pub no_data : ℕ
 no_data = 255
 
--- the number of quadlets in a data block, from the byte DBS: 256 does not fit a byte, so 0 means 256 (IEC 61883-1)
+-- The number of quadlets in a data block, from the byte DBS. 256 does not fit into a byte, so 0 means 256 (IEC
+-- 61883-1).
 abbrev pub dbs_of : ℕ → ℕ
 dbs_of byte = if byte == 0 then 256 else byte
 
--- the byte DBS of data blocks of 1 to 256 quadlets
+-- the byte DBS for data blocks of `dbs` quadlets, 1 to 256
 abbrev pub dbs_byte : ℕ → ℕ
 dbs_byte dbs = if dbs == 256 then 0 else dbs
 
@@ -78,7 +79,7 @@ rate_of_fdf fdf =
     if fdf == 5 then Some 176400 else
     if fdf == 6 then Some 192000 else None
 
--- the SYT_INTERVAL of an FDF: one in this many data blocks has a timestamp (IEC 61883-6)
+-- the SYT_INTERVAL of an FDF: one data block in this many has a timestamp (IEC 61883-6)
 abbrev pub syt_interval : ℕ → Option ℕ
 syt_interval fdf =
     if fdf == 0 then Some 8 else
@@ -93,8 +94,8 @@ syt_interval fdf =
 abbrev pub IsSytInterval : ℕ → Type 0
 IsSytInterval interval = (interval ≡ 8) ⊎ (interval ≡ 16) ⊎ (interval ≡ 32)
 
--- The data block that the packet's timestamp belongs to, counted from 0: the first whose block count is a multiple of
--- the interval, in a packet whose first data block has the count `dbc`.
+-- The data block to which the packet's timestamp belongs, counted from 0. It is the first whose block count is a
+-- multiple of the interval. The packet's first data block has the count `dbc`.
 abbrev pub anchor_index : ℕ → ℕ → ℕ
 anchor_index dbc interval = stamped_index (Blocks dbc interval)
 
@@ -102,15 +103,16 @@ anchor_index dbc interval = stamped_index (Blocks dbc interval)
 abbrev pub block_size : ℕ → ℕ
 block_size dbs = 4 * dbs
 
--- how many of the `size` bytes after the CIP header belong to data blocks: all of them, or none in a no-data packet
+-- the number of the `size` bytes after the CIP header that belong to data blocks: all of them, or none in a no-data
+-- packet
 abbrev pub data_size : ℕ → ℕ → ℕ
 data_size fdf size = if fdf == no_data then 0 else size
 
 -- ---- the table
 
--- The table of the CIP header (IEC 61883-1), for a view that has one: two quadlets, in bytes 24 to 31. FN, QPC and SPH
--- are 0, so data is neither split nor packed nor stamped. A packet that ends within this header is refused by the
--- stated length.
+-- The table of the CIP header (IEC 61883-1), two quadlets in bytes 24 to 31, for a view that has such a header. FN, QPC
+-- and SPH are 0, so data is neither split nor packed, and has no source packet headers. A packet that ends within this
+-- header is refused for its stated length.
 abbrev pub cip_layout : {V : Type 0} → (V → Cip) → Layout V
 cip_layout cip =
     part StreamDataLength 24 (holds 2 (λ v. 0) ∷ holds 6 (λ v. (cip v).sid) ∷ []) ∷
@@ -122,7 +124,7 @@ cip_layout cip =
     part StreamDataLength 30 (holds 16 (λ v. (cip v).syt) ∷ []) ∷ []
 
 -- The table of an IEC 61883-6 packet. The first of the two format bits of the stream header is reserved, and a view
--- shows it; the second says whether `gateway_info` is valid.
+-- shows it. The second says whether `gateway_info` is valid.
 abbrev pub iec_layout : Layout Iec
 iec_layout = stream_layout (λ v. v.header)
     (reserved_shown 1 (λ v. v.header.format_bits / 2) ∷ holds 1 (λ v. v.header.format_bits % 2) ∷ [])
@@ -137,15 +139,16 @@ sets_reserved bytes = any_set (reserved_ranges iec_layout) bytes
 
 -- ---- the rows
 
--- The rows of the encapsulation, after those that all formats share: the tag is not that of a CIP header; the stated
--- length is less than a CIP header or more than what follows the stream header.
+-- The rows of the encapsulation, which follow those that all formats share. They refuse a tag that is not that of a CIP
+-- header. They refuse a stated length that is less than a CIP header, or exceeds the bytes after the stream header.
 abbrev pub carrier_rows : List ℕ → List Row
 carrier_rows bytes =
     row Tag 22 (not (bits 22 0 2 bytes == cip_tag)) ∷
     row StreamDataLength 20
     (nat_lt (bits 20 0 16 bytes) 8 || exceeds 24 (bits 20 0 16 bytes) (length bytes)) ∷ []
 
--- the rows of the first quadlet of the CIP header, after those of the encapsulation: QI_1, FN, QPC or SPH is not 0
+-- The rows of the first quadlet of the CIP header, which follow those of the encapsulation. They refuse a QI_1, FN, QPC
+-- or SPH other than 0.
 abbrev pub first_quadlet_rows : List ℕ → List Row
 first_quadlet_rows bytes =
     row Qi1 24 (not (bits 24 0 2 bytes == 0)) ∷
@@ -153,40 +156,40 @@ first_quadlet_rows bytes =
     row Qpc 26 (not (bits 26 2 3 bytes == 0)) ∷
     row Sph 26 (not (bits 26 5 1 bytes == 0)) ∷ []
 
--- the rows of the second quadlet of the CIP header, after those of the first: QI_2 is not 2, FMT is not audio, or FDF is
--- neither that of a rate nor that of no data
+-- The rows of the second quadlet of the CIP header, which follow those of the first. They refuse a QI_2 other than 2,
+-- an FMT other than audio, and an FDF that names neither a rate nor no data.
 abbrev pub second_quadlet_rows : List ℕ → List Row
 second_quadlet_rows bytes =
     row Qi2 28 (not (bits 28 0 2 bytes == second_mark)) ∷
     row Fmt 28 (not (bits 28 2 6 bytes == audio_format)) ∷
     row Fdf 29 (nat_lt 6 (bits 29 0 8 bytes) && not (bits 29 0 8 bytes == no_data)) ∷ []
 
--- how many bytes all data blocks of a packet have together, given its stated length and its FDF
+-- the number of bytes of all data blocks of a packet together, from its stated length and its FDF
 abbrev pub stated_data : List ℕ → ℕ
 stated_data bytes = data_size (bits 29 0 8 bytes) (bits 20 0 16 bytes - 8)
 
--- how many bytes each data block of a packet has, given its DBS
+-- the number of bytes of each data block of a packet, from its DBS
 abbrev pub stated_block : List ℕ → ℕ
 stated_block bytes = block_size (dbs_of (bits 25 0 8 bytes))
 
--- the row of the data blocks, which comes last: they do not fill the stated length
+-- the row of the data blocks, which comes last: it refuses a stated length that is not filled by whole data blocks
 abbrev pub block_rows : List ℕ → List Row
 block_rows bytes = row StreamDataLength 20 (not (stated_data bytes % stated_block bytes == 0)) ∷ []
 
--- the first refusal of a packet by its CIP header or its data blocks
+-- why a packet is refused for its CIP header or its data blocks; `None` if it is not
 abbrev pub cip_refusal : List ℕ → Option Refusal
 cip_refusal bytes =
     or_else (first_row (first_quadlet_rows bytes))
     (or_else (first_row (second_quadlet_rows bytes)) (first_row (block_rows bytes)))
 
--- why bytes are refused as an IEC 61883-6 packet
+-- why the bytes are refused as an IEC 61883-6 packet; `None` if they are accepted
 abbrev pub iec_refusal : List ℕ → Option Refusal
 iec_refusal bytes =
     or_else (kind_refusal iec_subtype bytes) (or_else (first_row (carrier_rows bytes)) (cip_refusal bytes))
 
 -- ---- packets
 
--- The bytes spell this IEC 61883-6 packet; anything may follow its stated length.
+-- The bytes spell this IEC 61883-6 packet. Any bytes may follow the stated length.
 pub record SpellsIec (bytes : List ℕ) (v : Iec) : Type 0 where
   pub accepted : iec_refusal bytes ≡ None
   pub fields : Spells iec_layout v bytes
@@ -223,7 +226,8 @@ iec_of bytes = record {
 abbrev pub IsFdf : ℕ → Type 0
 IsFdf fdf = (fdf ≤ 6) ⊎ (fdf ≡ no_data)
 
--- an IEC 61883-6 packet that can be written: no row refuses it, and its count and its length are those of its payload
+-- an IEC 61883-6 packet that can be written: no row refuses it, and its count and its stated length are those of its
+-- payload
 pub record IsWritableIec (v : Iec) : Type 0 where
   pub subtype : v.header.subtype ≡ iec_subtype
   pub channel : v.channel < 2 ^ 6

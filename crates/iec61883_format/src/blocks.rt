@@ -1,4 +1,4 @@
-//! The rates of data blocks, and the block that a packet's timestamp belongs to.
+//! The rates of data blocks, and the block to which a packet's timestamp belongs.
 
 ghost use Rattle.std.specs.Prelude.{◌≡◌, ◌+◌, ◌%◌, ◌<◌, ◌↔◌, IfSome, IsNone};
 ghost use Rattle.iec61883_format.specs.Iec.{IsSytInterval, anchor_index as index_of_anchor, rate_of_fdf as rate_of, syt_interval as interval_of};
@@ -22,7 +22,7 @@ pub fn rate_of_fdf(fdf: u8) -> Option<u32>
     })
 }
 
-/// The SYT_INTERVAL of an FDF: one in this many data blocks has a timestamp (IEC 61883-6). `None` for codes above 6.
+/// The SYT_INTERVAL of an FDF: one data block in this many has a timestamp (IEC 61883-6). `None` for codes above 6.
 pub fn syt_interval(fdf: u8) -> Option<u32>
     ensures exact { result ≡ interval_of fdf }
     ensures none { IsNone result ↔ (6 < fdf) }
@@ -36,9 +36,9 @@ pub fn syt_interval(fdf: u8) -> Option<u32>
     })
 }
 
-/// The data block, counted from 0, that the timestamp of a packet belongs to: the first whose block count is a multiple of
-/// SYT_INTERVAL, if the packet's first block has the count `dbc`. The packet may end before that block. The interval is 8, 16
-/// or 32.
+/// The data block, counted from 0, to which the timestamp of a packet belongs. It is the first whose block count is a
+/// multiple of the interval, if the packet's first block has the count `dbc`. The packet may end before that block. The
+/// interval is 8, 16 or 32.
 pub fn anchor_index(dbc: u8, interval: u32) -> u32
     requires { IsSytInterval interval }
     ensures exact { result ≡ index_of_anchor dbc interval }

@@ -2,10 +2,10 @@
 
 use avtp_header::StreamHeader;
 
-/// The header of a common isochronous packet (IEC 61883-1), without the bits that are equal in all packets that are read.
+/// The header of a common isochronous packet (IEC 61883-1), without the bits that are equal in all accepted packets.
 #[derive(Clone, Copy, Debug, PartialEq, Eq)]
 pub struct Cip {
-    /// The source's node on its bus, 0 to 63.
+    /// The node ID of the source on its bus, 0 to 63.
     pub sid: u8,
     /// The quadlets of each data block, 1 to 256.
     pub dbs: u16,
@@ -20,21 +20,21 @@ pub struct Cip {
 /// An IEC 61883-6 packet.
 #[derive(Clone, Copy, Debug)]
 pub struct IecView<'a> {
-    /// The stream header. The higher of its two format bits is reserved; the lower one means that `gateway_info` is
+    /// The stream header. The higher of its two format bits is reserved. The lower one means that `gateway_info` is
     /// valid.
     pub header: StreamHeader,
     pub gateway_info: u32,
-    /// The channel of the bus, 0 to 63; 31 for a stream that comes from no bus.
+    /// The channel of the bus, 0 to 63; 31 for a stream that originates on no bus.
     pub channel: u8,
     /// The transaction code of the bus, 0 to 15.
     pub tcode: u8,
     /// The synchronization code of the upper layer, 0 to 15.
     pub sy: u8,
     pub cip: Cip,
-    /// The number of data blocks; 0 in a no-data packet, whatever follows its CIP header.
+    /// The number of data blocks. It is 0 in a no-data packet, whatever follows the CIP header.
     pub count: u32,
-    /// What follows the CIP header: the data blocks one after the other, each of `cip.dbs` quadlets of a label byte and
-    /// 24 bits.
+    /// The bytes after the CIP header: the data blocks, one after the other. Each quadlet of a block is a label byte
+    /// and 24 bits.
     pub payload: &'a [u8],
     /// A reserved bit is set.
     pub reserved: bool,

@@ -23,7 +23,7 @@ fn dbs_of(byte: u8) -> u16
     if byte == 0 { 256 } else { u16::from(byte) }
 }
 
-/// How many of the `size` bytes after the CIP header belong to data blocks.
+/// The number of the `size` bytes after the CIP header that belong to data blocks.
 fn data_size(fdf: u8, size: u32) -> u32
     ensures { result ≡ data_size_of fdf size }
 {
@@ -83,7 +83,7 @@ fn refused_by_second_quadlet(pdu: &[u8]) -> Option<Refusal>
     None
 }
 
-/// The refusal of the stated length if data blocks of `block` bytes do not fill its part for data.
+/// The refusal of the stated length if its part for data is not filled by whole data blocks of `block` bytes.
 fn refused_by_blocks(pdu: &[u8], data_bytes: u32, block: u32) -> Option<Refusal>
     requires some { 0 < block }
     requires all { data_bytes ≡ stated_data pdu.now }
@@ -165,11 +165,12 @@ fn read_packet(pdu: &[u8]) -> Result<IecView<'_>, Refusal>
 
 /// Reads an IEC 61883-6 packet.
 ///
-/// Refuses the first of these that applies, in this order: a field of the stream header that the slice cuts off; a subtype
-/// other than IEC 61883; a version other than 0; a tag other than 1; a stated length below that of a CIP header, or beyond the
-/// end of the slice; in the CIP header `qi_1` other than 0, `fn`, `qpc` or `sph` other than 0, `qi_2` other than 2, a format
-/// other than audio, an FDF that is neither that of a rate nor 255; data that is not a multiple of a data block, unless the
-/// packet is a no-data packet. Accepts set reserved bits, and ignores what follows the stated length.
+/// Refuses the first of these that applies, in this order: a field of the stream header that the slice cuts off; a
+/// subtype other than IEC 61883; a version other than 0; a tag other than 1; a stated length below that of a CIP
+/// header, or beyond the end of the slice; a `qi_1`, `fn`, `qpc` or `sph` of the CIP header other than 0; a `qi_2`
+/// other than 2; a format other than audio; an FDF that is neither that of a rate nor 255; data that is not a whole
+/// number of data blocks, except in a no-data packet. Accepts set reserved bits, and ignores what follows the stated
+/// length.
 #[inline(always)]
 pub fn read_iec(pdu: &[u8]) -> Result<IecView<'_>, Refusal>
     ensures exact { Reads iec_shape (iec_refusal pdu.now) (iec_of pdu.now) result }
