@@ -86,7 +86,7 @@ crf_spelled bytes e =
       reserved = refl;
     }
 
--- What the bits of the bytes are, if these spell the packet.
+-- If the bytes spell the packet, their bits are its fields.
 record Fields (bytes : List ℕ) (v : Crf) : Type 0 where
   subtype : bits 0 0 8 bytes ≡ crf_subtype
   sv : bits 1 0 1 bytes ≡ flag v.sv
@@ -217,7 +217,7 @@ accepted_again bytes v whole j long =
     ) in
     or_else-accepted _ _ start (or_else-accepted _ _ shared clock)
 
--- bytes that hold what a writer puts into the header, followed by the payload, spell the packet with the reserved bit 0
+-- if bytes hold the header as the writer writes it, and then the payload, they spell the packet with the reserved bit 0
 held : (bytes : List ℕ) (v : Crf) → IsWritableCrf v → Holds crf_layout v bytes → 20 + length v.payload ≤ length bytes
     → v.payload ≡ take (length v.payload) (drop 20 bytes) → SpellsCrf bytes (plain_crf v)
 held bytes v whole f long payload =
@@ -238,7 +238,7 @@ crf_again v rest whole fits =
     omega (arith, length-append (spelling crf_layout v) (v.payload ++ rest), length-append v.payload rest) in
     rw regrouped (held (spelling crf_layout v ++ (v.payload ++ rest)) v whole f long (sym (take_at v.payload rest (length v.payload) refl)))
 
--- ---- bytes without a set reserved bit and without trailing bytes are those that are written for their packet
+-- ---- bytes that set no reserved bit and end with their packet are the bytes that are written for it
 
 pub crf_only : (bytes : List ℕ) (v : Crf) → AreBytes bytes → SpellsCrf bytes v → v.reserved ≡ false → length bytes ≡ 20 + length v.payload
     → bytes ≡ crf_spelling v

@@ -1,4 +1,5 @@
--- Packets of the clock reference format (IEEE 1722-2016, 10). They have a header of their own, of 20 bytes.
+-- Packets of the clock reference format (IEEE 1722-2016, 10). Their header has 20 bytes and differs from the stream
+-- header.
 use Rattle.std.specs.Prelude.{◌≡◌, ℕ, ◌*◌, ◌%◌, ◌==◌, ◌^◌, ◌<◌, ◌≤◌, Bool, false, not, ◌||◌, nat_lt, List, [], ◌∷◌, ◌++◌, length, take, drop, Option, None}
 use Rattle.avtp_base.specs.declared.field.Field.TheVariants.{Subtype, Version, SequenceNum, CrfType, StreamId, Pull, BaseFrequency, CrfDataLength, TimestampInterval}
 use Rattle.avtp_base.specs.declared.refusal.Refusal.{Refusal}
@@ -69,11 +70,12 @@ point_at i payload = bits (8 * i) 0 64 payload
 
 -- ---- the rows
 
--- the largest code of pull, which names a factor of the base frequency
+-- the largest code of pull; each code names a factor of the base frequency
 abbrev pub last_pull : ℕ
 last_pull = 5
 
--- a stated length is 0, is not a multiple of a timestamp's 8 bytes, or exceeds the bytes that follow the header of n bytes
+-- in a packet of n bytes, the stated length is 0, is not a multiple of a timestamp's 8 bytes, or exceeds what follows
+-- the 20-byte header
 abbrev pub misses_timestamps : ℕ → ℕ → Bool
 misses_timestamps stated n = stated == 0 || not (stated % 8 == 0) || exceeds 20 stated n
 
@@ -81,8 +83,8 @@ misses_timestamps stated n = stated == 0 || not (stated % 8 == 0) || exceeds 20 
 abbrev pub shared_rows : List ℕ → List Row
 shared_rows bytes = subtype_row crf_subtype bytes ∷ version_row bytes ∷ []
 
--- the rows of pull, base frequency, stated length and timestamp interval, in this order; they come after the shared
--- ones
+-- The rows of pull, base frequency, stated length and timestamp interval, in this order. They follow the rows that all
+-- formats share.
 abbrev pub clock_rows : List ℕ → List Row
 clock_rows bytes =
     row Pull 12 (nat_lt last_pull (bits 12 0 3 bytes)) ∷
@@ -90,7 +92,7 @@ clock_rows bytes =
     row CrfDataLength 16 (misses_timestamps (bits 16 0 16 bytes) (length bytes)) ∷
     row TimestampInterval 18 (bits 18 0 16 bytes == 0) ∷ []
 
--- why bytes are not a clock reference packet
+-- why the bytes are refused as a clock reference packet; `None` if they are accepted
 abbrev pub crf_refusal : List ℕ → Option Refusal
 crf_refusal bytes =
     or_else (first_short crf_layout (length bytes))
@@ -98,7 +100,7 @@ crf_refusal bytes =
 
 -- ---- packets
 
--- The bytes spell this clock reference packet; anything may follow its stated length.
+-- The bytes spell this clock reference packet. Any bytes may follow the stated length.
 pub record SpellsCrf (bytes : List ℕ) (v : Crf) : Type 0 where
   pub accepted : crf_refusal bytes ≡ None
   pub fields : Spells crf_layout v bytes

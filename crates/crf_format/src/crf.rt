@@ -3,9 +3,9 @@
 /// A packet of timestamps of a media clock.
 #[derive(Clone, Copy, Debug)]
 pub struct CrfView<'a> {
-    /// The stream id is valid.
+    /// The stream ID is valid.
     pub sv: bool,
-    /// The media clock restart: it toggles when the source of the media clock changes.
+    /// The media clock restart bit. It toggles when the source of the media clock changes.
     pub mr: bool,
     /// Frame synchronization.
     pub fs: bool,
@@ -24,7 +24,7 @@ pub struct CrfView<'a> {
     pub base_frequency: u32,
     /// The number of events from each timestamp to the next, at least 1.
     pub interval: u16,
-    /// The timestamps one after the other, each of 8 bytes, as `point` reads them: at least one.
+    /// The timestamps in order, each of 8 bytes, as `point` reads them. There is at least one.
     pub payload: &'a [u8],
     /// A reserved bit is set.
     pub reserved: bool,

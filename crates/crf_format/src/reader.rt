@@ -12,7 +12,7 @@ use avtp_base::rows::{cut_off, refused};
 use avtp_base::{Field, Refusal};
 use avtp_header::{exceeds, subtype};
 
-/// The refusal of a packet of `len` bytes by the first field of the header that is cut off.
+/// The refusal of a packet of `len` bytes for the first header field that is cut off.
 fn short_field(len: usize) -> Option<Refusal>
     ensures exact { result ≡ first_short crf_layout len }
     ensures whole { IfNone result (20 ≤ len) }
@@ -53,8 +53,8 @@ fn base_frequency(pdu: &[u8]) -> u32
     u32_at(pdu, 12) % (1 << 29)
 }
 
-/// Whether a stated length is not that of one or more whole timestamps, or exceeds the bytes that a packet of `len` bytes has
-/// after its header.
+/// Whether a stated length is not that of one or more whole timestamps, or exceeds the bytes after the header of a
+/// packet of `len` bytes.
 fn misses_timestamps(stated: u16, len: usize) -> bool
     requires { 20 ≤ len }
     ensures { result ≡ is_missed stated len }
@@ -121,10 +121,10 @@ fn read_packet(pdu: &[u8]) -> Result<CrfView<'_>, Refusal>
 
 /// Reads a packet of the clock reference format, of any type.
 ///
-/// Refuses the first of these that applies, in this order: a field of the header that the slice cuts off; a subtype other than
-/// CRF; a version other than 0; a reserved pull code; a base frequency of 0; a stated length that is 0, not a multiple of a
-/// timestamp, or beyond the end of the slice; an interval of 0. Accepts a set reserved bit, and ignores what follows the stated
-/// length.
+/// Refuses the first of these that applies, in this order: a field of the header that the slice cuts off; a subtype
+/// other than CRF; a version other than 0; a reserved pull code; a base frequency of 0; a stated length that is 0, not
+/// a multiple of 8 bytes, or beyond the end of the slice; an interval of 0. Accepts a set reserved bit, and ignores
+/// what follows the stated length.
 #[inline(always)]
 pub fn read_crf(pdu: &[u8]) -> Result<CrfView<'_>, Refusal>
     ensures exact { Reads crf_shape (crf_refusal pdu.now) (crf_of pdu.now) result }
@@ -135,8 +135,8 @@ pub fn read_crf(pdu: &[u8]) -> Result<CrfView<'_>, Refusal>
     read_packet(pdu)
 }
 
-/// Timestamp `i` of the packet, counted from 0, in nanoseconds of gPTP. The packet must have it: the payload has at least
-/// `8 * i + 8` bytes.
+/// Timestamp `i` of the packet, counted from 0, in nanoseconds of gPTP. The payload must have at least `8 * i + 8`
+/// bytes.
 pub fn point(view: &CrfView<'_>, i: usize) -> u64
     requires { 8 * i + 8 ≤ length view.now.payload.now }
     ensures { result ≡ point_at i view.now.payload.now }
