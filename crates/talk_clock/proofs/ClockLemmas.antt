@@ -28,7 +28,7 @@ frames_by count (suc k) few = omega (arith, few k (omega arith))
 pub few_frames : (c : ClockStream) → IsClockStream c → c.stream * c.plan.count ≤ 268436932
 few_frames c is = omega (arith, frames_by c.plan.count c.stream is.few, is.plan.count)
 
--- where point s is
+-- the sample frame `frame` is within a stream of `packets` packets, and its numbers are small
 pub record IsPointAt (plan : TalkPlan) (packets frame : ℕ) : Type 0 where
   pub packet : frame / plan.count < packets
   pub frames : frame / plan.count * plan.count ≤ 268435456
@@ -50,7 +50,7 @@ frame_within plan packets frame p few h =
       small = omega (arith, frames_by plan.count packets few, p.count);
     }
 
--- the points before the last sample frame
+-- point s, at sample frame s * w, is before the end of the stream
 pub points_within : (points w frames s : ℕ) → 1 ≤ w → points ≡ div_ceil frames w → s < points → s * w < frames
 points_within points w frames s some e h =
     let times : (s + 1) * w ≤ points * w = mul-le-mul_right w (omega arith) in
@@ -69,7 +69,7 @@ point_at_frame plan crf packets s p e few h =
 pub point_within : (c : ClockStream) (s : ℕ) → IsClockStream c → s < points_for c.crf c.plan c.stream → IsPointAt c.plan c.stream (frame_at c.crf c.plan s)
 point_within c s is h = point_at_frame c.plan c.crf c.stream s is.plan is.clock is.few h
 
--- each packet has a point
+-- the first point of each packet is within the stream
 pub first_in : (plan : TalkPlan) (crf : CrfPlan) (packets m : ℕ) → IsAudioPlan plan → plan.crf ≡ Some crf → m < clock_packets crf plan packets
     → first_point crf m < points_for crf plan packets
 first_in plan crf packets m p e h =

@@ -27,7 +27,7 @@ use Rattle.talk_plan.proofs.CountLemmas.{rises}
 use Rattle.talk_clock.proofs.ClockPoints.{after_point, known, place_of, point_value, run_at, size_is}
 use Rattle.talk_clock.proofs.ClockRules.{point_small}
 
--- ---- when its packets are sent, and how long they are
+-- ---- when the clock's packets are sent, and how long they are
 
 point_step : (plan : TalkPlan) (crf : CrfPlan) (s : ℕ) → IsAudioPlan plan → plan.crf ≡ Some crf → clock_point crf plan s ≤ clock_point crf plan (s + 1)
 point_step plan crf s p e =
@@ -75,7 +75,7 @@ pub clock_early : (plan : TalkPlan) (packets m : ℕ) → IsAudioPlan plan → A
     → clock_arrival_by plan.crf plan m < 2 ^ 32 * 1000000000
 clock_early plan packets m p few h = early_by plan.crf plan packets m p refl few h
 
--- ---- its packets
+-- ---- the clock's packets
 
 length-stamps : (xs : List ℕ) → length (flat_map (big_bytes 8) xs) ≡ 8 * length xs
 length-stamps [] = refl
@@ -102,7 +102,7 @@ stamp_of_point xs i h small =
 size_fits : (crf : CrfPlan) (plan : TalkPlan) (packets m : ℕ) → length (clock_packet crf plan packets m).payload ≡ 8 * points_size crf plan packets m
 size_fits crf plan packets m = length-stamps (points_in crf plan packets m) ∙ ap (λ (n : ℕ). 8 * n) (size_is crf plan packets m)
 
--- the length of its frame
+-- the length of a clock packet's frame is `clock_frame_size`
 pub clock_size : (crf : CrfPlan) (plan : TalkPlan) (packets m : ℕ)
     → length (clock_bytes (clock_packet crf plan packets m)) ≡ clock_frame_size crf plan packets m
 clock_size crf plan packets m = omega (arith, crf_size (clock_packet crf plan packets m), size_fits crf plan packets m)

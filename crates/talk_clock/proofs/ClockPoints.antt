@@ -1,4 +1,4 @@
--- Where the points of a plan's clock are: in which run, and in which packet.
+-- In which run, and in which packet, each point of a plan's clock is.
 use Rattle.std.proofs.Common.{◌↔◌, ◌≡◌, ◌⊎◌, inl, inr, ℕ, zero, suc, ◌+◌, ◌-◌, ◌*◌, ◌/◌, ◌%◌, ◌<◌, ◌≤◌, get_or, length, map, nat_abs, pos, Some, None, refl}
 use Rattle.std.proofs.Common.{sym, subst, ap, ◌∙◌, arith}
 use Rattle.std.specs.Prelude.{Option, ◌==◌, ⊤}
@@ -24,9 +24,9 @@ use Rattle.talk_clock.proofs.ClockLemmas.{first_in, points_within}
 use Rattle.talk_plan.proofs.RunLemmas.{in_run, whole}
 use Rattle.talk_plan.proofs.TimingLemmas.{sum_of}
 
--- ---- runs of points, and of packets
+-- ---- runs of points and of packets
 
--- the points of a run, and the clock packets of a run
+-- the number of points in each run; `None` if the clock never restarts
 abbrev pub points_per : CrfPlan → ℕ → ℕ → Option ℕ → Option ℕ
 points_per crf rate count None = None
 points_per crf rate count (Some packets) = Some (packets * count / spacing_of crf rate)
@@ -35,7 +35,7 @@ abbrev pub packets_per : CrfPlan → ℕ → ℕ → Option ℕ → Option ℕ
 packets_per crf rate count None = None
 packets_per crf rate count (Some packets) = Some (packets * count / spacing_of crf rate / crf.points)
 
--- a run of this many sample frames has whole points, in whole packets, and at least 8 of them
+-- a run of this many sample frames has a whole number of points and of clock packets, at least 8 of each
 pub record IsWhole (frames spacing size : ℕ) : Type 0 where
   pub points : frames / spacing * spacing ≡ frames
   pub packets : frames / spacing / size * size ≡ frames / spacing
@@ -75,7 +75,7 @@ all_whole (Some packets) crf rate count jump some some_w some_size ok has =
     let more : packets * 1 ≤ packets * count = mul-le-mul_left packets some in
     whole_of (packets * count) (spacing_of crf rate) crf.points (omega arith) some_w some_size has
 
--- the run of a sample frame
+-- the run to which a sample frame belongs
 run_number : (x count packets g : ℕ) → 1 ≤ count → g * packets * count ≤ x → x < g * packets * count + packets * count → x / count / packets ≡ g
 run_number x count packets g some from to =
     let n : ℕ = x / count in
@@ -91,7 +91,7 @@ run_number x count packets g some from to =
     ] in
     div-eq_of_lt-le packets (omega arith) (omega arith)
 
--- point s is in this run, this many points after its first
+-- point s is in the run of its sample frame, which is also the run by the number of points in each run
 pub run_of_point : (r : Option ℕ) (crf : CrfPlan) (rate count s : ℕ) → 1 ≤ count → 1 ≤ spacing_of crf rate → AreWhole crf rate count r
     → run_by r (s * spacing_of crf rate / count) ≡ run_by (points_per crf rate count r) s
 run_of_point None crf rate count s some some_w is = refl
@@ -108,7 +108,7 @@ run_of_point (Some packets) crf rate count s some some_w is =
     let frames : g * (per * w) ≡ g * (packets * count) = ap (λ (n : ℕ). g * n) points in
     run_number (s * w) count packets g some (omega arith) (omega arith)
 
--- the sample frame of point s is this many events after the run's first
+-- the sample frame of point s is t * w events after the first sample frame of the point's run
 event_by : (x count w s a b n d t frames per g : ℕ) → n * count + b ≡ x → x ≡ s * w → g * frames ≡ g * (per * w) → d * count + g * frames ≡ n * count
     → t * w + g * (per * w) ≡ s * w
     → d * count + b ≡ t * w
@@ -142,7 +142,7 @@ event_of_point (Some packets) crf rate count jump s some some_w ok is =
     let parts : d * count + g * packets * count ≡ n * count = whole d (g * packets) n count (omega arith) in
     rw run (event_by x count w s 0 (x % count) n d t (packets * count) per g (omega arith) refl same (omega arith) (omega arith))
 
--- a packet's points are of its run
+-- all points of a clock packet are in the run of the packet
 packet_run_by : (k i size q : ℕ) → 1 ≤ q → 1 ≤ size → i < size → (k * size + i) / (q * size) ≡ k / q
 packet_run_by k i size q some some_size within =
     let g : ℕ = k / q in
@@ -162,9 +162,9 @@ run_of_packet (Some packets) crf rate count k i is within =
     let same : (k * crf.points + i) / per ≡ (k * crf.points + i) / (q * crf.points) = ap (λ (n : ℕ). (k * crf.points + i) / n) (sym is.packets) in
     same ∙ packet_run_by k i crf.points q (omega arith) (omega arith) within
 
--- ---- the next one
+-- ---- the next point
 
--- this many or more
+-- the size is at least `least`; true if there is no size
 abbrev pub AtLeast : ℕ → Option ℕ → Type 0
 AtLeast least None = ⊤
 AtLeast least (Some size) = least ≤ size
@@ -197,7 +197,7 @@ pub packets_eight : (r : Option ℕ) (crf : CrfPlan) (rate count : ℕ) → AreW
 packets_eight None crf rate count is = tt
 packets_eight (Some packets) crf rate count is = is.eight
 
--- ---- where point s is: in which run, and how many points after its first
+-- ---- the run of point s, and its index in the run
 
 abbrev pub per : TalkPlan → CrfPlan → Option ℕ
 per plan crf = points_per crf plan.rate plan.count plan.restart
@@ -259,7 +259,7 @@ starts_by (Some k) rate count base jump packets g h some ok e before =
     let more : (g + 1) * k * count ≤ h * k * count = mul-le-mul_right count (mul-le-mul_right k (omega arith)) in
     rw (← same) (apart_by rate base jump (g * k * count) (k * count) (h * k * count) g h some ok.least_jump before (omega arith))
 
--- a run g starts before a run h
+-- if run g is before run h, the start of h is late enough after the start of g
 pub starts_apart : (plan : TalkPlan) (crf : CrfPlan) (packets g h : ℕ) → IsAudioPlan plan → plan.crf ≡ Some crf → plan.restart ≡ Some packets → g < h
     → IsNextStart (beat_of crf plan) (run_start plan g) (packets * plan.count) (run_start plan h)
 starts_apart plan crf packets g h p e restart before =
@@ -286,7 +286,7 @@ end_by (Some packets) plan crf s p e restart is new =
     let frames : suc (s - g * size) * spacing_of crf plan.rate ≡ packets * plan.count = ap (λ (n : ℕ). n * spacing_of crf plan.rate) last ∙ is.points in
     rw frames (starts_apart plan crf packets g (suc g) p e restart (omega arith))
 
--- a point and the next one
+-- the next point is beside point s in the same run, or is the first of the next run
 pub after_point : (plan : TalkPlan) (crf : CrfPlan) (s : ℕ) → IsAudioPlan plan → plan.crf ≡ Some crf → IsBeside plan crf s ⊎ IsRunEnd plan crf s
 after_point plan crf s p e =
     let whole = whole_runs plan crf p e in
@@ -352,7 +352,7 @@ follows_is plan crf packets a b p e f = elim f.next [
       omega arith
 ]
 
--- ---- the restart bit tells runs apart
+-- ---- the restart bit distinguishes adjacent runs
 
 abbrev pub packet_run : TalkPlan → CrfPlan → ℕ → ℕ
 packet_run plan crf m = run_by (packets_per crf plan.rate plan.count plan.restart) m
@@ -375,7 +375,7 @@ pub run_of_place : (plan : TalkPlan) (crf : CrfPlan) (packets : ℕ) (a : Place)
 run_of_place plan crf packets a p e is = run_of_packet plan.restart crf plan.rate plan.count a.packet a.at (whole_runs plan crf p e)
     (known crf plan packets a is).within
 
--- two adjacent points are in the same run exactly if they have the same restart bit
+-- if two adjacent points have the same restart bit, they are in one run
 pub one_run : (plan : TalkPlan) (crf : CrfPlan) (packets : ℕ) (a b : Place) → IsAudioPlan plan → plan.crf ≡ Some crf
     → Follows (clock_times crf plan packets) a b → InOneRun (clock_times crf plan packets) a b
     → IsBeside plan crf (number crf a)

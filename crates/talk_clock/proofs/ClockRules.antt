@@ -23,13 +23,13 @@ use Rattle.talk_plan.proofs.TimingLemmas.{in_time}
 use Rattle.talk_clock.proofs.ClockPoints.{IsBeside, IsRunEnd, after_point, bit_is, follows_is, known, next_of, number, one_run, other_run, packet_run}
 use Rattle.talk_clock.proofs.ClockPoints.{packets_eight, packets_per, pair_is, place_of, point_value, run_at, size_is, whole_runs}
 
--- ---- the rules
+-- ---- the rules of clocks
 
 pub pair_from_at : (plan : TalkPlan) (crf : CrfPlan) (g m h k : ℕ) → g ≡ h → m ≡ k
     → pair_from (beat_of crf plan) (run_start plan g) m ≡ pair_from (beat_of crf plan) (run_start plan h) k
 pair_from_at plan crf g m h k e f = ap (λ (x : ℕ). pair_from (beat_of crf plan) (run_start plan x) m) e ∙ ap (pair_from (beat_of crf plan) (run_start plan h)) f
 
--- the pair of the next two points
+-- the pair of the points b and d, which follow point a in the same run
 next_pair : (plan : TalkPlan) (crf : CrfPlan) (packets : ℕ) (a b d : Place) → IsAudioPlan plan → plan.crf ≡ Some crf
     → Follows (clock_times crf plan packets) a b → Follows (clock_times crf plan packets) b d
     → IsBeside plan crf (number crf a) → IsBeside plan crf (number crf b)
@@ -45,7 +45,8 @@ next_pair plan crf packets a b d p e f g first second =
 spaced_by : (nominal p q up : ℕ) → 7 * nominal ≤ 8 * (p * up) → p ≤ q → 3 * nominal ≤ 4 * (q * up)
 spaced_by nominal p q up least more = let times : p * up ≤ q * up = mul-le-mul_right up more in omega arith
 
--- if the next point is the first of a run, it is not earlier than one more point of the run before would be
+-- if point b is the first of a run, it is at the start of that run, and the point a before it is at its place in the
+-- earlier run
 first_later : (plan : TalkPlan) (crf : CrfPlan) (packets : ℕ) (a b : Place) → IsAudioPlan plan → plan.crf ≡ Some crf
     → Follows (clock_times crf plan packets) a b → IsRunEnd plan crf (number crf a)
     → (point (clock_times crf plan packets) a

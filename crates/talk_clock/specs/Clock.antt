@@ -15,34 +15,35 @@ use Rattle.talk_plan.specs.Ethernet.{ethernet}
 
 -- ---- the points
 
--- the sample frame, counted over the whole stream, at which point s is: the clock has a point at the first sample frame of the
--- stream, and then at every `spacing_of` sample frames
+-- The sample frame of point s, counted through the whole stream. The clock has a point at the first sample frame of the
+-- stream, and then one every `spacing_of` sample frames.
 abbrev pub frame_at : CrfPlan → TalkPlan → ℕ → ℕ
 frame_at crf plan s = s * spacing_of crf plan.rate
 
--- the instant of point s: the nominal one of its sample frame
+-- the instant of point s: the nominal instant of its sample frame
 unfoldable pub clock_point : CrfPlan → TalkPlan → ℕ → ℕ
 clock_point crf plan s = nominal_instant plan (frame_at crf plan s / plan.count) (frame_at crf plan s % plan.count)
 
--- how many points a stream of this many packets has, including those at sample frames that fill up its last packet
+-- the number of points of a stream of this many packets, including points at sample frames that only fill up the last
+-- packet
 abbrev pub points_for : CrfPlan → TalkPlan → ℕ → ℕ
 points_for crf plan packets = div_ceil (packets * plan.count) (spacing_of crf plan.rate)
 
--- how many points a run of this many packets has
+-- the number of points of a run of this many packets
 abbrev pub run_points : CrfPlan → TalkPlan → ℕ → ℕ
 run_points crf plan packets = packets * plan.count / spacing_of crf plan.rate
 
 -- ---- the packets
 
--- how many clock packets the points fill; the last one may be partly filled
+-- the number of clock packets that hold all points; the last one may be partly filled
 abbrev pub clock_packets : CrfPlan → TalkPlan → ℕ → ℕ
 clock_packets crf plan packets = div_ceil (points_for crf plan packets) crf.points
 
--- the number, among all points, of the first point of clock packet m
+-- the number of the first point of clock packet m, counted among all points
 abbrev pub first_point : CrfPlan → ℕ → ℕ
 first_point crf m = m * crf.points
 
--- how many points clock packet m has
+-- the number of points of clock packet m
 abbrev pub points_size : CrfPlan → TalkPlan → ℕ → ℕ → ℕ
 points_size crf plan packets m = min crf.points (points_for crf plan packets - first_point crf m)
 
@@ -50,7 +51,7 @@ points_size crf plan packets m = min crf.points (points_for crf plan packets - f
 unfoldable pub points_in : CrfPlan → TalkPlan → ℕ → ℕ → List ℕ
 points_in crf plan packets m = map (clock_point crf plan) (range_with_len (first_point crf m) (points_size crf plan packets m))
 
--- the restart bit of clock packet m: that of the stream packet that has the sample frame of its first point
+-- the restart bit of clock packet m: that of the stream packet with the sample frame of the clock packet's first point
 abbrev pub clock_mr : CrfPlan → TalkPlan → ℕ → Bool
 clock_mr crf plan m = mr_of plan (frame_at crf plan (first_point crf m) / plan.count)
 
@@ -71,11 +72,11 @@ clock_packet crf plan packets m = record {
   reserved = false;
 }
 
--- when clock packet m is sent: the plan's lead before its first point
+-- the time at which clock packet m is sent: the plan's lead before the packet's first point
 abbrev pub clock_arrival : CrfPlan → TalkPlan → ℕ → ℕ
 clock_arrival crf plan m = clock_point crf plan (first_point crf m) - plan.lead
 
--- ---- its journal
+-- ---- the clock's journal
 
 -- the journal of the clock with a stream of this many packets
 abbrev pub clock_times : CrfPlan → TalkPlan → ℕ → ClockJournal
@@ -88,26 +89,27 @@ clock_times crf plan packets = record {
   mr = λ m. clock_mr crf plan m;
 }
 
--- the journal of the plan's clock with a stream of this many packets; if the plan has no clock, that of one that sends nothing
+-- The journal of the plan's clock with a stream of this many packets. If the plan has no clock, it is the journal of a
+-- clock without packets.
 abbrev pub clock_by : Option CrfPlan → TalkPlan → ℕ → ClockJournal
 clock_by None plan packets = no_clock
 clock_by (Some crf) plan packets = clock_times crf plan packets
 
 -- ---- audio
 
--- the stream id of the clock; 0 without a clock
+-- the stream ID of the clock; 0 if there is no clock
 abbrev pub clock_id : Option CrfPlan → ℕ
 clock_id None = 0
 clock_id (Some crf) = crf.id
 
--- packet m of the clock with a stream of this many packets; without a clock none is sent
+-- packet m of the clock with a stream of this many packets; a placeholder if there is no clock
 abbrev pub clock_packet_by : Option CrfPlan → TalkPlan → ℕ → ℕ → Crf
 clock_packet_by None plan packets m = crf_of []
 clock_packet_by (Some crf) plan packets m = clock_packet crf plan packets m
 
 -- ---- streams
 
--- when packet m of the clock is sent; without a clock none is sent
+-- the time at which packet m of the clock is sent; 0 if there is no clock
 abbrev pub clock_arrival_by : Option CrfPlan → TalkPlan → ℕ → ℕ
 clock_arrival_by None plan m = 0
 clock_arrival_by (Some crf) plan m = clock_arrival crf plan m
@@ -118,10 +120,11 @@ clock_arrival_by (Some crf) plan m = clock_arrival crf plan m
 unfoldable pub clock_bytes : Crf → List ℕ
 clock_bytes packet = frame_spelling (ethernet (crf_spelling packet))
 
--- the sample frames of this many packets can be counted: the longest input has no more
+-- the sample frames of this many packets can be counted: each packet begins at sample frame 2^28 or before
 abbrev pub AreFew : TalkPlan → ℕ → Type 0
 AreFew plan packets = (n : ℕ) → n < packets → n * plan.count ≤ 2 ^ 28
 
--- the length of packet m's frame: Ethernet's header with its tag, the packet's header, and 8 bytes for each point
+-- the length of the frame of packet m: the Ethernet header with its tag, the packet's header, and 8 bytes for each
+-- point
 abbrev pub clock_frame_size : CrfPlan → TalkPlan → ℕ → ℕ → ℕ
 clock_frame_size crf plan packets m = 38 + 8 * points_size crf plan packets m

@@ -5,34 +5,34 @@ use Rattle.talk_plan.specs.declared.plan.TalkPlan.{TalkPlan}
 use Rattle.talk_clock.specs.Clock.{clock_packets, points_for, AreFew}
 use Rattle.talk_plan.specs.Plan.{IsAudioPlan}
 
--- the clock of a valid plan, with a stream of this many packets, whose sample frames can be counted
+-- a valid plan and its clock, with a stream whose sample frames can be counted
 pub record IsClockStream (c : ClockStream) : Type 0 where
   pub plan : IsAudioPlan c.plan
   pub clock : c.plan.crf ≡ Some c.crf
   pub few : AreFew c.plan c.stream
 
--- a clock has a packet m
+-- the clock has a packet m
 pub record IsPacketOfClock (c : ClockStream) (m : ℕ) : Type 0 where
   pub clock : IsClockStream c
   pub known : m < clock_packets c.crf c.plan c.stream
 
--- a clock has a point s
+-- the clock has a point s
 pub record IsPointOfClock (c : ClockStream) (s : ℕ) : Type 0 where
   pub clock : IsClockStream c
   pub known : s < points_for c.crf c.plan c.stream
 
--- the clock of this plan, with a stream of this many packets
+-- `c` is the clock of this plan, with a stream of this many packets
 pub record IsClockIn (c : ClockStream) (plan : TalkPlan) (packets : ℕ) : Type 0 where
   pub plan_is : c.plan ≡ plan
   pub stream : c.stream ≡ packets
   pub clock : IsClockStream c
 
--- the clock of a plan, if the plan has one
+-- the clock is that of the plan; there is none if the plan has no clock
 abbrev pub IsClockOf : Option ClockStream → TalkPlan → ℕ → Type 0
 IsClockOf None plan packets = plan.crf ≡ None
 IsClockOf (Some c) plan packets = IsClockIn c plan packets
 
--- how many packets a clock has; without a clock there are none
+-- the number of packets of a clock; 0 if there is no clock
 abbrev pub clocks_of : Option ClockStream → ℕ
 clocks_of None = 0
 clocks_of (Some c) = clock_packets c.crf c.plan c.stream

@@ -12,24 +12,24 @@ use byteorder::{BigEndian, ByteOrder};
 use crf_format::{CrfView, write_crf};
 use talk_plan::{CrfPlan, ETHERNET_HEADER, TalkPlan, write_ethernet};
 
-/// The media clock of a plan, with a stream of `stream` packets. Its points are counted through the whole stream, including
-/// those that fill up the last packet: point s is at sample frame s * spacing. Each restart is at a whole packet of the clock,
-/// so counting in each run gives the same points.
+/// The media clock of a plan, with a stream of `stream` packets. Its points are counted through the whole stream,
+/// including points at sample frames that only fill up the last packet. Point s is at sample frame s * spacing. Each
+/// restart is at a whole packet of the clock, so points counted in each run are at the same sample frames.
 #[derive(Clone, Copy, Debug)]
 pub struct ClockStream {
     pub plan: TalkPlan,
     pub crf: CrfPlan,
-    /// The packets of the stream.
+    /// The number of packets of the stream.
     pub stream: u64,
 }
 
-/// The length of the header of a clock's packet.
+/// The length in bytes of the header of a clock packet.
 const CRF_HEADER: usize = 20;
 
-/// The bytes of a timestamp.
+/// The length in bytes of a timestamp.
 const TIMESTAMP: usize = 8;
 
-/// The most points of a packet.
+/// The greatest number of points of a packet.
 const POINTS_LIMIT: usize = 180;
 
 /// The type of a clock whose events are audio samples.
@@ -48,7 +48,7 @@ impl ClockStream {
         }
     }
 
-    /// The number of its points.
+    /// The number of points of the clock.
     #[tactic(auto, using(crate::proofs::ClockLemmas::few_frames))]
     fn points(&self) -> u64
         requires { IsClockStream self.now }
@@ -58,7 +58,7 @@ impl ClockStream {
         (self.stream * u64::from(self.plan.count)).div_ceil(self.plan.spacing(&self.crf))
     }
 
-    /// The number of its packets.
+    /// The number of packets of the clock.
     pub fn packets(&self) -> u64
         requires { IsClockStream self.now }
         ensures { result ≡ clock_packets self.now.crf self.now.plan self.now.stream }
@@ -66,7 +66,7 @@ impl ClockStream {
         self.points().div_ceil(u64::from(self.crf.points))
     }
 
-    /// The sample frame of the stream at which point `s` is.
+    /// The sample frame of point `s`, counted through the stream.
     fn frame(&self, s: u64) -> u64
         requires { IsPointOfClock self.now s }
         ensures { result ≡ frame_at self.now.crf self.now.plan s }
@@ -74,7 +74,7 @@ impl ClockStream {
         s * self.plan.spacing(&self.crf)
     }
 
-    /// The first point of packet `m`.
+    /// The number of the first point of packet `m`.
     fn first(&self, m: u64) -> u64
         requires { IsPacketOfClock self.now m }
         ensures value { result ≡ first_point self.now.crf m }
@@ -83,7 +83,7 @@ impl ClockStream {
         m * u64::from(self.crf.points)
     }
 
-    /// The stream packet that has the sample frame of point `s`.
+    /// The stream packet with the sample frame of point `s`.
     #[tactic(auto, using(crate::proofs::ClockLemmas::point_within))]
     fn stream_packet(&self, s: u64) -> u64
         requires { IsPointOfClock self.now s }
@@ -105,7 +105,7 @@ impl ClockStream {
         self.plan.instant(self.stream_packet(s), within as u32)
     }
 
-    /// When packet `m` is sent, in nanoseconds of gPTP.
+    /// The time at which packet `m` is sent, in nanoseconds of gPTP.
     #[cold]
     #[inline(never)]
     pub fn arrival(&self, m: u64) -> i64
@@ -135,7 +135,7 @@ impl ClockStream {
         ETHERNET_HEADER + CRF_HEADER + TIMESTAMP * self.size(m)
     }
 
-    /// The points of packet `m`.
+    /// Writes the points of packet `m` into `points`.
     fn write_points(&self, points: &mut [u64], m: u64)
         requires packet { IsPacketOfClock self.now m }
         requires room { length points.old ≡ points_size self.now.crf self.now.plan self.now.stream m }
@@ -147,7 +147,7 @@ impl ClockStream {
         }
     }
 
-    /// Writes the timestamps of packet `m`.
+    /// Writes the timestamps of packet `m` into `out`.
     fn write_timestamps(&self, out: &mut [u8], m: u64)
         requires packet { IsPacketOfClock self.now m }
         requires room { length out.old ≡ 8 * points_size self.now.crf self.now.plan self.now.stream m }
@@ -159,7 +159,7 @@ impl ClockStream {
         BigEndian::write_u64_into(points, out);
     }
 
-    /// Packet `m`, with its timestamps.
+    /// Packet `m` with its timestamps.
     fn packet<'a>(&self, m: u64, timestamps: &'a [u8]) -> CrfView<'a>
         requires packet { IsPacketOfClock self.now m }
         requires whole { timestamps.now ≡ flat_map (big_bytes 8) (points_in self.now.crf self.now.plan self.now.stream m) }
