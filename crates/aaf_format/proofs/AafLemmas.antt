@@ -264,7 +264,7 @@ aaf_again v rest whole fits =
     omega (arith, length-append (spelling aaf_layout v) (v.payload ++ rest), length-append v.payload rest, whole.data_length) in
     rw regrouped (held (spelling aaf_layout v ++ (v.payload ++ rest)) v whole f long (sym (take_at v.payload rest v.header.data_length (sym whole.data_length))))
 
--- ---- the bytes of the bits that only this format has
+-- ---- the fields that only this format has, as bytes
 
 code-below : (f : AafFormat) → code_of f < 5
 code-below Float32 = omega arith

@@ -18,7 +18,7 @@ pub struct AafView<'a> {
     pub format: AafFormat,
     /// The code of the nominal sample rate (nsr), 0 to 10; 0 means user-specified.
     pub nsr: u8,
-    /// The channels of each sample frame, 1 to 1023.
+    /// The number of channels in each sample frame, 1 to 1023.
     pub channels: u16,
     /// The number of used bits of a sample; 0 means all.
     pub depth: u8,

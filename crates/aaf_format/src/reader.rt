@@ -127,10 +127,10 @@ fn read_packet(pdu: &[u8]) -> Result<AafView<'_>, Refusal>
 
 /// Reads a PCM packet.
 ///
-/// Refuses the first of these that applies, in this order: a field of the stream header that the slice cuts off; a subtype
-/// other than AAF; a version other than 0; a format that is not PCM; a reserved sample rate code; 0 channels; a bit depth above
-/// the width of a sample; a stated length beyond the end of the slice, or one that is not a multiple of a sample frame. Accepts
-/// set reserved bits, and ignores what follows the stated length.
+/// Refuses the first of these that applies, in this order: a field of the stream header that the slice cuts off; a
+/// subtype other than AAF; a version other than 0; a format that is not PCM; a reserved sample rate code; 0 channels; a
+/// bit depth above the width of a sample; a stated length beyond the end of the slice, or not a whole number of sample
+/// frames. Accepts set reserved bits, and ignores what follows the stated length.
 #[inline(always)]
 pub fn read_aaf(pdu: &[u8]) -> Result<AafView<'_>, Refusal>
     ensures exact { Reads aaf_shape (aaf_refusal pdu.now) (aaf_of pdu.now) result }

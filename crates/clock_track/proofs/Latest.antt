@@ -1,4 +1,4 @@
--- Facts about the last pair that covers an instant. The search for the pair is no part of them.
+-- Facts about the last pair that covers an instant, apart from how a search finds it.
 use Rattle.std.proofs.Common.{◌≡◌, ℕ, ◌+◌, ◌-◌, ◌*◌, ◌^◌, ◌≤◌, Bool, true, false, ℤ, pos, List, [], ◌∷◌, All, Option, Some, None, refl, ap, arith}
 use Rattle.std.specs.Prelude.{IfSome, nat_lt, if◌then◌else◌}
 use Rattle.std.specs.List.{filter_map, range_with_len}

@@ -24,7 +24,8 @@ last_by : {X : Type 0} (f : X → Option Pair) (test : Pair → Bool) (xs : List
 last_by f test xs x None e = rw e (ap (λ (l : List Pair). find_last test l) (append-nil (filter_map f xs)))
 last_by f test xs x (Some p) e = rw e (kept_last test (filter_map f xs) p (test p) refl)
 
--- if the pair of `x` passes, it is the last pair that passes; otherwise the last such pair is one of `xs`
+-- if the pair of `x` passes, it is the last pair that passes; otherwise the last one that passes is from an item of
+-- `xs`
 pub last-more : {X : Type 0} (f : X → Option Pair) (test : Pair → Bool) (xs : List X) (x : X)
     → find_last test (filter_map f (xs ++ x ∷ [])) ≡ option_or (kept test (f x)) (find_last test (filter_map f xs))
 last-more f test xs x = ap (λ (l : List Pair). find_last test l) (filter_map-append f xs (x ∷ [])) ∙ last_by f test xs x (f x) refl
@@ -123,8 +124,8 @@ take-more rows left row some e =
 given : (b c : Bool) (o r : Option Pair) → b ≡ c → r ≡ (if b then o else None) → r ≡ (if c then o else None)
 given b c o r u f = rw (← u) f
 
--- the last pair that passes is one of the last packet, if one of these passes, and otherwise one of the packets before
--- it
+-- If a pair of packet `row` passes, the last such pair is found. Otherwise the last pair that passes is one of the
+-- packets before `row`.
 row-found : (g : List ClockRow → List Pair) (h : ClockRow → List Pair) (test : Pair → Bool) (rows : List ClockRow) (left : ℕ) (row : ClockRow) (r whole : Option Pair)
     → ((xs : List ClockRow) (x : ClockRow) → g (xs ++ x ∷ []) ≡ g xs ++ h x)
     → 0 < left → slice_get rows (left - 1) ≡ Some row → r ≡ (if row.usable then find_last test (h row) else None)

@@ -23,7 +23,7 @@ pub struct Pair {
     pub down: u64,
 }
 
-/// `(instant - later) * 2 * den + num`.
+/// Computes `(instant - later) * 2 * den + num`.
 fn scaled(instant: i64, later: i64, num: u64, den: u64) -> i128
     requires num { num < 2 ^ 60 }
     requires den { den < 2 ^ 60 }
@@ -32,7 +32,7 @@ fn scaled(instant: i64, later: i64, num: u64, den: u64) -> i128
     (i128::from(instant) - i128::from(later)) * i128::from(2 * den) + i128::from(num)
 }
 
-/// `2 * period * den`.
+/// Computes `2 * period * den`.
 fn doubled(period: u64, den: u64) -> i128
     requires period { period < 2 ^ 60 }
     requires den { den < 2 ^ 60 }
@@ -124,8 +124,8 @@ impl Pair {
         0 <= reach && reach < doubled(self.period(), den)
     }
 
-    /// Whether joined pairs with this later point cover only later instants, in a stream of this rate, whatever the
-    /// earlier point.
+    /// Whether each joined pair with this later point covers only instants after `instant`, in a stream of this rate,
+    /// whatever its earlier point.
     pub fn is_after(&self, rate: u32, instant: i64) -> bool
         requires { IsSmall self.now }
         ensures { IsTrue result ↔ IsAfter self.now rate instant }

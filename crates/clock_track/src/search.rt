@@ -63,8 +63,7 @@ pub trait Rows {
         requires { place < length (rows self.now) }
         ensures { (shift : ℤ) (row : ClockRowValue) → bounded self.now shift → slice_get (rows self.now) place ≡ Some row → IfSome result (HasPairs shift row) };
 
-    /// Bounds of each 32 pairs inside the packet at index `place`, from the first pair on. Later pairs may have no
-    /// bounds.
+    /// Bounds of each 32 pairs inside the packet at index `place`, in order. The last pairs may have no bounds.
     fn groups(&self, place: usize) -> &[Bounds]
         requires { place < length (rows self.now) }
         ensures { (shift : ℤ) (row : ClockRowValue) → bounded self.now shift → slice_get (rows self.now) place ≡ Some row → AreGroups shift row result.now };

@@ -7,7 +7,7 @@ pub struct CrfView<'a> {
     pub sv: bool,
     /// The media clock restart bit. It toggles when the source of the media clock changes.
     pub mr: bool,
-    /// Frame synchronization.
+    /// The frame synchronization bit (fs).
     pub fs: bool,
     /// The timestamps are uncertain.
     pub tu: bool,

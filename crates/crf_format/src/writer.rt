@@ -10,7 +10,7 @@ use avtp_base::Room;
 use avtp_base::octets::write_front;
 use avtp_header::subtype;
 
-/// Everything before the timestamps.
+/// The 20 bytes before the timestamps.
 fn header_bytes(view: &CrfView<'_>) -> [u8; 20]
     requires { IsWritableCrf (crf_shape view.now) }
     ensures spelled { result ≡ spelling crf_layout (crf_shape view.now) }

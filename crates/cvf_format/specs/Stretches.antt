@@ -85,7 +85,7 @@ abbrev pub are_linked : Fragment → List Fragment → Bool
 are_linked before [] = true
 are_linked before (after ∷ rest) = follows before after && are_linked after rest
 
--- the instants of the packets that have one
+-- the instants of those packets that have an instant
 abbrev pub stamps : List Fragment → List ℤ
 stamps fragments = filter_map (λ (f : Fragment). f.instant) fragments
 
@@ -137,7 +137,7 @@ before_last items = take (length items - 1) items
 abbrev pub waiting : List Fragment → List Fragment
 waiting stretch = if is_within stretch && not (is_complete stretch) then stretch else []
 
--- the packets that wait, after these events, for the rest of their unit
+-- the packets that wait for the rest of their unit after these events
 abbrev pub held : List Event → List Fragment
 held events = waiting (last_stretch events)
 

@@ -19,9 +19,9 @@ const MOST_FRAGMENTS: usize = 4_096;
 
 /// Puts NAL units together from the packets of a stream, which are pushed in the order of their arrival.
 ///
-/// One packet carries a whole unit; or a first fragment, any middle fragments and a last fragment carry it. All
-/// fragments carry the same first byte of the unit, and each has the next sequence number. All fragments with a
-/// timestamp must have the same presentation time.
+/// A unit is in one packet, or in a first fragment, any middle fragments and a last fragment. All fragments carry the
+/// same first byte of the unit, and each has the next sequence number. All fragments with a timestamp must have the
+/// same presentation time.
 ///
 /// What becomes of a packet depends on the longest stretch of packets that ends with it. The assembler keeps only that
 /// stretch.
@@ -210,7 +210,7 @@ impl Assembler {
         &[]
     }
 
-    /// Takes a packet, which begins a unit, continues the waiting one, or is lost with it.
+    /// Takes a packet. It begins a unit, continues the waiting unit, or is lost and gives up the waiting unit.
     fn push_packet(&mut self, mark: Mark, instant: Option<i64>, view: &CvfView<'_>) -> Pushed
         requires { length view.now.body.now ≤ longest_body }
         ensures pushed { (events : List Event) → StandsFor self.old events
@@ -272,7 +272,7 @@ impl Assembler {
         };
     }
 
-    /// Keeps the mark of a fragment that waits, for which there must be room.
+    /// Keeps the mark of a fragment that waits. There must be room for the mark.
     fn hold(&mut self, mark: Mark)
         requires { length self.old.held < MOST_FRAGMENTS }
         ensures { self.new ≡ record self.old { held = self.old.held ++ mark ∷ [] } }
@@ -305,7 +305,7 @@ impl Assembler {
         Piece::Held
     }
 
-    /// Begins a unit, after the waiting one was given up.
+    /// Begins a unit. The waiting unit, if there is one, is given up.
     fn begin(&mut self, mark: Mark, instant: Option<i64>, view: &CvfView<'_>) -> Pushed
         requires { length view.now.body.now ≤ longest_body }
         ensures left { self.new ≡ with_first self.old (fragment_of mark instant view.now) }
@@ -344,7 +344,7 @@ impl Assembler {
         }
     }
 
-    /// Gives up the waiting unit, and the packet with it.
+    /// Loses the packet, and gives up the waiting unit.
     fn lose(&mut self, why: Lost) -> Pushed
         ensures left { self.new ≡ gave_up self.old }
         ensures pushed { result ≡ record { lost = length self.old.held; why = why; piece = lost_for why } }

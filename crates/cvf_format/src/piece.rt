@@ -12,7 +12,7 @@ pub struct Mark {
 /// Why a fragment is in no unit.
 #[derive(Clone, Copy, Debug, PartialEq, Eq)]
 pub enum Lost {
-    /// Fragments before it or after it are missing, or do not match it.
+    /// Fragments before or after the fragment are missing, or do not match it.
     Broken,
     /// The unit would have more than 4,194,304 bytes or 4,096 fragments.
     Long,
@@ -21,11 +21,11 @@ pub enum Lost {
 /// What becomes of a packet, as far as is known when it arrives.
 #[derive(Clone, Copy, Debug, PartialEq, Eq)]
 pub enum Piece {
-    /// It completes its unit.
+    /// The packet completes its unit.
     Whole,
-    /// It waits for the rest of its unit.
+    /// The packet waits for the rest of its unit.
     Held,
-    /// It is in no unit.
+    /// The packet is in no unit.
     Lost(Lost),
 }
 

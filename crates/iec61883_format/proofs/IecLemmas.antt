@@ -408,7 +408,7 @@ iec_again v rest whole fits =
     let size : length v.payload ≡ v.header.data_length - 8 = omega (arith, whole.data_length) in
     rw regrouped (held (spelling iec_layout v ++ (v.payload ++ rest)) v whole f long (sym (take_at v.payload rest (v.header.data_length - 8) size)))
 
--- ---- the bytes of the bits that only this format has
+-- ---- the fields that only this format has, as bytes
 
 pub cip_fits : (c : Cip) → c.sid < 2 ^ 6 → c.dbs ≤ 256 → c.dbc < 256 → c.fdf < 256 → c.syt < 65536 → Fits (cip_layout (λ (c : Cip). c)) c
 cip_fits c sid dbs dbc fdf syt = (

@@ -103,8 +103,7 @@ anchor_index dbc interval = stamped_index (Blocks dbc interval)
 abbrev pub block_size : ℕ → ℕ
 block_size dbs = 4 * dbs
 
--- the number of the `size` bytes after the CIP header that belong to data blocks: all of them, or none in a no-data
--- packet
+-- how many of the `size` bytes after the CIP header belong to data blocks: all, or none in a no-data packet
 abbrev pub data_size : ℕ → ℕ → ℕ
 data_size fdf size = if fdf == no_data then 0 else size
 

@@ -7,7 +7,7 @@ use avtp_header::StreamHeader;
 pub struct Cip {
     /// The node ID of the source on its bus, 0 to 63.
     pub sid: u8,
-    /// The quadlets of each data block, 1 to 256.
+    /// The number of quadlets in each data block, 1 to 256.
     pub dbs: u16,
     /// The block count, modulo 256, of the first data block.
     pub dbc: u8,

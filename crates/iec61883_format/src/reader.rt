@@ -23,7 +23,7 @@ fn dbs_of(byte: u8) -> u16
     if byte == 0 { 256 } else { u16::from(byte) }
 }
 
-/// The number of the `size` bytes after the CIP header that belong to data blocks.
+/// How many of the `size` bytes after the CIP header belong to data blocks: all, or none in a no-data packet.
 fn data_size(fdf: u8, size: u32) -> u32
     ensures { result ≡ data_size_of fdf size }
 {

@@ -49,7 +49,7 @@ fn cip_bytes(cip: Cip) -> [u8; 8]
     ]
 }
 
-/// Everything before the data blocks.
+/// The 32 bytes before the data blocks.
 fn whole_header(view: &IecView<'_>) -> [u8; 32]
     requires { IsWritableIec (iec_shape view.now) }
     ensures spelled { result ≡ spelling iec_layout (iec_shape view.now) }

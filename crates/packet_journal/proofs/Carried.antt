@@ -200,7 +200,7 @@ pub clock_copy_of : (p : PacketJournal) (m i : ℕ) (r : Record) → CarriesCloc
 clock_copy_of p m i r c = record { known = c.known; spelled = rw (clock_frame_is p m r c).payload_is c.packet }
 
 -- The deliveries `ds` are copies of packets. The stream's packets among them have the numbers `numbers`. The other
--- deliveries are of the clock.
+-- deliveries are copies of clock packets.
 record AreKept (p : PacketJournal) (lead : ℕ) (numbers : List ℕ) (ds : List Delivery) : Type 0 where
   origins : List Origin
   copies : AreFrom p lead origins ds

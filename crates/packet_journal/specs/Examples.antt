@@ -81,7 +81,7 @@ silent_blocks n = record {
   reserved = false;
 }
 
--- `each_eighth` with its packets, those of an AM824 talker; each eighth block has a timestamp
+-- `each_eighth` with its packets; they are AM824, and every eighth block has a timestamp
 abbrev pub block_packets : PacketJournal
 block_packets = record {
   times = each_eighth;

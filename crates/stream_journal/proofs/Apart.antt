@@ -91,7 +91,7 @@ stamped_within j is k instant known e =
 head_by : (j : Journal) (k instant : ℕ) → j.stamp k ≡ Some instant → head_of j k ≡ Some (record { instant = pos instant; first = neg_ℤ (pos (stamped_index (rule_of j.kind k))) })
 head_by j k instant e = rw e refl
 
--- a packet with a timestamp is due before the timestamp's instant by the time of the samples before the stamped one
+-- a packet with a timestamp is due `stamped_index` samples before the timestamp's instant
 pub due_before : (j : Journal) → IsAudio j → (k instant : ℕ) → k < j.packets → j.stamp k ≡ Some instant → IsBefore j.rate (j.due k) instant (stamped_index (rule_of j.kind k))
 due_before j is k instant known e =
     before_stamp (j.due k) instant (stamped_index (rule_of j.kind k)) j.rate (let some = is.rate_from in omega arith)

@@ -22,7 +22,7 @@ use Rattle.stream_journal.proofs.Apart.{apart, back_of}
 difference : (x y : ℕ) → unsigned_abs (pos x -ℤ pos y) ≡ (x - y) + (y - x)
 difference x y = omega (arith, ints)
 
--- the arithmetic of the refusal; x and p are at most d apart
+-- if x is near `due`, and p is far from `due`, then x and p are more than the time of 60 packets apart
 refused_by : (x p due r w d : ℕ) → due * r < x * r + 128 * w → x * r < due * r + 128 * w → p ≤ x + d → x ≤ p + d
     → (due * r + 189 * w < p * r) ⊎ (p * r + 189 * w < due * r) → 60 * w < d * r
 refused_by x p due r w d from to above below (inl h) =
@@ -89,7 +89,7 @@ fits_so want stamp h =
     let parts = all_true (stamp.seq == want.seq) (same_flag stamp.mr want.mr) (stamp.rate == want.rate) (same_block stamp.block want.block) (is_near want stamp) h in
     record { seq = one_number stamp.seq want.seq parts.0; mr = one_flag stamp.mr want.mr parts.1; near = parts.2 }
 
--- the sequence number that is wanted, d before n, is that of a packet k with k + d equal to n modulo 256
+-- if s is k modulo 256, and also n - d modulo 256, then k + d is n modulo 256
 in_circle : (k d n s : ℕ) → d ≤ 7 → s ≡ k % 256 → s ≡ (n % 256 + 256 - d) % 256 → (k + d) % 256 ≡ n % 256
 in_circle k d n s few e f = omega arith
 

@@ -91,7 +91,7 @@ run_number x count packets g some from to =
     ] in
     div-eq_of_lt-le packets (omega arith) (omega arith)
 
--- point s is in the run of its sample frame, which is also the run by the number of points in each run
+-- counting points in each run gives the same run for point s as counting packets of the stream
 pub run_of_point : (r : Option ℕ) (crf : CrfPlan) (rate count s : ℕ) → 1 ≤ count → 1 ≤ spacing_of crf rate → AreWhole crf rate count r
     → run_by r (s * spacing_of crf rate / count) ≡ run_by (points_per crf rate count r) s
 run_of_point None crf rate count s some some_w is = refl
@@ -286,7 +286,7 @@ end_by (Some packets) plan crf s p e restart is new =
     let frames : suc (s - g * size) * spacing_of crf plan.rate ≡ packets * plan.count = ap (λ (n : ℕ). n * spacing_of crf plan.rate) last ∙ is.points in
     rw frames (starts_apart plan crf packets g (suc g) p e restart (omega arith))
 
--- the next point is beside point s in the same run, or is the first of the next run
+-- the point after s is the next one in the same run, or is the first of the next run
 pub after_point : (plan : TalkPlan) (crf : CrfPlan) (s : ℕ) → IsAudioPlan plan → plan.crf ≡ Some crf → IsBeside plan crf s ⊎ IsRunEnd plan crf s
 after_point plan crf s p e =
     let whole = whole_runs plan crf p e in

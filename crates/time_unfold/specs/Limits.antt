@@ -20,7 +20,7 @@ pub record IsWant (want : Want) : Type 0 where
   pub count : want.count ≤ 65535
   pub back : want.back ≤ 7 * want.count
 
--- the interval of a rule is one of the standard (SYT_INTERVAL of IEC 61883-6)
+-- the interval of a rule is a SYT_INTERVAL of IEC 61883-6: 8, 16 or 32
 abbrev pub IsRule : HeadRule → Type 0
 IsRule Own = ⊤
 IsRule Eight = ⊤
