@@ -1,5 +1,4 @@
--- How far the first instant of a packet by the clock can be from the instant at which the packet is due, and what
--- follows for two packets.
+-- How far a packet's first instant by the clock can be from when the packet is due, and what follows for two packets.
 use Rattle.std.proofs.Common.{zero-mul, ◌≡◌, inl, inr, ℕ, ◌+◌, ◌-◌, ◌*◌, ◌%◌, ◌<◌, ◌≤◌, Bool, true, false, ℤ, pos, neg_ℤ, ◌+ℤ◌, ◌-ℤ◌, ◌*ℤ◌, ◌≤ℤ◌, ◌<ℤ◌, Option, Some, None, refl, sym, ap, ◌∙◌, subst, arith}
 use Rattle.std.specs.Prelude.{◌==◌, nat_le, if◌then◌else◌, option_map, option_and_then}
 use Rattle.std.specs.Option.{option_or}

@@ -80,8 +80,8 @@ blocks_of_six rate interval dues stamps = record {
   clock = no_clock;
 }
 
--- At 48 kHz every eighth block has a timestamp: block 0 of packet 0, block 2 of packet 1, block 4 of packet 2, and no
--- block of packet 3.
+-- At 48 kHz every eighth block has a timestamp: block 0 of packet 0, block 2 of packet 1, and block 4 of packet 2.
+-- Packet 3 has no timestamp.
 abbrev pub each_eighth : Journal
 each_eighth = blocks_of_six 48000 8
     (1002000000 ∷ 1002124999 ∷ 1002249999 ∷ 1002374999 ∷ 1002500000 ∷ 1002624999 ∷ 1002749999 ∷ 1002874999 ∷ [])

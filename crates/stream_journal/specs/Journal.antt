@@ -59,8 +59,8 @@ abbrev pub own_head : Journal → ℕ → Option Head
 own_head j n =
     option_map (λ instant. record { instant = pos instant; first = neg_ℤ (pos (stamped_index (rule_of j.kind n))) }) (j.stamp n)
 
--- the head of packet n according to the timestamp of the packet `far.packets` before it, if that packet has a timestamp
--- and both have the same `mr`
+-- The head of packet n according to the timestamp of the packet `far.packets` before it. `None` if that packet has no
+-- timestamp, or if the two have different `mr`.
 abbrev pub head_from : Journal → ℕ → Distance → Option Head
 head_from j n far =
     if nat_le far.packets n then

@@ -34,8 +34,8 @@ pub fn packets_are_spaced()
 {}
 
 /// Packet k is not the packet from which packet n is counted, but has the same sequence number. The two are at least
-/// 256 numbers apart. An instant that is counted from the timestamp of packet k is more than the time of 189 packets
-/// from the instant at which packet n is due.
+/// 256 numbers apart. An instant counted from packet k's timestamp is more than the time of 189 packets from when
+/// packet n is due.
 pub fn other_stamps_are_far()
     ensures numbers { (n k : ℕ) (far : Distance) → IsOther n k far → (k + far.packets + 256 ≤ n) ⊎ (n + 256 ≤ k + far.packets) }
     ensures instants { (j : Journal) (n k instant : ℕ) (far : Distance) → IsAudio j → n < j.packets → k < j.packets → j.stamp k ≡ Some instant → distance (rule_of j.kind n) n j.count ≡ Some far → IsOther n k far → AreApart j 189 (j.due n) (behind j instant far.samples) }

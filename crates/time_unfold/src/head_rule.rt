@@ -122,8 +122,9 @@ impl HeadRule {
     /// first sample of the last packet before it whose sequence number is a multiple of 8. In IEC 61883-6 it is the
     /// last block before the packet whose block count is a multiple of the interval.
     ///
-    /// `None` for AAF that is not sparse, if the packet's own first sample is a stamped one, and if the stamped sample
-    /// is more than 7 packets back. The packet has 1 to 65,535 samples, and the interval is 8, 16 or 32.
+    /// It is `None` for AAF that is not sparse. It is also `None` if the packet's own first sample is a stamped one, or
+    /// if the stamped sample is more than 7 packets back. The packet has 1 to 65,535 samples, and the interval is 8, 16
+    /// or 32.
     pub fn distance(self, seq: u8, count: u32) -> Option<Distance>
         requires rule { IsRule self }
         requires some { 1 ≤ count }
