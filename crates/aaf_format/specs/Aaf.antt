@@ -131,7 +131,7 @@ pub record SpellsAaf (bytes : List ℕ) (v : Aaf) : Type 0 where
   pub payload : v.payload ≡ take v.header.data_length (drop 24 bytes)
   pub reserved : v.reserved ≡ sets_reserved bytes
 
--- the one PCM packet that bytes spell, if nothing refuses them
+-- the PCM packet that the bytes spell, if they are accepted
 abbrev pub aaf_of : List ℕ → Aaf
 aaf_of bytes = record {
   header = header_of bytes;

@@ -43,7 +43,7 @@ impl Rows for Listed<'_> {
     }
 }
 
-/// The rows from the 64th last row that gives points; all rows if fewer than 64 rows give points.
+/// The last rows, from the 64th last that gives points on; all rows if fewer than 64 give points.
 fn recent(rows: &[ClockRow]) -> &[ClockRow]
     requires { All IsNotable rows.now }
     ensures window { used result.now ≡ window rows.now }

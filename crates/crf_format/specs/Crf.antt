@@ -107,7 +107,7 @@ pub record SpellsCrf (bytes : List ℕ) (v : Crf) : Type 0 where
   pub payload : v.payload ≡ take (bits 16 0 16 bytes) (drop 20 bytes)
   pub reserved : v.reserved ≡ sets_reserved bytes
 
--- the one clock reference packet that bytes spell, if nothing refuses them
+-- the clock reference packet that the bytes spell, if they are accepted
 abbrev pub crf_of : List ℕ → Crf
 crf_of bytes = record {
   sv = is_set 1 0 bytes;

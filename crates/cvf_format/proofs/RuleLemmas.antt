@@ -1,4 +1,4 @@
--- `is_stretch` is true of exactly the packets that the rules call a stretch.
+-- `is_stretch` is true of exactly those lists of packets that the rules call a stretch.
 use Rattle.std.proofs.Common.{◌≡◌, ◌+◌, ◌%◌, ◌≤◌, Bool, true, false, ◌⊎◌, inl, inr, ℤ, pos, List, [], ◌∷◌, ◌++◌, length, Option, None, Some, refl, sym, ap, subst, ◌∙◌, arith, append_assoc, eq-eqb, eqb-true}
 use Rattle.std.specs.Prelude.{◌&&◌, if◌then◌else◌, map}
 use Rattle.std.specs.List.{All, list_any, list_all}

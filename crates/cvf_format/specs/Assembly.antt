@@ -4,9 +4,9 @@ use Rattle.cvf_format.specs.declared.cvf.CvfView.{CvfView}
 use Rattle.cvf_format.specs.declared.piece.Mark.{Mark}
 use Rattle.cvf_format.specs.Stretches.{Fragment, Event, mark_of, unit_of, stamps, held, lost_marks, whole_unit, sequence_numbers}
 
--- The state of an assembler. `bytes` are those of the unit so far, and `whole` is true if the unit is complete. `held`
--- are the marks of the packets that wait for the rest of their unit. `lost` are the marks of the packets that were
--- given up last. The next fragment must have the unit's first byte `nal`, the sequence number `next_seq`, and no
+-- The state of an assembler. `bytes` are the bytes of the unit so far, and `whole` is true if the unit is complete.
+-- `held` are the marks of the packets that wait for the rest of their unit. `lost` are the marks of the packets that
+-- were given up last. The next fragment must have the unit's first byte `nal`, the sequence number `next_seq`, and no
 -- instant other than `instant`.
 pub record Assembly : Type 0 where
   pub bytes : List ℕ

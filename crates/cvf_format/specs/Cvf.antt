@@ -195,7 +195,7 @@ part_of bytes = if is_fragment bytes then fragment_of (is_set 29 0 bytes) (is_se
 abbrev pub nal_of : List ℕ → ℕ
 nal_of bytes = bits 28 0 3 bytes * 2 ^ 5 + (if is_fragment bytes then bits 29 3 5 bytes else bits 28 3 5 bytes)
 
--- the one H.264 packet that bytes spell, if nothing refuses them
+-- the H.264 packet that the bytes spell, if they are accepted
 abbrev pub cvf_of : List ℕ → Cvf
 cvf_of bytes = record {
   header = header_of bytes;

@@ -5,7 +5,7 @@ ghost use Rattle.cvf_format.specs.Settled.{packets, settled, settled_by};
 ghost use Rattle.cvf_format.specs.StretchRules.{EndsWith, IsStretch};
 ghost use Rattle.cvf_format.specs.Stretches.{Event, Fragment, given_up, held, is_stretch, last_stretch, longest_unit, most_fragments, whole_unit};
 
-/// `is_stretch` is true of exactly the packets that the rules call a stretch.
+/// `is_stretch` is true of exactly those lists of packets that the rules call a stretch.
 pub fn stretches_by_the_rules()
     ensures { (packets : List Fragment) → (is_stretch packets ≡ true) ↔ IsStretch packets }
 {}

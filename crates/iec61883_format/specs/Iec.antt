@@ -207,7 +207,7 @@ cip_of bytes = record {
   syt = bits 30 0 16 bytes;
 }
 
--- the one IEC 61883-6 packet that bytes spell, if nothing refuses them
+-- the IEC 61883-6 packet that the bytes spell, if they are accepted
 abbrev pub iec_of : List ℕ → Iec
 iec_of bytes = record {
   header = header_of bytes;

@@ -33,8 +33,8 @@ pub struct IecView<'a> {
     pub cip: Cip,
     /// The number of data blocks. It is 0 in a no-data packet, whatever follows the CIP header.
     pub count: u32,
-    /// The bytes after the CIP header: the data blocks, one after the other. Each quadlet of a block is a label byte
-    /// and 24 bits.
+    /// The bytes after the CIP header: the data blocks, each of `cip.dbs` quadlets. A quadlet is a label byte and 24
+    /// bits.
     pub payload: &'a [u8],
     /// A reserved bit is set.
     pub reserved: bool,

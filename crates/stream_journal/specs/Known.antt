@@ -18,8 +18,8 @@ use Rattle.stream_journal.specs.Journal.{Journal, head_of, rule_of}
 abbrev pub stamps_in : Journal → List ℕ → List Stamp
 stamps_in j came = filter_map (λ n. option_map (stamp_at j n) (j.stamp n)) came
 
--- A copy of a packet without a timestamp can be counted. The packet from which it is counted has a timestamp among the
--- last `room` that arrived. There is no restart between the two packets. The copy is expected at most the time of 60
+-- A copy of a packet without a timestamp can be counted. The packet from which it is counted has one of the last `room`
+-- timestamps that arrived. There is no restart between the two packets. The copy is expected at most the time of 60
 -- packets before or after its first instant.
 pub record IsCounted (j : Journal) (lead room : ℕ) (c : Copy) (came : List ℕ) : Type 0 where
   pub none : j.stamp c.number ≡ None
@@ -47,8 +47,8 @@ pub record IsCoveredBy (c : ClockJournal) (shift : ℤ) (rate : ℕ) (came : Lis
   pub covers : Covers (pair_at c earlier later) rate instant
 
 -- A listener knows the instants of the samples of `c`, a copy of an audio packet, after these packets of the stream and
--- of the clock. The packet has a timestamp, or is counted from one of the last 16 + `look` that arrived. If the
--- listener has the clock, two of the clock's points cover that timestamp.
+-- of the clock. The packet has a timestamp, or is counted from one of the last 16 + `look` timestamps that arrived. If
+-- the listener has the clock, two of the clock's points cover that timestamp.
 pub record IsKnown (by_clock : Bool) (j : Journal) (shift : ℤ) (lead look : ℕ) (c : Copy) (came clock_came : List ℕ) : Type 0 where
   pub timed : IsTimed j lead (look + 16) c came
   pub covered : by_clock ≡ true → (head : Head) → head_of j c.number ≡ Some head → IsCoveredBy j.clock shift j.rate clock_came head.instant

@@ -1,5 +1,5 @@
--- Kept for proofs: what the code's own parts hold and do. No clause of a public call rests on it.
--- Bounds of the instants that a packet's pairs can cover.
+-- Kept for proofs only: no clause of a public call rests on these definitions. Bounds of the instants that a packet's
+-- pairs can cover.
 use Rattle.std.specs.Prelude.{◌≡◌, ◌⊎◌, List, Some, slice_get, ℕ, ◌+◌, ◌-◌, ◌*◌, ◌<◌, ◌≤◌, ℤ, pos, ◌+ℤ◌, ◌≤ℤ◌, ◌<ℤ◌, IfSome}
 use Rattle.clock_track.specs.declared.bounds.Bounds.{Bounds}
 use Rattle.clock_track.specs.declared.clock_row.ClockRow.{ClockRow}

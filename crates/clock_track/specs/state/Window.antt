@@ -1,5 +1,4 @@
--- Kept for proofs: what the code's own parts hold and do. No clause of a public call rests on it.
--- A clock that keeps its last packets.
+-- Kept for proofs only: no clause of a public call rests on these definitions. A clock that keeps its last packets.
 use Rattle.std.specs.Prelude.{◌≡◌, ◌≤◌, ◌+◌, ℤ, All, length, map, vec_capacity, vec_len}
 use Rattle.std.specs.Global.{Vec}
 use Rattle.circular_buffer.specs.Buffer.{Buffer}
