@@ -76,8 +76,8 @@ rate_of nsr =
     if nsr == 9 then Some 192000 else
     if nsr == 10 then Some 24000 else None
 
--- The format of samples that byte 16 of a packet names. It is Int16 if byte 16 names no PCM format, but such a packet
--- is refused.
+-- The format of samples that byte 16 of a packet names. The result is Int16 if byte 16 names no PCM format, but such a
+-- packet is refused.
 abbrev pub format_of : List ℕ → AafFormat
 format_of bytes = unwrap_or (named_format (bits 16 0 8 bytes)) Int16
 
@@ -99,7 +99,8 @@ aaf_layout = stream_layout (λ v. v.header)
 abbrev pub sets_reserved : List ℕ → Bool
 sets_reserved bytes = any_set (reserved_ranges aaf_layout) bytes
 
--- The rows of format, sample rate, channels and bit depth, in this order. They follow the rows that all formats share.
+-- The rows of format, sample rate, channels and bit depth, in this order. These rows follow the rows that all formats
+-- share.
 abbrev pub sample_rows : List ℕ → List Row
 sample_rows bytes =
     row Format 16 (is_none (named_format (bits 16 0 8 bytes))) ∷
@@ -107,7 +108,7 @@ sample_rows bytes =
     row ChannelsPerFrame 17 (bits 17 6 10 bytes == 0) ∷
     row BitDepth 19 (nat_lt (8 * width_of (format_of bytes)) (bits 19 0 8 bytes)) ∷ []
 
--- The rows of the stated length, which come last. They refuse a length that exceeds the bytes after the header, or is
+-- The rows of the stated length, which come last. The length is refused if it exceeds the bytes after the header, or is
 -- not a whole number of sample frames.
 abbrev pub length_rows : List ℕ → List Row
 length_rows bytes =
@@ -116,8 +117,8 @@ length_rows bytes =
     (not (bits 20 0 16 bytes % frame_size (bits 17 6 10 bytes) (format_of bytes) == 0)) ∷ []
 
 -- Why the bytes are refused as a PCM packet; `None` if they are accepted. A packet that is cut off in bytes 16 to 19 is
--- refused for `format_data`. A packet that is cut off in bytes 22 and 23 is refused for `format_flags`. These are the
--- names of the fields in the stream header.
+-- refused for `format_data`. A packet that is cut off in bytes 22 and 23 is refused for `format_flags`. Both are names
+-- of fields of the stream header.
 abbrev pub aaf_refusal : List ℕ → Option Refusal
 aaf_refusal bytes =
     or_else (kind_refusal aaf_subtype bytes)

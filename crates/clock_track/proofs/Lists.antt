@@ -124,8 +124,8 @@ take-more rows left row some e =
 given : (b c : Bool) (o r : Option Pair) → b ≡ c → r ≡ (if b then o else None) → r ≡ (if c then o else None)
 given b c o r u f = rw (← u) f
 
--- If a pair of packet `row` passes, the last such pair is found. Otherwise the last pair that passes is one of the
--- packets before `row`.
+-- If a pair of packet `row` passes, the last such pair is found. If none passes, the last pair that passes is one of
+-- the packets before `row`.
 row-found : (g : List ClockRow → List Pair) (h : ClockRow → List Pair) (test : Pair → Bool) (rows : List ClockRow) (left : ℕ) (row : ClockRow) (r whole : Option Pair)
     → ((xs : List ClockRow) (x : ClockRow) → g (xs ++ x ∷ []) ≡ g xs ++ h x)
     → 0 < left → slice_get rows (left - 1) ≡ Some row → r ≡ (if row.usable then find_last test (h row) else None)

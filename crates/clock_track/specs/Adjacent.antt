@@ -40,6 +40,6 @@ pub record AreAcross (shift : ℤ) (row before : ClockRow) : Type 0 where
 abbrev pub lone_row : ClockRow
 lone_row = worked_row 100 false 48000 1006000000
 
--- The two worked packets, whose points are 2 ms apart, and then `others` packets that are joined with no other.
+-- The two worked packets, whose points are 2 ms apart, and then `others` packets that are not joined with any packet.
 abbrev pub followed_rows : ℕ → List ClockRow
 followed_rows others = worked_rows 48000 false ++ replicate others lone_row

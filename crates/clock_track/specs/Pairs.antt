@@ -87,8 +87,8 @@ abbrev pub nearest_event : Pair → ℤ → ℤ
 nearest_event p instant = floor_of ((instant -ℤ p.later) *ℤ pos (2 * p.interval) +ℤ pos (period p)) (2 * period p)
 
 -- The line of a sample with this presentation time according to a pair, and the sample's number on that line. If the
--- clock's frequency is the stream's rate, the sample is at the nearest event. Otherwise samples are counted from the
--- presentation time, in the pair's spacing.
+-- clock's frequency is the stream's rate, the sample is at the nearest event. If it is another, samples are counted
+-- from the presentation time, in the pair's spacing.
 abbrev pub spot_by : Pair → ℕ → ℤ → Spot
 spot_by p rate instant =
     if p.up == rate * p.down

@@ -92,7 +92,7 @@ pub record IsLastCovering (rate : ℕ) (instant : ℤ) (pairs : List Pair) (pair
   pub covers : Covers pair rate instant
   pub none_behind : All (λ other. ¬ Covers other rate instant) behind
 
--- The pair is the last one in the list that covers the instant. If it is `None`, no pair in the list covers the
+-- The pair is the last one in the list that covers the instant. If the pair is `None`, no pair in the list covers the
 -- instant.
 abbrev pub IsLatest : ℕ → ℤ → List Pair → Option Pair → Type 0
 IsLatest rate instant pairs None = All (λ pair. ¬ Covers pair rate instant) pairs

@@ -32,7 +32,7 @@ struct Room {
     groups: Vec<Bounds>,
 }
 
-/// What is kept of a packet. Its memory is reused, so noting a packet allocates nothing.
+/// What is kept of a packet. The memory of a dropped packet is reused, so noting a packet allocates nothing.
 #[derive(Drop)]
 struct Kept {
     usable: bool,
@@ -165,7 +165,7 @@ fn put_behind(rows: &mut HeapCircularBuffer<Kept>, kept: Kept)
     };
 }
 
-/// A media clock (IEEE 1722-2016, 10). It keeps the last 64 of its packets that give points.
+/// A media clock (IEEE 1722-2016, 10), which keeps the last 64 of its packets that give points.
 #[derive(Drop)]
 pub struct Clock {
     shift: i64,
@@ -206,8 +206,8 @@ impl Clock {
     }
 
     /// Notes a packet of the clock. If 64 packets are kept already, the oldest is dropped. A packet that gives no
-    /// points is ignored. A packet that gives points must have at most 8,191 timestamps, all whole. Its pull must be at
-    /// most 5, its base frequency 1 to 2^29 - 1, and its interval at least 1. Allocates nothing.
+    /// points is ignored. A packet that gives points must have at most 8,191 timestamps, all whole. In such a packet
+    /// the pull is at most 5, the base frequency 1 to 2^29 - 1, and the interval at least 1. Allocates nothing.
     pub fn note(&mut self, points: &Points<'_>)
         requires { IsNotable (row_of points.now) }
         ensures noted { (rows : List ClockRowValue) → StandsFor self.old rows → StandsFor self.new (rows ++ row_of points.now ∷ []) }
@@ -221,7 +221,7 @@ impl Clock {
 
     /// The line of the sample whose presentation time is `instant`, in nanoseconds of gPTP, and the sample's number on
     /// that line. The stream has `rate` samples a second, at least 1. The answer is that of `line_over` for all packets
-    /// that were noted. It is `NoClock` exactly if no pair covers the instant. Allocates nothing.
+    /// that were noted. The answer is `NoClock` exactly if no pair covers the instant. Allocates nothing.
     pub fn line_for(&self, instant: i64, rate: u32) -> ClockAnswer
         requires { 1 ≤ rate }
         ensures value { (rows : List ClockRowValue) → StandsFor self.now rows → answered result ≡ clock_spot rows self.now.shift instant rate }

@@ -25,9 +25,9 @@ pub fn second_point_is_waited_for()
 {}
 
 /// Two clock packets have one point each, 2 ms and 96 events apart. The stream's rate is 48 kHz. If the clock's
-/// frequency is 48 kHz, the stamped sample is the clock's nearest event. If it is 44.1 kHz, samples are counted from
-/// the timestamp, 19,140.625 ns apart. An instant more than half a sample before the second point has no line. If the
-/// clock restarted between the packets, there is no line.
+/// frequency is 48 kHz, the stamped sample is the clock's nearest event. If the clock's frequency is 44.1 kHz, samples
+/// are counted from the timestamp, 19,140.625 ns apart. An instant more than half a sample before the second point has
+/// no line. If the clock restarted between the packets, there is no line.
 pub fn worked_lines_are_so()
     ensures own { clock_spot (worked_rows 48000 false) (pos 0) (pos 1004125000) 48000 ≡ Some (record { line = record { base = pos 1004000000; num = 2000000; den = 96 }; from = pos 6 }) }
     ensures other { clock_spot (worked_rows 44100 false) (pos 0) (pos 1004125000) 48000 ≡ Some (record { line = record { base = pos 1004125000; num = 88200000000; den = 4608000 }; from = pos 0 }) }
@@ -35,9 +35,9 @@ pub fn worked_lines_are_so()
     ensures restarted { clock_spot (worked_rows 48000 true) (pos 0) (pos 1004125000) 48000 ≡ None }
 {}
 
-/// Two adjacent timestamps of a clock are joined, and their packets are among the last 64. Then the clock has a line
-/// for each instant that their pair covers. This holds for two timestamps of one packet, and for the last of one packet
-/// and the first of the next.
+/// If two adjacent timestamps of a clock are joined and their packets are among the last 64, the clock has a line for
+/// each instant that the pair covers. The two timestamps are in one packet, or are the last of one packet and the first
+/// of the next.
 pub fn covering_pairs_are_found()
     ensures inside { (shift instant : ℤ) (rate i : ℕ) (rows : List ClockRow) (row : ClockRow) → Contains (window rows) row → AreInside shift row i → Covers (pair_inside shift row i) rate instant → clock_spot rows shift instant rate ≢ None }
     ensures across { (shift instant : ℤ) (rate : ℕ) (rows : List ClockRow) (row before : ClockRow) → Contains (window rows) row → Contains (window rows) before → AreAcross shift row before → Covers (pair_across shift row before) rate instant → clock_spot rows shift instant rate ≢ None }

@@ -78,22 +78,22 @@ pub fn line_among<R: Rows>(rows: &R, query: &Query) -> ClockAnswer
 
 /// The line of the sample whose presentation time is `instant`, in nanoseconds of gPTP, and the sample's number on that
 /// line. A media clock gives the line (IEEE 1722-2016, 10). The stream has `rate` samples a second. The clock consists
-/// of the last 64 rows that give points. `shift` is added to each of its timestamps; it is in nanoseconds, at most a
-/// second forward or back.
+/// of the last 64 rows that give points. `shift` is added to each of the clock's timestamps; it is in nanoseconds, at
+/// most a second forward or back.
 ///
 /// Two adjacent timestamps below 2^62 are a pair if the time between them is within 1/8 of the nominal time of the
-/// interval. They are adjacent in one packet, or are the last of one packet and the first of another. The other packet
-/// must have the next sequence number, and the same restart bit, frequency and interval.
+/// interval. Timestamps are adjacent in one packet. The last timestamp of a packet and the first of another are
+/// adjacent if the other has the next sequence number, and the same restart bit, frequency and interval.
 ///
 /// A pair covers the instants of one period, which begins half a sample before its later point. The last pair that
 /// covers the instant counts. Pairs are in the order of their later points in the packets. Pairs with the same later
 /// point are in the order of their earlier points. The answer is `NoClock` exactly if no pair covers the instant.
 ///
 /// If the clock's frequency is the stream's rate, the line is that of the clock's events, and the sample is the event
-/// nearest to the instant. Otherwise samples are counted from the instant, in the pair's spacing.
+/// nearest to the instant. If the frequency is another, samples are counted from the instant, in the pair's spacing.
 ///
-/// A row that gives points must have at most 8,191 timestamps, all whole. Its pull must be at most 5, its base
-/// frequency 1 to 2^29 - 1, and its interval at least 1. `rate` must be at least 1.
+/// A row that gives points must have at most 8,191 timestamps, all whole. In such a row the pull is at most 5, the base
+/// frequency 1 to 2^29 - 1, and the interval at least 1. `rate` must be at least 1.
 pub fn line_over(rows: &[ClockRow], shift: i64, instant: i64, rate: u32) -> ClockAnswer
     requires rows { All IsNotable rows.now }
     requires shift { IsShift shift }

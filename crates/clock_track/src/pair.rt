@@ -149,7 +149,7 @@ impl Pair {
 
     /// The line of a sample whose presentation time is `instant`, and the sample's number on that line, in a stream of
     /// this rate. The pair must cover the instant. If the clock's frequency is the rate, the sample is at the nearest
-    /// event. Otherwise samples are counted from the instant, in the pair's spacing.
+    /// event. If it is another, samples are counted from the instant, in the pair's spacing.
     pub fn answer(&self, rate: u32, instant: i64) -> ClockAnswer
         requires rate { 1 ≤ rate }
         requires covering { IsCovering rate instant self.now }

@@ -35,8 +35,8 @@ pub struct Query {
     pub lead: u64,
 }
 
-/// The longest time from an instant to the later point of a pair that covers the instant, in nanoseconds. It is 9/8 of
-/// half a sample of a stream of `rate` samples a second.
+/// The longest time from an instant to the later point of a pair that covers the instant, in nanoseconds. This time is
+/// 9/8 of half a sample of a stream of `rate` samples a second.
 pub fn lead_of(rate: u32) -> u64
     requires { 1 ≤ rate }
     ensures { IsLead rate result }
@@ -304,8 +304,8 @@ fn covering_across(row: &Points<'_>, before: &Points<'_>, query: &Query) -> Opti
     covering(row, query, timestamp(before, count - 1), timestamp(row, 0))
 }
 
-/// The pair of the last timestamp of the packet at index `place` and the first of `row`. There is none if that packet
-/// gives no points, or if the pair is not joined or does not cover the instant.
+/// The pair of the last timestamp of the packet at index `place` and the first of `row`. `None` if that packet gives no
+/// points, or if the pair is not joined or does not cover the instant.
 fn covering_from<R: Rows>(rows: &R, place: usize, row: &Points<'_>, query: &Query) -> Option<Pair>
     requires place { place < length (R.rows rows.now) }
     requires row { IsRow (row_of row.now) }
@@ -321,7 +321,7 @@ fn covering_from<R: Rows>(rows: &R, place: usize, row: &Points<'_>, query: &Quer
     }
 }
 
-/// Whether the first timestamp of a packet is missing, is not a point, or is too late. Then no pair with this later
+/// Whether the first timestamp of a packet is missing, is not a point, or is too late. If so, no pair with this later
 /// point covers the instant, whatever the earlier point.
 fn is_too_late(row: &Points<'_>, query: &Query) -> bool
     requires row { IsRow (row_of row.now) }
@@ -371,8 +371,8 @@ fn is_outside<R: Rows>(rows: &R, place: usize, query: &Query) -> bool
     }
 }
 
-/// The last pair that covers the instant and whose later point is in the packet at index `place`. There is none if the
-/// packet gives no points.
+/// The last pair that covers the instant and whose later point is in the packet at index `place`. `None` if the packet
+/// gives no points.
 fn latest_at<R: Rows>(rows: &R, place: usize, query: &Query) -> Option<Pair>
     requires rows { All IsNotable (R.rows rows.now) }
     requires bounded { R.bounded rows.now query.now.shift }

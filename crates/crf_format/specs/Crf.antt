@@ -1,5 +1,5 @@
--- Packets of the clock reference format (IEEE 1722-2016, 10). Their header has 20 bytes and differs from the stream
--- header.
+-- Packets of the clock reference format (IEEE 1722-2016, 10). Such a packet has a header of 20 bytes, which differs
+-- from the stream header.
 use Rattle.std.specs.Prelude.{◌≡◌, ℕ, ◌*◌, ◌%◌, ◌==◌, ◌^◌, ◌<◌, ◌≤◌, Bool, false, not, ◌||◌, nat_lt, List, [], ◌∷◌, ◌++◌, length, take, drop, Option, None}
 use Rattle.avtp_base.specs.declared.field.Field.TheVariants.{Subtype, Version, SequenceNum, CrfType, StreamId, Pull, BaseFrequency, CrfDataLength, TimestampInterval}
 use Rattle.avtp_base.specs.declared.refusal.Refusal.{Refusal}
@@ -83,8 +83,8 @@ misses_timestamps stated n = stated == 0 || not (stated % 8 == 0) || exceeds 20 
 abbrev pub shared_rows : List ℕ → List Row
 shared_rows bytes = subtype_row crf_subtype bytes ∷ version_row bytes ∷ []
 
--- The rows of pull, base frequency, stated length and timestamp interval, in this order. They follow the rows that all
--- formats share.
+-- The rows of pull, base frequency, stated length and timestamp interval, in this order. These rows follow the rows
+-- that all formats share.
 abbrev pub clock_rows : List ℕ → List Row
 clock_rows bytes =
     row Pull 12 (nat_lt last_pull (bits 12 0 3 bytes)) ∷

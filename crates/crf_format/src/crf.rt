@@ -5,7 +5,7 @@
 pub struct CrfView<'a> {
     /// The stream ID is valid.
     pub sv: bool,
-    /// The media clock restart bit. It toggles when the source of the media clock changes.
+    /// The media clock restart bit, which toggles when the source of the media clock changes.
     pub mr: bool,
     /// The frame synchronization bit (fs).
     pub fs: bool,

@@ -200,8 +200,8 @@ none_codes bytes low high none k from below = false_from_ne_true (is_start_code 
 pub codes_none : (bytes : List ℕ) (at : ℕ) → at ≤ length bytes → Nowhere (OccursAt bytes start_code) at (length bytes + 1) → units_from bytes at ≡ []
 codes_none bytes at within none = units_none bytes at within (none_codes bytes at (length bytes) (λ k low high. none k low (omega arith)))
 
--- The first start code from `at` on is at `code`. Then the units from `at` on are the unit after this start code, if it
--- has one, and those from `code` + 1 on.
+-- If a start code is at `code` and no earlier one is at or after `at`, the units from `at` on are the unit after
+-- `code`, if there is one, and those from `code` + 1 on.
 pub code_found : (bytes : List ℕ) (at code : ℕ) → NoneBefore (OccursAt bytes start_code) at (length bytes + 1) code → OccursAt bytes start_code code
     → units_from bytes at ≡ cons_option (unit_behind bytes code) (units_from bytes (code + 1))
 code_found bytes at code first there =

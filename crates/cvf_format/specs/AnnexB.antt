@@ -17,8 +17,8 @@ three_zeros = 0 ∷ 0 ∷ 0 ∷ []
 abbrev pub IsEnd : List ℕ → ℕ → Type 0
 IsEnd bytes at = OccursAt bytes start_code at ⊎ OccursAt bytes three_zeros at ⊎ (at ≡ length bytes)
 
--- The bytes from `from` to before `to` are a NAL unit. It begins after a start code. `end` is the first later index at
--- which a unit may end. The unit has at least one byte, and excludes the zero bytes just before `end`.
+-- The bytes from `from` to before `to` are a NAL unit. The unit begins after a start code. `end` is the first later
+-- index at which a unit may end. The unit has at least one byte, and excludes the zero bytes just before `end`.
 pub record IsUnit (bytes : List ℕ) (from to end : ℕ) : Type 0 where
   pub behind : 3 ≤ from
   pub code : OccursAt bytes start_code (from - 3)
@@ -56,8 +56,8 @@ end_behind bytes from = unwrap_or (find (is_end bytes) (range_with_len from (len
 abbrev pub is_other_byte : List ℕ → ℕ → Bool
 is_other_byte bytes at = not (slice_index bytes at == 0)
 
--- The NAL unit after the start code at this index. Its last byte is the last one before `end_behind` that is not 0. If
--- there is no such byte, there is no unit.
+-- The NAL unit after the start code at this index. The unit ends with the last byte before `end_behind` that is not 0.
+-- If there is no such byte, there is no unit.
 abbrev pub unit_behind : List ℕ → ℕ → Option (ℕ × ℕ)
 unit_behind bytes code =
     option_map (λ last. (code + 3, last + 1))

@@ -60,8 +60,8 @@ KeepsAll a (first ∷ rest) = Keeps a first rest
 abbrev pub shown_unit : Assembly → List ℕ
 shown_unit a = if a.whole then a.bytes else []
 
--- The state of the assembler `a` after exactly these events. It keeps the packets that wait, the marks of the packets
--- that the last event gave up, and the unit that the last event completed.
+-- The state of the assembler `a` after exactly these events. The assembler keeps the packets that wait, the marks of
+-- the packets that the last event gave up, and the unit that the last event completed.
 pub record StandsFor (a : Assembly) (events : List Event) : Type 0 where
   pub waits : KeepsAll a (held events)
   pub lost : a.lost ≡ lost_marks events

@@ -130,8 +130,8 @@ header_size Last = 30
 
 -- ---- the rows
 
--- The rows of format, format subtype and stated length, in this order. They follow the rows that all formats share. The
--- stated length includes the H.264 timestamp and the byte of the NAL type.
+-- The rows of format, format subtype and stated length, in this order. These rows follow the rows that all formats
+-- share. The stated length includes the H.264 timestamp and the byte of the NAL type.
 abbrev pub format_rows : List ℕ → List Row
 format_rows bytes =
     row CvfFormat 16 (not (bits 16 0 8 bytes == rfc_format)) ∷
@@ -147,8 +147,9 @@ is_fragment bytes = bits 28 3 5 bytes == fu_a
 abbrev pub cut_off : Field → ℕ → Bool → Row
 cut_off field at holds = record { refusal = record { field = field; at = at; short = true }; holds = holds }
 
--- The rows of the NAL unit's headers, which come last. They refuse a type that is neither that of a single unit nor
--- FU-A. They refuse an FU header that is cut off, has both S and E, or names a type other than that of a single unit.
+-- The rows of the NAL unit's headers, which come last. One row refuses a type that is neither that of a single unit nor
+-- FU-A. The others refuse an FU header that is cut off, has both S and E, or names a type other than that of a single
+-- unit.
 abbrev pub nal_rows : List ℕ → List Row
 nal_rows bytes =
     row NalType 28 (not (is_single_type (bits 28 3 5 bytes) || is_fragment bytes)) ∷

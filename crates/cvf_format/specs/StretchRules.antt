@@ -4,15 +4,16 @@ use Rattle.std.specs.List.{All}
 use Rattle.std.specs.Option.{IfSome}
 use Rattle.cvf_format.specs.Stretches.{Fragment, Event, packet, begins, goes_on, completes, sequence_numbers}
 
--- The packet `after` continues the unit of the packet `before`. It carries a middle or last fragment, and `before` did
--- not complete the unit. Both carry the same first byte of the unit. The sequence number of `after` is the next one.
+-- The packet `after` continues the unit of the packet `before`. `after` carries a middle or last fragment, and `before`
+-- did not complete the unit. Both packets carry the same first byte of the unit. The sequence number of `after` is the
+-- next one.
 pub record GoesOn (before after : Fragment) : Type 0 where
   pub incomplete : completes before.part ≡ false
   pub part : goes_on after.part ≡ true
   pub nal : after.nal ≡ before.nal
   pub seq : after.mark.seq ≡ (before.mark.seq + 1) % sequence_numbers
 
--- The packets are a stretch. The first packet begins a unit. Each other packet continues the unit of the packet before
+-- The packets are a stretch. The first packet begins a unit. Each later packet continues the unit of the packet before
 -- it. All packets with a timestamp have the same instant.
 pub record IsStretch (packets : List Fragment) : Type 0 where
   pub some : packets ≢ []

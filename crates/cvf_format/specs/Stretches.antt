@@ -94,7 +94,7 @@ abbrev pub all_equal : List ℤ → Bool
 all_equal [] = true
 all_equal (instant ∷ rest) = list_all (int_eq instant) rest
 
--- The packets are a stretch. The first packet begins a unit. Each other packet continues the unit of the packet before
+-- The packets are a stretch. The first packet begins a unit. Each later packet continues the unit of the packet before
 -- it. All packets with a timestamp have the same instant.
 unfoldable pub is_stretch : List Fragment → Bool
 is_stretch [] = false

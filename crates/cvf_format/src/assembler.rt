@@ -210,7 +210,7 @@ impl Assembler {
         &[]
     }
 
-    /// Takes a packet. It begins a unit, continues the waiting unit, or is lost and gives up the waiting unit.
+    /// Takes a packet, which begins a unit, continues the waiting unit, or is lost and gives up the waiting unit.
     fn push_packet(&mut self, mark: Mark, instant: Option<i64>, view: &CvfView<'_>) -> Pushed
         requires { length view.now.body.now ≤ longest_body }
         ensures pushed { (events : List Event) → StandsFor self.old events

@@ -10,7 +10,7 @@ pub fn stretches_by_the_rules()
     ensures { (packets : List Fragment) → (is_stretch packets ≡ true) ↔ IsStretch packets }
 {}
 
-/// A list of events ends with at most one stretch. It is the one that `last_stretch` returns.
+/// A list of events ends with at most one stretch, which is the one that `last_stretch` returns.
 pub fn one_stretch()
     ensures one { (events : List Event) (stretch : List Fragment) → EndsWith events stretch → last_stretch events ≡ stretch }
     ensures some { (events : List Event) → (last_stretch events ≡ []) ⊎ EndsWith events (last_stretch events) }

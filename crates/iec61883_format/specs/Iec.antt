@@ -94,8 +94,8 @@ syt_interval fdf =
 abbrev pub IsSytInterval : ℕ → Type 0
 IsSytInterval interval = (interval ≡ 8) ⊎ (interval ≡ 16) ⊎ (interval ≡ 32)
 
--- The data block to which the packet's timestamp belongs, counted from 0. It is the first whose block count is a
--- multiple of the interval. The packet's first data block has the count `dbc`.
+-- The data block to which the packet's timestamp belongs, counted from 0. This is the first block whose block count is
+-- a multiple of the interval. The packet's first data block has the count `dbc`.
 abbrev pub anchor_index : ℕ → ℕ → ℕ
 anchor_index dbc interval = stamped_index (Blocks dbc interval)
 
@@ -138,16 +138,17 @@ sets_reserved bytes = any_set (reserved_ranges iec_layout) bytes
 
 -- ---- the rows
 
--- The rows of the encapsulation, which follow those that all formats share. They refuse a tag that is not that of a CIP
--- header. They refuse a stated length that is less than a CIP header, or exceeds the bytes after the stream header.
+-- The rows of the encapsulation, which follow those that all formats share. The first row refuses a tag that is not
+-- that of a CIP header. The second refuses a stated length that is less than a CIP header, or exceeds the bytes after
+-- the stream header.
 abbrev pub carrier_rows : List ℕ → List Row
 carrier_rows bytes =
     row Tag 22 (not (bits 22 0 2 bytes == cip_tag)) ∷
     row StreamDataLength 20
     (nat_lt (bits 20 0 16 bytes) 8 || exceeds 24 (bits 20 0 16 bytes) (length bytes)) ∷ []
 
--- The rows of the first quadlet of the CIP header, which follow those of the encapsulation. They refuse a QI_1, FN, QPC
--- or SPH other than 0.
+-- The rows of the first quadlet of the CIP header, which follow those of the encapsulation. The rows refuse a QI_1, FN,
+-- QPC or SPH other than 0.
 abbrev pub first_quadlet_rows : List ℕ → List Row
 first_quadlet_rows bytes =
     row Qi1 24 (not (bits 24 0 2 bytes == 0)) ∷
@@ -155,8 +156,8 @@ first_quadlet_rows bytes =
     row Qpc 26 (not (bits 26 2 3 bytes == 0)) ∷
     row Sph 26 (not (bits 26 5 1 bytes == 0)) ∷ []
 
--- The rows of the second quadlet of the CIP header, which follow those of the first. They refuse a QI_2 other than 2,
--- an FMT other than audio, and an FDF that names neither a rate nor no data.
+-- The rows of the second quadlet of the CIP header, which follow those of the first. The rows refuse a QI_2 other than
+-- 2, an FMT other than audio, and an FDF that names neither a rate nor no data.
 abbrev pub second_quadlet_rows : List ℕ → List Row
 second_quadlet_rows bytes =
     row Qi2 28 (not (bits 28 0 2 bytes == second_mark)) ∷

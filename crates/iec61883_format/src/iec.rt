@@ -31,7 +31,7 @@ pub struct IecView<'a> {
     /// The synchronization code of the upper layer, 0 to 15.
     pub sy: u8,
     pub cip: Cip,
-    /// The number of data blocks. It is 0 in a no-data packet, whatever follows the CIP header.
+    /// The number of data blocks; 0 in a no-data packet, whatever follows the CIP header.
     pub count: u32,
     /// The bytes after the CIP header: the data blocks, each of `cip.dbs` quadlets. A quadlet is a label byte and 24
     /// bits.

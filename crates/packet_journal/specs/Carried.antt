@@ -8,8 +8,8 @@ use Rattle.packet_journal.specs.Deliveries.{avtp_ethertype}
 use Rattle.packet_journal.specs.Delivered.{Origin, OfClock, OfStream, Spells}
 use Rattle.packet_journal.specs.Packets.{PacketJournal, spelling_of}
 
--- The record holds an Ethernet frame of AVTP with packet n. It was captured near enough to the packet's instant for a
--- listener to tell which packet it is.
+-- The record holds an Ethernet frame of AVTP with packet n. The record was captured near enough to the packet's instant
+-- for a listener to tell which packet it is.
 pub record Carries (p : PacketJournal) (lead n : ℕ) (r : Record) : Type 0 where
   pub frame : Frame
   pub writable : IsWritableFrame frame

@@ -11,8 +11,8 @@ pub record Spells (packet bytes : List ℕ) : Type 0 where
   pub trail : List ℕ
   pub whole : bytes ≡ packet ++ trail
 
--- The delivery is a copy of packet n. It arrived near enough to the packet's instant for a listener to tell it from
--- copies of other packets.
+-- The delivery is a copy of packet n. The copy arrived near enough to the packet's instant for a listener to tell it
+-- from copies of other packets.
 pub record IsCopyOf (p : PacketJournal) (lead n : ℕ) (d : Delivery) : Type 0 where
   pub arrival : ℕ
   pub arrived : d.arrival ≡ pos arrival

@@ -29,7 +29,7 @@ pub fn carried_packet_is_delivered()
     cvf_format::laws::packet_again();
 }
 
-/// Frames with packets of a conforming talker were captured in time. Then their records deliver the talker's journal,
+/// If frames with packets of a conforming talker are captured in time, their records deliver the talker's journal,
 /// whichever packets they carry.
 pub fn carried_packets_are_delivered()
     ensures { (shift : ℤ) (p : PacketJournal) (clock : Option ℕ) (lead : ℕ) (numbers : List ℕ) (records : List Record) → IsConforming shift p → AllCarry p lead numbers records → AreNear p.times numbers → Delivers p clock lead records }
@@ -38,15 +38,15 @@ pub fn carried_packets_are_delivered()
 }
 
 /// A record that carries a packet of a conforming talker's clock belongs to the clock, according to its subtype and its
-/// stream ID. Its delivery is a copy of the packet.
+/// stream ID. The delivery of the record is a copy of the packet.
 pub fn carried_clock_packet_is_delivered()
     ensures belongs { (shift : ℤ) (p : PacketJournal) (m : ℕ) (r : Record) → IsConforming shift p → CarriesClock p m r → belongs clock_kinds p.clock r.bytes ≡ true }
     ensures copy { (p : PacketJournal) (m frame : ℕ) (r : Record) → CarriesClock p m r → IsClockCopyOf p m (delivery frame r) }
 {}
 
-/// Frames with packets of a conforming talker's stream and of its clock were captured, those of the stream in time.
-/// Then their records deliver the talker's journal, whichever packets they carry. This holds for listeners with the
-/// clock and without.
+/// If frames with packets of a conforming talker's stream and clock are captured, their records deliver the talker's
+/// journal, whichever packets they carry. Only the frames of the stream must be captured in time. The law holds for
+/// listeners with the clock and without.
 pub fn records_of_both_are_delivered()
     ensures { (shift : ℤ) (p : PacketJournal) (clock : Option ℕ) (lead : ℕ) (origins : List Origin) (records : List Record) → IsConforming shift p → AllCarryFrom p lead origins records → AreNear p.times (stream_numbers origins) → Delivers p clock lead records }
 {

@@ -7,7 +7,7 @@ use Rattle.clock_track.specs.Rows.{timestamp}
 use Rattle.stream_journal.specs.Clocks.{ClockJournal, IsJoinedAt, Place, pair_at}
 use Rattle.stream_journal.specs.Journal.{Journal}
 
--- The row is a copy of the clock's packet m. Its timestamps plus `shift` are the clock's points.
+-- The row is a copy of the clock's packet m. The row's timestamps plus `shift` are the clock's points.
 pub record IsRowOf (c : ClockJournal) (shift : ℤ) (m : ℕ) (row : ClockRow) : Type 0 where
   pub known : m < c.packets
   pub seq : row.seq ≡ m % 256
@@ -30,7 +30,7 @@ pub record IsTruePair (c : ClockJournal) (pair : Pair) : Type 0 where
   pub joined : IsJoinedAt c earlier later
   pub same : pair ≡ pair_at c earlier later
 
--- The spot is that of a sample whose presentation time is `instant`. It follows from a joined pair of the clock's
+-- The spot is that of a sample whose presentation time is `instant`. The spot follows from a joined pair of the clock's
 -- points that covers `instant`.
 pub record IsSpotAt (j : Journal) (instant : ℤ) (spot : Spot) : Type 0 where
   pub earlier : Place

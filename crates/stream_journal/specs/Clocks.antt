@@ -67,8 +67,9 @@ pub record IsJoinedAt (c : ClockJournal) (p q : Place) : Type 0 where
   pub one_run : InOneRun c p q
   pub joined : IsJoined (pair_at c p q)
 
--- A listener considers the points at p and q adjacent. They are adjacent in one packet, or are the last of one packet
--- and the first of another. The other packet has the next sequence number.
+-- A listener considers the points at p and q adjacent. The points are adjacent in one packet, or p is the last of a
+-- packet and q the first of another. In the second case, the packet of q has the sequence number after that of the
+-- packet of p.
 abbrev pub SeemNext : ClockJournal → Place → Place → Type 0
 SeemNext c p q =
     ((q.packet ≡ p.packet) × (q.at ≡ suc p.at))

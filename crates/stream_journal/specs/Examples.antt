@@ -66,8 +66,8 @@ restarted_copies =
     came 19 1003375000 ∷
     []
 
--- Eight packets of 6 data blocks of AM824. Their blocks are counted from 0. The two lists say when the packets are due,
--- and which timestamps they have.
+-- Eight packets of 6 data blocks of AM824, with blocks counted from 0. The two lists say when the packets are due, and
+-- which timestamps they have.
 abbrev pub blocks_of_six : ℕ → ℕ → List ℕ → List (Option ℕ) → Journal
 blocks_of_six rate interval dues stamps = record {
   kind = Am824 interval (λ n. n * 6 % 256);
@@ -106,8 +106,8 @@ sixteenth_copies =
     came 7 1000437500 ∷
     []
 
--- Sixty-four packets of 6 sample frames at 48 kHz, each with a timestamp. The clock has the base frequency `base`. It
--- has two packets of two points each, and adjacent points are 96 events or 2 ms apart.
+-- Sixty-four packets of 6 sample frames at 48 kHz, each with a timestamp. The clock has the base frequency `base`. Its
+-- two packets have two points each, and adjacent points are 96 events or 2 ms apart.
 abbrev pub clocked : ℕ → Journal
 clocked base = record {
   kind = DenseAaf;

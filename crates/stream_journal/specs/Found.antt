@@ -7,8 +7,8 @@ use Rattle.stream_journal.specs.Journal.{Journal}
 use Rattle.stream_journal.specs.Delivered.{Copy}
 use Rattle.stream_journal.specs.Heads.{IsStampOf}
 
--- A listener expects packets `lead` nanoseconds before their first instant. It expects this copy at most the time of 60
--- packets before or after the first instant.
+-- A listener expects packets `lead` nanoseconds before their first instant. The listener expects this copy at most the
+-- time of 60 packets before or after the copy's first instant.
 pub record IsExpected (j : Journal) (lead : ℕ) (c : Copy) : Type 0 where
   pub from : j.due c.number * j.rate ≤ (c.arrival + lead) * j.rate + 60 * (j.count * 1000000000)
   pub to : (c.arrival + lead) * j.rate ≤ j.due c.number * j.rate + 60 * (j.count * 1000000000)
@@ -17,8 +17,8 @@ pub record IsExpected (j : Journal) (lead : ℕ) (c : Copy) : Type 0 where
 abbrev pub HasNoRestart : Journal → ℕ → ℕ → Type 0
 HasNoRestart j k n = (i : ℕ) → k ≤ i → i ≤ n → j.mr i ≡ j.mr n
 
--- The stamp from which packet n is counted is at hand. It is that of the packet `far.packets` before packet n, and is
--- among the last `room` stamps. There is no restart between the two packets.
+-- The stamp from which packet n is counted is at hand. The stamp is that of the packet `far.packets` before packet n,
+-- and is among the last `room` stamps. There is no restart between the two packets.
 pub record IsAtHand (j : Journal) (room n : ℕ) (far : Distance) (stamps : List Stamp) (stamp : Stamp) : Type 0 where
   pub back : far.packets ≤ n
   pub is : IsStampOf j (n - far.packets) stamp

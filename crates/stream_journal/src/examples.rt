@@ -17,8 +17,8 @@ ghost use Rattle.stream_journal.specs.Known.{IsKnown};
 ghost use Rattle.stream_journal.specs.Heads.{IsTrue, IsUnstamped, stamp_at, wanted};
 ghost use Rattle.stream_journal.specs.Journal.{IsAt, head_of};
 
-/// Three packets of 6 samples at 48 kHz take 125,000 ns each. They keep the rules exactly if adjacent packets are due
-/// at least 3/4 of 125,000 ns apart.
+/// Three packets of 6 samples at 48 kHz take 125,000 ns each. The talker keeps the rules exactly if adjacent packets
+/// are due at least 3/4 of 125,000 ns apart.
 pub fn three_packets_conform()
     ensures { (spacing : ℕ) → Conforms (three_packets spacing) ↔ 93750 ≤ spacing }
 {}
@@ -59,8 +59,8 @@ pub fn block_copies_are_delivered()
     ensures lost { found 16 (wanted each_sixteenth 2000000 (came 4 1000250000) (record { packets = 2; samples = 8 })) (stamp_at each_sixteenth 0 1002000000 ∷ stamp_at each_sixteenth 5 1002333333 ∷ []) ≡ None }
 {}
 
-/// A talker sends a stream of 48 kHz and a clock whose timestamps are 96 events and 2 ms apart. It keeps the rules
-/// exactly if 2 ms are within 1/8 of the nominal time of 96 events.
+/// A talker sends a stream of 48 kHz and a clock whose timestamps are 96 events and 2 ms apart. The talker keeps the
+/// rules exactly if 2 ms are within 1/8 of the nominal time of 96 events.
 pub fn clocked_talkers_conform()
     ensures { (base : ℕ) → Conforms (clocked base) ↔ (42000 ≤ base) × (base ≤ 54000) }
 {}

@@ -33,24 +33,24 @@ pub fn packets_are_spaced()
     ensures apart { (j : Journal) (n m : ℕ) → IsAudio j → n + m < j.packets → IsApart j (3 * m) (j.due n) (j.due (n + m)) }
 {}
 
-/// Packet k is not the packet from which packet n is counted, but has the same sequence number. The two are at least
-/// 256 numbers apart. An instant counted from packet k's timestamp is more than the time of 189 packets from when
-/// packet n is due.
+/// Packet k is not the packet from which packet n is counted, but has the same sequence number. Packet k is at least
+/// 256 numbers from the right packet. An instant counted from packet k's timestamp is more than the time of 189 packets
+/// from when packet n is due.
 pub fn other_stamps_are_far()
     ensures numbers { (n k : ℕ) (far : Distance) → IsOther n k far → (k + far.packets + 256 ≤ n) ⊎ (n + 256 ≤ k + far.packets) }
     ensures instants { (j : Journal) (n k instant : ℕ) (far : Distance) → IsAudio j → n < j.packets → k < j.packets → j.stamp k ≡ Some instant → distance (rule_of j.kind n) n j.count ≡ Some far → IsOther n k far → AreApart j 189 (j.due n) (behind j instant far.samples) }
 {}
 
-/// A listener has a copy of a packet without a timestamp. It refuses each stamp of another packet that has the right
-/// sequence number. The copy arrives too far from the instant that would be counted from such a stamp.
+/// A listener has a copy of a packet without a timestamp. The listener refuses each stamp of another packet that has
+/// the right sequence number. The copy arrives too far from the instant that would be counted from such a stamp.
 pub fn other_stamps_are_refused()
     ensures candidate { (j : Journal) (lead : ℕ) (c : Copy) (far : Distance) (k : ℕ) (stamp : Stamp) (is : IsStampOf j k stamp) → candidate (wanted j lead c far) stamp ≡ pos (behind j is.instant far.samples) }
     ensures refused { (j : Journal) (lead : ℕ) (c : Copy) (far : Distance) (k : ℕ) (stamp : Stamp) → IsAudio j → IsUnstamped j lead c far → IsStampOf j k stamp → IsOther c.number k far → is_near (wanted j lead c far) stamp ≡ false }
 {}
 
 /// For a copy of a packet without a timestamp, a listener finds at most the stamp of the packet from which the copy is
-/// counted. This holds whatever stamps of the talker the listener has. It finds none if there is a restart between the
-/// two packets. So it finds the head that the packet has in the journal, or none if the packet has none there.
+/// counted. No other stamps of the talker change this result. A listener finds no stamp if there is a restart between
+/// the two packets. A listener finds the head that the packet has in the journal, or none if the packet has none there.
 pub fn heads_are_true()
     ensures stamp { (j : Journal) (lead room : ℕ) (c : Copy) (far : Distance) (stamps : List Stamp) → IsAudio j → IsUnstamped j lead c far → All (IsTrue j) stamps → IfSome (found room (wanted j lead c far) stamps) (IsHeadOf j c.number far) }
     ensures head { (j : Journal) (lead room : ℕ) (c : Copy) (far : Distance) (stamps : List Stamp) → IsAudio j → IsUnstamped j lead c far → All (IsTrue j) stamps → IfSome (found room (wanted j lead c far) stamps) (IsCountedFrom j c.number far) }
@@ -68,9 +68,9 @@ pub fn joined_pairs_are_true()
     ensures { (c : ClockJournal) (p q : Place) → IsClock c → SeemsJoined c p q → IsJoinedAt c p q }
 {}
 
-/// A listener has any copies of a clock's packets. Each pair that it joins is a joined pair of the list of all points.
-/// Each line that it finds is that of a joined pair that covers the instant. If the stream agrees with the clock, a
-/// packet's head has at most one such line, and the samples on it are at the journal's instants.
+/// A listener has any copies of a clock's packets. Each pair that the listener joins is a joined pair of the list of
+/// all points. Each line that the listener finds is that of a joined pair that covers the instant. If the stream agrees
+/// with the clock, a packet's head has at most one such line, and the samples on it are at the journal's instants.
 pub fn clock_lines_are_true()
     ensures pairs { (c : ClockJournal) (shift : ℤ) (rows : List ClockRow) → IsClock c → All (IsTrueRow c shift) rows → All (IsTruePair c) (joined_pairs shift (window rows)) }
     ensures spot { (j : Journal) (shift instant : ℤ) (rows : List ClockRow) → IsClock j.clock → All (IsTrueRow j.clock shift) rows → IfSome (clock_spot rows shift instant j.rate) (IsSpotAt j instant) }
@@ -85,8 +85,8 @@ pub fn packets_by_clock_are_told_apart()
 {}
 
 /// Audio packets are the same packet if their sequence numbers are equal and their first instants are at most the time
-/// of 72 packets apart. This holds with the clock and without. Different packets with equal sequence numbers are due at
-/// least the time of 192 packets apart. The clock moves a first instant by less than the time of 18 packets.
+/// of 72 packets apart. The law holds with the clock and without. Different packets with equal sequence numbers are due
+/// at least the time of 192 packets apart. The clock moves a first instant by less than the time of 18 packets.
 pub fn near_packets_are_one()
     ensures { (j : Journal) (by_clock : Bool) (n m : ℕ) (x y : ℤ) → Conforms j → IsAudioKind j.kind → n < j.packets → m < j.packets → n % 256 ≡ m % 256 → IsAt by_clock j n 0 x → IsAt by_clock j m 0 y → IsNear j 72 x y → n ≡ m }
 {}
@@ -98,8 +98,8 @@ pub fn heads_are_found()
     ensures { (j : Journal) (lead room : ℕ) (c : Copy) (far : Distance) (stamps : List Stamp) (stamp : Stamp) → IsAudio j → HoldsEight j.packets j.mr → IsUnstamped j lead c far → All (IsTrue j) stamps → (found room (wanted j lead c far) stamps ≡ Some stamp) ↔ (IsExpected j lead c × IsAtHand j room c.number far stamps stamp) }
 {}
 
-/// Two adjacent points of one run cover a packet's timestamp, and their packets are among the last 64 packets of the
-/// clock. Then a listener finds a line for the timestamp, and it is the line of these two points.
+/// If two adjacent points of one run cover a packet's timestamp, and their packets are among the clock's last 64, a
+/// listener finds a line for the timestamp. The line is that of these two points.
 pub fn lines_are_found()
     ensures some { (c : ClockJournal) (shift instant : ℤ) (rate : ℕ) (rows : List ClockRow) (p q : Place) → IsClock c → ArePointsAtHand c shift rows p q → Covers (pair_at c p q) rate instant → clock_spot rows shift instant rate ≢ None }
     ensures found { (j : Journal) (shift : ℤ) (rows : List ClockRow) (n : ℕ) (head : Head) (p q : Place) → IsClock j.clock → AgreesWithClock j → All (IsTrueRow j.clock shift) rows → n < j.packets → head_of j n ≡ Some head → ArePointsAtHand j.clock shift rows p q → Covers (pair_at j.clock p q) j.rate head.instant

@@ -45,8 +45,8 @@ next_pair plan crf packets a b d p e f g first second =
 spaced_by : (nominal p q up : ℕ) → 7 * nominal ≤ 8 * (p * up) → p ≤ q → 3 * nominal ≤ 4 * (q * up)
 spaced_by nominal p q up least more = let times : p * up ≤ q * up = mul-le-mul_right up more in omega arith
 
--- Point b is the first of a run. Then b is at the start of that run, and point a before it is where the earlier run has
--- it.
+-- If point b is the first of a run, b is at the start of that run, and the point a before b is where the earlier run
+-- has it.
 first_later : (plan : TalkPlan) (crf : CrfPlan) (packets : ℕ) (a b : Place) → IsAudioPlan plan → plan.crf ≡ Some crf
     → Follows (clock_times crf plan packets) a b → IsRunEnd plan crf (number crf a)
     → (point (clock_times crf plan packets) a

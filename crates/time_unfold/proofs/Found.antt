@@ -14,8 +14,8 @@ pub find_last-fails : {T : Type 0} (test : T → Bool) (xs : List T) (x : T) →
 find_last-fails test [] x e = rw e refl
 find_last-fails test (y ∷ xs) x e = rw (find_last-fails test xs x e) refl
 
--- A search of `xs ++ ys` finds what a search of `ys` finds. If that finds nothing, it finds what a search of `xs`
--- finds.
+-- A search of `xs ++ ys` finds what a search of `ys` finds. If a search of `ys` finds nothing, it finds what a search
+-- of `xs` finds.
 pub find_last-behind : {T : Type 0} (test : T → Bool) (xs ys : List T) (y : T) → find_last test ys ≡ Some y → find_last test (xs ++ ys) ≡ Some y
 find_last-behind test [] ys y e = e
 find_last-behind test (x ∷ xs) ys y e = rw (find_last-behind test xs ys y e) refl
@@ -27,7 +27,7 @@ find_last-before test (x ∷ xs) ys e = rw (find_last-before test xs ys e) refl
 pub All-front : {T : Type 0} (P : T → Type 0) (xs : List T) (x : T) → All P (xs ++ x ∷ []) → All P xs
 All-front {T} P xs x all = subst (λ (l : List T). All P l) (take-append_seam xs (x ∷ [])) (All-take P (length xs) (xs ++ x ∷ []) all)
 
--- If a stamp of `xs` fits, the last such stamp is also the last that fits of `x ∷ xs`. If none of `xs` fits, `x` is
+-- If a stamp of `xs` fits, the last such stamp is also the last that fits of `x ∷ xs`. If no stamp of `xs` fits, `x` is
 -- found if it fits.
 IsFound-cons : (want : Want) (x : Stamp) (xs : List Stamp) (r : Option Stamp) → find_last (fits want) xs ≡ r → IsFound want xs r → IsFound want (x ∷ xs) (find_last (fits want) (x ∷ xs))
 IsFound-cons want x xs (Some s) e is = rw e (record {

@@ -6,8 +6,8 @@ use Rattle.time_unfold.specs.declared.head_rule.Distance.{Distance}
 use Rattle.time_unfold.specs.declared.head_rule.HeadRule.{HeadRule}
 use Rattle.time_unfold.specs.declared.head_rule.HeadRule.TheVariants.{Own, Eight, Blocks}
 
--- The index of the sample to which a packet's timestamp belongs. It is the first sample in AAF (IEEE 1722-2016, 7). In
--- IEC 61883-6 it is the first block whose block count is a multiple of the interval.
+-- The index of the sample to which a packet's timestamp belongs. In AAF this is the first sample (IEEE 1722-2016, 7).
+-- In IEC 61883-6 it is the first block whose block count is a multiple of the interval.
 abbrev pub stamped_index : HeadRule → ℕ
 stamped_index Own = 0
 stamped_index Eight = 0

@@ -60,7 +60,7 @@ pub record IsLastFit (want : Want) (stamps : List Stamp) (stamp : Stamp) : Type 
   pub this_fits : fits want stamp ≡ true
   pub none_behind : All (λ other. fits want other ≡ false) behind
 
--- The stamp is the last one in the list that fits. If it is `None`, no stamp in the list fits.
+-- The stamp is the last one in the list that fits. If the stamp is `None`, no stamp in the list fits.
 abbrev pub IsFound : Want → List Stamp → Option Stamp → Type 0
 IsFound want stamps None = All (λ stamp. fits want stamp ≡ false) stamps
 IsFound want stamps (Some stamp) = IsLastFit want stamps stamp

@@ -70,8 +70,8 @@ pub fn last_fit(stamps: &[Stamp], want: &Want) -> Option<Stamp>
 /// the list. `None` exactly if none of these fits.
 ///
 /// A stamp fits if it has the wanted sequence number, media clock restart bit, rate and block count, and is near (IEEE
-/// 1722-2016, 7, sparse timestamps; IEC 61883-6, block counts). It is near if it puts the packet's first sample at most
-/// the time of 60 packets from the packet's arrival plus the lead.
+/// 1722-2016, 7, sparse timestamps; IEC 61883-6, block counts). A stamp is near if it puts the packet's first sample at
+/// most the time of 60 packets from the packet's arrival plus the lead.
 ///
 /// The stamps are in the order of their arrival, with instants from -2^62 to below 2^62 + 2^31 ns. The packet has a
 /// rate of at least 1 Hz and at most 65,535 samples. The stamped sample is at most 7 packets of this length before the

@@ -76,7 +76,7 @@ fn block_distance(dbc: u8, interval: u32, count: u32) -> Option<Distance>
 }
 
 impl HeadRule {
-    /// The sample, counted from 0, to which the timestamp of a packet belongs. It is the first sample in AAF (IEEE
+    /// The sample, counted from 0, to which the timestamp of a packet belongs. In AAF this is the first sample (IEEE
     /// 1722-2016, 7). In IEC 61883-6 it is the first block whose block count is a multiple of the interval, which is 8,
     /// 16 or 32. The packet may end before that block.
     pub fn stamped_index(self) -> u32
@@ -122,9 +122,8 @@ impl HeadRule {
     /// first sample of the last packet before it whose sequence number is a multiple of 8. In IEC 61883-6 it is the
     /// last block before the packet whose block count is a multiple of the interval.
     ///
-    /// It is `None` for AAF that is not sparse. It is also `None` if the packet's own first sample is a stamped one, or
-    /// if the stamped sample is more than 7 packets back. The packet has 1 to 65,535 samples, and the interval is 8, 16
-    /// or 32.
+    /// `None` for AAF that is not sparse. Also `None` if the packet's own first sample is a stamped one, or if the
+    /// stamped sample is more than 7 packets back. The packet has 1 to 65,535 samples, and the interval is 8, 16 or 32.
     pub fn distance(self, seq: u8, count: u32) -> Option<Distance>
         requires rule { IsRule self }
         requires some { 1 ≤ count }
