@@ -82,8 +82,8 @@ pub fn line_among<R: Rows>(rows: &R, query: &Query) -> ClockAnswer
 /// most a second forward or back.
 ///
 /// Two adjacent timestamps below 2^62 are a pair if the time between them is within 1/8 of the nominal time of the
-/// interval. Timestamps are adjacent in one packet. The last timestamp of a packet and the first of another are
-/// adjacent if the other has the next sequence number, and the same restart bit, frequency and interval.
+/// interval. Timestamps that follow each other in one packet are adjacent. The last timestamp of a packet and the first
+/// of another are adjacent if the other has the next sequence number, and the same restart bit, frequency and interval.
 ///
 /// A pair covers the instants of one period, which begins half a sample before its later point. The last pair that
 /// covers the instant counts. Pairs are in the order of their later points in the packets. Pairs with the same later

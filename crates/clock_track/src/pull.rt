@@ -1,4 +1,4 @@
-//! The factor of a clock's pull.
+//! The factor by which a clock's base frequency is pulled.
 
 ghost use Rattle.std.specs.Prelude.{◌≡◌, ◌≤◌};
 ghost use Rattle.clock_track.specs.Pairs.{pull_down as pull_down_of, pull_up as pull_up_of};

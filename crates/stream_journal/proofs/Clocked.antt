@@ -63,7 +63,7 @@ clock_is base from to = record {
 stamp_of : (n instant : ℕ) → Some (1002000000 + n * 125000) ≡ Some instant → 1002000000 + n * 125000 ≡ instant
 stamp_of n instant e = cc
 
--- the pair whose later point is `later` covers `instant`, in numbers
+-- the pair whose later point is `later` covers `instant`, written as two inequalities
 record IsOver (base instant later : ℕ) : Type 0 where
   from : pos 0 ≤ℤ ((pos instant -ℤ pos later) *ℤ pos 9216000 +ℤ pos (2000000 * (base * 1)))
   to : ((pos instant -ℤ pos later) *ℤ pos 9216000 +ℤ pos (2000000 * (base * 1))) <ℤ pos 18432000000000

@@ -15,7 +15,7 @@ pub record ClockJournal : Type 0 where
   pub points : ℕ → List ℕ
   pub mr : ℕ → Bool
 
--- the clock of a talker that sends no clock
+-- the clock journal of a talker without a clock
 abbrev pub no_clock : ClockJournal
 no_clock = record { base = 1; pull = 0; interval = 1; packets = 0; points = λ n. []; mr = λ n. false }
 

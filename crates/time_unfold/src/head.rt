@@ -9,8 +9,7 @@ use crate::stamp::{Stamp, Want};
 
 const NANOSECONDS: u64 = 1_000_000_000;
 
-/// How far the first sample of a packet, counted from a stamp, may be from the expected instant, in packets of the same
-/// length.
+/// The greatest distance of a packet's counted first sample from its expected instant, in packets of the same length.
 const REACH: u64 = 60;
 
 fn candidate(stamp: &Stamp, want: &Want) -> i64

@@ -1,5 +1,5 @@
-//! The sample of a packet to which its timestamp belongs, and the distance back to the sample from which a packet
-//! without a timestamp is counted.
+//! The stamped sample of a packet, and the distance back to the stamped sample from which a packet without a timestamp
+//! is counted.
 
 ghost use Rattle.std.specs.Prelude.{◌≡◌, ◌≤◌, ◌<◌, ℕ, IfSome};
 ghost use Rattle.time_unfold.specs.Heads.{counted_block as counted_block_of, distance as distance_of, stamped_block as stamped_block_of, stamped_index as stamped_index_of};
