@@ -50,7 +50,7 @@ use Rattle.avtp_tool.proofs.PlanRuns.{run_asked, run_cut}
 use Rattle.avtp_tool.proofs.TwoFiles.{both_closed, shown_before}
 use Rattle.avtp_tool.proofs.Yields.{part_none, part_text, part_whole}
 
--- ---- the outcome of a run if no fault of reading comes
+-- ---- the outcome of a run if no read fault occurs
 
 pub agree_here : (asked : Agreeing) (files : Files) (fault : Type 0) → AgreeOutcome asked files fault (agree_came asked (files asked.a)) (agree_ended asked (files asked.a) (files asked.b)) (agree_report asked (files asked.a) (files asked.b))
 agree_here asked files fault = at (files asked.a) (files asked.b) refl refl where
@@ -67,11 +67,11 @@ missing_b : (asked : Agreeing) (a : Option (List ℕ)) → (agree_ended asked a 
 missing_b asked None = (refl, refl)
 missing_b asked (Some x) = (refl, refl)
 
--- the outcome of a run, given what a shelf shows of both files
+-- the outcome of a run, given the bytes of both files, or `None` for a missing one
 abbrev pub ComesTo : Agreeing → List (List ℕ) → Status → List ℕ → Option (List ℕ) → Option (List ℕ) → Type 0
 ComesTo asked came ended text a b = (came ≡ agree_came asked a) × (ended ≡ agree_ended asked a b) × (text ≡ agree_report asked a b)
 
--- any outcome other than that without faults needs a fault of reading
+-- without a read fault, only the outcome without read faults is possible
 pub agree_complete : {asked : Agreeing} {files : Files} {fault : Type 0} {came : List (List ℕ)} {ended : Status} {text : List ℕ} → (fault → ⊥) → AgreeOutcome asked files fault came ended text → ComesTo asked came ended text (files asked.a) (files asked.b)
 agree_complete {asked} {files} {fault} {came} {ended} {text} none (without_a (inl is) c e t) = subst (λ (a : Option (List ℕ)). ComesTo asked came ended text a (files asked.b)) (sym is) (c, e, t)
 agree_complete none (without_a (inr f) c e t) = absurd (none f)
@@ -86,14 +86,12 @@ agree_complete none (cut_b x y prefix is_a is_b c ends e t) = absurd (none ends.
 
 -- ---- both files were opened
 
--- a run that printed only a part of the differences was cut short
 pub agree_cut : {asked : Agreeing} {all : Files} {fault : Type 0} {s t : ShelfState} {before now : Option (List ℕ)} {result : Result Status Failed} (x y : List ℕ) → all asked.a ≡ Some x → all asked.b ≡ Some y → IsCut result
     → AppendsPrefix before now (difference_lines (differences (merged_in asked x y))) → Asks (asked.a ∷ asked.b ∷ []) s t → TellsRun (AgreeYields asked all fault) HandsNothing s t before now result
 agree_cut {asked} {all} {fault} {s} {t} {before} {now} {result} x y is_a is_b cut prefix asks =
     run_asked (AgreeYields asked all fault) (asked.a ∷ asked.b ∷ [])
     (tells_cut _ (says (compared_text asked x y)) (compared x y is_a is_b refl refl refl, refl) cut (part_text refl (says (compared_text asked x y)) (prefix_before before now _ _ prefix))) asks
 
--- a comparison that a fault of reading cut short
 pub agree_fault : {asked : Agreeing} {all : Files} {fault fault' : Type 0} {s t : ShelfState} {before : Option (List ℕ)} {h h' : SinkState} {w w' : List ℕ} {result : Result Status Failed} (x y : List ℕ) → all asked.a ≡ Some x → all asked.b ≡ Some y → (fault → fault')
     → IsCutIn asked x y fault before (written h.held w) → EndsWith status.ReadFault h h' w w' result read_fault_line → Asks (asked.a ∷ asked.b ∷ []) s t
     → TellsRun (AgreeYields asked all fault') HandsNothing s t before (written h'.held w') result
@@ -104,7 +102,6 @@ agree_fault {asked} {all} {fault} {fault'} x y is_a is_b cause (in_b prefix ends
     run_asked (AgreeYields asked all fault') (asked.a ∷ asked.b ∷ [])
     (tells_end _ [] (cut_b x y prefix is_a is_b refl (ends_weaker asked.listener.limit (Some y) fault fault' end.ReadFault prefix cause ends) refl refl, refl) lines refl last) asks
 
--- the last lines after a text that was printed
 lines_end : {Outcome : Status → Yield → Type 0} {before : Option (List ℕ)} {h h' : SinkState} {w w' : List ℕ} {result : Result Status Failed} {ended : Status} {lines : List ℕ} (text : List ℕ)
     → Outcome ended (says (text ++ lines)) → Appends before (written h.held w) text → EndsWithLines ended h h' w w' result lines → TellsYield Outcome HandsNothing before (written h'.held w') result
 lines_end {before = before} {h} {h'} {w} {w'} {result = Ok s} {ended} {lines} text outcome start last =
@@ -113,7 +110,6 @@ lines_end {before = before} {h} {h'} {w} {w'} {result = Ok s} {ended} {lines} te
 lines_end {before = before} {h} {h'} {w} {w'} {result = Err e} {ended} {lines} text outcome start last =
     record { ended = ended; yields = says (text ++ lines); outcome = outcome; whole = tt; part = part_text refl (says (text ++ lines)) (prefix_after before (written h.held w) (written h'.held w') text lines start last.written) }
 
--- a comparison that was not cut short told its outcome
 pub agree_told : {asked : Agreeing} {all : Files} {fault : Type 0} {s t : ShelfState} {before : Option (List ℕ)} {h h' : SinkState} {w w' : List ℕ} {result : Result Status Failed} {a b : End} {counts : PairCounts} (x y : List ℕ) → all asked.a ≡ Some x → all asked.b ≡ Some y
     → HasCompared asked x y a b counts before (written h.held w) → EndsWithLines (agree_status counts.differ a b) h h' w w' result (last_lines asked.listener.limit counts a b) → Asks (asked.a ∷ asked.b ∷ []) s t
     → TellsRun (AgreeYields asked all fault) HandsNothing s t before (written h'.held w') result
@@ -124,7 +120,7 @@ agree_told {asked} {all} {fault} {h = h} {h'} {w} {w'} {result} {a} {b} {counts}
 
 -- ---- statuses
 
--- a comparison to both ends ends with a status of reading, and not with a fault
+-- if neither reading ended with a read fault, the status is one of reading, but not that of a read fault
 reads_status : (found : ℕ) (a b : End) → a ≢ end.ReadFault → b ≢ end.ReadFault → (is_of_reading (agree_status found a b) ≡ true) × (agree_status found a b ≢ status.ReadFault)
 reads_status found end.Whole end.Whole p q =
     elim (found == 0) as (λ b. (is_of_reading (if b then status.Done else status.Findings) ≡ true) × ((if b then status.Done else status.Findings) ≢ status.ReadFault)) [ true ↦ (refl, λ e. cc) | false ↦ (refl, λ e. cc) ]
@@ -152,7 +148,6 @@ among_second : (a b name : List ℕ) → Contains (b ∷ []) name → Contains (
 among_second a b name (zero, less, is) = (1, omega arith, is)
 among_second a b name (suc n, less, is) = absurd (omega arith)
 
--- the outcome of a run if a file could not be opened, given the cause
 unopened_run : {asked : Agreeing} {all : Files} {s t : ShelfState} {h h' : SinkState} {w w' : List ℕ} {result : Result Status Failed} (fault : OpenFault) (name : List ℕ) (came : List (List ℕ)) → s.files ≡ Some all → Refuses s t name fault → EndsUnopened fault h h' w w' result
     → (IsUnopened all (Rose s.reading_faults t.reading_faults) name → AgreeOutcome asked all (Rose s.reading_faults t.reading_faults) came status.ReadFault read_fault_line) → Asks came s t
     → TellsRun (AgreeYields asked all (Rose s.reading_faults t.reading_faults)) HandsNothing s t (written h.held w) (written h'.held w') result
@@ -200,13 +195,12 @@ module _ {s t u v : ShelfState} {c c' : Comparing} {h mid : SinkState} {w m : Li
   rose_over : Rose t.reading_faults u.reading_faults → Rose s.reading_faults v.reading_faults
   rose_over rose = subst (λ (n : ℕ). Rose n v.reading_faults) opened.opened.reading (subst (Rose t.reading_faults) (sym closes.reading) rose)
 
-  -- both files have these bytes, and this was compared of them
   told_over : (all : Files) → s.files ≡ Some all → IsSome v.files → (at : AreTold asked.listener.limit all asked.a asked.b t c) × ComparesTo asked at.bytes_a at.bytes_b (Rose t.reading_faults u.reading_faults) (written h.held w) (written mid.held m) compared
   told_over all told still =
       let at = opened.told all told (shown_before t.files v.files (KeepsFiles-trans t.files u.files v.files compares.reads.files closes.files) still) in
       (at, compares.told asked at.bytes_a at.bytes_b opened.plans at.given_a at.given_b)
 
-  -- what the run did follows from the text, the counts and the status
+  -- what the run did follows from its text, its counts and its status
   does_over : {h' : SinkState} {w' : List ℕ} {result : Result Status Failed}
       → ((all : Files) → s.files ≡ Some all → IsSome v.files → TellsRun (AgreeYields asked all (Rose s.reading_faults v.reading_faults)) HandsNothing s v (written h.held w) (written h'.held w') result)
       → CountsReading (asked.a ∷ asked.b ∷ []) s.files s.reading_faults v.reading_faults result → IsReadingStatus result → KeepsSink h h' result → DoesReading (AgreeYields asked) (asked.a ∷ asked.b ∷ []) HandsNothing s v h h' w w' result

@@ -155,7 +155,6 @@ talk_asked (words.H264 last_stamp) line asked is says rules =
 
 -- ---- what is heard
 
--- a shift that the words ask for is within its bounds
 small_shift : (z : ℤ) → unsigned_abs z ≤ 10 ^ 9 → (neg_ℤ (pos 1000000000) ≤ℤ z) × (z ≤ℤ pos 1000000000)
 small_shift (pos n) small = (omega (arith, ints), omega (arith, ints, small))
 small_shift (negsuc n) small = (omega (arith, ints, small), omega (arith, ints))
@@ -164,7 +163,7 @@ shift_within : (o : Option (List ℕ)) (z : ℤ) → MatchOption o (z ≡ pos 0)
 shift_within None z given = rw given (omega (arith, ints), omega (arith, ints))
 shift_within (Some word) z given = small_shift z given.size
 
--- a listener that the words ask for is within its bounds
+-- the plan of a listener that the words ask for is within its bounds
 listener_within : (settings : List Setting) (id : List ℕ) (asked : ListenerOptions) → SaysListener settings id asked → (asked.limit ≤ 2 ^ 40) × IsSchedulePlan (schedule_plan (plan_of asked))
 listener_within settings id asked says =
     let limit = given_within (value_in (codes "--limit") settings) 1 (2 ^ 40) (2 ^ 40) asked.limit (omega arith) (omega arith) says.limit in
@@ -175,7 +174,7 @@ listener_within settings id asked says =
     let shift = shift_within (value_in (codes "--crf-shift") settings) asked.shift says.shift in
     (limit.1, record { some_buffer = buffer.0; buffer = buffer.1; some_room = room.0; room = omega (arith, room.1); look = look.1; lead = lead.1; shift_from = shift.0; shift_to = shift.1 })
 
--- what words ask for is within its bounds
+-- all values of a request that the words ask for are within their bounds
 pub requested : (words : List (List ℕ)) (request : Request) → IsCommandLine words request → IsRequest request
 requested words (show limit file) line = (given_within (value_in (codes "--limit") line.settings) 1 (2 ^ 40) (2 ^ 40) limit (omega arith) (omega arith) line.limit_given).1
 requested words (check limit names) line = (given_within (value_in (codes "--limit") line.settings) 1 (2 ^ 40) (2 ^ 40) limit (omega arith) (omega arith) line.limit_given).1
@@ -189,7 +188,7 @@ requested words (gateway asked) (line, rules) =
     record { limit = within.0; plan = within.1; apart = rules.apart }
 requested words (agree asked) line = let within = listener_within line.settings line.id asked.listener line.listener in record { limit = within.0; plan = within.1 }
 
--- words that were read have no offence
+-- if the words were parsed, none of them is wrong
 pub not_offence : (r : Result Command Offence) (command : Command) (position : ℕ) → IsErrAnd r (λ offence. offence.position ≡ position) → r ≡ Ok command → ⊥
 not_offence (Ok c) command position h e = h
 not_offence (Err o) command position h e = absurd cc

@@ -38,7 +38,6 @@ use Rattle.avtp_tool.proofs.Outcomes.{TellsFault, counts_by, tells_end}
 
 -- ---- lists
 
--- lines that are made one by one are the lines of the whole list
 pub flat_lines : {A : Type 0} (line : A → List ℕ) (xs : List A) → joined_lines (map line xs) ≡ flat_map line xs
 flat_lines line [] = refl
 flat_lines line (x ∷ xs) = ap (λ rest. line x ++ rest) (flat_lines line xs)
@@ -90,7 +89,6 @@ none_checked {before = before} {now} name given stands line = record {
   lines = subst (Appends before now) (sym (text_none name)) line;
 }
 
--- the records that were checked, with one more
 pub one_checked : {limit : ℕ} {name bytes : List ℕ} {remains remains' : Option (List ℕ)} {source source' : Sourcing} {tracker tracker' : List (StreamKey × StreamState)} {frames found n : ℕ} {before : Option (List ℕ)} {h h' : SinkState} {w w' : List ℕ} (r : Record)
     → (to : IsCheckedTo limit name bytes remains source tracker frames found before (written h.held w)) → HasGiven limit bytes remains' source' (to.records ++ r ∷ [])
     → ((notes : List Seen) → StandsFor tracker notes → StandsFor tracker' (notes ++ noted (checked_record r.bytes)))
@@ -115,14 +113,14 @@ one_checked {name = name} {tracker' = tracker'} {frames} {found} {n} {before} {h
           (Appends-trans before (written h.held w) (written h'.held w') (text_of name records) (joined_lines (check_lines records r)) to.lines (subst (λ (ls : List (List ℕ)). Appends (written h.held w) (written h'.held w') (joined_lines ls)) lines here.written));
     }
 
--- the text that waits was written, and the records so far are unchanged
+-- writing the pending text changes nothing about the records that were checked so far
 pub checked_kept : {limit : ℕ} {name bytes : List ℕ} {remains : Option (List ℕ)} {source : Sourcing} {tracker : List (StreamKey × StreamState)} {frames found : ℕ} {before mid now : Option (List ℕ)}
     → IsCheckedTo limit name bytes remains source tracker frames found before mid → Keeps mid now → IsCheckedTo limit name bytes remains source tracker frames found before now
 checked_kept to kept = record { records = to.records; given = to.given; stands = to.stands; counted = to.counted; total = to.total; lines = Appends-kept _ _ _ _ to.lines kept }
 
 -- ---- cut short
 
--- the capture's name is the beginning of every text
+-- each text of `check` begins with the capture's name
 pub name_checked : {before now : Option (List ℕ)} (limit : ℕ) (bytes name : List ℕ) → AppendsPrefix before now (capture_line name) → AppendsPrefix before now (text_of name (records_in (take limit bytes)))
 name_checked {before} {now} limit bytes name prefix = prefix_before before now (capture_line name) (joined_lines (of_each check_lines (records_in (take limit bytes)))) prefix
 
@@ -139,7 +137,7 @@ check_told limit name bytes fault total before c ends = record {
 pub some_lines : (limit : ℕ) (name bytes : List ℕ) (before now : Option (List ℕ)) → AppendsPrefix before now (text_of name (records_in (take limit bytes))) → GivesPart HandsNothing before now (file_yield (check_report limit name) limit (Some bytes))
 some_lines limit name bytes before now prefix = part_text refl _ (prefix_before before now (text_of name (records_in (take limit bytes))) _ prefix)
 
--- a capture that was read to its end has findings or none, and either status is without a fault of reading
+-- if a capture was read to its end, the status is `Done` or `Findings`
 found_done : (found : ℕ) → (check_status found end.Whole ≡ status.Done) ⊎ (check_status found end.Whole ≡ status.Findings)
 found_done found =
     elim (found == 0) as (λ (b : Bool). ((if b then status.Done else status.Findings) ≡ status.Done) ⊎ ((if b then status.Done else status.Findings) ≡ status.Findings)) [ true ↦ inl refl | false ↦ inr refl ]

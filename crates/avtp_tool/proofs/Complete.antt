@@ -1,4 +1,4 @@
--- The outcome of a run if no fault of reading comes.
+-- The outcome of a run if no read fault occurs.
 use Rattle.std.proofs.Common.{◌≡◌, ℕ, ◌≤◌, ◌<◌, List, [], ◌∷◌, ◌++◌, length, take, Option, Some, None, Bool, true, false, if◌then◌else◌, inl, inr, refl, sym, ap, subst, ◌∙◌}
 use Rattle.std.proofs.lemmas.Bool.{cases_lt, le-leb, lt-leb}
 use Rattle.std.specs.Prelude.{◌⊎◌}
@@ -170,14 +170,13 @@ all_shown plan records end.Limit all = absurd cc
 whole_first : (plan : ListenPlan) (first others : List Record) → IsPrefix (due_of plan first) (shown_of plan (first ++ others))
 whole_first plan first others = longer_front (due_of plan first) (due_of plan (first ++ others)) (shown_of plan (first ++ others)) (due_stays plan first others) (due_first plan (first ++ others))
 
--- what is shown, however the reading ended, begins with what is due of the first records
+-- what is shown begins with what is due of the first records, however the reading ended
 first_shown : (plan : ListenPlan) (first others : List Record) (how : End) → IsPrefix (due_of plan first) (shown_by plan (first ++ others) how)
 first_shown plan first others end.Whole = whole_first plan first others
 first_shown plan first others (end.Refused refusal) = whole_first plan first others
 first_shown plan first others end.ReadFault = due_stays plan first others
 first_shown plan first others end.Limit = due_stays plan first others
 
--- a capture that was opened
 opened : (asked : Listening) (name bytes : List ℕ) (fault : Type 0) (ended : Status) (yields : Yield) → ReadOutcome (listen_report asked name) asked.listener.limit bytes fault ended yields → YieldsHeadline asked name bytes fault yields
 opened asked name bytes fault ended yields outcome =
     let plan : ListenPlan = plan_of asked.listener in
@@ -195,7 +194,8 @@ opened asked name bytes fault ended yields outcome =
       whole = λ shift p all hears. subst (KeepsHeadline shift p plan records) (sym (items ∙ all_shown plan records outcome.how all)) (headline shift p plan records hears);
     }
 
--- Files in order yield what the earlier ones yield, then what the one with this name yields, and then what those after it yield.
+-- What files in order yield: first what the earlier files yield, then what the file `name` yields, then what the later
+-- files yield.
 record IsAmong (one : List ℕ → Status → Yield → Type 0) (earlier : List (List ℕ)) (name : List ℕ) (yields : Yield) : Type 0 where
   before : Yield
   done : Status

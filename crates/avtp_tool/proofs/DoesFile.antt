@@ -23,7 +23,6 @@ use Rattle.avtp_tool.proofs.OneFile.{file_fault, file_here, file_read}
 use Rattle.avtp_tool.proofs.Outcomes.{counts_unopened, IsCut, missing_none, tells_cut, tells_unopened, tells_weaker, unopened_own, yield_telling}
 use Rattle.avtp_tool.specs.state.Yield.{GivesPart}
 
--- what is done with a file that could not be opened
 pub does_unopened : {T : Type 0} {slot : T → ℕ} {s t : ShelfState} {h h' : SinkState} {l l' : List ℕ} {name : List ℕ} {result : Result Status Failed} {handed : List Shown → Type 0} (report : Report) (limit : ℕ) (fault : OpenFault)
     → handed [] → TriesOpen slot s t name (Err fault) → EndsUnopened fault h h' l l' result → DoesFile report handed limit name s t h h' l l' result
 does_unopened {T} {s = s} {t} {h} {h'} {l} {l'} {name} report limit fault none tries ends = record {
@@ -36,14 +35,14 @@ does_unopened {T} {s = s} {t} {h} {h'} {l} {l'} {name} report limit fault none t
   sink = ends.sink;
 }
 
--- The records of a file were read until its reading ended in this way, and what is made of them was printed and given to
+-- The records of a file were read until its reading ended as `how`. What is made of them was printed and given to
 -- devices.
 pub record IsReadAndTold (report : Report) (handed : List Shown → Type 0) (limit : ℕ) (bytes : List ℕ) (fault : Type 0) (how : End) (before now : Option (List ℕ)) (result : Result Status Failed) : Type 0 where
   pub records : List Record
   pub ends : EndsAfter limit bytes fault how records
   pub tells : TellsYield (Only (report.status records how) (report.yields records how)) handed before now result
 
--- a fact about the counts while a file is open is a fact about the counts before and after
+-- a relation of the counts while a file is open holds of the counts before its opening and after its closing
 pub around : {r r' q' q : ℕ} (P : ℕ → ℕ → Type 0) → r' ≡ r → q ≡ q' → P r' q' → P r q
 around {r' = r'} {q = q} P first last p = subst (λ (n : ℕ). P n q) first (subst (P r') (sym last) p)
 
@@ -52,7 +51,6 @@ module _ {s t u v : ShelfState} {source : Sourcing} {k limit : ℕ} {name : List
   kept : OnlyReads s v (name ∷ [])
   kept = read_through opened.tries.opened reads closes
 
-  -- what was made of the records was given out
   pub does_read : {h h' : SinkState} {l l' : List ℕ} {handed : List Shown → Type 0} (how : End) (result : Result Status Failed) → CountsFault None (Some how) t.reading_faults u.reading_faults
       → ((bytes : List ℕ) → HasGivenOf limit bytes t source [] → IsReadAndTold report handed limit bytes (Rose t.reading_faults u.reading_faults) how (written h.held l) (written h'.held l') result)
       → (s.reading_faults ≤ v.reading_faults → CountsFault None (Some how) s.reading_faults v.reading_faults → CountsReading (name ∷ []) s.files s.reading_faults v.reading_faults result)
@@ -70,7 +68,6 @@ module _ {s t u v : ShelfState} {source : Sourcing} {k limit : ℕ} {name : List
         sink = sink;
       }
 
-  -- the text and the items of the file were given out only in part
   pub does_cut : {h h' : SinkState} {l l' : List ℕ} {handed : List Shown → Type 0} (result : Result Status Failed)
       → ((bytes : List ℕ) → HasGivenOf limit bytes t source [] → GivesPart handed (written h.held l) (written h'.held l') (file_yield report limit (Some bytes))) → IsCut result
       → (s.reading_faults ≤ v.reading_faults → CountsReading (name ∷ []) s.files s.reading_faults v.reading_faults result) → IsReadingStatus result → KeepsSink h h' result → DoesFile report handed limit name s v h h' l l' result

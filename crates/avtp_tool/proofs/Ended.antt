@@ -1,4 +1,4 @@
--- How a run ends, whether its text was written to its end or not.
+-- How a run ends after its pending text was written, or after writing it failed.
 use Rattle.std.proofs.Common.{◌≡◌, ◌≢◌, ℕ, List, Option, Result, Ok, Err, true, false, sym, ap, subst, ◌∙◌, arith}
 use Rattle.std.specs.Prelude.{IfOk}
 use Rattle.std.proofs.lemmas.List.{append-nil}
@@ -25,7 +25,6 @@ use Rattle.avtp_tool.proofs.Outcomes.{ok_same}
 pub quiet_not : (before after : ℕ) → IsQuiet before after → Rose before after → ⊥
 quiet_not before after quiet rose = omega (arith, quiet, rose)
 
--- a run that ended with a status of its own wrote the whole text
 pub told_whole : {Outcome : List (List ℕ) → Status → Yield → Type 0} {handed : List Shown → Type 0} {a b : ShelfState} {before now : Option (List ℕ)} {ended : Result Status Failed} (result : Status) → ended ≡ Ok result → result ≢ status.Memory → result ≢ status.WriteFault
     → TellsRun Outcome handed a b before now ended → (came : List (List ℕ)) × (yields : Yield) × Outcome came result yields × Gives handed before now yields × Asks came a b
 told_whole {Outcome} {handed} {a} {b} {before} {now} result same memory write tells =
@@ -33,7 +32,6 @@ told_whole {Outcome} {handed} {a} {b} {before} {now} result same memory write te
     let whole = t.whole memory write in
     (t.came, t.yields, subst (λ (s : Status). Outcome t.came s t.yields) (sym whole.0) t.outcome, whole.1, whole.2)
 
--- a run that ended with a status of its own wrote its whole last line
 pub ends_whole : {h h' : SinkState} {w w' : List ℕ} {ended : Result Status Failed} {s : Status} {line : List ℕ} (result : Status) → ended ≡ Ok result → EndsWith s h h' w w' ended line
     → (result ≡ s) × Appends (written h.held w) (written h'.held w') line
 ends_whole {h} {h'} {w} {w'} {ended} {s} {line} result same ends = let e = subst (λ (r : Result Status Failed). EndsWith s h h' w w' r line) same ends in (e.status, e.written)
@@ -47,17 +45,16 @@ ends_prefix {h} {h'} {w} {w'} {line = line} (Err e) ends = prefix_none (written 
 not_write : (result other : Status) → result ≡ other → other ≢ status.WriteFault → result ≢ status.WriteFault
 not_write result other is differs e = differs (sym is ∙ e)
 
--- if a run ends with a status other than that of a failed write, it had that status before its text was written
+-- If a run ends with a status other than `WriteFault`, it had this status before its text was written.
 pub ended_as : {h h' : SinkState} {w w' : List ℕ} {ended : Result Status Failed} {result : Status} (other : Status) → other ≢ status.WriteFault → Finishes h h' w w' ended result → result ≡ other → ended ≡ Ok other
 ended_as {result = result} other differs finishes is = (finishes.whole (not_write result other is differs)).0 ∙ ap (λ (s : Status). Ok s) is
 
--- a run that did everything had done everything before the text was written
+-- if a run did everything that was asked for, it had done so before its text was written
 pub through_to : {h h' : SinkState} {w w' : List ℕ} {ended : Result Status Failed} {result : Status} → Finishes h h' w w' ended result → is_through result ≡ true → IsThrough ended
 through_to {result = result} finishes through =
     let other : result ≢ status.WriteFault = λ e. (let t : false ≡ true = ap is_through (sym e) ∙ through in cc) in
     subst IsThrough (sym (finishes.whole other).0) through
 
--- a run that ended with one status did not end with another
 pub not_ended : {ended : Result Status Failed} (result other : Status) → ended ≡ Ok result → result ≢ other → ended ≡ Ok other → ⊥
 not_ended {ended} result other same differs e = differs (ok_same ended result other same e)
 

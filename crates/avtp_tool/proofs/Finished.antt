@@ -1,4 +1,4 @@
--- What the sink holds once the text that waited was written.
+-- What the sink holds after the pending text was written.
 use Rattle.std.proofs.Common.{◌≡◌, ℕ, ◌≤◌, List, [], ◌++◌, Option, Some, None, Result, Ok, Err, refl, sym, ap, subst, ◌∙◌, append_assoc, arith}
 use Rattle.std.specs.Prelude.{IsErr}
 use Rattle.std.proofs.lemmas.List.{append-nil, append_cancel_left}
@@ -13,7 +13,7 @@ written_none : (held : Option (List ℕ)) → written held [] ≡ held
 written_none None = refl
 written_none (Some xs) = ap (λ t. Some t) (append-nil xs)
 
--- If nothing waited before, and nothing waits now, the sink got the whole text.
+-- If no text is pending before and after, the sink got the whole text.
 pub flushed : (old mid new : Option (List ℕ)) (start last text : List ℕ) → start ≡ [] → last ≡ [] → Appends (written old start) mid text → Keeps mid (written new last) → Appends old new text
 flushed old mid new start last text none ended appends keeps =
     let whole = Appends-kept (written old start) mid (written new last) text appends keeps in
@@ -21,7 +21,7 @@ flushed old mid new start last text none ended appends keeps =
     let to = subst (λ l. Appends (written old []) (written new l) text) ended from in
     subst (λ h. Appends h new text) (written_none old) (subst (λ h. Appends (written old []) h text) (written_none new) to)
 
--- If the sink's bytes and what waits are now what the sink held and then a prefix of a text, the sink got a prefix of the text.
+-- If the sink's bytes followed by the pending text grew by a prefix of `text`, the sink itself got a prefix of `text`.
 prefix_of : (old mid new : Option (List ℕ)) (waits text prefix rest more : List ℕ) → text ≡ prefix ++ rest → Appends (written old []) mid prefix → Keeps mid (written new waits) → Appends old new more → AppendsPrefix old new text
 prefix_of None mid None waits text prefix rest more split appends keeps grew = record { prefix = []; rest = text; split = refl; appends = tt }
 prefix_of None mid (Some ys) waits text prefix rest more split appends keeps grew = absurd grew
@@ -38,7 +38,7 @@ prefix_of (Some xs) (Some ms) (Some ys) waits text prefix rest more split append
       appends = grew;
     }
 
--- If nothing waited before, the sink got a prefix of the text.
+-- If no text was pending before, the sink got a prefix of the text.
 pub gains_prefix : (old mid new : Option (List ℕ)) (start waits text : List ℕ) → start ≡ [] → AppendsPrefix (written old start) mid text → Keeps mid (written new waits) → Grows old new → AppendsPrefix old new text
 gains_prefix old mid new start waits text none p keeps grows =
     prefix_of old mid new waits text p.prefix p.rest grows.more p.split (subst (λ s. Appends (written old s) mid p.prefix) none p.appends) keeps grows.appends

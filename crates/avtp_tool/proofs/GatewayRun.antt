@@ -31,13 +31,13 @@ use Rattle.avtp_tool.specs.Gateway.{GatewayOutcome, HearsInput, KeepsInput, batc
 use Rattle.avtp_tool.specs.Listen.{plan_of}
 use Rattle.avtp_tool.specs.Status.{status_of}
 
--- ---- if no fault of reading comes
+-- ---- if no read fault occurs
 
--- no capture ends with a fault of reading by its bytes alone
+-- the bytes alone never end a reading with a read fault
 never_fault : (limit : ℕ) (bytes : List ℕ) → end_of limit bytes ≡ end.ReadFault → ⊥
 never_fault limit bytes e = (subst (λ (h : End). EndsAt limit (Some bytes) ⊥ h (take limit bytes)) e (ends_here limit bytes ⊥)).0
 
--- the outcome without faults, given the scan's fault, if any, and how the scan ended
+-- the outcome without read faults, given the record that cannot be converted, if any, and how the scan ended
 here_by : (asked : Turning) (files : Files) (fault : Type 0) (bytes : List ℕ) (at : Option FaultAt) (how : End) → files asked.input ≡ Some bytes → fault_in asked (records_of asked bytes) ≡ at → end_of asked.listener.limit bytes ≡ how
     → GatewayOutcome asked files fault (came_by asked at how) (ended_by asked (records_of asked bytes) at how) (text_by asked (records_of asked bytes) at how) (made_by asked (records_of asked bytes) at how)
 here_by asked files fault bytes (Some at) how is found ends = faulty bytes at is found refl refl refl refl
@@ -56,13 +56,13 @@ gateway_here asked files fault = at (files asked.input) refl where
   at None is = unopened (inl is) refl refl refl refl
   at (Some bytes) is = here_by asked files fault bytes (fault_in asked (records_of asked bytes)) (end_of asked.listener.limit bytes) is refl refl
 
--- ---- any other outcome needs a fault of reading
+-- ---- any other outcome needs a read fault
 
--- the outcome of a run, given what a shelf shows of IN
+-- the outcome of a run, given the bytes of IN, or `None` if IN is missing
 abbrev pub TurnsOut : Turning → List (List ℕ) → Status → List ℕ → Option (List ℕ) → Option (List ℕ) → Type 0
 TurnsOut asked came ended text made told = (came ≡ gateway_came asked told) × (ended ≡ gateway_ended asked told) × (text ≡ gateway_report asked told) × (made ≡ gateway_made asked told)
 
--- the outcome of a run, given the scan's fault, if any, and how the scan ended
+-- the outcome of a run, given the record that cannot be converted, if any, and how the scan ended
 abbrev pub TurnsBy : Turning → List Record → List (List ℕ) → Status → List ℕ → Option (List ℕ) → Option FaultAt → End → Type 0
 TurnsBy asked records came ended text made at how = (came ≡ came_by asked at how) × (ended ≡ ended_by asked records at how) × (text ≡ text_by asked records at how) × (made ≡ made_by asked records at how)
 
@@ -73,7 +73,6 @@ turns_told asked {came} {ended} {text} {made} files bytes at how is found ends b
     (subst (λ (a : Option FaultAt). TurnsBy asked (records_of asked bytes) came ended text made a (end_of asked.listener.limit bytes)) (sym found)
     (subst (TurnsBy asked (records_of asked bytes) came ended text made at) ends by))
 
--- a scan that was cut short, and the outcome of its run
 cut_by : (asked : Turning) (records : List Record) (came : List (List ℕ)) (ended : Status) (text : List ℕ) (made : Option (List ℕ)) (how : End) → how ≢ end.Whole → came ≡ asked.input ∷ [] → ended ≡ status_of how → text ≡ side_line asked.listener.limit how → made ≡ None
     → TurnsBy asked records came ended text made None how
 cut_by asked records came ended text made end.Whole other c e t m = absurd (other refl)
@@ -81,7 +80,7 @@ cut_by asked records came ended text made (end.Refused refusal) other c e t m = 
 cut_by asked records came ended text made end.ReadFault other c e t m = (c, e, t, m)
 cut_by asked records came ended text made end.Limit other c e t m = (c, e, t, m)
 
--- how a reading without a fault ended
+-- without a read fault, a reading ends as the bytes say, and all bytes within the limit are read
 pub by_end : (limit : ℕ) (bytes prefix : List ℕ) (fault : Type 0) (how : End) → (fault → ⊥) → EndsAt limit (Some bytes) fault how prefix → (how ≡ end_of limit bytes) × (prefix ≡ take limit bytes)
 by_end limit bytes prefix fault end.Whole none ends = ends
 by_end limit bytes prefix fault (end.Refused refusal) none ends = ends
@@ -107,7 +106,7 @@ gateway_complete {asked} {files} {fault} {came} {ended} {text} {made} none (turn
 
 -- ---- what the capture keeps
 
--- a batch that is not skipped is given out, and changes nothing otherwise
+-- if no batch is skipped, all batches are given out
 none_skipped : (to : To) (shape : Shape) (given : Given) (batches : List Presented) → skips_after to (Some shape) given batches ≡ [] → given_batches to shape given batches ≡ batches
 none_skipped to shape given [] none = refl
 none_skipped to shape given (batch ∷ batches) none = by (skip_by to shape given batch) none (λ rest. none_skipped to shape (given_with to shape given batch) batches rest) where
@@ -122,7 +121,7 @@ skips_none to None [] none = refl
 skips_none to None (batch ∷ batches) none = absurd cc
 skips_none to (Some shape) batches none = none_skipped to shape nothing_given batches none
 
--- a run that ends with status 0 skipped nothing
+-- a run that ends with `Done` skipped nothing
 done_none : {S : Type 0} (skips : List S) (how : End) → turned_status (length skips) how ≡ status.Done → skips ≡ []
 done_none [] how done = refl
 done_none (skip ∷ skips) end.Whole done = absurd (by (length (skip ∷ skips) == 0) refl done) where
@@ -133,7 +132,7 @@ done_none (skip ∷ skips) (end.Refused refusal) done = absurd cc
 done_none (skip ∷ skips) end.ReadFault done = absurd cc
 done_none (skip ∷ skips) end.Limit done = absurd cc
 
--- batches that are presented begin in time
+-- each batch that a listener presents begins in time
 begin_in_time : (asked : Turning) (records : List Record) (how : End) → AllByRecursion BeginsInTime (batches_by asked records how)
 begin_in_time asked records end.Whole = shown_in_time (plan_of asked.listener) records
 begin_in_time asked records (end.Refused refusal) = shown_in_time (plan_of asked.listener) records

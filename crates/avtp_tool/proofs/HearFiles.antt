@@ -1,4 +1,4 @@
--- The run of `listen` over all its files, and what it says of the devices at its end.
+-- The run of `listen` over all its files, and what its last line says of the devices.
 use Rattle.std.proofs.Common.{◌≡◌, ◌≢◌, ℕ, ◌<◌, ◌≤◌, Bool, true, false, List, [], ◌++◌, Option, None, Result, Ok, Err, refl, sym, ap, subst, ◌∙◌, arith}
 use Rattle.std.specs.Prelude.{IfOk, is_err, IsErr, nat_lt}
 use Rattle.std.proofs.lemmas.Bool.{le-ltb, lt-ltb, false_from_ne_true}
@@ -28,7 +28,7 @@ use Rattle.avtp_tool.proofs.Outcomes.{counts_failed, ends_not, sink_failed, sink
 use Rattle.avtp_tool.proofs.PlanRuns.{tells_all, through_as}
 use Rattle.avtp_tool.proofs.Yields.{gives_then, Joins, more_none, part_before, part_none, part_then, part_whole}
 
--- a text that follows items adds no item
+-- text that is printed after items adds no item
 joins_text : (handed : List Shown → Type 0) → Joins handed HandsNothing handed
 joins_text handed xs ys first none = subst handed (sym (append-nil xs) ∙ ap (λ (l : List Shown). xs ++ l) (sym none)) first
 
@@ -111,7 +111,6 @@ tells_listening : {s t : ShelfState} {handed : List Shown → Type 0} {before no
     → TellsRun (λ came ended yields. Outcome (listen asked) all fault failed came ended yields None) handed s t before now result
 tells_listening told = record { came = told.came; ended = told.ended; yields = told.yields; outcome = (told.outcome, refl); whole = told.whole; part = told.part }
 
--- a run that does not end with a device's fault had no failed device if it was done
 tells_plain : (asked : Listening) (failed : Bool) (result : Result Status Failed) → IsPlain failed result → (result ≡ Ok status.DeviceFault → ⊥) → TellsDevices (listen asked) failed result
 tells_plain asked failed result plain never = record { fault = λ e. absurd (never e); quiet = λ listens done. false_from_ne_true failed (plain done) }
 
@@ -156,7 +155,6 @@ pub err_plain : (failed : Bool) (result : Result Status Failed) → IsErr result
 err_plain failed (Ok s) err = absurd cc
 err_plain failed (Err e) err = λ done is. absurd (let same : is_err {T = Status} (Err e) ≡ is_err {E = Failed} (Ok status.Done) = ap is_err done in cc)
 
--- if one count is less than another, the comparison in the code says so
 pub less_is : {a b x y : ℕ} → a ≡ x → b ≡ y → a < b → nat_lt x y ≡ true
 less_is first second less = rw (sym first, sym second) (lt-ltb _ _ less)
 

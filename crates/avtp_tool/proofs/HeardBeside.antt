@@ -37,8 +37,8 @@ use Rattle.avtp_tool.proofs.HearingTo.{shows_none}
 
 -- ---- two files that are open
 
--- A file was read in slot k, which is now slot `now`, and another was written in slot w, each in any number of calls. `done` is
--- how the last write ended.
+-- The file in slot `k` was read and the file in slot `w` was written, each by any number of calls. `done` is the result
+-- of the last write.
 pub record ReadsAndWrites (s t : ShelfState) (k now w : ℕ) (how : Option End) (done : Result Unit Failed) : Type 0 where
   pub slot : now ≡ k
   pub live : IsSome (t.slots k)
@@ -50,12 +50,12 @@ pub record ReadsAndWrites (s t : ShelfState) (k now w : ℕ) (how : Option End) 
   pub writing : IsCounted s.writing_faults t.writing_faults done
   pub asked : AsksNothing s t
 
--- One call read a file in slot k, and all else is unchanged.
+-- One call read the file in slot `k`. All else is unchanged.
 pub record OnlyMoves (t u : ShelfState) (k : ℕ) : Type 0 where
   pub files : KeepsFiles t.files u.files
   pub others : KeepsOthers t.slots u.slots k
 
--- the file that is read is open
+-- the file that is read is still open
 pub still_open : {s t : ShelfState} {k now w : ℕ} {how : Option End} {done : Result Unit Failed} → ReadsAndWrites s t k now w how done → IsSome (t.slots now)
 still_open {t = t} beside = subst (λ (n : ℕ). IsSome (t.slots n)) (sym beside.slot) beside.live
 
@@ -76,7 +76,7 @@ beside_none s k w stage live made is =
 
 -- ---- a write
 
--- a slot that keeps its file stays live
+-- a slot that keeps its file is still in use
 pub live_same : (x y : Option Open) → option_map file_of y ≡ option_map file_of x → IsSome x → IsSome y
 live_same None y same live = absurd cc
 live_same (Some x) None same live = absurd cc
@@ -88,7 +88,6 @@ still_apart {s} {t} {w = w} beside v slot j apart same =
     apart (sym (named_as (s.slots j) (t.slots j) (beside.same j)) ∙ same ∙ ap (name_in t.slots) slot ∙ named_as (s.slots w) (t.slots w) (beside.same w))
 
 module _ {s t u : ShelfState} {k now w : ℕ} {how : Option End} {old new : Writing} {done : Result Unit Failed} where
-  -- the file in slot w was written
   pub beside_written : ReadsAndWrites s t k now w how (Ok tt) → old.slot ≡ w → WritesSlot t u old new done → ReadsAndWrites s u k now w how done
   beside_written beside slot writes = record {
     slot = beside.slot;
@@ -102,14 +101,15 @@ module _ {s t u : ShelfState} {k now w : ℕ} {how : Option End} {old new : Writ
     asked = λ names was. writes.asked names (beside.asked names was);
   }
 
-  -- what is left to read in slot k is unchanged if the names differ
+  -- if the files in the slots `k` and `w` have different names, a write leaves unchanged what is left to read in slot
+  -- `k`
   pub left_written : ReadsAndWrites s t k now w how (Ok tt) → old.slot ≡ w → WritesSlot t u old new done → name_in s.slots k ≢ name_in s.slots w → left_in u.slots now ≡ left_in t.slots now
   left_written beside slot writes apart =
       subst (λ (n : ℕ). left_in u.slots n ≡ left_in t.slots n) (sym beside.slot) (writes.slots.left k (still_apart beside old.slot slot k apart))
 
 -- ---- a read
 
--- the shelf t with slot k and the count of reading faults as they were in s
+-- the shelf `t`, but with slot `k` and the count of reading faults as they are in `s`
 abbrev rewound : ShelfState → ShelfState → ℕ → ShelfState
 rewound s t k = record t { slots = λ j. if j == k then s.slots k else t.slots j; reading_faults = s.reading_faults }
 
@@ -122,7 +122,7 @@ rewound_other s t k j differ = (let test : (j == k) ≡ false = grind (arith, na
 rewound_left : (s t : ShelfState) (k : ℕ) → left_in (rewound s t k).slots k ≡ left_in s.slots k
 rewound_left s t k = ap (option_and_then (λ (o : Open). o.left)) (rewound_slot s t k)
 
--- from the rewound shelf to t, only slot k was read
+-- from the rewound shelf to `t`, only slot `k` was read
 reads_since : {s t : ShelfState} {k now w : ℕ} {how : Option End} {done : Result Unit Failed} → ReadsAndWrites s t k now w how done → ReadsCapture (rewound s t k) t k now how
 reads_since {s} {t} {k} beside = record {
   reads = record {
@@ -138,12 +138,11 @@ reads_since {s} {t} {k} beside = record {
   counted = beside.counted;
 }
 
--- this listener, once it is closed
+-- the listener after it is closed
 abbrev shut : ListenState → ListenState
 shut listener = record listener { ended = true }
 
 module _ {s t u : ShelfState} (first : Sourcing) {a b : Sourcing} {l m : ListenState} {x y : Stage} {more : List Shown} {w : ℕ} where
-  -- what the hearing of one item does to the shelf
   step_of : ReadsAndWrites s t (slot_of first) (slot_of a) w (read_end x) (Ok tt) → GoesOn t u a b l m x y more → Shows (rewound s t (slot_of first)) u first b (shut l) m y more
   step_of beside on = on.shows (rewound s t (slot_of first)) first (shut l) [] (record { capture = reads_since beside; plan = refl; shown = λ limit bytes given stands going. absurd cc })
 
@@ -177,7 +176,7 @@ module _ {s t u : ShelfState} (first : Sourcing) {a b : Sourcing} {l m : ListenS
 
 -- ---- what was shown
 
--- Since the shelf was s, these items were shown of the capture that is read.
+-- Since the state `s` of the shelf, these items were shown of the capture that is read.
 pub record IsHeard (s t : ShelfState) (first source : Sourcing) (fresh listener : ListenState) (stage : Stage) (items : List Shown) : Type 0 where
   pub shown : (limit : ℕ) (bytes : List ℕ) → HasGiven limit bytes (left_in s.slots (slot_of first)) first [] → StandsFor [] 0 fresh → is_closed fresh ≡ false
       → IsShown stage limit bytes (Rose s.reading_faults t.reading_faults) (left_in t.slots (slot_of source)) source listener items
@@ -189,7 +188,6 @@ given_since : (s t : ShelfState) (first : Sourcing) (limit : ℕ) (bytes : List 
 given_since s t first limit bytes given = subst (λ (o : Option (List ℕ)). HasGiven limit bytes o first []) (rewound_left s t (slot_of first)) given
 
 module _ {s t u : ShelfState} {first a b : Sourcing} {fresh l m : ListenState} {x y : Stage} {items more : List Shown} {w : ℕ} where
-  -- the hearing went on
   pub heard_on : ReadsAndWrites s t (slot_of first) (slot_of a) w (read_end x) (Ok tt) → l.plan ≡ fresh.plan → GoesOn t u a b l m x y more → IsHeard s t first a fresh l x items → IsHeard s u first b fresh m y (items ++ more)
   heard_on beside plan on heard =
       let shows = on.shows (rewound s t (slot_of first)) first fresh items (record { capture = reads_since beside; plan = plan; shown = λ limit bytes given stands going. heard.shown limit bytes (given_since s t first limit bytes given) stands going }) in
@@ -198,7 +196,7 @@ module _ {s t u : ShelfState} {first a b : Sourcing} {fresh l m : ListenState} {
             shows.shown limit bytes (subst (λ (o : Option (List ℕ)). HasGiven limit bytes o first []) (sym (rewound_left s t (slot_of first))) given) stands going;
       }
 
--- another file was written, and what was heard is unchanged
+-- writing another file changes nothing about what was heard
 pub heard_still : {s t u : ShelfState} {first source : Sourcing} {fresh listener : ListenState} {stage : Stage} {items : List Shown} → u.reading_faults ≡ t.reading_faults → left_in u.slots (slot_of source) ≡ left_in t.slots (slot_of source)
     → IsHeard s t first source fresh listener stage items → IsHeard s u first source fresh listener stage items
 heard_still {s} {t} {u} {source = source} {listener = listener} {stage} {items} quiet same heard = record {
@@ -212,13 +210,13 @@ heard_still {s} {t} {u} {source = source} {listener = listener} {stage} {items} 
 pub presented_flag : (items : List Shown) (frame seq : ℕ) (reason : Reason) → presented_of (items ++ Flag frame seq reason ∷ []) ≡ presented_of items
 presented_flag items frame seq reason = presented-append items (Flag frame seq reason ∷ []) ∙ append-nil (presented_of items)
 
--- there are as many batches among the items as were presented
+-- the number of presented items among the items is the number of batches
 pub presented_count : (items : List Shown) → count_by is_present items ≡ length (presented_of items)
 presented_count [] = refl
 presented_count (Present batch ∷ items) = omega (arith, count-next is_present (Present batch) items, presented_count items)
 presented_count (Flag frame seq reason ∷ items) = omega (arith, count-next is_present (Flag frame seq reason) items, presented_count items)
 
--- what is shown before the place where the reading ended is the first part of what is shown of a whole capture
+-- What is shown of the records, however the reading ended, is a prefix of what is shown if they are a whole capture.
 first_of_whole : (plan : ListenPlan) (records : List Record) (how : End) → IsPrefix (shown_by plan records how) (shown_by plan records end.Whole)
 first_of_whole plan records end.Whole = ([], append-nil (shown_by plan records end.Whole))
 first_of_whole plan records (end.Refused refusal) = ([], append-nil (shown_by plan records end.Whole))
@@ -228,7 +226,7 @@ first_of_whole plan records end.Limit = due_first plan records
 presented_first : (items all : List Shown) → IsPrefix items all → IsPrefix (presented_of items) (presented_of all)
 presented_first items all first = (presented_of first.0, sym (presented-append items first.0) ∙ ap presented_of first.1)
 
--- the batches so far are the first of all
+-- the batches that were presented so far are a prefix of all batches
 pub batches_within : (plan : ListenPlan) (stage : Stage) (limit : ℕ) (bytes : List ℕ) (fault : Type 0) (remains : Option (List ℕ)) (source : Sourcing) (listener : ListenState) (items : List Shown) → listener.plan ≡ plan → is_closed listener ≡ closed_at stage
     → IsShown stage limit bytes fault remains source listener items → IsPrefix (presented_of items) (presented_of (shown_by plan (records_in (take limit bytes)) end.Whole))
 batches_within plan stage limit bytes fault remains source listener items is closed shown =

@@ -49,7 +49,7 @@ shown_first plan records (end.Refused refusal) = due_first plan records
 shown_first plan records end.ReadFault = ([], append-nil (due_of plan records))
 shown_first plan records end.Limit = ([], append-nil (due_of plan records))
 
--- what a listener shows that is closed exactly if all is shown
+-- If the listener is closed exactly if all items are shown, the items that it shows are those of `shown_by`.
 out_at : (how : End) (listener : ListenState) (records : List Record) → is_closed listener ≡ is_all how → out listener records ≡ shown_by listener.plan records how
 out_at end.Whole listener records closed = rw closed refl
 out_at (end.Refused refusal) listener records closed = rw closed refl
@@ -61,7 +61,7 @@ due_within plan items records all how first given =
     let longer = subst (λ (rs : List Record). IsPrefix (due_of plan records) (due_of plan rs)) first.1 (due_stays plan records first.0) in
     prefix_twice items (due_of plan records) (shown_by plan all how) given (prefix_twice (due_of plan records) (due_of plan all) (shown_by plan all how) longer (shown_first plan all how))
 
--- what is shown of the records up to the end of the reading is the first part of what is shown of the file
+-- what is shown of the records up to the end of the reading is a prefix of what is shown of the whole file
 ended_within : (plan : ListenPlan) (limit : ℕ) (bytes : List ℕ) (fault : Type 0) (items : List Shown) (records : List Record) (how : End) → IsPrefix records (records_in (take limit bytes)) → EndsAfter limit bytes fault how records
     → IsPrefix items (shown_by plan records how) → IsPrefix items (shown_by plan (records_in (take limit bytes)) (end_of limit bytes))
 ended_within plan limit bytes fault items records end.ReadFault first ends given = due_within plan items records (records_in (take limit bytes)) (end_of limit bytes) first given
@@ -69,7 +69,7 @@ ended_within plan limit bytes fault items records end.Whole first ends given = l
 ended_within plan limit bytes fault items records (end.Refused refusal) first ends given = let all : records ≡ records_in (take limit bytes) = sym ends.whole ∙ ap records_in ends.ends.1 in rw (sym ends.ends.0, sym all) given
 ended_within plan limit bytes fault items records end.Limit first ends given = let all : records ≡ records_in (take limit bytes) = sym ends.whole ∙ ap records_in ends.ends.1 in rw (sym ends.ends.0, sym all) given
 
--- the items so far are the first of what is shown of the file
+-- the items so far are a prefix of what is shown of the file
 pub within : (stage : Stage) (limit : ℕ) (bytes : List ℕ) (fault : Type 0) (remains : Option (List ℕ)) (source : Sourcing) (listener : ListenState) (items : List Shown) → is_closed listener ≡ closed_at stage → IsShown stage limit bytes fault remains source listener items
     → IsPrefix items (shown_by listener.plan (records_in (take limit bytes)) (end_of limit bytes))
 within Reading limit bytes fault remains source listener items closed shown =
@@ -86,7 +86,6 @@ within NoMemory limit bytes fault remains source listener items closed shown =
 abbrev pub IsCutYield : Listening → (List Shown → Type 0) → List ℕ → List ℕ → Option (List ℕ) → Option (List ℕ) → Type 0
 IsCutYield asked handed name bytes before now = GivesPart handed before now (file_yield (listen_report asked name) asked.listener.limit (Some bytes))
 
--- the capture's name, or a part of it
 pub name_cut : {handed : List Shown → Type 0} {before now : Option (List ℕ)} (asked : Listening) (name bytes : List ℕ) → handed [] → AppendsPrefix before now (capture_line name) → IsCutYield asked handed name bytes before now
 name_cut {before = before} {now} asked name bytes none prefix = part_text none _ (prefix_before before now _ _ (prefix_before before now (capture_line name) _ prefix))
 
@@ -108,7 +107,7 @@ take_all : {X : Type 0} (xs : List X) → take (length xs) xs ≡ xs
 take_all {X} [] = refl
 take_all {X} (x ∷ xs) = ap (λ (l : List X). x ∷ l) (take_all xs)
 
--- All was shown of a capture whose reading ended in this way after these records, and counted.
+-- All items of a capture whose reading ended as `how` after these records were shown and counted.
 pub record IsAllHeard (plan : ListenPlan) (records : List Record) (how : End) (counts : Counts) (items : List Shown) : Type 0 where
   pub items_are : items ≡ shown_by plan records how
   pub counted : counts ≡ counts_of plan records (shown_by plan records how)
@@ -137,7 +136,6 @@ items_heard {handed} {before} {now} asked name bytes how fault remains source li
       items = subst handed all.items_are hands;
     }
 
--- the hearing has ended, and all that was shown was printed
 pub hears : (handed : List Shown → Type 0) (before now : Option (List ℕ)) (asked : Listening) (name bytes : List ℕ) (stage : Stage) (fault : Type 0) (remains : Option (List ℕ)) (source : Sourcing) (listener : ListenState) (items : List Shown)
     → IsSome (pull_at stage) → listener.plan ≡ plan_of asked.listener → is_closed listener ≡ closed_at stage → IsShown stage asked.listener.limit bytes fault remains source listener items → Appends before now (shown_text name items) → handed items
     → HearsRecords asked handed name bytes fault before now (Ok (heard_at stage listener))
@@ -147,7 +145,6 @@ hears handed before now asked name bytes (Ended how) fault remains source listen
 hears handed before now asked name bytes NoMemory fault remains source listener items over plan closed shown lines hands =
     items_cut asked name bytes NoMemory fault remains source listener items items plan closed shown (prefix_whole before now (shown_text name items) lines) ([], append-nil items) hands
 
--- the count of reading faults, once the hearing has ended
 pub hears_counted : (stage : Stage) (listener : ListenState) (before after : ℕ) → IsSome (pull_at stage) → CountsFault None (read_end stage) before after → CountsFault None (heard_end (heard_at stage listener)) before after
 hears_counted Reading listener before after over counted = absurd cc
 hears_counted (Showing how) listener before after over counted = absurd cc
@@ -169,7 +166,6 @@ listen_told asked name bytes fault how counts before heard ends = record {
       tells_end (shown_text name items) items (refl, ap (λ (c : Counts). yields_with (shown_text name items ++ last_line asked.listener.limit c how) items) heard.counted) heard.lines heard.items ends;
 }
 
--- how the records were heard, given what the call returned
 pub ended_as : (result : Result Heard Failed) (heard made : Heard) → result ≡ Ok heard → heard ≡ made → result ≡ Ok made
 ended_as result heard made is same = is ∙ ap (λ (h : Heard). Ok h) same
 

@@ -1,4 +1,4 @@
--- What a hearing showed so far, step by step.
+-- What a hearing has shown so far, step by step.
 use Rattle.std.proofs.Common.{◌≡◌, ℕ, ◌+◌, ◌≤◌, ◌^◌, true, false, inl, inr, List, [], ◌∷◌, ◌++◌, length, take, Option, Some, None, Result, Ok, Err, refl, sym, ap, subst, ◌∙◌, arith, append_assoc, append-nil, length-append, length-take}
 use Rattle.std.specs.Prelude.{is_err, is_some, IsSome, OnErr, OnOk, slice_get}
 use mathlib.Core.List.{IsPrefix}
@@ -32,7 +32,7 @@ use Rattle.listener.proofs.Fed.{prefix_twice}
 
 -- ---- lists
 
--- with the next item, or with none, a prefix stays a prefix
+-- a prefix followed by the next item, if any, is still a prefix
 prefix_out : (xs ys : List Shown) (next : Option Shown) → IsPrefix xs ys → next ≡ slice_get ys (length xs) → IsPrefix (xs ++ option_to_list next) ys
 prefix_out xs ys None first at = subst (λ (l : List Shown). IsPrefix l ys) (sym (append-nil xs)) first
 prefix_out xs ys (Some x) first at = prefix-more xs ys x first (sym at)
@@ -42,7 +42,7 @@ prefix_out xs ys (Some x) first at = prefix-more xs ys x first (sym at)
 take_length : {X : Type 0} (n : ℕ) (xs : List X) → n ≤ length xs → length (take n xs) ≡ n
 take_length n xs within = omega (arith, length-take n xs)
 
--- as many items were shown as were presented and flagged, and at most as many as records were taken
+-- The number of shown items is that of the presented and the flagged items. It is at most the number of taken records.
 pub shown_count : (listener : ListenState) (records : List Record) (given : ℕ) → StandsFor records given listener
     → (listener.counts.presented + listener.counts.flagged ≡ given) × (given ≤ listener.counts.frames)
 shown_count listener records given stands =
@@ -74,7 +74,7 @@ module _ {old new : ListenState} (count : ℕ) (stable : IsStable old) (stands :
             let after = shown_count new on.0 (sound.given + count) on.1 in
             omega (arith, before.0, before.1, after.0, after.1, fewer)
 
--- a listener that takes more records has shown the items that it had shown
+-- taking more records does not change which items a listener has shown
 pub stands_still : {old new : ListenState} (more : List Record) → ((records : List Record) (given : ℕ) → StandsFor records given old → StandsFor (records ++ more) given new) → (records : List Record) (given : ℕ) → StandsFor records given old
     → (others : List Record) × StandsFor others (given + 0) new
 stands_still {old} {new} more stands records given was = (records ++ more, subst (λ (n : ℕ). StandsFor (records ++ more) n new) (omega arith) (stands records given was))
@@ -110,7 +110,6 @@ ended_live (Some file) s o live is = is
 -- ---- one step
 
 module _ {s t : ShelfState} {begun source : Sourcing} {first old new : ListenState} {stage : Stage} {items : List Shown} where
-  -- one more item was shown, or none
   shows_out : (result : Option Shown) → pull_at stage ≡ None → Keeps old new
       → ((records : List Record) (given : ℕ) → StandsFor records given old → result ≡ slice_get (out old records) given)
       → ((records : List Record) (given : ℕ) → StandsFor records given old → StandsFor records (given + length (option_to_list result)) new)
@@ -131,7 +130,6 @@ module _ {s t : ShelfState} {begun source : Sourcing} {first old new : ListenSta
         };
   }
 
-  -- nothing is left to show once the reading has ended
   shows_all : (how : End) → stage ≡ Showing how → Keeps old new
       → ((records : List Record) (given : ℕ) → StandsFor records given old → None ≡ slice_get (out old records) given)
       → ((records : List Record) (given : ℕ) → StandsFor records given old → StandsFor records (given + 0) new)
@@ -156,7 +154,7 @@ module _ {s t : ShelfState} {begun source : Sourcing} {first old new : ListenSta
 
 -- ---- one record
 
--- the items that were due are still the first ones after more records
+-- after more records, the due items still begin with the items that were due before
 due_grows : (old new : ListenState) (records more : List Record) (items : List Shown) → is_closed old ≡ false → is_closed new ≡ false → new.plan ≡ old.plan → IsPrefix items (out old records) → IsPrefix items (out new (records ++ more))
 due_grows old new records more items going on plan first = prefix_twice items (out old records) (out new (records ++ more)) first (out_further old new records more going on plan)
 
@@ -170,7 +168,6 @@ end_grows end.ReadFault old new records items going closed plan first = subst (I
 end_grows end.Limit old new records items going closed plan first = subst (IsPrefix items) (sym (out_same old new records plan (closed ∙ sym going))) first
 
 module _ {s t u : ShelfState} {begun old_source source : Sourcing} {first old new : ListenState} {items : List Shown} where
-  -- the reading went on, and the record was taken
   pub shows_record : (record_ : Record) → old_source.ended ≡ None → GivesNext t u old_source source None → held_in source ≡ Some record_
       → is_closed old ≡ false → is_closed new ≡ false → new.plan ≡ old.plan → ((records : List Record) (given : ℕ) → StandsFor records given old → StandsFor (records ++ record_ ∷ []) given new) → {stage : Stage} → stage ≡ Reading → Shows s t begun old_source first old stage items → Shows s u begun source first new stage items
   shows_record record_ none next held going on plan stands reading showing =
@@ -195,7 +192,6 @@ module _ {s t u : ShelfState} {begun old_source source : Sourcing} {first old ne
             };
       })
 
-  -- the record was not taken, and the listener is unchanged
   pub shows_no_memory : old_source.ended ≡ None → GivesNext t u old_source source None → new ≡ old → {stage : Stage} → stage ≡ Reading → Shows s t begun old_source first old stage items → Shows s u begun source first new NoMemory items
   shows_no_memory none next same reading showing =
       let shows = subst (λ (y : Stage). Shows s t begun old_source first old y items) reading showing in
@@ -215,7 +211,6 @@ module _ {s t u : ShelfState} {begun old_source source : Sourcing} {first old ne
             };
       }
 
-  -- the reading ended
   pub shows_end : (how : End) → old_source.ended ≡ None → GivesNext t u old_source source (Some how)
       → is_closed old ≡ false → is_closed new ≡ is_all how → new.plan ≡ old.plan → ((records : List Record) (given : ℕ) → StandsFor records given old → StandsFor records given new) → {stage : Stage} → stage ≡ Reading → Shows s t begun old_source first old stage items → Shows s u begun source first new (Showing how) items
   shows_end how none next going closed plan stands reading showing =
@@ -238,18 +233,16 @@ module _ {s t u : ShelfState} {begun old_source source : Sourcing} {first old ne
 
 -- ---- what holds for every hearing
 
--- one more item was shown, or none
 pub sound_on : {stage : Stage} {source : Sourcing} {old new : ListenState} (count : ℕ) → IsSoundAt stage source old → Keeps old new → ((records : List Record) (given : ℕ) → StandsFor records given old → StandsFor records (given + count) new) → IsSoundAt stage source new
 sound_on count sound keeps stands =
     record { bounded = omega (arith, sound.bounded, keeps.frames); going = sound.going; closed = keeps.closed ∙ sound.closed; stable = stable_on count sound.stable (λ records given was. (records, stands records given was)) }
 
--- all was shown
 pub sound_over : {stage : Stage} {source : Sourcing} {listener : ListenState} (how : End) → stage ≡ Showing how → IsSoundAt stage source listener → IsSoundAt (Ended how) source listener
 sound_over how is sound = record { bounded = omega (arith, sound.bounded); going = refl; closed = sound.closed ∙ ap closed_at is; stable = sound.stable }
 
 -- ---- the hearing goes on
 
--- the hearing goes on if nothing is shown and no more items can be shown
+-- If a step shows nothing and does not raise the number of items that can still be shown, the hearing goes on.
 pub goes_still : {t u : ShelfState} {old_source source : Sourcing} {old new : ListenState} {stage stage' : Stage}
     → ((begun : ShelfState) (first : Sourcing) (fresh : ListenState) (earlier : List Shown) → Shows begun t first old_source fresh old stage earlier → Shows begun u first source fresh new stage' earlier)
     → IsSome (u.slots (slot_of source)) → left_of stage' source new ≤ left_of stage old_source old → GoesOn t u old_source source old new stage stage' []
@@ -266,7 +259,6 @@ goes_then {s} {t} {u} {a} {b} {c} {k} {l} {m} {x} {y} {z} {items} {more} first s
   left = omega (arith, first.left, second.left, length-append items more);
 }
 
--- what came out of the listener is shown
 pub goes_out : {s : ShelfState} {source : Sourcing} {old new : ListenState} {stage : Stage} (result : Option Shown) → IsSome (s.slots (slot_of source)) → pull_at stage ≡ None → IsSoundAt stage source old → Keeps old new
     → ((records : List Record) (given : ℕ) → StandsFor records given old → result ≡ slice_get (out old records) given)
     → ((records : List Record) (given : ℕ) → StandsFor records given old → StandsFor records (given + length (option_to_list result)) new) → GoesOn s s source source old new stage stage (option_to_list result)
@@ -276,7 +268,6 @@ goes_out {source = source} {stage = stage} result live going sound keeps at stan
   left = left_on (length (option_to_list result)) sound.stable (λ records given was. (records, stands records given was)) stage stage source source (omega (arith, keeps.frames));
 }
 
--- nothing is left in the listener once the reading has ended
 pub goes_over : {s : ShelfState} {source : Sourcing} {old new : ListenState} {stage : Stage} (how : End) → stage ≡ Showing how → IsSome (s.slots (slot_of source)) → IsSoundAt stage source old → Keeps old new
     → ((records : List Record) (given : ℕ) → StandsFor records given old → None ≡ slice_get (out old records) given)
     → ((records : List Record) (given : ℕ) → StandsFor records given old → StandsFor records (given + 0) new) → GoesOn s s source source old new stage (Ended how) []

@@ -1,4 +1,4 @@
--- What is printed of the records of a capture, one after the other.
+-- What is printed of the records of a capture, in order.
 use Rattle.std.proofs.Common.{◌≡◌, ℕ, List, [], ◌∷◌, ◌++◌, take, Option, refl, sym, ap, subst, ◌∙◌, append_assoc, append-nil}
 use Rattle.avtp_base.specs.Told.{Appends, Keeps}
 use Rattle.avtp_base.proofs.Told.{Appends-kept}
@@ -21,7 +21,6 @@ after_more one earlier (x ∷ records) r =
     ap (λ rest. one earlier x ++ rest) (after_more one (earlier ++ x ∷ []) records r ∙ ap (λ (rs : List Record). after one (earlier ++ x ∷ []) records ++ one rs r) (append_assoc earlier (x ∷ []) records))
     ∙ sym (append_assoc (one earlier x) (after one (earlier ++ x ∷ []) records) (one (earlier ++ x ∷ records) r))
 
--- the lines of a list of records and one more
 pub each_more : {A : Type 0} (one : List Record → Record → List A) (records : List Record) (r : Record) → of_each one (records ++ r ∷ []) ≡ of_each one records ++ one records r
 each_more one records r = after_more one [] records r
 
@@ -32,15 +31,14 @@ after_first one earlier (r ∷ records) others =
     let more = after_first one (earlier ++ r ∷ []) records others in
     (more.0, ap (λ rest. one earlier r ++ rest) more.1 ∙ sym (append_assoc (one earlier r) (after one (earlier ++ r ∷ []) records) more.0))
 
--- what is printed of the first records is a prefix of all
+-- what is printed of the first records is a prefix of what is printed of all records
 pub each_first : {A : Type 0} (one : List Record → Record → List A) (records others : List Record) → (rest : List A) × (of_each one (records ++ others) ≡ of_each one records ++ rest)
 each_first one records others = after_first one [] records others
 
--- a text was written whole, and nothing after it
 pub prefix_kept : (before mid now : Option (List ℕ)) (text : List ℕ) → Appends before mid text → Keeps mid now → AppendsPrefix before now text
 prefix_kept before mid now text appends keeps = prefix_whole before now text (Appends-kept before mid now text appends keeps)
 
--- the text of the first records is a prefix of the text of all
+-- the text of the first records is a prefix of the text of all records
 pub some_first : {limit : ℕ} {bytes : List ℕ} {remains : Option (List ℕ)} {source : Sourcing} {before now : Option (List ℕ)} {records : List Record} (text : List Record → List ℕ)
     → ((first others : List Record) → (rest : List ℕ) × (text (first ++ others) ≡ text first ++ rest)) → HasGiven limit bytes remains source records → AppendsPrefix before now (text records) → AppendsPrefix before now (text (records_in (take limit bytes)))
 some_first {limit} {bytes} {remains} {source} {before} {now} {records} text longer given prefix =

@@ -36,13 +36,11 @@ files_still None files = KeepsFiles-refl files
 files_still (Some name) None = tt
 files_still (Some name) (Some files) = λ other differs. refl
 
--- nothing was made
 pub part_kept : (output made : Option (List ℕ)) (f g : Option Files) → KeepsFiles f g → MakesPart output made f g
 part_kept None made f g keeps = keeps
 part_kept (Some name) None f g keeps = keeps
 part_kept (Some name) (Some bytes) f g keeps = inl keeps
 
--- files that were unchanged before the output was made
 pub output_after : (output made : Option (List ℕ)) (f g k : Option Files) → KeepsFiles f g → MakesOutput output made g k → MakesOutput output made f k
 output_after None made f g k keeps makes = KeepsFiles-trans f g k keeps makes
 output_after (Some name) None f g k keeps makes = KeepsFiles-trans f g k keeps makes
@@ -68,7 +66,7 @@ slots_here (Some name) files slots = slots_still files slots name
 
 -- ---- a file that was made, or could not be made
 
--- the file was made, and writing it failed
+-- the file was created, but writing it failed
 pub unmade_part : {s t : ShelfState} (name bytes : List ℕ) → PutsPrefix s.files t.files name bytes → KeepsSlotsBut s.files s.slots t.slots name → t.reading_faults ≡ s.reading_faults → s.writing_faults ≤ t.writing_faults → Rose s.writing_faults t.writing_faults
     → (Asks (name ∷ []) s t) → MakesFile s t name bytes (Err open_fault.Failed)
 unmade_part name bytes part slots reading falls rose asked = record {
@@ -81,7 +79,6 @@ unmade_part name bytes part slots reading falls rose asked = record {
   asked = asks_one name asked;
 }
 
--- all of it was written
 pub made_all : {s t : ShelfState} (name bytes : List ℕ) (ok : Unit) → PutsFile s.files t.files name bytes → KeepsSlotsBut s.files s.slots t.slots name → t.reading_faults ≡ s.reading_faults → t.writing_faults ≡ s.writing_faults
     → (Asks (name ∷ []) s t) → MakesFile s t name bytes (Ok ok)
 made_all name bytes ok put slots reading writing asked = record {
@@ -96,7 +93,7 @@ made_all name bytes ok put slots reading writing asked = record {
 
 -- ---- the capture that was written
 
--- its first records make a prefix of it
+-- the capture of the first records is a prefix of the capture of all records
 pub capture_first : (records : List Record) (n : ℕ) → (rest : List ℕ) × (capture_bytes records ≡ capture_bytes (take n records) ++ rest)
 capture_first records n =
     let one : Record → List ℕ = record_spelling written_style in
@@ -106,7 +103,7 @@ capture_first records n =
           ∙ ap (λ (b : List ℕ). header ++ b) (sym (flat_map-append one (take n records) (drop n records)) ∙ ap (flat_map one) (take-append-drop n records))),
     )
 
--- its file was made, written and closed: each slot is as it was, except for what is left to read of the file
+-- After a file was created, written and closed, each slot is as before, except what is left to read of this file.
 pub slots_closed : {s t u v : ShelfState} {w w' : Writing} {name : List ℕ} {result : Result Unit Failed} (records : List Record) → BeginsCapture s t name (Ok w) → KeepsOtherFiles t.slots u.slots (name_in t.slots w.slot) → w'.slot ≡ w.slot
     → HoldsCapture s.files u w' name records → ClosesCapture u v w' result → KeepsSlotsBut s.files s.slots v.slots name
 slots_closed {s} {t} {u} {v} {w} {w'} {name} records begins others slot holds closes = record { same = same; left = left } where
@@ -131,7 +128,6 @@ slots_closed {s} {t} {u} {v} {w} {w'} {name} records begins others slot holds cl
             ∙ (others.left j (λ e. differs (sym named_t ∙ (e ∙ begins.begun.named told))) ∙ begins.beside.left told j other.1 differs)
       ]
 
--- a file has a prefix of these bytes
 pub prefix_further : {f g : Option Files} {name prefix bytes : List ℕ} (rest : List ℕ) → bytes ≡ prefix ++ rest → PutsPrefix f g name prefix → PutsPrefix f g name bytes
 prefix_further rest split p = record { prefix = p.prefix; rest = p.rest ++ rest; split = split ∙ (ap (λ (l : List ℕ). l ++ rest) p.split ∙ append_assoc p.prefix p.rest rest); put = p.put }
 
@@ -140,25 +136,21 @@ whole_prefix f g name bytes put = record { prefix = bytes; rest = []; split = sy
 
 -- ---- runs that make a file, or do not reach it
 
--- the file was made, and the run failed or ended with `Done`
 pub makes_whole : {f g : Option Files} {name bytes : List ℕ} (result : Result Status Failed) → PutsFile f g name bytes → IfOk result (λ s. s ≡ status.Done) → Makes name bytes f g result
 makes_whole {f} {g} {name} {bytes} (Ok s) put is = record { done = λ e. put; part = inr (whole_prefix f g name bytes put); untouched = λ done. absurd (done is) }
 makes_whole {f} {g} {name} {bytes} (Err e) put is = record { done = λ e. absurd cc; part = inr (whole_prefix f g name bytes put); untouched = tt }
 
--- the file could not be made
 pub makes_part : {f g : Option Files} {name bytes : List ℕ} (fault : OpenFault) → MakesPrefix f g name bytes → Makes name bytes f g (Ok (unmade_as fault))
 makes_part open_fault.Memory part = record { done = λ e. absurd cc; part = part; untouched = λ done write memory. absurd (memory refl) }
 makes_part open_fault.Missing part = record { done = λ e. absurd cc; part = part; untouched = λ done write. absurd (write refl) }
 makes_part open_fault.Failed part = record { done = λ e. absurd cc; part = part; untouched = λ done write. absurd (write refl) }
 
--- the run did not reach the file
 pub makes_none : {name bytes : List ℕ} (f : Option Files) (result : Result Status Failed) → (result ≡ Ok status.Done → ⊥) → Makes name bytes f f result
 makes_none {name} {bytes} f result never = record { done = λ e. absurd (never e); part = inl (KeepsFiles-refl f); untouched = kept result } where
   kept : (r : Result Status Failed) → IfOk r (λ s. s ≢ status.Done → s ≢ status.WriteFault → s ≢ status.Memory → KeepsFiles f f)
   kept (Ok s) = λ done write memory. KeepsFiles-refl f
   kept (Err e) = tt
 
--- the files were unchanged before the run reached the file
 pub makes_after : {a b c : Option Files} {name bytes : List ℕ} {result : Result Status Failed} → KeepsFiles a b → Makes name bytes b c result → Makes name bytes a c result
 makes_after {a} {b} {c} {name} {bytes} {result} keeps m = record {
   done = λ e. KeepsFiles-puts a b c name bytes keeps (m.done e);
@@ -188,7 +180,6 @@ writes_none {s} name result not_done not_failed = record {
   ] refl
   never (Err e) other = tt
 
--- a run reached the file, and changed nothing else
 pub writes_made : {s t : ShelfState} {bytes : List ℕ} (name : List ℕ) (made : Result Unit OpenFault) (result : Result Status Failed) → MakesFile s t name bytes made
     → KeepsFilesBut (Some name) s.files t.files → CountsWriting (Some name) s.writing_faults t.writing_faults result → (IsDone result → IsOk made) → IfOk result (λ e. (e ≡ status.Memory) ⊎ ((e ≡ status.WriteFault) ⊎ (e ≡ status.Done))) → WritesOnly s t name result
 writes_made {s = s} {t} name made result makes files writing done ends = record {
@@ -238,7 +229,6 @@ slots_from g k s t u name files first second = record {
   left = λ told j differs. second.left (told_before g k name files told) j (λ (e : name_in t j ≡ Some name). differs (rw (first j) at e)) ∙ (rw (first j) refl);
 }
 
--- the name of the output was asked for after that of the input
 pub asks_from : {a b c : ShelfState} {done : Type 0} {names : List (List ℕ)} (input : List ℕ) → Asks (input ∷ []) a b → AsksFor names b c done → AsksFor (input ∷ names) a c done
 asks_from {c = c} {names = names} input first second = record {
   count = suc second.count;

@@ -13,7 +13,7 @@ use Rattle.avtp_tool.specs.Outcome.{Only}
 use Rattle.avtp_tool.specs.Reading.{FileOutcome, file_status, file_yield, Report}
 use Rattle.avtp_tool.specs.Yield.{says, Yield}
 
--- the outcome of a file if no fault of reading comes
+-- the outcome of a file if no read fault occurs
 pub file_here : (report : Report) (limit : ℕ) (told : Option (List ℕ)) (fault : Type 0) → FileOutcome report limit told fault (file_status report limit told) (file_yield report limit told)
 file_here report limit None fault = (refl, refl)
 file_here report limit (Some bytes) fault = inl (record { how = end_of limit bytes; prefix = take limit bytes; ends = ends_here limit bytes fault; status = refl; given = refl })
@@ -37,7 +37,7 @@ file_read report limit bytes told fault other how records weaker is after ended 
       given = subst (λ (rs : List Record). yields ≡ report.yields rs how) (sym after.whole) all;
     }))
 
--- each outcome is still possible if faults of reading have a weaker condition
+-- each outcome stays possible if the condition for a read fault is weakened
 pub file_weaker : (report : Report) (limit : ℕ) (told : Option (List ℕ)) (fault other : Type 0) (ended : Status) (yields : Yield) → (fault → other) → FileOutcome report limit told fault ended yields → FileOutcome report limit told other ended yields
 file_weaker report limit None fault other ended yields weaker outcome = outcome
 file_weaker report limit (Some bytes) fault other ended yields weaker (inl read) =

@@ -1,4 +1,4 @@
--- What a run left of the text, in parts that follow each other.
+-- How much of its text a run printed, if the text has several parts.
 use Rattle.std.proofs.Common.{◌≡◌, ℕ, ◌≤◌, List, [], ◌∷◌, ◌++◌, Option, Some, None, Result, Ok, Err, true, false, inl, inr, refl, sym, ap, subst, ◌∙◌, arith}
 use Rattle.std.specs.Prelude.{◌⊎◌, ◌≢◌, Contains, IfOk, IsErr, IsErrOf}
 use Rattle.avtp_base.specs.declared.failed.Failed.{Failed}
@@ -40,7 +40,7 @@ sink_then {U = U} {h} {h'} {h''} {x} {result} first second = record {
   counted = subst (λ (n : ℕ). IsCounted {T = U} n h''.faults result) first.counted.ok second.counted;
 }
 
--- a failure has the same effect on the sink, whatever the call returns at success
+-- the effect of a failure on the sink does not depend on what the call returns on success
 pub sink_failed : {T U : Type 0} {h h' : SinkState} {e : Failed} {result : Result U Failed} → IsErr result → KeepsSink {T = T} h h' (Err e) → KeepsSink h h' result
 sink_failed {result = Ok x} err first = absurd cc
 sink_failed {result = Err e'} err first = record { grows = first.grows; counted = record { never_falls = first.counted.never_falls; ok = tt; failed = first.counted.failed } }
@@ -54,7 +54,7 @@ sink_printed prints = record { grows = prints.grows; counted = prints.counted }
 pub sink_part : {h h' : SinkState} {w w' : List ℕ} {result : Result Unit Failed} {text : List ℕ} → PrintsPart h h' w w' result text → KeepsSink h h' result
 sink_part prints = record { grows = prints.grows; counted = prints.counted }
 
--- success has the same effect on the sink, whatever value the call returns
+-- the effect of a success on the sink does not depend on the value that the call returns
 pub sink_ok : {T U : Type 0} {h h' : SinkState} {x : T} (y : U) → KeepsSink h h' (Ok x) → KeepsSink h h' (Ok y)
 sink_ok y first = record { grows = first.grows; counted = record { never_falls = first.counted.never_falls; ok = first.counted.ok; failed = tt } }
 
@@ -74,8 +74,8 @@ tells_cut {result = Ok s} ended yields outcome cut part = record {
 }
 tells_cut {result = Err e} ended yields outcome cut part = record { ended = ended; yields = yields; outcome = outcome; part = part; whole = tt }
 
--- If known bytes grew by this line, all of `one` was given out; if they did not grow, a part of any yield was; and the whole of
--- a yield is also a part of it.
+-- If the known bytes grew by `line`, all of `one` was given out. If they did not grow, a part of any yield was given
+-- out. Giving out the whole of a yield is also giving out a part of it.
 pub record Telling {Y : Type 0} (Whole Part : Y → Type 0) (before now : Option (List ℕ)) (line : List ℕ) (one : Y) : Type 0 where
   pub says : Appends before now line → Whole one
   pub none : (y : Y) → Keeps before now → Part y
@@ -87,7 +87,6 @@ text_telling before now line = record { says = λ grown. grown; none = prefix_no
 pub yield_telling : {handed : List Shown → Type 0} (before now : Option (List ℕ)) (line : List ℕ) → handed [] → Telling (Gives handed before now) (GivesPart handed before now) before now line (says line)
 yield_telling before now line none = record { says = λ grown. record { text = grown; items = none }; none = part_none none; part = part_whole }
 
--- a run that only printed its last line
 pub tells_last : {Y : Type 0} {Outcome : Status → Y → Type 0} {Whole Part : Y → Type 0} {h h' : SinkState} {w w' : List ℕ} {result : Result Status Failed} {ended : Status} {line : List ℕ} {one : Y}
     → Telling Whole Part (written h.held w) (written h'.held w') line one → Outcome ended one → EndsWith ended h h' w w' result line → Tells Outcome Whole Part result
 tells_last {result = Ok s} {ended} {one = one} telling outcome last = record { ended = ended; yields = one; outcome = outcome; whole = λ memory write. (last.status, telling.says last.written); part = telling.part one (telling.says last.written) }
@@ -97,7 +96,6 @@ pub tells_line : {Outcome : Status → List ℕ → Type 0} {h h' : SinkState} {
     → Outcome ended line → EndsWith ended h h' w w' result line → TellsText Outcome (written h.held w) (written h'.held w') result
 tells_line {h = h} {h'} {w} {w'} {line = line} outcome last = tells_last (text_telling (written h.held w) (written h'.held w') line) outcome last
 
--- a text was printed, its items were given to devices, and a last line was printed
 pub tells_end : {Outcome : Status → Yield → Type 0} {handed : List Shown → Type 0} {before : Option (List ℕ)} {h h' : SinkState} {w w' : List ℕ} {result : Result Status Failed} {ended : Status} {line : List ℕ} (text : List ℕ) (items : List Shown)
     → Outcome ended (record { text = text ++ line; items = items }) → Appends before (written h.held w) text → handed items → EndsWith ended h h' w w' result line → TellsYield Outcome handed before (written h'.held w') result
 tells_end {handed = handed} {before} {h} {h'} {w} {w'} {result = Ok s} {ended} {line} text items outcome first hands last =
@@ -119,13 +117,13 @@ tells_end {handed = handed} {before} {h} {h'} {w} {w'} {result = Err e} {ended} 
       };
     }
 
--- a run that gave out an outcome of `A` gave out one of `B`, if each outcome of `A` is one of `B`
+-- If each outcome of `A` is one of `B`, a run that gave out an outcome of `A` gave out one of `B`.
 pub tells_weaker : {Y : Type 0} {A B : Status → Y → Type 0} {Whole Part : Y → Type 0} {result : Result Status Failed} → ((ended : Status) (yields : Y) → A ended yields → B ended yields) → Tells A Whole Part result → Tells B Whole Part result
 tells_weaker weaker t = record { ended = t.ended; yields = t.yields; outcome = weaker t.ended t.yields t.outcome; whole = t.whole; part = t.part }
 
 -- ---- a file that could not be opened
 
--- why a file of this name was not opened, if not because memory ran out: the count of reading faults rose, or the file is missing
+-- Why a file was not opened, if memory did not run out: the count of reading faults rose, or the file is missing.
 abbrev pub Unopened : ℕ → ℕ → Option Files → List ℕ → Type 0
 Unopened before after files name = Rose before after ⊎ IsMissing files name
 
@@ -160,7 +158,6 @@ tells_unopened {result = result} fault before after files name ended yields tell
 one_of : (name : List ℕ) → Contains (name ∷ []) name
 one_of name = (0, omega arith, refl)
 
--- a run that ended with a fault of reading, or failed
 counts_fault : (result : Result Status Failed) (before after : ℕ) (files : Option Files) (name : List ℕ) → before ≤ after → Unopened before after files name → IfOk result (λ s. s ≡ status.ReadFault)
     → CountsReading (name ∷ []) files before after result
 counts_fault (Ok s) before after files name falls cause is = record {
@@ -173,7 +170,6 @@ counts_fault (Err e) before after files name falls cause is = record { never_fal
 pub ok_same : (x : Result Status Failed) (s r : Status) → x ≡ Ok s → x ≡ Ok r → s ≡ r
 ok_same x s r first second = cc
 
--- a run that was cut short because memory ran out
 pub counts_memory : {before after : ℕ} {names : List (List ℕ)} {files : Option Files} (result : Result Status Failed) → before ≤ after → result ≡ Ok status.Memory → CountsReading names files before after result
 counts_memory (Ok s) falls is = record {
   never_falls = falls;
@@ -194,7 +190,7 @@ counts_unopened {result = result} fault before after files name counts missing e
       | inr no_memory ↦ counts_fault result before after files name counts.never_falls (cause_of fault before after files name no_memory counts missing) (ends.other no_memory).status
     ]
 
--- the count of faults rose exactly if the status is a fault of reading
+-- the count of reading faults rose exactly if the status is that of a read fault
 abbrev pub TellsFault : Status → ℕ → ℕ → Type 0
 TellsFault ended before after = ((ended ≢ status.ReadFault) × (after ≡ before)) ⊎ ((ended ≡ status.ReadFault) × Rose before after)
 
@@ -205,7 +201,7 @@ counts_by ended (Ok s) falls told is = elim told [
   | inr fault ↦ record { never_falls = falls; fault = λ e. inl fault.1; quiet = λ other memory write. absurd (other (is ∙ fault.0)) }
 ]
 
--- the reading of a capture ended in this way, and the run ended with the status of that
+-- If a run ends with the status of how the reading ended, its count of reading faults agrees with this status.
 ends_fault : (how : End) (before after : ℕ) → CountsFault None (Some how) before after → TellsFault (status_of how) before after
 ends_fault end.Whole before after counts = inl (λ e. cc, counts)
 ends_fault (end.Refused refusal) before after counts = inl (λ e. cc, counts)
@@ -219,7 +215,7 @@ ends_other : (result : Result Status Failed) (ended other : Status) → ended �
 ends_other (Ok s) ended other differ is e = differ (sym is ∙ ok_same (Ok s) s other refl e)
 ends_other (Err x) ended other differ is e = absurd cc
 
--- a run whose last line is of one status does not end with another
+-- a run whose last line belongs to the status `ended` does not end with another status
 pub ends_not : {h h' : SinkState} {w w' : List ℕ} {result : Result Status Failed} {ended : Status} {line : List ℕ} (other : Status) → ended ≢ other → EndsWith ended h h' w w' result line → result ≡ Ok other → ⊥
 ends_not {result = result} {ended} other differ ends e = ends_other result ended other differ ends.status e
 
@@ -253,7 +249,7 @@ unopened_own {result = result} fault ends =
       | inr opened ↦ own_as result status.ReadFault refl (ends.other opened).status
     ]
 
--- ---- failures, whatever the calls return at success
+-- ---- failures, whatever the calls return on success
 
 pub tells_err : {Y : Type 0} {Outcome : Status → Y → Type 0} {Whole Part : Y → Type 0} {result : Result Status Failed} {e : Failed} → IsErr result → Tells Outcome Whole Part (Err e) → Tells Outcome Whole Part result
 tells_err {result = Ok s} err tells = absurd cc

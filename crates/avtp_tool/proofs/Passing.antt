@@ -21,7 +21,7 @@ use Rattle.presenter_ring.specs.Pipes.{ended_with, waiting_in, EndsWith, HasMove
 use Rattle.avtp_tool.specs.state.Outcome.{WritesWaiting}
 use Rattle.avtp_tool.specs.state.Presenting.{failures, GivesItems, HasPassed}
 
--- a receiver and its pipe still end in the same way after both moved on
+-- if a pipe has ended like its receiver, it still has after both moved on
 pub ends_on : {R : Type 0} {ended : R → Option Pull} {r r' : R} {a b : Pipe} → ended_with a ≡ ended r → EndsWith ended r r' a b → ended_with b ≡ ended r'
 ends_on {R} {ended} {r} {r'} {a} {b} is with =
     elim (ended_with a) as (λ (e : Option Pull). ended_with a ≡ e → ended_with b ≡ ended r') [
@@ -29,7 +29,7 @@ ends_on {R} {ended} {r} {r'} {a} {b} is with =
       | Some pull ↦ λ h. let kept = with.stays (rw h refl) in kept.0 ∙ is ∙ ap ended (sym kept.1)
     ] refl
 
--- what was given is what was presented and then what waits
+-- the items that were given are the presented items followed by the queued items
 split : {R P : Type 0} (gave : R → R → List Shown → Type 0) (left : R → ℕ) (handed : P → P → List Shown → Type 0) (r r' : R) (p p' : P) (a b : Pipe) → waiting_in a ≡ [] → (m : HasMoved gave left handed r r' p p' a b) → m.presented ++ waiting_in b ≡ m.given
 split gave left handed r r' p p' a b empty m = sym m.in_order ∙ ap (λ (l : List Shown). l ++ m.given) empty
 
@@ -73,7 +73,6 @@ same_result (Err e) now result begun quiet rose = absurd cc
 lines_more : (items : List Shown) (x : Shown) → list_lines items ++ shown_lines x ≡ list_lines (items ++ x ∷ [])
 lines_more items x = ap (λ (t : List ℕ). list_lines items ++ t) (sym (append-nil (shown_lines x))) ∙ sym (flat_map-append shown_lines items (x ∷ []))
 
--- no item was given to devices before the first
 pub gives_none : {handed : List Shown → Type 0} {h : SinkState} {w : List ℕ} (result : Result Unit Failed) → result ≡ Ok tt → handed [] → GivesItems handed h h w w result []
 gives_none {handed} {h} {w} result fine none = subst (λ (r : Result Unit Failed). GivesItems handed h h w w r []) (sym fine) (record {
   prints = part_none h w tt;
@@ -84,7 +83,6 @@ gives_none {handed} {h} {w} result fine none = subst (λ (r : Result Unit Failed
 })
 
 module _ {handed : List Shown → Type 0} {h h' h'' : SinkState} {w w' w'' : List ℕ} where
-  -- one more item was printed and given to the devices
   pub gives_one : {more : List Shown → Type 0} (items : List Shown) (x : Shown) (was result : Result Unit Failed) → is_err was ≡ false → is_err result ≡ false → (handed items → more (items ++ x ∷ []))
       → GivesItems handed h h' w w' was items → PrintsPart h' h'' w' w'' result (shown_lines x) → GivesItems more h h'' w w'' result (items ++ x ∷ [])
   gives_one items x (Ok o) (Ok p) fine printed hand first second = record {
@@ -97,7 +95,6 @@ module _ {handed : List Shown → Type 0} {h h' h'' : SinkState} {w w' w'' : Lis
   gives_one items x (Ok o) (Err e) fine printed hand first second = absurd cc
   gives_one items x (Err e) result fine printed hand first second = absurd cc
 
-  -- a part of an item's lines was printed, and the item was not given to the devices
   pub gives_failed : (items : List Shown) (x : Shown) (was result : Result Unit Failed) → is_err was ≡ false → is_err result ≡ true
       → GivesItems handed h h' w w' was items → PrintsPart h' h'' w' w'' result (shown_lines x) → GivesItems handed h h'' w w'' result (items ++ x ∷ [])
   gives_failed items x (Ok o) (Err e) fine failed first second = record {
@@ -110,7 +107,6 @@ module _ {handed : List Shown → Type 0} {h h' h'' : SinkState} {w w' w'' : Lis
   gives_failed items x (Ok o) (Ok p) fine failed first second = absurd cc
   gives_failed items x (Err e) result fine failed first second = absurd cc
 
--- the text that waits was written after a text, or a part of it
 pub flushed : {h h' h'' : SinkState} {w w' w'' : List ℕ} (result : Result Unit Failed) (text : List ℕ) → PrintsPart h h' w w' (Ok tt) text → Keeps (written h'.held w') (written h''.held w'') → Grows h'.held h''.held → IsCounted h'.faults h''.faults result
     → PrintsPart h h'' w w'' result text
 flushed {h' = h'} {h''} {w' = w'} {w''} (Ok o) text first kept grows counted =
@@ -122,7 +118,6 @@ on_any : {A : Type 0} (result : Result Unit Failed) → A → OnOk result A
 on_any (Ok o) a = a
 on_any (Err e) a = tt
 
--- the text that waits was written after the lines of these items, or the sink failed
 pub gives_flushed : {handed : List Shown → Type 0} {h h' h'' : SinkState} {w w' w'' : List ℕ} (items : List Shown) (was result : Result Unit Failed) → is_err was ≡ false
     → GivesItems handed h h' w w' was items → WritesWaiting h' h'' w' w'' result → GivesItems handed h h'' w w'' result items
 gives_flushed items (Ok o) result fine first out = record {
@@ -145,7 +140,7 @@ gives_no_more items more (Err e) failed g = record {
   hands = g.hands;
 }
 
--- what was presented is all that was given, or the first part of it
+-- the presented items are all the given items, or a prefix of them
 pub gives_given : {handed : List Shown → Type 0} {h h' : SinkState} {w w' : List ℕ} (A : Type 0) (presented given : List Shown) (result : Result Unit Failed) → OnOk result ((presented ≡ given) × A) → IsPrefix presented given
     → GivesItems handed h h' w w' result presented → GivesItems handed h h' w w' result given
 gives_given {handed} {h} {h'} {w} {w'} A presented given (Ok o) whole first g = subst (GivesItems handed h h' w w' (Ok o)) whole.0 g

@@ -30,7 +30,6 @@ use Rattle.avtp_tool.proofs.Outcomes.{IsCut, tells_weaker}
 
 -- ---- one file
 
--- a run that asked for these names and gave out one of its outcomes
 pub run_asked : {a b : ShelfState} {before now : Option (List ℕ)} {handed : List Shown → Type 0} {result : Result Status Failed} (Outcome : List (List ℕ) → Status → Yield → Type 0) (came : List (List ℕ)) → TellsYield (Outcome came) handed before now result → Asks came a b
     → TellsRun Outcome handed a b before now result
 run_asked {a} {b} {before} {now} {handed} {result} Outcome came t asked = record {
@@ -46,7 +45,6 @@ run_asked {a} {b} {before} {now} {handed} {result} Outcome came t asked = record
   whole_at (Ok s) whole = λ memory write. let w = whole memory write in (w.0, w.1, asked)
   whole_at (Err e) whole = tt
 
--- a run that was cut short
 pub run_cut : {a b : ShelfState} {before now : Option (List ℕ)} {handed : List Shown → Type 0} {result : Result Status Failed} (Outcome : List (List ℕ) → Status → Yield → Type 0) (came : List (List ℕ)) (ended : Status) (yields : Yield)
     → Outcome came ended yields → IsCut result → GivesPart handed before now yields → TellsRun Outcome handed a b before now result
 run_cut {a} {b} {before} {now} {handed} {result} Outcome came ended yields outcome cut part = record { came = came; ended = ended; yields = yields; outcome = outcome; whole = whole_at result cut; part = part } where
@@ -81,7 +79,6 @@ makes_nothing : (output : Option (List ℕ)) (f g : Option Files) → KeepsFiles
 makes_nothing None f g keeps = (keeps, keeps)
 makes_nothing (Some name) f g keeps = (keeps, keeps)
 
--- a run that makes no file gave out one of its outcomes
 pub tells_all : {request : Request} {all : Files} {fault : Type 0} {failed : Bool} {handed : List Shown → Type 0} {s t : ShelfState} {before now : Option (List ℕ)} {result : Result Status Failed} → KeepsFiles s.files t.files
     → TellsRun (λ came ended yields. Outcome request all fault failed came ended yields None) handed s t before now result → TellsAll request all fault failed handed s t before now result
 tells_all {request} {s = s} {t} {result = result} keeps tells = record { made = None; tells = tells; whole = whole_at result; begun = nothing.1 } where
@@ -92,7 +89,7 @@ tells_all {request} {s = s} {t} {result = result} keeps tells = record { made = 
   whole_at (Ok e) = λ memory write. nothing.0
   whole_at (Err e) = tt
 
--- each possible outcome of the reading is one of the request, with no capture made
+-- each possible outcome of the reading is an outcome of the request, and makes no capture
 abbrev pub IsReadingOf : Request → (Files → Type 0 → List (List ℕ) → Status → Yield → Type 0) → Type 1
 IsReadingOf request Comes = (all : Files) (fault : Type 0) (failed : Bool) (came : List (List ℕ)) (ended : Status) (yields : Yield) → Comes all fault came ended yields → Outcome request all fault failed came ended yields None
 
@@ -112,7 +109,6 @@ through_done (Err e) other through = through
 pub through_as : {names : List (List ℕ)} {a b : ShelfState} {result : Result Status Failed} → (result ≡ Ok status.DeviceFault → ⊥) → AsksFor names a b (IsDone result) → AsksFor names a b (IsThrough result)
 through_as {result = result} other asks = record { count = asks.count; within = asks.within; all = λ through. asks.all (through_done result other through); asked = asks.asked }
 
--- a command that gives nothing to devices
 pub no_devices : {request : Request} {failed : Bool} {result : Result Status Failed} → is_listening request ≡ false → (result ≡ Ok status.DeviceFault → ⊥) → TellsDevices request failed result
 no_devices other never = record { fault = λ e. absurd (never e); quiet = λ listens. absurd (let t : true ≡ false = sym listens ∙ other in cc) }
 
@@ -182,7 +178,6 @@ runs_deaf {s = s} {t} {h} {h'} {l} {l'} {result = result} {handed} {failed} requ
   whole_at (Ok e) came ended yields whole = λ memory write. let w = whole memory write in (w.0, gives_as nothing yields w.1, w.2)
   whole_at (Err e) came ended yields whole = tt
 
--- a run of the request that the words ask for
 pub runs_of : {s t : ShelfState} {h h' : SinkState} {l l' : List ℕ} {result : Result Status Failed} {handed : List Shown → Type 0} {failed : Bool} {request other : Request} → request ≡ other
     → Runs request handed failed s t h h' l l' result → Runs other handed failed s t h h' l l' result
 runs_of {s} {t} {h} {h'} {l} {l'} {result} {handed} {failed} same runs = subst (λ (q : Request). Runs q handed failed s t h h' l l' result) same runs

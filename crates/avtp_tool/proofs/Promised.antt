@@ -1,4 +1,4 @@
--- A run that did what the words ask for, and whose text was then written, keeps what the command promises.
+-- If a run did what the words ask for and its text was then written, it keeps what the command promises.
 use Rattle.std.proofs.Common.{◌≡◌, ◌≢◌, ℕ, ℤ, List, [], ◌∷◌, ◌++◌, Option, Some, Result, Bool, false, inl, inr, refl, sym, ap, subst, ◌∙◌, arith}
 use Rattle.std.specs.Prelude.{IfOk, IsSome}
 use Rattle.avtp_base.specs.declared.failed.Failed.{Failed}
@@ -48,7 +48,6 @@ headline_of : (request : Request) (files : Files) (fault : Type 0) (failed : Boo
 headline_of request files fault failed came ended yields made outcome asked earlier later name bytes is reached told =
     has_headline asked files fault failed earlier later came name bytes ended yields (subst (λ (q : Request). Outcome q files fault failed came ended yields made) is outcome).0 reached told
 
--- the capture that `gateway` makes, by an outcome of its run
 kept_of : (words : List (List ℕ)) (request : Request) (files : Files) (fault : Type 0) (failed : Bool) (came : List (List ℕ)) (reached : Status) (yields : Yield) (made : Option (List ℕ)) (asked : Turning) (capture : List ℕ)
     → IsCommandLine words request → Outcome request files fault failed came reached yields made → request ≡ gateway asked → made ≡ Some capture → KeepsInput asked files fault reached capture
 kept_of words request files fault failed came reached yields made asked capture line outcome same some =
@@ -126,7 +125,7 @@ has_run words {request} {handed} {still} {failed} {shelf} {shelf'} {out} {mid} {
       not_words = λ is. runs.no_words (ended_as status.Words (λ e. cc) finishes is);
     }
 
--- no memory was found for the buffer of the text, so nothing was done
+-- if there is no memory for the buffer of the text, nothing is done
 pub no_memory : (words : List (List ℕ)) (request : Request) (handed : List Shown → Type 0) (still : Type 0) (failed : Bool) (shelf : ShelfState) (out : SinkState) → IsCommandLine words request → handed [] → still
     → HasRun request handed still failed shelf shelf out out status.Memory
 no_memory words request handed still failed shelf out line nothing kept = record {
@@ -166,7 +165,6 @@ no_memory words request handed still failed shelf out line nothing kept = record
   not_words = λ is. cc;
 }
 
--- the offence of the words was printed, and the text was written
 pub refuses_words : {position : ℕ} {still : Type 0} {out mid out' : SinkState} {w w1 w2 : List ℕ} {r : Result Status Failed} {ended : Status}
     → w ≡ [] → still → EndsWith status.Words out mid w w1 r (words_line position) → Finishes mid out' w1 w2 r ended → RefusesWords position still out out' ended
 refuses_words {position} {still} {out} {mid} {out'} {w} {w1} {w2} {r} {ended} none kept ends finishes =
@@ -186,7 +184,7 @@ refuses_words {position} {still} {out} {mid} {out'} {w} {w1} {w2} {r} {ended} no
       not_write = λ write. finishes.quiet write ∙ (subst (λ (q : Result Status Failed). IsCounted out.faults mid.faults q) (finishes.whole write).0 ends.sink.counted).ok;
     }
 
--- no memory was found to print the offence
+-- if there is no memory to print the position of the wrong word, nothing is printed
 pub tells_nothing : (position : ℕ) (still : Type 0) (out : SinkState) → still → RefusesWords position still out out status.Memory
 tells_nothing position still out kept = record {
   whole = λ memory write. absurd (memory refl);

@@ -27,7 +27,7 @@ grows {B = B} f step one xs (y ∷ ys) =
     let on = grows f step one (xs ++ y ∷ []) ys in
     (step xs y ++ on.0, ap f (sym (append_assoc xs (y ∷ []) ys)) ∙ (on.1 ∙ (ap (λ (l : List B). l ++ on.0) (one xs y) ∙ append_assoc (f xs) (step xs y) on.0)))
 
--- what is made of a list begins with what is made of a prefix of it
+-- If `f` only appends at the end, its value for a prefix is a prefix of its value for the whole list.
 grows_first : {A B : Type 0} (f : List A → List B) (step : List A → A → List B) → ((xs : List A) (x : A) → f (xs ++ x ∷ []) ≡ f xs ++ step xs x) → (xs all : List A) → IsPrefix xs all → (rest : List B) × (f all ≡ f xs ++ rest)
 grows_first f step one xs all first = let on = grows f step one xs first.0 in (on.0, sym (ap f first.1) ∙ on.1)
 
@@ -37,7 +37,7 @@ pub given_over_more : (to : To) (shape : Option Shape) (batches : List Presented
 given_over_more to None batches batch = refl
 given_over_more to (Some shape) batches batch = given_more to shape nothing_given batches batch
 
--- the frames of a batch, given what was given out before it: none if it is skipped
+-- the frames that carry a batch, given what was given out before it; none if the batch is skipped
 abbrev pub frames_for : To → Option Shape → ℕ → Given → Presented → List SentFrame
 frames_for to None id given batch = []
 frames_for to (Some shape) id given batch = unless (skip_by to shape given batch) (frames_with to shape id given batch) []
@@ -65,7 +65,7 @@ skips_shaped to shape given (b ∷ batches) batch =
     ap (λ (l : List Skipped). here ++ l) (skips_shaped to shape next batches batch)
     ∙ sym (append_assoc here (skips_after to (Some shape) next batches) (skipped_at batch.frame (skip_by to shape (given_by to shape next batches) batch)))
 
--- the lines of skipped batches, with that of one more batch if it is skipped
+-- One more batch appends its line to the lines of skipped batches, if it is skipped.
 pub skips_more : (to : To) (shape : Option Shape) (batches : List Presented) (batch : Presented)
     → skips_after to shape nothing_given (batches ++ batch ∷ []) ≡ skips_after to shape nothing_given batches ++ skipped_at batch.frame (skip_of to shape (given_over to shape batches) batch)
 skips_more to None batches batch = skips_shapeless to nothing_given batches batch
@@ -78,9 +78,9 @@ lines_more asked shape batches batch =
     ap (flat_map skipped_line) (skips_more (format_of asked.to) shape batches batch)
     ∙ flat_map-append skipped_line (skips_in asked shape batches) (skipped_at batch.frame (skip_of (format_of asked.to) shape (given_over (format_of asked.to) shape batches) batch))
 
--- ---- some of all batches
+-- ---- a prefix of the batches
 
--- the lines of the first batches are the first lines of all
+-- the lines of the first batches are a prefix of the lines of all batches
 pub lines_first : (asked : Turning) (shape : Option Shape) (batches all : List Presented) → IsPrefix batches all
     → (rest : List ℕ) × (flat_map skipped_line (skips_in asked shape all) ≡ flat_map skipped_line (skips_in asked shape batches) ++ rest)
 lines_first asked shape batches all first =
@@ -88,7 +88,7 @@ lines_first asked shape batches all first =
     (λ (bs : List Presented) (b : Presented). flat_map skipped_line (skipped_at b.frame (skip_of (format_of asked.to) shape (given_over (format_of asked.to) shape bs) b)))
     (lines_more asked shape) batches all first
 
--- the records of the first batches are the first records of all
+-- the records of the first batches are a prefix of the records of all batches
 pub records_first : (to : To) (shape : Option Shape) (id : ℕ) (batches all : List Presented) → IsPrefix batches all → (rest : List Record) × (records_for to shape id all ≡ records_for to shape id batches ++ rest)
 records_first to shape id batches all first =
     grows_first (records_for to shape id) (λ (bs : List Presented) (b : Presented). map record_of (frames_for to shape id (given_over to shape bs) b)) (records_more to shape id) batches all first
@@ -99,7 +99,7 @@ count_shapeless : (to : To) (given : Given) (batches : List Presented) → lengt
 count_shapeless to given [] = refl
 count_shapeless to given (b ∷ batches) = ap suc (count_shapeless to given batches)
 
--- one batch is either given out or skipped
+-- a batch is either given out or skipped
 count_one : (frame : ℕ) (skip : Option Skip) (given taken : Given) → taken.batches ≡ given.batches + 1 → length (skipped_at frame skip) + (unless skip taken given).batches ≡ given.batches + 1
 count_one frame None given taken one = omega arith
 count_one frame (Some why) given taken one = omega arith

@@ -42,7 +42,7 @@ piece_written g i turn bytes is = sym (ap frame_bytes is)
 
 -- ---- a batch that is put
 
--- A gateway took a batch of a stream of this shape and became the next one; the batch adds these frames.
+-- The gateway `g` took a batch of a stream of this shape and became `next`. The batch adds the frames `added`.
 record IsNext (shape : Option Shape) (g next : Gating) (batch : Presented) (added : List SentFrame) : Type 0 where
   pub to_is : next.to ≡ g.to
   pub shape_is : next.shape ≡ g.shape
@@ -95,11 +95,10 @@ module _ {g next : Gating} {batch : Presented} {added : List SentFrame} (after :
   records_next : records_for to shape id (batches ++ batch ∷ []) ≡ records_for to shape id batches ++ map record_of added
   records_next = records_more to shape id batches batch ∙ ap (λ (fs : List SentFrame). records_for to shape id batches ++ map record_of fs) frames_next
 
--- a file that holds all of the records holds the first of them
+-- a file that holds all these records holds a prefix of them
 holds_all : (files : Option Files) (s : ShelfState) (w : Writing) (name : List ℕ) (records : List Record) → HoldsCapture files s w name records → HoldsFirst files s w name records
 holds_all files s w name records holds = record { count = length records; holds = subst (HoldsCapture files s w name) (sym (take_all (length records) records (omega arith))) holds }
 
--- the packets of a batch were written
 pub puts_written : {s t : ShelfState} {old new : Output} {number : ℕ} (batch : Presented) (out : SinkState) (waits : List ℕ) → skip_of old.gateway.to old.gateway.shape old.gateway.given batch ≡ None → new.gateway ≡ given_out old.gateway.shape old.gateway batch
     → number ≡ length new.gateway.frames → WritesFrames new.gateway.frames number s t old.writer new.writer (Ok tt) → PutsBatch batch s t old new out out waits waits (Ok did.Done)
 puts_written {s} {t} {old} {new} {number} batch out waits none is all wrote = record {
@@ -122,7 +121,6 @@ puts_written {s} {t} {old} {new} {number} batch out waits none is all wrote = re
       (ap (λ (fs : List SentFrame). records_for to shape id batches ++ map record_of fs) (take_all number new.gateway.frames (omega (arith, all))) ∙ sym (records_next after to shape id batches has))
       (wrote.added files name (records_for to shape id batches) holds)
 
--- a part of the packets of a batch was written
 pub puts_part : {s t : ShelfState} {old new : Output} {number : ℕ} {e : Failed} (batch : Presented) (out : SinkState) (waits : List ℕ) → skip_of old.gateway.to old.gateway.shape old.gateway.given batch ≡ None → new.gateway ≡ given_out old.gateway.shape old.gateway batch
     → WritesFrames new.gateway.frames number s t old.writer new.writer (Err e) → PutsBatch batch s t old new out out waits waits (Ok did.Unwritten)
 puts_part {s} {t} {old} {new} {number} batch out waits none is wrote = record {
@@ -161,7 +159,6 @@ module _ (old : Output) (next : Gating) (batch : Presented) (why : Skip) (some :
       subst (HoldsCapture files s old.writer name) (sym (records_next after to shape id batches has ∙ append-nil (records_for to shape id batches))) holds
 
   module _ {s : ShelfState} {out out' : SinkState} {waits waits' : List ℕ} (made : IsMadeIn s.slots old.writer.slot) where
-    -- the line of a skipped batch was printed
     pub puts_skipped : {x : Unit} → Prints out out' waits waits' (Ok x) (skipped_line (record { frame = batch.frame; why = why })) → PutsBatch batch s s old (record old { gateway = next }) out out' waits waits' (Ok did.Done)
     puts_skipped prints = record {
       put = λ done to shape id batches has. put_next after to shape id batches has;
@@ -175,7 +172,6 @@ module _ (old : Output) (next : Gating) (batch : Presented) (why : Skip) (some :
       sink = sink_ok did.Done (sink_printed prints);
     }
 
-    -- the line of a skipped batch could not be printed
     pub puts_unsaid : {e e' : Failed} {line : List ℕ} → Prints out out' waits waits' (Err e) line → PutsBatch batch s s old (record old { gateway = next }) out out' waits waits' (Err e')
     puts_unsaid prints = record {
       put = λ done. absurd cc;

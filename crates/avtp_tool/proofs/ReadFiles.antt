@@ -1,4 +1,4 @@
--- Files that are read one after the other, from the first to the last of a run.
+-- Files that are read one after another, from the first to the last of a run.
 use Rattle.std.proofs.Common.{◌≡◌, ℕ, zero, suc, ◌+◌, ◌<◌, ◌≤◌, List, [], ◌∷◌, ◌++◌, length, take, drop, get_or, Option, Some, None, Result, Ok, Err, true, false, inl, inr, refl, sym, ap, subst, ◌∙◌, arith}
 use Rattle.std.specs.Prelude.{◌≢◌, Contains, IfOk, IsErr, IsSome, String, string_bytes}
 use Rattle.std.specs.declared.alloc.Global.{Global}
@@ -71,13 +71,13 @@ missing_before (Some a) (Some b) name keeps missing = sym (keeps name) ∙ missi
 
 -- ---- so far
 
--- The first files of a plan were read to their end, one after the other.
+-- The first files of a plan were read to their ends, one after another.
 pub record IsReadTo (plan : ReadPlan) (handed : List Shown → Type 0) (all : Files) (before after : ℕ) (names : List (List ℕ)) (ended : Status) (old now : Option (List ℕ)) : Type 0 where
   pub yields : Yield
   pub order : InOrder (one_outcome plan all (Rose before after)) names names ended yields
   pub gives : Gives handed old now yields
 
--- The first files of a plan were read to their ends, as far as the shelf shows its files, and the run so far left all else
+-- The first files of a plan were read to their ends, if the shelf shows its files. The run so far left all else
 -- unchanged.
 pub record ReadsTo (plan : ReadPlan) (handed : List Shown → Type 0) (names : List (List ℕ)) (ended : Status) (s t : ShelfState) (old now : Option (List ℕ)) : Type 0 where
   pub done : is_done ended ≡ true
@@ -98,7 +98,6 @@ reads_none {s} {now} plan none = record {
 not_done : (s other : Status) → is_done s ≡ true → is_done other ≡ false → s ≢ other
 not_done s other goes stops e = let t : false ≡ true = sym stops ∙ (ap is_done (sym e) ∙ goes) in cc
 
--- the count of reading faults of one file is that of the run
 counts_step : {f h : Option Files} {r q r' : ℕ} (result : Result Status Failed) (names earlier later : List (List ℕ)) (name : List ℕ) → names ≡ earlier ++ name ∷ later → KeepsFiles f h → q ≡ r
     → CountsReading (name ∷ []) h q r' result → CountsReading names f r r' result
 counts_step {f} {h} {r} {q} {r'} result names earlier later name split keeps same counts = record {
@@ -117,14 +116,14 @@ counts_step {f} {h} {r} {q} {r'} result names earlier later name split keeps sam
   quiet_at (Ok s) quiet = λ fault memory write. quiet fault memory write ∙ same
   quiet_at (Err e) quiet = tt
 
--- what can come of one file by itself can come of it in the run
+-- each outcome that is possible for a file by itself is possible for it in the run
 tells_step : (q r r' : ℕ) {mid now : Option (List ℕ)} {handed : List Shown → Type 0} {result : Result Status Failed} (plan : ReadPlan) (all later : Files) (name : List ℕ) → later name ≡ all name → q ≡ r
     → TellsYield (one_outcome plan later (Rose q r') name) handed mid now result → TellsYield (one_outcome plan all (Rose r r') name) handed mid now result
 tells_step q r r' {mid} {now} {handed} {result} plan all later name is same tells =
     subst (λ (n : ℕ). TellsYield (one_outcome plan all (Rose n r') name) handed mid now result) same
     (subst (λ (t : Option (List ℕ)). TellsYield (one_outcome plan (λ (n : List ℕ). t) (Rose q r') name) handed mid now result) is tells)
 
--- the outcome of the files before, although the count may have risen since
+-- an outcome of the earlier files stays possible if the count of reading faults rises later
 order_step : (r q r' : ℕ) (ended : Status) (yields : Yield) (plan : ReadPlan) (all : Files) (names : List (List ℕ)) → q ≡ r → r ≤ r' → InOrder (one_outcome plan all (Rose r q)) names names ended yields → InOrder (one_outcome plan all (Rose r r')) names names ended yields
 order_step r q r' ended yields plan all names same falls order =
     order_weaker (one_outcome plan all (Rose r q)) (one_outcome plan all (Rose r r'))
@@ -136,7 +135,6 @@ keeps_more {s} {t} {u} files i d name within is first second =
     subst (OnlyReads s u) (more_named files i d name within is)
     (only_reads_then s t u (take i (texts files)) (name ∷ []) first second)
 
--- one more file was read to its end
 pub reads_more : {s t u : ShelfState} {before : Option (List ℕ)} {h' h'' : SinkState} {l' l'' : List ℕ} {so_far : Status} {result : Result Status Failed} {earlier handed all_handed : List Shown → Type 0} (plan : ReadPlan) (files : List (String Global)) (i : ℕ) (d : String Global) (name : List ℕ)
     (ended : Status) → Joins earlier handed all_handed → i < length files → string_bytes (get_or files i d) ≡ name → is_done ended ≡ true → result ≡ Ok ended → ReadsTo plan earlier (take i (texts files)) so_far s t before (written h'.held l')
     → DoesFile (plan.report name) handed plan.limit name t u h' h'' l' l'' result → ReadsTo plan all_handed (take (i + 1) (texts files)) (joined so_far ended) s u before (written h''.held l'')
@@ -156,7 +154,6 @@ reads_more {s} {t} {u} {before} {h'} {h''} {l'} {l''} {so_far = so_far} {result}
           subst (λ (ns : List (List ℕ)). IsReadTo plan all_handed all s.reading_faults u.reading_faults ns (joined so_far ended) before (written h''.held l'')) (more_named files i d name within is) (record { yields = more.0; order = more.1; gives = more.2 });
     }
 
--- a file ended the run
 pub reads_stopped : {s t u : ShelfState} {k h' h'' : SinkState} {l l' l'' : List ℕ} {so_far : Status} {result : Result Status Failed} {earlier handed all_handed : List Shown → Type 0} (plan : ReadPlan) (files : List (String Global)) (i : ℕ) (d : String Global) (name : List ℕ)
     → Joins earlier handed all_handed → plan.names ≡ texts files → i < length files → string_bytes (get_or files i d) ≡ name → (IsDone result → ⊥) → ReadsTo plan earlier (take i (texts files)) so_far s t (written k.held l) (written h'.held l')
     → KeepsSink {T = Unit} k h' (Ok tt) → DoesFile (plan.report name) handed plan.limit name t u h' h'' l' l'' result → DoesFiles plan all_handed s u k h'' l l'' result
@@ -195,7 +192,6 @@ done_reads status.Limit done = refl
 done_reads status.DeviceFault done = absurd cc
 done_reads status.TalkInput done = absurd cc
 
--- all files were read
 pub reads_all : {s t : ShelfState} {h h' : SinkState} {l l' : List ℕ} {handed : List Shown → Type 0} (plan : ReadPlan) (files : List (String Global)) (i : ℕ) (ended : Status) → plan.names ≡ texts files → length files ≤ i
     → ReadsTo plan handed (take i (texts files)) ended s t (written h.held l) (written h'.held l') → KeepsSink {T = Unit} h h' (Ok tt) → DoesFiles plan handed s t h h' l l' (Ok ended)
 reads_all {s} {t} {h} {h'} {l} {l'} {handed = handed} plan files i ended named past to sink =
@@ -234,13 +230,12 @@ other_ends status.Limit done findings is = absurd cc
 other_ends status.DeviceFault done findings is = absurd cc
 other_ends status.TalkInput done findings is = absurd cc
 
--- a failed write ends the run, whatever the call returns at success
+-- a failed write ends the run, whatever the call returns on success
 pub does_failed : {report : Report} {limit : ℕ} {name : List ℕ} {s t : ShelfState} {h h' : SinkState} {l l' : List ℕ} {e : Failed} {handed : List Shown → Type 0} (result : Result Status Failed) → IsErr result
     → DoesFile report handed limit name s t h h' l l' (Err e) → DoesFile report handed limit name s t h h' l l' result
 does_failed (Ok ended) err does = absurd cc
 does_failed (Err e') err does = record { tells = λ all told. tells_err err (does.tells all told); keeps = does.keeps; counts = counts_failed e' does.keeps.reading; own = tt; sink = sink_failed err does.sink }
 
--- a file that is read by a command which gives nothing to devices
 pub does_deaf : {report : Report} {limit : ℕ} {name : List ℕ} {s t : ShelfState} {h h' : SinkState} {l l' : List ℕ} {result : Result Status Failed} {handed : List Shown → Type 0} → handed []
     → DoesFile report HandsNothing limit name s t h h' l l' result → DoesFile report handed limit name s t h h' l l' result
 does_deaf {h = h} {h'} {l} {l'} {result = result} {handed} none does = record {

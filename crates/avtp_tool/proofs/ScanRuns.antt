@@ -63,7 +63,7 @@ module _ {s t : ShelfState} {h h' : SinkState} {l l' : List ℕ} {result : Resul
     sink = ends.sink;
   }
 
--- the run of a capture with a record that cannot be converted
+-- the run if a record cannot be converted
 pub faulty_runs : {s t : ShelfState} {h h' : SinkState} {l l' : List ℕ} {result : Result Status Failed} (asked : Turning) (why : ScanFault) (frame : ℕ) → ScansFile asked s t (Ok (scanned.Faulty why frame))
     → EndsWith status.TalkInput h h' l l' result (fault_line (record { frame = frame; fault = why })) → Runs (gateway asked) HandsNothing false s t h h' l l' result
 faulty_runs {s} {t} {result = result} asked why frame scan ends =
@@ -83,7 +83,7 @@ stops_end (end.Refused refusal) other = refl
 stops_end end.ReadFault other = refl
 stops_end end.Limit other = refl
 
--- the run of a capture whose scan was cut short
+-- the run if the scan was cut short
 pub cut_runs : {s t : ShelfState} {h h' : SinkState} {l l' : List ℕ} {result : Result Status Failed} (asked : Turning) (how : End) → ScansFile asked s t (Ok (scanned.Cut how))
     → EndsWith (status_of how) h h' l l' result (side_line asked.listener.limit how) → Runs (gateway asked) HandsNothing false s t h h' l l' result
 cut_runs {s} {t} {result = result} asked how scan ends =
@@ -139,7 +139,7 @@ unscanned_runs {s} {t} {result = result} asked why scan ends =
 
 -- ---- OUT was made
 
--- an outcome over the files and counts after the scan is one over those before it
+-- an outcome over the files and counts after the scan is an outcome over those before the scan
 outcome_since : (asked : Turning) (all : Files) (shape : Option Shape) (bytes : List ℕ) (a b : Type 0) (ended : Status) (text : List ℕ) (made : Option (List ℕ)) → (a → b) → all asked.input ≡ Some bytes
     → CanTurn asked bytes → shape ≡ shape_asked asked (records_of asked bytes) → TurnedOutcome asked shape bytes a ended text made
     → GatewayOutcome asked all b (asked.input ∷ asked.output ∷ asked.input ∷ []) ended text made
@@ -180,7 +180,7 @@ module _ {s t u : ShelfState} {h h' : SinkState} {l l' : List ℕ} {result : Res
       let asks : AsksFor (asked.input ∷ asked.output ∷ asked.input ∷ []) s u (IfOk result (λ e. (e ≢ status.Memory) × (e ≢ status.WriteFault))) = asks_from asked.input scan.keeps.asked turns.asks in
       record { count = asks.count; within = asks.within; all = λ done. asks.all (weaker done); asked = asks.asked }
 
-  -- all names were asked for, unless the run was cut short
+  -- unless the run was cut short, all names were asked for
   came_all : (r : Result Status Failed) → result ≡ r → IfOk r (λ e. e ≢ status.Memory → e ≢ status.WriteFault → Asks (asked.input ∷ asked.output ∷ asked.input ∷ []) s u)
   came_all (Ok e) is = λ memory write.
       let asks = asks_all (IfOk result (λ x. (x ≢ status.Memory) × (x ≢ status.WriteFault))) (λ p. p) in

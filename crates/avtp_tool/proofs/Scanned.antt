@@ -24,16 +24,13 @@ pub record IsScannedTo (to : To) (stream limit : ℕ) (bytes : List ℕ) (remain
 pub none_scanned : {to : To} {stream limit : ℕ} {bytes : List ℕ} {remains : Option (List ℕ)} {source : Sourcing} {scan : Scanning} → HasScanned to stream [] scan → HasGiven limit bytes remains source [] → IsScannedTo to stream limit bytes remains source 0 scan
 none_scanned clean given = record { records = []; given = given; counted = refl; clean = clean }
 
--- the records that were scanned, with one more
 pub one_scanned : {to : To} {stream limit frames : ℕ} {bytes : List ℕ} {remains : Option (List ℕ)} {source : Sourcing} {scan : Scanning} (records : List Record) (r : Record)
     → HasGiven limit bytes remains source (records ++ r ∷ []) → frames ≡ length records → HasScanned to stream (records ++ r ∷ []) scan → IsScannedTo to stream limit bytes remains source (frames + 1) scan
 one_scanned records r given counted clean = record { records = records ++ r ∷ []; given = given; counted = simp length-append (omega (arith, counted)); clean = clean }
 
--- the scan ended before the capture's end
 scanned_cut : {to : To} {stream limit : ℕ} {bytes : List ℕ} {fault : Type 0} {scan : Scanning} {how : End} (records : List Record) → EndsAfter limit bytes fault how records → HasScanned to stream records scan → ScansTo to stream limit bytes fault (scanned.Cut how)
 scanned_cut {to} {stream} records ends clean = (ends.prefix, ends.ends, subst (λ (rs : List Record). first_fault to stream rs ≡ None) (sym ends.whole) clean.none)
 
--- no record has a fault, and the reading ended in this way
 pub scanned_ended : {to : To} {stream limit : ℕ} {bytes : List ℕ} {fault : Type 0} {scan : Scanning} (how : End) (shape : Option Shape) (records : List Record)
     → EndsAfter limit bytes fault how records → HasScanned to stream records scan → shape ≡ shape_in stream records → ScansTo to stream limit bytes fault (scanned_as how shape)
 scanned_ended {to} {stream} {limit} {bytes} end.Whole shape records ends clean is =
@@ -63,7 +60,6 @@ sound_as (end.Refused refusal) found sound shape is = absurd cc
 sound_as end.ReadFault found sound shape is = absurd cc
 sound_as end.Limit found sound shape is = absurd cc
 
--- this record has a fault, and is the first of the capture that has one
 pub scanned_fault : {frames limit : ℕ} {bytes : List ℕ} {remains : Option (List ℕ)} {source : Sourcing} (to : To) (stream : ℕ) (why : ScanFault) (records : List Record) (r : Record)
     → HasGiven limit bytes remains source (records ++ r ∷ []) → frames ≡ length records → ((others : List Record) → first_fault to stream (records ++ r ∷ others) ≡ Some (record { frame = suc (length records); fault = why }))
     → first_fault to stream (records_in (take limit bytes)) ≡ Some (record { frame = frames + 1; fault = why })

@@ -72,14 +72,13 @@ take_drop (suc n) (x ∷ xs) = ap (λ (l : List _). x ∷ l) (take_drop n xs)
 take_less : {X : Type 0} (xs ys : List X) (n m : ℕ) → n ≤ m → take m xs ≡ take m ys → take n xs ≡ take n ys
 take_less xs ys n m less same = sym (take_shorter xs n m less) ∙ ap (take n) same ∙ take_shorter ys n m less
 
--- the lines with the line of one more difference
 pub lines_next : (list : List Difference) (n : ℕ) (d : Difference) → slice_get list n ≡ Some d → difference_lines (take (n + 1) list) ≡ difference_lines (take n list) ++ difference_line d
 lines_next list n d is =
     ap difference_lines (take_next list n d is) ∙ flat_map-append difference_line (take n list) (d ∷ []) ∙ ap (λ (t : List ℕ). difference_lines (take n list) ++ t) (append-nil (difference_line d))
 
 -- ---- a pair that gave a difference
 
--- what is known of a pair is unchanged
+-- keeping the pair keeps what is known of it
 pub known_same : (old new : PairState) (records others : List Record) → KeepsPair old new → known_by new records others ≡ known_by old records others
 known_same old new records others keeps = rw (keeps.closed_a, keeps.closed_b, keeps.plan_a, keeps.plan_b) refl
 
@@ -96,7 +95,7 @@ pair_then a b c p q = record {
   closed_b = q.closed_b ∙ p.closed_b;
 }
 
--- ---- what a step is, whichever side it is of
+-- ---- what a step is, for either side
 
 pub takes_by : (which : Which) (r : Record) (old new : PairState) → (which ≡ A → (records others : List Record) (given : ℕ) → StandsFor records others given old → StandsFor (records ++ r ∷ []) others given new)
     → (which ≡ B → (records others : List Record) (given : ℕ) → StandsFor records others given old → StandsFor records (others ++ r ∷ []) given new) → Changes which 1 false old new → Takes which r old new
@@ -128,7 +127,7 @@ side_begun side listener fresh = record {
   no_fault = λ fault. absurd (let e : None ≡ Some end.ReadFault = sym fresh.unended ∙ fault in cc);
 }
 
--- a listener that only gave out items leaves its side as it was
+-- a listener that only gave out items leaves the state of its side unchanged
 pub side_still : (side : Side) (old new : ListenState) → new.counts.frames ≡ old.counts.frames → is_closed new ≡ is_closed old → IsSideAt side old → IsSideAt side new
 side_still side old new frames closed at = record {
   going = λ unended. let g = at.going unended in (g.0, omega (arith, g.1, frames));
@@ -148,7 +147,7 @@ amid_two s c live begun = record {
   plan_b = refl;
 }
 
--- differences were printed between two steps
+-- printing differences between two steps changes nothing about how far the captures were read
 pub amid_printed : {s t : ShelfState} {first : Comparing} {a b : Side} {old new : PairState} → KeepsPair old new → IsAmidTwo s t first (record { a = a; b = b; pair = old }) → IsAmidTwo s t first (record { a = a; b = b; pair = new })
 amid_printed {a = a} {b} {old} {new} keeps amid = record {
   reads = amid.reads;
@@ -163,14 +162,14 @@ amid_printed {a = a} {b} {old} {new} keeps amid = record {
 
 -- ---- a step
 
--- no fault was counted unless one ended the reading
+-- if the reading did not end with a read fault, no read fault was counted
 quiet_end : (how : End) (before after : ℕ) → how ≢ end.ReadFault → CountsFault None (Some how) before after → after ≡ before
 quiet_end end.Whole before after other counts = counts
 quiet_end (end.Refused r) before after other counts = counts
 quiet_end end.ReadFault before after other counts = absurd (other refl)
 quiet_end end.Limit before after other counts = counts
 
--- what a step does to the side that is read, to the listener of the other, and to the shelf
+-- what a step does to the side that is read, to the listener of the other side, and to the shelf
 record IsStepped (which : Which) (s t : ShelfState) (side side' : Side) (pair pair' : PairState) : Type 0 where
   pub reads : ReadsSlot s t (slot_of side.source) (slot_of side'.source)
   pub quiet : t.reading_faults ≡ s.reading_faults
@@ -186,7 +185,6 @@ none_some o x none some = absurd cc
 some_is : {X : Type 0} (x y : X) → Some x ≡ Some y → x ≡ y
 some_is x y e = cc
 
--- the side had not ended, and a record was taken or the reading ended
 stepped : (which : Which) {s t : ShelfState} {side side' : Side} {pair pair' : PairState} (to : Step) → IsSideAt side (listener_of which pair) → side.end ≡ None → to ≢ step.Fault → to ≢ step.NoMemory
     → StepsTo which s t side side' pair pair' to → IsStepped which s t side side' pair pair'
 stepped which {s} {t} {side} {side'} {pair} {pair'} step.Took at unended fault memory (none, gives, (r, held, takes)) =
@@ -222,7 +220,6 @@ stepped which {s} {t} {side} {side'} {pair} {pair'} (step.Ended how) at unended 
 stepped which step.Fault at unended fault memory to = absurd (fault refl)
 stepped which step.NoMemory at unended fault memory to = absurd (memory refl)
 
--- capture A was read on
 pub amid_a : {s t u : ShelfState} {first : Comparing} {a a' b : Side} {pair pair' : PairState} (to : Step) → IsAmidTwo s t first (record { a = a; b = b; pair = pair }) → a.end ≡ None → to ≢ step.Fault → to ≢ step.NoMemory
     → StepsTo A t u a a' pair pair' to → IsAmidTwo s u first (record { a = a'; b = b; pair = pair' })
 amid_a {t = t} {u} {a = a} {a'} {b} {pair} {pair'} to amid unended fault memory steps =
@@ -238,7 +235,6 @@ amid_a {t = t} {u} {a = a} {a'} {b} {pair} {pair'} to amid unended fault memory 
       plan_b = on.plan_b ∙ amid.plan_b;
     }
 
--- capture B was read on
 pub amid_b : {s t u : ShelfState} {first : Comparing} {a b b' : Side} {pair pair' : PairState} (to : Step) → IsAmidTwo s t first (record { a = a; b = b; pair = pair }) → b.end ≡ None → to ≢ step.Fault → to ≢ step.NoMemory
     → StepsTo B t u b b' pair pair' to → IsAmidTwo s u first (record { a = a; b = b'; pair = pair' })
 amid_b {t = t} {u} {a = a} {b} {b'} {pair} {pair'} to amid unended fault memory steps =
@@ -254,7 +250,7 @@ amid_b {t = t} {u} {a = a} {b} {b'} {pair} {pair'} to amid unended fault memory 
       plan_b = on.plan_b ∙ amid.plan_b;
     }
 
--- a side that is wanted has not ended
+-- a side whose listener is not closed has not ended
 pub open_by : (side : Side) (listener : ListenState) → IsSideAt side listener → is_closed listener ≡ false → side.end ≡ None
 open_by side listener at unended = by side.end refl where
   by : (e : Option End) → side.end ≡ e → e ≡ None
@@ -267,7 +263,7 @@ ended_by side listener at closed = sym at.closed ∙ closed
 
 -- ---- what was compared
 
--- what is left to read of a side is unchanged while the other side is read
+-- reading one side leaves unchanged what is left to read of the other side
 side_kept : (limit : ℕ) (bytes : List ℕ) (s t : ShelfState) (source : Sourcing) (e : Option End) (records : List Record) → remains_of t source ≡ remains_of s source → SideRead limit bytes s source e records → SideRead limit bytes t source e records
 side_kept limit bytes s t source None records same given = subst (λ (r : Option (List ℕ)). HasGiven limit bytes r source records) (sym same) given
 side_kept limit bytes s t source (Some how) records same given = given
@@ -277,7 +273,7 @@ other_left s t k i source reads apart = ap (λ o. left_at o) (reads.others (slot
   left_at : Option Open → Option (List ℕ)
   left_at o = option_and_then (λ (f : Open). f.left) o
 
--- a reading that did not end with a fault ended where it had to, after all records before that place
+-- If a reading did not end with a read fault, it ended as the bytes say, after all records within the limit.
 whole_end : (how : End) (limit : ℕ) (bytes : List ℕ) (fault : Type 0) (records : List Record) → how ≢ end.ReadFault → EndsAfter limit bytes fault how records → (how ≡ end_of limit bytes) × (records ≡ records_in (take limit bytes))
 whole_end how limit bytes fault records other after = at how other after.prefix after.ends after.whole where
   at : (h : End) → h ≢ end.ReadFault → (prefix : List ℕ) → EndsAt limit (Some bytes) fault h prefix → records_in prefix ≡ records → (h ≡ end_of limit bytes) × (records ≡ records_in (take limit bytes))
@@ -286,7 +282,7 @@ whole_end how limit bytes fault records other after = at how other after.prefix 
   at end.ReadFault other prefix ends whole = absurd (other refl)
   at end.Limit other prefix ends whole = (ends.0, sym whole ∙ ap records_in ends.1)
 
--- the records of a side after a step, and what is then read of it
+-- the records that both sides have given after a step, and what is left to read of the side that was read
 record SideOn (which : Which) (limit : ℕ) (bytes : List ℕ) (t : ShelfState) (side' : Side) (mine theirs : List Record) (given : ℕ) (pair pair' : PairState) : Type 0 where
   pub more : List Record
   pub read : SideRead limit bytes t side'.source side'.end (mine ++ more)
@@ -326,7 +322,6 @@ side_on which s t side side' pair pair' step.NoMemory limit bytes mine theirs gi
 never : {P : Type 0} (b : Bool) → b ≡ false → b ≡ true → P
 never b off on = let t : false ≡ true = sym off ∙ on in absurd cc
 
--- what is told of both captures after A was read on
 pub told_a : {s t : ShelfState} {a a' b : Side} {pair pair' : PairState} {asked : Agreeing} {x y : List ℕ} {before mid now : Option (List ℕ)} (to : Step) → a.end ≡ None → is_closed pair.a ≡ false → slot_of b.source ≢ slot_of a.source → EndsAreClosed pair
     → to ≢ step.Fault → to ≢ step.NoMemory → StepsTo A s t a a' pair pair' to → ReadsSlot s t (slot_of a.source) (slot_of a'.source) → Keeps mid now
     → IsComparedTo asked x y s (record { a = a; b = b; pair = pair }) before mid → IsComparedTo asked x y t (record { a = a'; b = b; pair = pair' }) before now
@@ -350,7 +345,6 @@ told_a {s} {t} {a} {a'} {b} {pair} {pair'} {asked} {x} {y} {before} {mid} {now} 
       printed = subst (λ (l : List Difference). Appends before now (difference_lines l)) (sym stays) (Appends-kept before mid now _ was.printed kept);
     }
 
--- what is told of both captures after B was read on
 pub told_b : {s t : ShelfState} {a b b' : Side} {pair pair' : PairState} {asked : Agreeing} {x y : List ℕ} {before mid now : Option (List ℕ)} (to : Step) → b.end ≡ None → is_closed pair.b ≡ false → slot_of a.source ≢ slot_of b.source → EndsAreClosed pair
     → to ≢ step.Fault → to ≢ step.NoMemory → StepsTo B s t b b' pair pair' to → ReadsSlot s t (slot_of b.source) (slot_of b'.source) → Keeps mid now
     → IsComparedTo asked x y s (record { a = a; b = b; pair = pair }) before mid → IsComparedTo asked x y t (record { a = a; b = b'; pair = pair' }) before now
@@ -376,7 +370,7 @@ told_b {s} {t} {a} {b} {b'} {pair} {pair'} {asked} {x} {y} {before} {mid} {now} 
 
 -- ---- all that a side has
 
--- the records of a side after those that were given: none if its listener is closed
+-- the records of a side that were not given yet; none if the listener of the side is closed
 record RestOf (limit : ℕ) (bytes : List ℕ) (records : List Record) (listener : ListenState) : Type 0 where
   pub more : List Record
   pub all : records_in (take limit bytes) ≡ records ++ more
@@ -388,7 +382,7 @@ rest_of limit bytes s source None records listener closed given =
     record { more = first.0; all = first.1; none = λ yes. never (is_closed listener) closed yes }
 rest_of limit bytes s source (Some how) records listener closed given = record { more = []; all = sym given.1 ∙ sym (append-nil records); none = λ yes. refl }
 
--- the differences that were printed are the first of all
+-- the differences that were printed are the first of all differences
 pub first_of_all : (s : ShelfState) (c : Comparing) (asked : Agreeing) (x y : List ℕ) (records others : List Record) (n given : ℕ) → n ≤ given → IsSideAt c.a c.pair.a → IsSideAt c.b c.pair.b → HavePlan (plan_of asked.listener) c.pair → EndsAreClosed c.pair
     → SideRead asked.listener.limit x s c.a.source c.a.end records → SideRead asked.listener.limit y s c.b.source c.b.end others → StandsFor records others given c.pair
     → take n (differences (known_by c.pair records others)) ≡ take n (differences (merged_in asked x y))
@@ -405,7 +399,6 @@ first_of_all s c asked x y records others n given less at_a at_b plans ends read
     let same : take given (differences (known_by c.pair records others)) ≡ take given (differences (merged_in asked x y)) = sym stays ∙ ap (λ (l : List Sided). take given (differences l)) merged in
     take_less (differences (known_by c.pair records others)) (differences (merged_in asked x y)) n given less same
 
--- a prefix of the text of all differences was printed
 pub prefix_of_all : (list : List Difference) (n : ℕ) (before now : Option (List ℕ)) → Appends before now (difference_lines (take n list)) → AppendsPrefix before now (difference_lines list)
 prefix_of_all list n before now appends = record {
   prefix = difference_lines (take n list);
@@ -416,12 +409,11 @@ prefix_of_all list n before now appends = record {
 
 -- ---- the whole comparison
 
--- Two captures of these bytes were read, and all differences of what is known were printed.
+-- Two captures of these bytes were read up to some point, and all known differences were printed.
 pub record IsAllTo (asked : Agreeing) (x y : List ℕ) (shelf : ShelfState) (c : Comparing) (before now : Option (List ℕ)) : Type 0 where
   pub to : IsComparedTo asked x y shelf c before now
   pub all : take to.given (differences (known_by c.pair to.records_a to.records_b)) ≡ differences (known_by c.pair to.records_a to.records_b)
 
--- nothing was read yet
 pub told_begun : (asked : Agreeing) (x y : List ℕ) (s : ShelfState) (c : Comparing) (before : Option (List ℕ)) → IsBegun c → HasGivenOf asked.listener.limit x s c.a.source [] → HasGivenOf asked.listener.limit y s c.b.source [] → IsComparedTo asked x y s c before before
 told_begun asked x y s c before begun given_a given_b = record {
   records_a = [];
@@ -433,7 +425,6 @@ told_begun asked x y s c before begun given_a given_b = record {
   printed = Appends-nil before;
 }
 
--- the known differences were printed
 pub told_printed : {s : ShelfState} {a b : Side} {pair pair' : PairState} {h h' : SinkState} {w w' : List ℕ} {ok : Unit} {asked : Agreeing} {x y : List ℕ} {before : Option (List ℕ)} → PrintsDifferences pair pair' h h' w w' (Ok ok)
     → IsComparedTo asked x y s (record { a = a; b = b; pair = pair }) before (written h.held w) → IsAllTo asked x y s (record { a = a; b = b; pair = pair' }) before (written h'.held w')
 told_printed {pair = pair} {pair'} {h' = h'} {w' = w'} {before = before} prints was =
@@ -454,7 +445,6 @@ told_printed {pair = pair} {pair'} {h' = h'} {w' = w'} {before = before} prints 
       all = whole;
     }
 
--- the sink failed while the known differences were printed
 pub told_failed : {s : ShelfState} {a b : Side} {pair pair' : PairState} {h h' : SinkState} {w w' : List ℕ} {e : Failed} {asked : Agreeing} {x y : List ℕ} {before : Option (List ℕ)} → PrintsDifferences pair pair' h h' w w' (Err e)
     → IsSideAt a pair'.a → IsSideAt b pair'.b → HavePlan (plan_of asked.listener) pair'
     → IsComparedTo asked x y s (record { a = a; b = b; pair = pair }) before (written h.held w) → AppendsPrefix before (written h'.held w') (difference_lines (differences (merged_in asked x y)))
@@ -466,18 +456,17 @@ told_failed {s} {a} {b} {pair} {pair'} {h' = h'} {w' = w'} {asked = asked} {x} {
     prefix_of_all (differences (merged_in asked x y)) done.0 before (written h'.held w')
     (subst (λ (l : List Difference). Appends before (written h'.held w') (difference_lines l)) (ap (take done.0) (sym same) ∙ first) done.2)
 
--- what was printed so far is a prefix of all, whatever follows
+-- what was printed so far is a prefix of the whole text, whatever is read later
 pub told_part : {s : ShelfState} {c : Comparing} {asked : Agreeing} {x y : List ℕ} {before now : Option (List ℕ)} → IsSideAt c.a c.pair.a → IsSideAt c.b c.pair.b → HavePlan (plan_of asked.listener) c.pair → EndsAreClosed c.pair
     → IsComparedTo asked x y s c before now → AppendsPrefix before now (difference_lines (differences (merged_in asked x y)))
 told_part {s} {c} {asked} {x} {y} {before} {now} at_a at_b plans ends was =
     prefix_of_all (differences (merged_in asked x y)) was.given before now
     (subst (λ (l : List Difference). Appends before now (difference_lines l)) (first_of_all s c asked x y was.records_a was.records_b was.given was.given (omega arith) at_a at_b plans ends was.a was.b was.stands) was.printed)
 
--- a text that was written stays when only the sink is flushed
+-- writing out pending text removes nothing from a text that was printed
 pub part_kept : {before mid now : Option (List ℕ)} {text : List ℕ} → AppendsPrefix before mid text → Keeps mid now → AppendsPrefix before now text
 part_kept {before} {mid} {now} {text} p keeps = record { prefix = p.prefix; rest = p.rest; split = p.split; appends = Appends-kept before mid now p.prefix p.appends keeps }
 
--- both readings have ended, and all was compared
 pub told_ended : {s : ShelfState} {c : Comparing} {asked : Agreeing} {x y : List ℕ} {before now : Option (List ℕ)} {result : Compared} → IsSideAt c.a c.pair.a → IsSideAt c.b c.pair.b → HavePlan (plan_of asked.listener) c.pair
     → IsAllTo asked x y s c before now → (e : EndsCompared c result) → HasCompared asked x y e.a e.b e.counts before now
 told_ended {s} {c} {asked} {x} {y} {before} {now} at_a at_b plans told e =
@@ -494,7 +483,6 @@ told_ended {s} {c} {asked} {x} {y} {before} {now} at_a at_b plans told e =
       lines = subst (λ (l : List Difference). Appends before now (difference_lines l)) (told.all ∙ ap differences known) to.printed;
     }
 
--- a fault of reading came in A, which was wanted
 pub told_cut_a : {s t : ShelfState} {a b : Side} (a' : Side) {pair : PairState} {asked : Agreeing} {x y : List ℕ} {before mid now : Option (List ℕ)} {fault : Type 0} → IsSideAt b pair.b → HavePlan (plan_of asked.listener) pair → EndsAreClosed pair
     → wanted_by pair ≡ Some A → is_closed pair.a ≡ false → a.end ≡ None → GivesNext s t a.source a'.source (Some end.ReadFault) → (Rose s.reading_faults t.reading_faults → fault) → Keeps mid now
     → IsAllTo asked x y s (record { a = a; b = b; pair = pair }) before mid → IsCutIn asked x y fault before now
@@ -508,7 +496,6 @@ told_cut_a {s} {t} {a} {b} a' {pair} {asked} {x} {y} {before} {mid} {now} {fault
     in_a after.prefix (ends_weaker limit (Some x) _ fault end.ReadFault after.prefix cause after.ends)
     (Appends-kept before mid now _ (subst (λ (l : List Difference). Appends before mid (difference_lines l)) (told.all ∙ ap differences here) to.printed) kept)
 
--- a fault of reading came in B, which was wanted
 pub told_cut_b : {s t : ShelfState} {a b : Side} (b' : Side) {pair : PairState} {asked : Agreeing} {x y : List ℕ} {before mid now : Option (List ℕ)} {fault : Type 0} → IsSideAt a pair.a → HavePlan (plan_of asked.listener) pair → EndsAreClosed pair
     → wanted_by pair ≡ Some B → is_closed pair.b ≡ false → b.end ≡ None → GivesNext s t b.source b'.source (Some end.ReadFault) → (Rose s.reading_faults t.reading_faults → fault) → Keeps mid now
     → IsAllTo asked x y s (record { a = a; b = b; pair = pair }) before mid → IsCutIn asked x y fault before now
@@ -522,9 +509,9 @@ told_cut_b {s} {t} {a} {b} b' {pair} {asked} {x} {y} {before} {mid} {now} {fault
     in_b after.prefix (ends_weaker limit (Some y) _ fault end.ReadFault after.prefix cause after.ends)
     (Appends-kept before mid now _ (subst (λ (l : List Difference). Appends before mid (difference_lines l)) (told.all ∙ ap differences here) to.printed) kept)
 
--- ---- a step, whichever side it is of
+-- ---- a step, for either side
 
--- the capture of a side
+-- the capture that is side `which`
 abbrev pub side_of : Which → Comparing → Side
 side_of A c = c.a
 side_of B c = c.b
@@ -563,9 +550,7 @@ less_side which s t pair pair' step.NoMemory side side' unended fault memory to 
 pub plans_of : {s t : ShelfState} {first c : Comparing} {plan : ListenPlan} → IsAmidTwo s t first c → HavePlan plan first.pair → HavePlan plan c.pair
 plans_of amid plans = record { a = amid.plan_a ∙ plans.a; b = amid.plan_b ∙ plans.b }
 
--- the sides and the pair after a step
 module _ {s t : ShelfState} {first c : Comparing} (amid : IsAmidTwo s t first c) where
-  -- a record was taken, or a reading ended
   pub amid_on : {u : ShelfState} {c' : Comparing} {h h' : SinkState} {w w' : List ℕ} (which : Which) (to : Step) → is_closed (listener_of which c.pair) ≡ false → to ≢ step.Fault → to ≢ step.NoMemory → ReadsOn which t u c c' h h' w w' (Ok to) → IsAmidTwo s u first c'
   amid_on {u} {c'} A to listens fault memory on =
       let r = on.in_a refl in
@@ -578,7 +563,7 @@ module _ {s t : ShelfState} {first c : Comparing} (amid : IsAmidTwo s t first c)
       let same = r.1 in
       subst (λ (a : Side). IsAmidTwo s u first (record { a = a; b = c'.b; pair = c'.pair })) (sym same) (amid_b to amid (open_by c.b c.pair.b amid.b listens) fault memory reads.steps)
 
-  -- after a step less is left to read
+  -- each step lowers what is left to read
   pub less_on : {u : ShelfState} {c' : Comparing} {h h' : SinkState} {w w' : List ℕ} (which : Which) (to : Step) → is_closed (listener_of which c.pair) ≡ false → to ≢ step.Fault → to ≢ step.NoMemory → ReadsOn which t u c c' h h' w w' (Ok to) → left_of c'.a + left_of c'.b < left_of c.a + left_of c.b
   less_on {u} {c'} A to listens fault memory on =
       let r = on.in_a refl in
@@ -595,7 +580,6 @@ module _ {s t : ShelfState} {first c : Comparing} (amid : IsAmidTwo s t first c)
       let other = ap left_of same in
       omega (arith, less, other)
 
-  -- what is compared after a step that had no fault
   pub told_on : {u : ShelfState} {c' : Comparing} {h h' : SinkState} {w w' : List ℕ} {asked : Agreeing} {x y : List ℕ} {before : Option (List ℕ)} (which : Which) (to : Step) → is_closed (listener_of which c.pair) ≡ false → EndsAreClosed c.pair → to ≢ step.Fault → to ≢ step.NoMemory → ReadsOn which t u c c' h h' w w' (Ok to)
       → IsComparedTo asked x y t c before (written h.held w) → IsComparedTo asked x y u c' before (written h'.held w')
   told_on {u} {c'} {h} {h'} {w} {w'} {asked} {x} {y} {before} A to listens ends fault memory on was =
@@ -615,7 +599,7 @@ module _ {s t : ShelfState} {first c : Comparing} (amid : IsAmidTwo s t first c)
       subst (λ (a : Side). IsComparedTo asked x y u (record { a = a; b = c'.b; pair = c'.pair }) before (written h'.held w')) (sym same)
       (told_b to unended listens (slots_apart_a amid) ends fault memory reads.steps on.reads reads.kept was)
 
-  -- after reading on in one capture, both files are still open
+  -- after a step of reading one capture, both files are still open
   pub reads_on : (u : ShelfState) (c' : Comparing) (which : Which) (next : Option End) → ReadsSlot t u (slot_of (side_of which c).source) (slot_of (side_of which c').source) → side_of (other_of which) c' ≡ side_of (other_of which) c → IsReadOn s u first c'
   reads_on u c' A next reads same = record {
     reads = two_on_a amid.reads amid.slot_a reads;
@@ -673,7 +657,6 @@ module _ {s t : ShelfState} {first c : Comparing} (amid : IsAmidTwo s t first c)
       let going = amid.b.going (open_by c.b c.pair.b amid.b listens) in
       (reads_on u c' B None gives.reads same, quiet_next c.b.source.ended None t.reading_faults u.reading_faults going.0 refl gives.counted ∙ amid.quiet)
 
-  -- the sink failed before anything was read
   pub cut_on : {u : ShelfState} {c' : Comparing} {h h' : SinkState} {w w' : List ℕ} {e : Failed} (which : Which) → ReadsOn which t u c c' h h' w w' (Err e) → IsReadOn s u first c' × (u.reading_faults ≡ s.reading_faults)
   cut_on {u} {c'} A on =
       let r = on.in_a refl in
@@ -702,7 +685,7 @@ pub kept_on : {t u : ShelfState} {c c' : Comparing} {h h' : SinkState} {w w' : L
 kept_on A on = let r = on.in_a refl in (r.0.kept, r.0.sink)
 kept_on B on = let r = on.in_b refl in (r.0.kept, r.0.sink)
 
--- the listener of a side has taken few enough records for another step
+-- The listener of a side has taken few enough records to take another.
 pub few_on : {s t : ShelfState} {first c : Comparing} (which : Which) → IsAmidTwo s t first c → is_closed (listener_of which c.pair) ≡ false → (listener_of which c.pair).counts.frames < 2 ^ 61
 few_on {c = c} A amid listens = let going = amid.a.going (open_by c.a c.pair.a amid.a listens) in omega (arith, going.1)
 few_on {c = c} B amid listens = let going = amid.b.going (open_by c.b c.pair.b amid.b listens) in omega (arith, going.1)

@@ -21,7 +21,7 @@ use Rattle.avtp_tool.specs.Lines.{after, of_each}
 use Rattle.avtp_tool.specs.Record.{inside}
 use Rattle.avtp_tool.proofs.CheckedTo.{notes_more}
 
--- a record in which a packet is noted is checked as such
+-- a record whose packet is noted is checked as `Marked`
 is_marked : (bytes : List ℕ) (seen : Seen) → IsNotedAs bytes seen → checked_record bytes ≡ Marked seen
 unfolding checked_record checked_frame checked_packet
 is_marked bytes seen is =
@@ -35,7 +35,7 @@ is_marked bytes seen is =
     ∙ ap (λ (s : Option PacketStream). checked_stream s (packet_of pdu)) is.stream
     ∙ marked
 
--- a packet in which nothing is found has no line
+-- a packet without findings has no line
 no_lines : (number : ℕ) (notes : List Seen) (seen : Seen) (f : Findings) → findings notes seen ≡ f → f ≡ nothing_found → found_lines number notes (Marked seen) ≡ []
 no_lines number notes seen f is none = let same : findings notes seen ≡ nothing_found = is ∙ none in rw same refl
 

@@ -1,4 +1,4 @@
--- The run of `talk`, over an input that was opened or not.
+-- The run of `talk`, whether its input could be opened or not.
 use Rattle.std.proofs.Common.{◌≡◌, ◌≢◌, ℕ, List, [], ◌∷◌, ◌++◌, Option, Some, None, Result, Ok, Err, true, false, if◌then◌else◌, inl, refl, sym, ap, subst, ◌∙◌, append_assoc, arith}
 use Rattle.std.specs.Prelude.{IfOk, IsErrOf}
 use Rattle.avtp_base.specs.declared.failed.Failed.{Failed}
@@ -41,11 +41,10 @@ use Rattle.avtp_tool.proofs.Talked.{read_counted, talks_unopened, tells_caused, 
 
 -- ---- the names that were asked for
 
--- which names a run asked for, given its status
+-- the names that a run asked for, given its status
 abbrev pub CameAs : Talking → Result Status Failed → ShelfState → ShelfState → Type 0
 CameAs asked result a b = IfOk result (λ s. s ≢ status.Memory → s ≢ status.WriteFault → Asks (talk_came asked s) a b)
 
--- what `talk` makes, given what a shelf shows of its input and the run's status
 made_by : (P : Option (List ℕ) → Type 0) (plan : TalkPlan) (told : Option (List ℕ)) (ended : Status) → (told ≡ None → ended ≢ status.Done) → (ended ≢ status.Done → P None)
     → ((bytes : List ℕ) → told ≡ Some bytes → ended ≡ status.Done → P (Some (capture plan bytes))) → P (talk_made plan told ended)
 made_by P plan None ended never none some = none (never refl)
@@ -60,7 +59,7 @@ made_by P plan (Some bytes) status.Limit never none some = none (λ e. cc)
 made_by P plan (Some bytes) status.DeviceFault never none some = none (λ e. cc)
 made_by P plan (Some bytes) status.TalkInput never none some = none (λ e. cc)
 
--- a run with a missing input does not end with `Done`
+-- a run whose input is missing does not end with `Done`
 missing_undone : (plan : TalkPlan) (told : Option (List ℕ)) (fault : Type 0) (ended : Status) (text : List ℕ) → TalkOutcome plan told fault ended text → told ≡ None → ended ≢ status.Done
 missing_undone plan None fault ended text o is e = let t : status.ReadFault ≡ status.Done = sym o.0 ∙ e in cc
 missing_undone plan (Some bytes) fault ended text o is e = absurd cc
@@ -157,7 +156,7 @@ quiet_by : (halt : Stop) (result : Result Status Failed) (before after : ℕ) �
 quiet_by halt (Ok s) before after counts quiet = λ fault memory write. still_by halt before after counts (quiet fault memory write)
 quiet_by halt (Err e) before after counts quiet = tt
 
--- what was read of the input, if the shelf shows its files
+-- the bytes that were read of the input, if the shelf shows its files
 abbrev pub IsInput : Option Files → List ℕ → Contents → Type 0
 IsInput files name contents = (all : Files) → files ≡ Some all → (bytes : List ℕ) × (all name ≡ Some bytes) × IsContents most_input bytes contents.stop contents.bytes.items
 

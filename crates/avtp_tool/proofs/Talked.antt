@@ -29,7 +29,7 @@ use Rattle.avtp_tool.specs.state.Talk.{EndsRefused, FaultStops, OutcomeWith}
 use Rattle.avtp_tool.proofs.Complete.{talks_by}
 use Rattle.avtp_tool.proofs.Outcomes.{IsCut, ends_not, missing_none, ok_same, tells_cut, tells_line, tells_weaker, undone_as, undone_by, Unopened}
 
--- a file that could not be made cuts a run short
+-- if the file could not be made, the run is cut short
 pub unmade_cut : (why : OpenFault) → IsCut (Ok (unmade_as why))
 unmade_cut open_fault.Memory = inl refl
 unmade_cut open_fault.Missing = inr refl
@@ -89,16 +89,13 @@ refused_undone result why ends =
 
 -- ---- files
 
--- no file was written
 pub tells_unwritten : {Outcome : Status → List ℕ → Type 0} {before now : Option (List ℕ)} {result : Result Status Failed} (files : Option Files) → TellsText Outcome before now result → TellsText (OutcomeWith Outcome files files) before now result
 tells_unwritten files tells = tells_weaker (λ ended text o. (o, λ other. KeepsFiles-refl files)) tells
 
--- the whole capture was written
 pub tells_made : {Outcome : Status → List ℕ → Type 0} {before now : Option (List ℕ)} {result : Result Status Failed} (files files' : Option Files) → ((ended : Status) (text : List ℕ) → Outcome ended text → ended ≡ status.Done) → TellsText Outcome before now result
     → TellsText (OutcomeWith Outcome files files') before now result
 tells_made files files' done tells = tells_weaker (λ ended text o. (o, λ other. absurd (other (done ended text o)))) tells
 
--- the files were unchanged before
 pub tells_since : {Outcome : Status → List ℕ → Type 0} {before now : Option (List ℕ)} {result : Result Status Failed} (a b c : Option Files) → KeepsFiles a b → TellsText (OutcomeWith Outcome b c) before now result → TellsText (OutcomeWith Outcome a c) before now result
 tells_since a b c keeps tells = tells_weaker (λ ended text o. (o.0, λ other. KeepsFiles-trans a b c keeps (o.1 other))) tells
 
@@ -116,22 +113,21 @@ talked_weaker plan bytes a b status.WriteFault text weaker o = absurd o
 talked_weaker plan bytes a b status.Memory text weaker o = absurd o
 talked_weaker plan bytes a b status.DeviceFault text weaker o = absurd o
 
--- each outcome is still possible if faults of reading have a weaker condition
+-- each outcome stays possible if the condition for a read fault is weakened
 pub tells_caused : {before now : Option (List ℕ)} {result : Result Status Failed} (f g : Option Files) (plan : TalkPlan) (bytes : List ℕ) (a b : Type 0) → (a → b) → TellsText (OutcomeWith (TalkedOutcome plan bytes a) f g) before now result → TellsText (OutcomeWith (TalkedOutcome plan bytes b) f g) before now result
 tells_caused f g plan bytes a b weaker tells = tells_weaker (λ ended text o. (talked_weaker plan bytes a b ended text weaker o.0, o.1)) tells
 
--- the input was read whole
 pub whole_is : (limit : ℕ) (bytes : List ℕ) (halt : Stop) (prefix slice : List ℕ) → halt ≡ stop.End → slice ≡ prefix → IsContents limit bytes halt prefix → slice ≡ bytes
 whole_is limit bytes halt prefix slice is same has = same ∙ sym (subst (λ (h : Stop). IsContents limit bytes h prefix) is has).0
 
--- an outcome for what was read of a whole input is an outcome for all its bytes
+-- an outcome for what was read of a whole input is an outcome for all bytes of the input
 pub tells_read : {before now : Option (List ℕ)} {result : Result Status Failed} {prefix : List ℕ} (f g : Option Files) (plan : TalkPlan) (bytes input : List ℕ) (halt : Stop)
     → halt ≡ stop.End → input ≡ prefix → IsContents most_input bytes halt prefix → TellsText (OutcomeWith (TalkedOutcome plan input ⊥) f g) before now result → TellsText (OutcomeWith (TalkedOutcome plan bytes (halt ≡ stop.Fault)) f g) before now result
 tells_read {before} {now} {result} {prefix} f g plan bytes input halt is same has tells =
     subst (λ (b : List ℕ). TellsText (OutcomeWith (TalkedOutcome plan b (halt ≡ stop.Fault)) f g) before now result) (whole_is most_input bytes halt prefix input is same has)
     (tells_caused f g plan input ⊥ (halt ≡ stop.Fault) (λ none. absurd none) tells)
 
--- the input is longer than the limit
+-- if the limit stopped the reading, the input is longer than the limit
 pub too_long : (limit : ℕ) (bytes : List ℕ) (halt : Stop) (prefix : List ℕ) → halt ≡ stop.Limit → IsContents limit bytes halt prefix → limit < length bytes
 too_long limit bytes halt prefix is has = (subst (λ (h : Stop). IsContents limit bytes h prefix) is has).0
 

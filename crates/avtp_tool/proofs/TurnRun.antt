@@ -47,14 +47,13 @@ use Rattle.avtp_tool.proofs.PutBatches.{batches_count, packets_count}
 
 -- ---- files
 
--- a file was put, and all others are unchanged
+-- writing a file leaves all other files unchanged
 puts_but : (f g : Option Files) (name bytes : List ℕ) → PutsFile f g name bytes → KeepsFilesBut (Some name) f g
 puts_but None None name bytes put = tt
 puts_but None (Some g) name bytes put = absurd put
 puts_but (Some f) None name bytes put = tt
 puts_but (Some f) (Some g) name bytes put = put.1
 
--- the files that are still shown
 told_put : (f g : Option Files) (name bytes : List ℕ) (all : Files) → f ≡ Some all → PutsFile f g name bytes → IsSome g → (now : Files) × (g ≡ Some now) × ((other : List ℕ) → other ≢ name → now other ≡ all other)
 told_put None g name bytes all is put some = absurd cc
 told_put (Some f) None name bytes all is put some = absurd cc
@@ -71,7 +70,7 @@ some_of : (f : Option Files) → IsSome f → (all : Files) × (f ≡ Some all)
 some_of None some = absurd cc
 some_of (Some all) some = (all, refl)
 
--- a file that is missing now was missing before another was put
+-- writing another file does not make this file missing
 missing_put : (f g : Option Files) (name bytes other : List ℕ) → other ≢ name → PutsFile f g name bytes → IsMissing g other → IsMissing f other
 missing_put f None name bytes other differs put missing = absurd missing
 missing_put None (Some g) name bytes other differs put missing = absurd put
@@ -79,7 +78,6 @@ missing_put (Some f) (Some g) name bytes other differs put missing = sym (put.1 
 
 -- ---- texts
 
--- a text was printed, and then a last line
 text_end : {Outcome : Status → List ℕ → Type 0} {before : Option (List ℕ)} {h h' : SinkState} {w w' : List ℕ} {result : Result Status Failed} {ended : Status} {line : List ℕ} (text : List ℕ)
     → Outcome ended (text ++ line) → Appends before (written h.held w) text → EndsWith ended h h' w w' result line → TellsText Outcome before (written h'.held w') result
 text_end {before = before} {h} {h'} {w} {w'} {result = Ok s} {ended} {line} text outcome first last =
@@ -96,14 +94,14 @@ of_gateway skipped (end.Refused refusal) = refl
 of_gateway skipped end.ReadFault = refl
 of_gateway skipped end.Limit = refl
 
--- the status of a conversion is none of those of a run that was cut short
+-- the status of a conversion is neither `Memory` nor `WriteFault`
 turned_own : (skipped : ℕ) (how : End) → (turned_status skipped how ≢ status.Memory) × (turned_status skipped how ≢ status.WriteFault)
 turned_own skipped end.Whole = elim (skipped == 0) as (λ b. ((if b then status.Done else status.Findings) ≢ status.Memory) × ((if b then status.Done else status.Findings) ≢ status.WriteFault)) [ true ↦ (λ e. cc, λ e. cc) | false ↦ (λ e. cc, λ e. cc) ]
 turned_own skipped (end.Refused refusal) = (λ e. cc, λ e. cc)
 turned_own skipped end.ReadFault = (λ e. cc, λ e. cc)
 turned_own skipped end.Limit = (λ e. cc, λ e. cc)
 
--- the status is a fault of reading exactly if the reading ended with one
+-- the status is that of a read fault exactly if the reading ended with a read fault
 turned_fault : (skipped : ℕ) (how : End) → (turned_status skipped how ≡ status.ReadFault → how ≡ end.ReadFault) × (how ≡ end.ReadFault → turned_status skipped how ≡ status.ReadFault)
 turned_fault skipped end.Whole = (elim (skipped == 0) as (λ b. (if b then status.Done else status.Findings) ≡ status.ReadFault → end.Whole ≡ end.ReadFault) [ true ↦ λ e. cc | false ↦ λ e. cc ], λ e. cc)
 turned_fault skipped (end.Refused refusal) = (λ e. cc, λ e. cc)
@@ -112,7 +110,7 @@ turned_fault skipped end.Limit = (λ e. cc, λ e. cc)
 
 -- ---- outcomes
 
--- what is presented of the whole capture
+-- all batches that a listener presents from the whole capture
 abbrev pub all_batches : Turning → List ℕ → List Presented
 all_batches asked bytes = batches_by asked (records_in (take asked.listener.limit bytes)) end.Whole
 
@@ -120,7 +118,7 @@ whole_outcome : (asked : Turning) (shape : Option Shape) (bytes : List ℕ) (fau
     → TurnedOutcome asked shape bytes fault (turned_status (length (skips_in asked shape (all_batches asked bytes))) end.Whole) (turned_text asked shape (all_batches asked bytes) end.Whole) (Some (turned_capture asked shape (all_batches asked bytes)))
 whole_outcome asked shape bytes fault whole = record { how = end.Whole; prefix = take asked.listener.limit bytes; ends = (sym whole, refl); status = refl; printed = refl; written = refl }
 
--- a run that was cut short, after a prefix of the lines and of the capture
+-- a run that was cut short, after it printed a prefix of the lines and wrote a prefix of the capture
 produces_cut : {before now : Option (List ℕ)} {f g : Option Files} {result : Result Status Failed} (asked : Turning) (shape : Option Shape) (bytes : List ℕ) (fault : Type 0) → end_of asked.listener.limit bytes ≡ end.Whole → IsCut result
     → AppendsPrefix before now (flat_map skipped_line (skips_in asked shape (all_batches asked bytes))) → MakesPrefix f g asked.output (turned_capture asked shape (all_batches asked bytes))
     → Produces (TurnedOutcome asked shape bytes fault) (Some asked.output) before now f g result
@@ -139,7 +137,7 @@ produces_cut {before} {now} {f} {g} {result} asked shape bytes fault whole cut l
 asks_none : {p : Type 0} (names : List (List ℕ)) (a : ShelfState) → (p → ⊥) → AsksFor names a a p
 asks_none names a never = record { count = 0; within = omega arith; all = λ done. absurd (never done); asked = λ before stands. subst (WasAsked a.asked) (sym (append-nil before)) stands }
 
--- no memory was found before the file was made
+-- if there was no memory before the file was created, nothing is done
 pub turns_nothing : {s : ShelfState} {out : SinkState} {waits : List ℕ} (asked : Turning) (shape : Option Shape) → TurnsFile asked shape s s out out waits waits (Ok status.Memory)
 turns_nothing {s} {out} {waits} asked shape = record {
   told = λ all bytes told has some whole. produces_cut asked shape bytes _ whole (inl refl) (prefix_none (written out.held waits) (written out.held waits) _ (Keeps-refl _)) (inl (KeepsFiles-refl s.files));
@@ -152,7 +150,6 @@ turns_nothing {s} {out} {waits} asked shape = record {
   sink = sink_still out status.Memory;
 }
 
--- the file could not be made
 pub turns_unmade : {s t : ShelfState} {out : SinkState} {waits : List ℕ} (asked : Turning) (shape : Option Shape) (why : OpenFault) → BeginsCapture s t asked.output (Err why) → TurnsFile asked shape s t out out waits waits (Ok (unmade_as why))
 turns_unmade {s} {t} {out} {waits} asked shape why begins = record {
   told = λ all bytes told has some whole. produces_cut asked shape bytes _ whole (unmade_cut why) (prefix_none (written out.held waits) (written out.held waits) _ (Keeps-refl _)) (inl begins.not_made.files);
@@ -189,9 +186,9 @@ turns_unmade {s} {t} {out} {waits} asked shape why begins = record {
   unmade_never open_fault.Missing d = d.1 refl
   unmade_never open_fault.Failed d = d.1 refl
 
--- ---- how the output is ended
+-- ---- how the output is closed
 
--- the file was closed
+-- The file of the output was closed.
 pub record IsClosed (u v : ShelfState) (o : Output) : Type 0 where
   pub result : Result Unit Failed
   pub closes : ClosesCapture u v o.writer result
@@ -206,7 +203,7 @@ module _ (limit : ℕ) (u v : ShelfState) (o : Output) (mid out' : SinkState) (w
 
 -- ---- counts
 
--- a run whose last line is of one status does not end with another
+-- a run that can only end with the status `ended` does not end with another status
 ended_as : (result : Result Status Failed) (ended other : Status) → IfOk result (λ s. s ≡ ended) → result ≡ Ok other → ended ≡ other
 ended_as (Ok s) ended other is e = sym is ∙ ok_same (Ok s) s other refl e
 ended_as (Err x) ended other is e = absurd cc
@@ -218,7 +215,6 @@ err_never : (result : Result Status Failed) (other : Status) → IsErr result �
 err_never (Ok s) other err e = absurd cc
 err_never (Err x) other err e = cc
 
--- a run that was cut short
 cut_reading : {names : List (List ℕ)} {files : Option Files} {before after : ℕ} (result : Result Status Failed) → before ≤ after → (result ≡ Ok status.Memory) ⊎ (result ≡ Ok status.WriteFault) → CountsReading names files before after result
 cut_reading (Ok s) falls cut = record {
   never_falls = falls;
@@ -354,14 +350,12 @@ cut_err (Err e) err = tt
 
 module _ (s t u v : ShelfState) (o' : Output) (out mid out' : SinkState) (waits waits1 waits' : List ℕ) (asked : Turning) (shape : Option Shape) (bytes : List ℕ) (whole : end_of asked.listener.limit bytes ≡ end.Whole)
     (rose : Rose t.reading_faults u.reading_faults → Rose s.reading_faults v.reading_faults) where
-  -- the records of the first batches are a prefix of the capture
   first_part : {r : Result Unit Failed} → IsCutShort asked shape bytes s.files u o' (written out.held waits) (written mid.held waits1) → ClosesCapture u v o'.writer r → MakesPrefix s.files v.files asked.output (turned_capture asked shape (all_batches asked bytes))
   first_part short closes =
       let records : List Record = map record_of (turned_frames asked shape (all_batches asked bytes)) in
       let rest = capture_first records short.holds.count in
       inr (prefix_further rest.0 rest.1 (closes.prefix s.files asked.output (take short.holds.count records) short.holds.holds))
 
-  -- a conversion was cut short, and nothing was printed at its end
   cut_made : {r : Result Unit Failed} (result : Result Status Failed) → IsCut result → IsCutShort asked shape bytes s.files u o' (written out.held waits) (written mid.held waits1) → ClosesCapture u v o'.writer r → out' ≡ mid → waits' ≡ waits1
       → Produces (TurnedOutcome asked shape bytes (Rose s.reading_faults v.reading_faults)) (Some asked.output) (written out.held waits) (written out'.held waits') s.files v.files result
   cut_made result cut short closes same still =
@@ -409,7 +403,6 @@ module _ (s t u v : ShelfState) (o' : Output) (out mid out' : SinkState) (waits 
 
 -- ---- the file was made
 
--- the capture that is made could not be written to its end
 pub ends_unfinished : {before after : ShelfState} (o : Output) (out : SinkState) (waits : List ℕ) (limit : ℕ) (so : Turned) (how : End) (presented : ℕ) (e : Failed) → so ≡ turn.Ended how presented → FinishesCapture before after o.writer (Err e)
     → EndsOutput limit (Ok so) before after o out out waits waits (Ok status.WriteFault)
 ends_unfinished {before} {after} o out waits limit so how presented e is fin =
@@ -425,7 +418,7 @@ puts_again f None name bytes put = tt
 puts_again None (Some g) name bytes put = absurd put
 puts_again (Some f) (Some g) name bytes put = (put.0, λ other differs. refl)
 
--- a capture that a writer holds, over whatever files, is held over the shelf's present files
+-- a capture that a writer holds over some files is also held over the shelf's present files
 holds_again : (files : Option Files) (s : ShelfState) (w : _) (name : List ℕ) (records : List Record) → HoldsCapture files s w name records → HoldsCapture s.files s w name records
 holds_again files s w name records h = record {
   held = h.held;
@@ -447,7 +440,7 @@ module _ {s t u : ShelfState} (v : ShelfState) {o o' : Output} {listener : Liste
   part : PutsPrefix s.files v.files asked.output (capture_bytes held.0)
   part = closed.closes.prefix s.files asked.output held.0 held.1
 
-  -- all of that is told only if files are still shown
+  -- if files are shown at the end, they were shown before the output was closed
   shown_u : IsSome v.files → IsSome u.files
   shown_u told =
       let again = closed.closes.prefix u.files asked.output held.0 (holds_again s.files u o'.writer asked.output held.0 held.1) in

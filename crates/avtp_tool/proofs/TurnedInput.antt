@@ -59,7 +59,7 @@ module _ (asked : Turning) (shape : Option Shape) (files : Option Files) (s t : 
     holds = record { count = cut.holds.count; holds = holds_beside files s t o.writer asked.output (capture_bytes (take cut.holds.count _)) cut.holds.holds keeps slot };
   }
 
-  -- how far the capture was converted is unchanged, under a weaker condition for a fault of reading
+  -- what is said of a conversion still holds if the condition for a read fault is weakened
   turned_still : (before now : Option (List ℕ)) (bytes : List ℕ) (cause cause' : Type 0) (result : Result Turned Failed) → (cause → cause') → TurnsTo asked shape bytes cause files s o before now result → TurnsTo asked shape bytes cause' files t o before now result
   turned_still before now bytes cause cause' (Ok (turned.Ended how presented)) make heard = record {
     prefix = heard.prefix;
@@ -78,7 +78,6 @@ none_presented : (asked : Turning) → batches_by asked (records_in []) end.Read
 none_presented asked = ap (λ (rs : List Record). presented_of (due_of (plan_of asked.listener) rs)) (short_records [] (omega arith)) ∙ ap presented_of (due_none (plan_of asked.listener))
 
 module _ (asked : Turning) (shape : Option Shape) (files : Option Files) (s : ShelfState) (o : Output) (before : Option (List ℕ)) (bytes : List ℕ) (cause : Type 0) (fresh : IsFreshOutput asked shape files s o) where
-  -- no batch was put
   none_turned : (batches : List Presented) → batches ≡ [] → HasTurned asked shape batches files s o before before
   none_turned batches none = subst (λ (l : List Presented). HasTurned asked shape l files s o before before) (sym none) (record {
     put = fresh.none;
@@ -118,7 +117,6 @@ unread_wrote open_fault.Missing = refl
 unread_wrote open_fault.Failed = refl
 
 module _ {s t : ShelfState} {o : Output} {result : Result Turned Failed} where
-  -- nothing was written
   writes_none : wrote_all result ≡ Ok tt → KeepsFiles s.files t.files → t.slots o.writer.slot ≡ s.slots o.writer.slot → IsMadeIn s.slots o.writer.slot → t.writing_faults ≡ s.writing_faults → s.reading_faults ≤ t.reading_faults → WritesOutput s t o o result
   writes_none wrote keeps slot made same reading = record {
     slot = refl;
@@ -152,7 +150,7 @@ quiet_end (end.Refused refusal) before after other counted = counted
 quiet_end end.ReadFault before after other counted = absurd (other refl)
 quiet_end end.Limit before after other counted = counted
 
--- a slot that was free is not the one that is written
+-- a capture that is opened gets a slot other than the one that is written
 opened_apart : {s t : ShelfState} {source : Sourcing} (asked : Turning) (w : ℕ) → IsMadeIn s.slots w → OpensSource s t asked.listener.limit asked.input (Ok source) → slot_of source ≢ w
 opened_apart {s} asked w made opens same =
     let none : s.slots w ≡ None = subst (λ (n : ℕ). s.slots n ≡ None) same opens.tries.opened.free in
@@ -205,7 +203,7 @@ module _ {s t u v : ShelfState} {source source' : Sourcing} {listener : ListenSt
         plan = plan;
       }))
 
-  -- the slot that was read is free again, and each other keeps its file
+  -- the slot that was read is free again, and each other slot keeps its file
   input_slots : KeepsOtherFiles s.slots v.slots (name_in s.slots old.writer.slot)
   input_slots =
       let k : ℕ = slot_of source in

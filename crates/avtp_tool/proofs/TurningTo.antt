@@ -1,4 +1,4 @@
--- The batches of a capture that is heard, put one after another.
+-- The batches of a capture that is heard, which are put one after another.
 use Rattle.std.proofs.Common.{◌≡◌, ℕ, zero, suc, List, [], ◌∷◌, ◌++◌, length, take, Option, Some, None, Result, Ok, Err, refl, sym, ap, subst, ◌∙◌, arith, append-nil}
 use Rattle.std.specs.Prelude.{◌≢◌, flat_map, IsSome}
 use Rattle.std.proofs.lemmas.List.{take_all}
@@ -57,7 +57,8 @@ use Rattle.avtp_tool.proofs.PutBatches.{lines_first, lines_more, records_first}
 
 -- ---- batches that were put
 
--- Since the shelf was s and the output `old`, these batches were put, and the lines of those that are skipped were printed.
+-- Since the state `s` of the shelf and the output `old`, these batches were put, and the lines of the skipped batches
+-- were printed.
 pub record PutsAll (s t : ShelfState) (old new : Output) (batches : List Presented) (before now : Option (List ℕ)) : Type 0 where
   pub put : (to : To) (shape : Option Shape) (id : ℕ) → HasPut to shape id [] old.gateway → HasPut to shape id batches new.gateway
   pub holds : (to : To) (shape : Option Shape) (id : ℕ) (files : Option Files) (name : List ℕ) → HasPut to shape id [] old.gateway → HoldsCapture files s old.writer name [] → HoldsCapture files t new.writer name (records_for to shape id batches)
@@ -82,7 +83,7 @@ puts_none s o before = record {
   lines = λ asked shape none. Appends-nil before;
 }
 
--- another file was read, or the text that waits was written
+-- reading another file or writing the pending text changes nothing about the batches that were put
 puts_still : {s t u : ShelfState} {old new : Output} {batches : List Presented} {before mid now : Option (List ℕ)} → KeepsFiles t.files u.files → u.slots new.writer.slot ≡ t.slots new.writer.slot → Keeps mid now
     → PutsAll s t old new batches before mid → PutsAll s u old new batches before now
 puts_still {s} {t} {u} {old} {new} {batches} {before} {mid} {now} files slot kept puts = record {
@@ -96,7 +97,6 @@ skip_is g to shape id batches batch put =
     ap (λ (x : To). skip_of x g.shape g.given batch) put.to_is ∙ (ap (λ (x : Option Shape). skip_of to x g.given batch) put.shape_is ∙ ap (λ (x : Given). skip_of to shape x batch) put.given)
 
 module _ {s t u : ShelfState} {old mid new : Output} {batches : List Presented} {batch : Presented} {before : Option (List ℕ)} {out out' : SinkState} {waits waits' : List ℕ} where
-  -- the lines with that of one more batch
   lines_one : (so : Put) → PutsAll s t old mid batches before (written out.held waits) → PutsBatch batch t u mid new out out' waits waits' (Ok so) → (asked : Turning) (shape : Option Shape) → HasPut (format_of asked.to) shape asked.id [] old.gateway
       → Appends before (written out'.held waits') (flat_map skipped_line (skips_in asked shape (batches ++ batch ∷ [])))
   lines_one so puts one asked shape none =
@@ -112,7 +112,7 @@ module _ {s t u : ShelfState} {old mid new : Output} {batches : List Presented} 
     lines = lines_one did.Done puts one;
   }
 
--- the gateway keeps no piece of the last batch
+-- returning the samples of the last batch does not change which batches a gateway was given
 put_given_back : {to : To} {shape : Option Shape} {id : ℕ} {batches : List Presented} (o : Output) → HasPut to shape id batches o.gateway → HasPut to shape id batches (given_back o).gateway
 put_given_back o has = record { to_is = has.to_is; shape_is = has.shape_is; id_is = has.id_is; given = has.given }
 
@@ -125,7 +125,8 @@ puts_given_back {new = new} puts = record {
 
 -- ---- between two items
 
--- Since the shelf was s, items were heard and their batches put, and the items `more` were heard and are still to be put.
+-- Since the state `s` of the shelf, items were heard and their batches were put. The items `more` were heard too, but
+-- their batches are not put yet.
 pub record IsPutSoFar (s t : ShelfState) (first source : Sourcing) (fresh listener : ListenState) (stage : Stage) (old new : Output) (out out' : SinkState) (waits waits' : List ℕ) (more : List Shown) : Type 0 where
   pub plan : listener.plan ≡ fresh.plan
   pub slot : new.writer.slot ≡ old.writer.slot
@@ -147,7 +148,6 @@ so_far_none s source listener stage o out waits live made is = record {
 }
 
 module _ {s t : ShelfState} {first source : Sourcing} {fresh listener : ListenState} {stage : Stage} {old new : Output} {out mid : SinkState} {waits waits' : List ℕ} where
-  -- the text that waits was written
   pub so_far_flushed : {out' : SinkState} {waits'' : List ℕ} {more : List Shown} {x : Unit} → WritesWaiting mid out' waits' waits'' (Ok x)
       → IsPutSoFar s t first source fresh listener stage old new out mid waits waits' more → IsPutSoFar s t first source fresh listener stage old new out out' waits waits'' more
   so_far_flushed flushed so_far = record {
@@ -160,7 +160,6 @@ module _ {s t : ShelfState} {first source : Sourcing} {fresh listener : ListenSt
     sink = sink_ok tt (sink_then so_far.sink flushed.sink);
   }
 
-  -- the hearing went on
   pub so_far_heard : {u : ShelfState} {source' : Sourcing} {listener' : ListenState} {stage' : Stage} {more : List Shown} → slot_of first ≢ old.writer.slot → GoesOn t u source source' listener listener' stage stage' more
       → IsPutSoFar s t first source fresh listener stage old new out mid waits waits' [] → IsPutSoFar s u first source' fresh listener' stage' old new out mid waits waits' more
   so_far_heard {u} {source'} {listener'} {stage'} {more} apart on so_far =
@@ -177,7 +176,7 @@ module _ {s t : ShelfState} {first source : Sourcing} {fresh listener : ListenSt
         sink = so_far.sink;
       }
 
-  -- an item that is flagged puts nothing
+  -- a flagged item has no batch to put
   pub so_far_flagged : {frame seq : ℕ} {reason : Reason} → IsPutSoFar s t first source fresh listener stage old new out mid waits waits' (Flag frame seq reason ∷ [])
       → IsPutSoFar s t first source fresh listener stage old new out mid waits waits' []
   so_far_flagged {frame} {seq} {reason} so_far = record {
@@ -193,7 +192,6 @@ module _ {s t : ShelfState} {first source : Sourcing} {fresh listener : ListenSt
     sink = so_far.sink;
   }
 
-  -- a batch was put
   pub so_far_put : {u : ShelfState} {later : Output} {out' : SinkState} {waits'' : List ℕ} {batch : Presented} → PutsBatch batch t u new later mid out' waits' waits'' (Ok did.Done)
       → IsPutSoFar s t first source fresh listener stage old new out mid waits waits' (Present batch ∷ []) → IsPutSoFar s u first source fresh listener stage old later out out' waits waits'' []
   so_far_put {u} {later} {batch = batch} one so_far = record {
@@ -213,7 +211,6 @@ module _ {s t : ShelfState} {first source : Sourcing} {fresh listener : ListenSt
     sink = sink_ok tt (sink_then so_far.sink one.sink);
   }
 
-  -- the samples of a batch that was put were given back
   pub so_far_given_back : IsPutSoFar s t first source fresh listener stage old new out mid waits waits' []
       → IsPutSoFar s t first source fresh listener stage old (given_back new) out mid waits waits' []
   so_far_given_back so_far = record {
@@ -228,30 +225,28 @@ module _ {s t : ShelfState} {first source : Sourcing} {fresh listener : ListenSt
 
 -- ---- a capture that was cut short
 
--- two files whose names are known to differ
 names_apart : {asked : Turning} {shape : Option Shape} {bytes : List ℕ} {files : Option Files} {s : ShelfState} {source : Sourcing} {listener : ListenState} {o : Output} → IsToTurn asked shape bytes files s source listener o
     → name_in s.slots (slot_of source) ≢ name_in s.slots o.writer.slot
 names_apart {asked} to_turn same =
     let e : Some asked.input ≡ Some asked.output = sym to_turn.named ∙ same ∙ to_turn.fresh.named in
     to_turn.fresh.apart cc
 
--- the first n of a longer list's first items
+-- the first `n` records of a prefix are also the first records of the whole list
 first_taken : (n : ℕ) (xs ys : List Record) → (m : ℕ) × (take m (xs ++ ys) ≡ take n xs)
 first_taken zero xs ys = (0, refl)
 first_taken (suc n) [] ys = (0, refl)
 first_taken (suc n) (x ∷ xs) ys = let on = first_taken n xs ys in (suc on.0, ap (λ (l : List Record). x ∷ l) on.1)
 
--- a file that holds the first of these records holds the first of a longer list
+-- a file that holds some first part of `records` also holds some first part of a longer list
 first_further : {files : Option Files} {s : ShelfState} {w : Writing} {name : List ℕ} (records rest all : List Record) → all ≡ records ++ rest → HoldsFirst files s w name records → HoldsFirst files s w name all
 first_further {files} {s} {w} {name} records rest all is holds =
     let some = first_taken holds.count records rest in
     record { count = some.0; holds = subst (HoldsCapture files s w name) (sym (ap (take some.0) is ∙ some.1)) holds.holds }
 
--- a file that holds all of the records holds the first of them
+-- a file that holds all these records holds a prefix of them
 first_whole : (files : Option Files) (s : ShelfState) (w : Writing) (name : List ℕ) (records : List Record) → HoldsCapture files s w name records → HoldsFirst files s w name records
 first_whole files s w name records holds = record { count = length records; holds = subst (HoldsCapture files s w name) (sym (take_all (length records) records (omega arith))) holds }
 
--- only some of the batches were put, or a part of the last
 cut_by : {before now : Option (List ℕ)} {s : ShelfState} {o : Output} {files : Option Files} (asked : Turning) (shape : Option Shape) (bytes : List ℕ) (batches : List Presented) → IsPrefix batches (batches_by asked (records_in (take asked.listener.limit bytes)) end.Whole)
     → AppendsPrefix before now (flat_map skipped_line (skips_in asked shape batches)) → HoldsFirst files s o.writer asked.output (records_for (format_of asked.to) shape asked.id batches) → IsCutShort asked shape bytes files s o before now
 cut_by {before} {now} asked shape bytes batches first lines holds =
@@ -264,7 +259,7 @@ cut_by {before} {now} asked shape bytes batches first lines holds =
     }
 
 module _ {s t : ShelfState} {first source : Sourcing} {fresh listener : ListenState} {stage : Stage} {old new : Output} {out mid : SinkState} {waits waits' : List ℕ} where
-  -- the items that were shown so far are the first of all
+  -- the items that were shown so far are the first of all items
   all_within : {more : List Shown} (asked : Turning) (shape : Option Shape) (bytes : List ℕ) (files : Option Files) → is_closed listener ≡ closed_at stage → IsToTurn asked shape bytes files s first fresh old
       → (so_far : IsPutSoFar s t first source fresh listener stage old new out mid waits waits' more) → IsPrefix (so_far.batches ++ presented_of more) (batches_by asked (records_in (take asked.listener.limit bytes)) end.Whole)
   all_within {more} asked shape bytes files closed to_turn so_far =
@@ -273,7 +268,7 @@ module _ {s t : ShelfState} {first source : Sourcing} {fresh listener : ListenSt
       subst (λ (l : List Presented). IsPrefix l (batches_by asked (records_in (take asked.listener.limit bytes)) end.Whole)) (presented-append told.0 more ∙ ap (λ (l : List Presented). l ++ presented_of more) (sym told.1))
       (batches_within (plan_of asked.listener) stage asked.listener.limit bytes (Rose s.reading_faults t.reading_faults) _ source listener (told.0 ++ more) (so_far.plan ∙ to_turn.plan) closed shown)
 
-  -- a conversion was cut short before the next item
+  -- the conversion was cut short before the next item
   cut_still : {now : Option (List ℕ)} (asked : Turning) (shape : Option Shape) (bytes : List ℕ) (files : Option Files) → is_closed listener ≡ closed_at stage → IsToTurn asked shape bytes files s first fresh old → Keeps (written mid.held waits') now
       → IsPutSoFar s t first source fresh listener stage old new out mid waits waits' [] → IsCutShort asked shape bytes files t new (written out.held waits) now
   cut_still {now} asked shape bytes files closed to_turn kept so_far =
@@ -283,7 +278,7 @@ module _ {s t : ShelfState} {first source : Sourcing} {fresh listener : ListenSt
       cut_by asked shape bytes so_far.batches all (prefix_whole (written out.held waits) now text (Appends-kept (written out.held waits) (written mid.held waits') now text (so_far.puts.lines asked shape none) kept))
       (first_whole files t new.writer asked.output (records_for (format_of asked.to) shape asked.id so_far.batches) (so_far.puts.holds (format_of asked.to) shape asked.id files asked.output none to_turn.fresh.holds))
 
-  -- a conversion was cut short within the next batch
+  -- the conversion was cut short while the next batch was put
   module _ {u : ShelfState} {later : Output} {out' : SinkState} {waits'' : List ℕ} {batch : Presented} where
     cut_lines : (result : Result Put Failed) → PutsBatch batch t u new later mid out' waits' waits'' result → (so_far : IsPutSoFar s t first source fresh listener stage old new out mid waits waits' (Present batch ∷ []))
         → (asked : Turning) (shape : Option Shape) → HasPut (format_of asked.to) shape asked.id [] old.gateway → AppendsPrefix (written out.held waits) (written out'.held waits'') (flat_map skipped_line (skips_in asked shape (so_far.batches ++ batch ∷ [])))
@@ -304,7 +299,6 @@ module _ {s t : ShelfState} {first source : Sourcing} {fresh listener : ListenSt
 
 -- ---- a capture that was heard to its end
 
--- a conversion, given what was done to the shelf
 module _ {s t : ShelfState} {first source : Sourcing} {fresh : ListenState} {old new : Output} {out out' : SinkState} {waits waits' : List ℕ} {how : Option End} where
   turns_by : (result : Result Turned Failed) → ReadsAndWrites s t (slot_of first) (slot_of source) old.writer.slot how (wrote_all result) → new.writer.slot ≡ old.writer.slot
       → ((files : Option Files) (name : List ℕ) → HoldsCapture files s old.writer name [] → (more : List Record) × HoldsCapture files t new.writer name more)
@@ -330,14 +324,13 @@ module _ {s t : ShelfState} {first source : Sourcing} {fresh : ListenState} {old
   }
 
 module _ {s t : ShelfState} {first source : Sourcing} {fresh listener : ListenState} {stage : Stage} {old new : Output} {out mid : SinkState} {waits waits' : List ℕ} where
-  -- the file holds the first records of the capture
+  -- the file holds some first part of the capture's records
   some_held : {more : List Shown} → old.gateway.given ≡ nothing_given → IsPutSoFar s t first source fresh listener stage old new out mid waits waits' more
       → (files : Option Files) (name : List ℕ) → HoldsCapture files s old.writer name [] → (records : List Record) × HoldsCapture files t new.writer name records
   some_held none so_far files name held =
       let g : Gating = old.gateway in
       (records_for g.to g.shape g.id so_far.batches, so_far.puts.holds g.to g.shape g.id files name (put_none g none) held)
 
-  -- the text that waits could not be written
   pub turns_unflushed : {out' : SinkState} {waits'' : List ℕ} (x e : Failed) → old.gateway.given ≡ nothing_given → is_closed listener ≡ closed_at stage → WritesWaiting mid out' waits' waits'' (Err x)
       → IsPutSoFar s t first source fresh listener stage old new out mid waits waits' [] → Turns s t first source fresh old new out out' waits waits'' (Err e)
   turns_unflushed x e none closed flushed so_far =
@@ -352,21 +345,19 @@ module _ {s t : ShelfState} {first source : Sourcing} {fresh listener : ListenSt
         let part = one.part g.to g.shape g.id so_far.batches files name (so_far.puts.put g.to g.shape g.id (put_none g none)) (so_far.puts.holds g.to g.shape g.id files name (put_none g none) held) in
         (take part.count (records_for g.to g.shape g.id (so_far.batches ++ batch ∷ [])), part.holds)
 
-    -- the line of a batch that is skipped could not be printed
     pub turns_unprinted : (x e : Failed) → old.gateway.given ≡ nothing_given → is_closed listener ≡ closed_at stage → PutsBatch batch t u new later mid out' waits' waits'' (Err x)
         → IsPutSoFar s t first source fresh listener stage old new out mid waits waits' (Present batch ∷ []) → Turns s u first source fresh old later out out' waits waits'' (Err e)
     turns_unprinted x e none closed one so_far =
         turns_by (Err e) (beside_written so_far.beside so_far.slot one.writes) (one.writes.slot ∙ so_far.slot) (part_held none one so_far)
         (λ asked shape bytes files to_turn. cut_in_batch (Err x) asked shape bytes files closed to_turn one so_far) (λ h over. absurd cc) (sink_err (sink_then so_far.sink one.sink))
 
-    -- a packet could not be written
     pub turns_unwritten : old.gateway.given ≡ nothing_given → is_closed listener ≡ closed_at stage → PutsBatch batch t u new later mid out' waits' waits'' (Ok did.Unwritten)
         → IsPutSoFar s t first source fresh listener stage old new out mid waits waits' (Present batch ∷ []) → Turns s u first source fresh old later out out' waits waits'' (Ok turned.Unwritten)
     turns_unwritten none closed one so_far =
         turns_by (Ok turned.Unwritten) (beside_written so_far.beside so_far.slot one.writes) (one.writes.slot ∙ so_far.slot) (part_held none one so_far)
         (λ asked shape bytes files to_turn. cut_in_batch (Ok did.Unwritten) asked shape bytes files closed to_turn one so_far) (λ h over. absurd cc) (sink_ok turned.Unwritten (sink_then so_far.sink one.sink))
 
--- all that is presented was put, up to the end of the reading
+-- all batches that a listener presents up to the end of the reading were put
 whole_heard : {s t : ShelfState} {first source : Sourcing} {fresh listener : ListenState} {old new : Output} {out mid : SinkState} {waits waits' : List ℕ} (how : End) (asked : Turning) (shape : Option Shape) (bytes : List ℕ) (files : Option Files) → is_closed listener ≡ closed_at (Ended how) → IsToTurn asked shape bytes files s first fresh old
     → IsPutSoFar s t first source fresh listener (Ended how) old new out mid waits waits' []
     → HasHeard asked shape bytes (Rose s.reading_faults t.reading_faults) files t new how listener.counts.presented (written out.held waits) (written mid.held waits')
@@ -425,12 +416,12 @@ still_made {t = t} so_far = subst (IsMadeIn t.slots) (sym so_far.slot) so_far.be
 
 -- ---- one more item
 
--- a batch was put if all its packets were written
+-- a batch is done if all its packets were written
 pub done_left : (so : Put) → so ≢ did.Unwritten → so ≡ did.Done
 done_left did.Done other = refl
 done_left did.Unwritten other = absurd (other refl)
 
--- a receiver that has ended gives no item
+-- a receiver that returns no item has ended
 pub ended_pull : (answer : Pull) → ((x : Shown) → answer ≡ pull.Item x → ⊥) → (items_of answer ≡ []) × IsSome (ending_of answer)
 ended_pull (pull.Item x) other = absurd (other x refl)
 ended_pull pull.Done other = (refl, refl)

@@ -17,7 +17,6 @@ use Rattle.avtp_tool.specs.state.Comparing.{AreOpen, ClosesTwo, OpensSlots, Read
 pub two_begun : (s : ShelfState) (k j : ℕ) → AreOpen s k j → ReadsTwo s s k j
 two_begun s k j live = record { files = KeepsFiles-refl s.files; live = live; others = λ i p q. refl; reading = omega arith; writing = refl; asked = λ names was. was }
 
--- the first file was read on
 pub two_on_a : {s t u : ShelfState} {k j n i : ℕ} → ReadsTwo s t k j → n ≡ k → ReadsSlot t u n i → ReadsTwo s u k j
 two_on_a {s} {t} {u} {k} {j} {n} {i} two same reads =
     let on = subst (λ (m : ℕ). ReadsSlot t u m i) same reads in
@@ -30,7 +29,6 @@ two_on_a {s} {t} {u} {k} {j} {n} {i} two same reads =
       asked = λ names was. on.asked names (two.asked names was);
     }
 
--- the second file was read on
 pub two_on_b : {s t u : ShelfState} {k j n i : ℕ} → ReadsTwo s t k j → n ≡ j → ReadsSlot t u n i → ReadsTwo s u k j
 two_on_b {s} {t} {u} {k} {j} {n} {i} two same reads =
     let on = subst (λ (m : ℕ). ReadsSlot t u m i) same reads in
@@ -43,12 +41,10 @@ two_on_b {s} {t} {u} {k} {j} {n} {i} two same reads =
       asked = λ names was. on.asked names (two.asked names was);
     }
 
--- a slot that is live was not free
 some_none : {A : Type 0} {P : Type 0} (o : Option A) → IsSome o → o ≡ None → P
 some_none None some none = absurd cc
 some_none (Some x) some none = absurd cc
 
--- one file was opened after the other
 pub opens_both : {s t u : ShelfState} {a b : List ℕ} {k j : ℕ} → OpensSlot s t a k → OpensSlot t u b j → t.reading_faults ≡ s.reading_faults → u.reading_faults ≡ t.reading_faults → OpensSlots s u a b k j
 opens_both {s} {t} {u} {a} {b} {k} {j} first second quiet still =
     let apart : k ≢ j = λ e. some_none (t.slots j) (subst (λ (n : ℕ). IsSome (t.slots n)) e first.live) second.free in
@@ -63,7 +59,6 @@ opens_both {s} {t} {u} {a} {b} {k} {j} first second quiet still =
       asked = λ earlier was. subst (WasAsked u.asked) (append_assoc earlier (a ∷ []) (b ∷ [])) (second.asked (earlier ++ a ∷ []) (first.asked earlier was));
     }
 
--- the second was closed, and then the first
 pub closes_both : {t u v : ShelfState} (k j : ℕ) → AreOpen t k j → ClosesSlot t u j → ClosesSlot u v k → ClosesTwo t v k j
 closes_both {t} {u} {v} k j live second first = record {
   ended_a = first.ended;
@@ -96,7 +91,7 @@ module _ {s t u v : ShelfState} {a b : List ℕ} {k j : ℕ} (opens : OpensSlots
     asked = λ earlier was. closes.asked (earlier ++ a ∷ b ∷ []) (reads.asked (earlier ++ a ∷ b ∷ []) (opens.asked earlier was));
   }
 
--- the first file was opened and closed, and in between the second could not be opened
+-- The first file was opened, the second could not be opened, and the first was closed.
 pub second_refused : {s t u v : ShelfState} {a b : List ℕ} {k : ℕ} → OpensSlot s t a k → OnlyReads t u (b ∷ []) → ClosesSlot u v k → OnlyReads s v (a ∷ b ∷ [])
 second_refused {s} {t} {u} {v} {a} {b} {k} opens only closes = record {
   files = KeepsFiles-trans s.files u.files v.files (KeepsFiles-trans s.files t.files u.files opens.files only.files) closes.files;
@@ -108,7 +103,7 @@ second_refused {s} {t} {u} {v} {a} {b} {k} opens only closes = record {
 
 -- ---- files that are shown
 
--- a shelf that shows its files showed them before
+-- if a shelf shows its files now, it showed them before
 pub shown_before : (o o' : Option Files) → KeepsFiles o o' → IsSome o' → IsSome o
 shown_before None None keeps some = some
 shown_before None (Some new) keeps some = absurd keeps
@@ -130,7 +125,8 @@ shown_still (Some old) (Some new) files told keeps some = (new, refl, λ name. k
 
 -- ---- why a file was not opened
 
--- why a file was not opened, with calls before and after that count no fault of reading
+-- `Refuses` still holds with other calls around the failed open, if none of them counts a fault of reading and the
+-- earlier ones change no file.
 pub refused_around : {name : List ℕ} {fault : OpenFault} (s t u v : ShelfState) → KeepsFiles s.files t.files → t.reading_faults ≡ s.reading_faults → v.reading_faults ≡ u.reading_faults
     → (IsErrOf {T = Sourcing} (Err fault) open_fault.Missing → IsMissing t.files name) → IsOpenCounted {T = Sourcing} t.reading_faults u.reading_faults (Err fault) → Refuses s v name fault
 refused_around {name} {fault} s t u v keeps first last missing counted = record {
@@ -144,13 +140,12 @@ refused_around {name} {fault} s t u v keeps first last missing counted = record 
   };
 }
 
--- there was no memory, and nothing was counted
 pub refused_memory : {name : List ℕ} (s v : ShelfState) → v.reading_faults ≡ s.reading_faults → Refuses s v name open_fault.Memory
 refused_memory s v same = record {
   missing = λ is. absurd cc;
   counted = record { never_falls = omega (arith, same); ok = tt; missing = λ is. absurd cc; memory = λ is. same; failed = λ is. absurd cc };
 }
 
--- what is left to read of a file is unchanged while another is opened
+-- opening another file leaves unchanged what is left to read of this file
 pub given_kept : {limit : ℕ} {bytes : List ℕ} {source : Sourcing} {records : List Record} (s t : ShelfState) → t.slots (slot_of source) ≡ s.slots (slot_of source) → HasGivenOf limit bytes s source records → HasGivenOf limit bytes t source records
 given_kept {limit} {bytes} {source} {records} s t same given = subst (λ (o : Option Open). HasGiven limit bytes (option_and_then (λ (f : Open). f.left) o) source records) (sym same) given

@@ -28,7 +28,7 @@ use Rattle.avtp_tool.specs.Status.{status_of}
 
 -- ---- lines
 
--- the line of a pair of batches with these frames and this sequence number, which differ in this way
+-- the line of a difference between the batches of frames `a` and `b`, both with sequence number `seq`
 abbrev pub way_line : ℕ → ℕ → ℕ → Way → List ℕ
 way_line a b seq (Count count_a count_b) = differ_count_line a b seq count_a count_b
 way_line a b seq (At sample at_a at_b) = differ_at_line a b seq sample at_a at_b
@@ -46,21 +46,22 @@ difference_lines list = flat_map difference_line list
 abbrev pub counts_line : PairCounts → List ℕ
 counts_line counts = end_agree_line counts.matched counts.only_a counts.only_b counts.differ
 
--- the line that says why a capture was not read to its end, or nothing if it was
+-- the line that says why a capture was not read to its end; nothing if it was read to its end
 abbrev pub side_line : ℕ → End → List ℕ
 side_line limit end.Whole = []
 side_line limit (end.Refused refusal) = capture_refused_line refusal
 side_line limit end.ReadFault = read_fault_line
 side_line limit end.Limit = limit_line limit
 
--- The last lines, given how the readings of A and B ended: the counts if both were read to their ends; otherwise a line for
--- each that was not, A's before B's.
+-- The last lines, given how the readings of A and B ended. If both captures were read to their ends, the counts;
+-- otherwise a line for each capture that was not, A's before B's.
 abbrev pub last_lines : ℕ → PairCounts → End → End → List ℕ
 last_lines limit counts end.Whole end.Whole = counts_line counts
 last_lines limit counts a b = side_line limit a ++ side_line limit b
 
--- The status, given the number of differences and how the readings ended: whether there are differences if both captures were
--- read to their ends, otherwise the status of A's reading or, if A was read to its end, of B's.
+-- The status, given the number of differences and how the readings ended. If both captures were read to their ends, it
+-- says whether there are differences. Otherwise it is the status of A's reading or, if A was read to its end, of B's
+-- reading.
 abbrev pub agree_status : ℕ → End → End → Status
 agree_status found end.Whole end.Whole = if found == 0 then status.Done else status.Findings
 agree_status found end.Whole b = status_of b
@@ -68,15 +69,15 @@ agree_status found a b = status_of a
 
 -- ---- two captures that are read without a fault
 
--- what a listener presents of a capture of these bytes: everything up to its end, a refused field or the limit
+-- what a listener presents from a capture of these bytes, up to the capture's end, a refused field or the limit
 abbrev pub presented_in : Agreeing → List ℕ → List Presented
 presented_in asked bytes = presented_of (shown_of (plan_of asked.listener) (records_in (take asked.listener.limit bytes)))
 
--- what is presented of two captures, merged into one list
+-- what a listener presents from two captures, merged into one list
 abbrev pub merged_in : Agreeing → List ℕ → List ℕ → List Sided
 merged_in asked x y = merged (presented_in asked x) (presented_in asked y)
 
--- the whole text of `agree` of two captures: their differences, and the last lines
+-- the whole text that `agree` prints of two captures: their differences, then the last lines
 abbrev pub compared_text : Agreeing → List ℕ → List ℕ → List ℕ
 compared_text asked x y =
     difference_lines (differences (merged_in asked x y))
@@ -89,55 +90,55 @@ compared_status asked x y =
 
 -- ---- a fault of reading
 
--- what is due of the first bytes of a capture
+-- what is already due when only `prefix`, the first bytes of a capture, was read
 abbrev pub due_in : Agreeing → List ℕ → List Presented
 due_in asked prefix = presented_of (due_of (plan_of asked.listener) (records_in prefix))
 
--- the text of `agree` if a fault of reading comes after these bytes of A: the differences in what is known by then, given all
--- that is presented of B, and the line of the fault
+-- The text of `agree` if a read fault occurs in A after `prefix`: the differences that are known by then, given all
+-- that is presented from B, and the line of the fault.
 abbrev pub text_without_a : Agreeing → List ℕ → List ℕ → List ℕ
 text_without_a asked prefix y = difference_lines (differences (known false true (merged (due_in asked prefix) (presented_in asked y)))) ++ read_fault_line
 
--- the text of `agree` if a fault of reading comes after these bytes of B: the differences in what is known by then, given all
--- that is presented of A, and the line of the fault
+-- The text of `agree` if a read fault occurs in B after `prefix`: the differences that are known by then, given all
+-- that is presented from A, and the line of the fault.
 abbrev pub text_without_b : Agreeing → List ℕ → List ℕ → List ℕ
 text_without_b asked x prefix = difference_lines (differences (known true false (merged (presented_in asked x) (due_in asked prefix)))) ++ read_fault_line
 
--- a file was not opened: it is missing, or a fault of reading came
+-- a file was not opened: it is missing, or a read fault occurred
 abbrev pub IsUnopened : Files → Type 0 → List ℕ → Type 0
 IsUnopened files fault name = (files name ≡ None) ⊎ fault
 
--- What a run of `agree` over these files can come to: the names that it asks for, the status that it ends with, and the text
--- that it prints. A fault of reading can come only if `fault` holds.
+-- What a run of `agree` over these files can result in: the names that it asks for, its status and its text. A read
+-- fault is possible only if `fault` holds.
 pub data AgreeOutcome (asked : Agreeing) (files : Files) (fault : Type 0) (came : List (List ℕ)) (ended : Status) (text : List ℕ) : Type 0 where
   -- A was not opened.
   without_a : IsUnopened files fault asked.a → came ≡ asked.a ∷ [] → ended ≡ status.ReadFault → text ≡ read_fault_line → AgreeOutcome asked files fault came ended text
   -- A was opened, and B was not.
   without_b : IsSome (files asked.a) → IsUnopened files fault asked.b → came ≡ asked.a ∷ asked.b ∷ [] → ended ≡ status.ReadFault → text ≡ read_fault_line → AgreeOutcome asked files fault came ended text
-  -- Both were opened and read to their ends, to a refused field or to the limit.
+  -- Both were opened, and each was read to its end, to a refused field or to the limit.
   compared : (x y : List ℕ) → files asked.a ≡ Some x → files asked.b ≡ Some y → came ≡ asked.a ∷ asked.b ∷ []
       → ended ≡ compared_status asked x y → text ≡ compared_text asked x y → AgreeOutcome asked files fault came ended text
-  -- A fault of reading came in A, after a prefix of it.
+  -- A read fault occurred after a prefix of A.
   cut_a : (x y prefix : List ℕ) → files asked.a ≡ Some x → files asked.b ≡ Some y → came ≡ asked.a ∷ asked.b ∷ []
       → EndsAt asked.listener.limit (Some x) fault end.ReadFault prefix → ended ≡ status.ReadFault → text ≡ text_without_a asked prefix y → AgreeOutcome asked files fault came ended text
-  -- A fault of reading came in B, after a prefix of it.
+  -- A read fault occurred after a prefix of B.
   cut_b : (x y prefix : List ℕ) → files asked.a ≡ Some x → files asked.b ≡ Some y → came ≡ asked.a ∷ asked.b ∷ []
       → EndsAt asked.listener.limit (Some y) fault end.ReadFault prefix → ended ≡ status.ReadFault → text ≡ text_without_b asked x prefix → AgreeOutcome asked files fault came ended text
 
--- ---- if no fault of reading comes
+-- ---- if no read fault occurs
 
--- the names that `agree` asks for if no fault of reading comes, given the bytes of A or that A is missing
+-- the names that `agree` asks for if no read fault occurs, given the bytes of A, or `None` if A is missing
 abbrev pub agree_came : Agreeing → Option (List ℕ) → List (List ℕ)
 agree_came asked None = asked.a ∷ []
 agree_came asked (Some x) = asked.a ∷ asked.b ∷ []
 
--- the status of `agree` if no fault of reading comes, given for A and for B its bytes or that it is missing
+-- the status of `agree` if no read fault occurs, given the bytes of A and of B, or `None` for a missing file
 abbrev pub agree_ended : Agreeing → Option (List ℕ) → Option (List ℕ) → Status
 agree_ended asked None told = status.ReadFault
 agree_ended asked (Some x) None = status.ReadFault
 agree_ended asked (Some x) (Some y) = compared_status asked x y
 
--- the whole text of `agree` if no fault of reading comes, given for A and for B its bytes or that it is missing
+-- the whole text of `agree` if no read fault occurs, given the bytes of A and of B, or `None` for a missing file
 abbrev pub agree_report : Agreeing → Option (List ℕ) → Option (List ℕ) → List ℕ
 agree_report asked None told = read_fault_line
 agree_report asked (Some x) None = read_fault_line
@@ -145,8 +146,8 @@ agree_report asked (Some x) (Some y) = compared_text asked x y
 
 -- ---- two captures of a talker that keeps the rules
 
--- What `agree` prints of two captures of a talker that keeps the rules, whatever each lost: no difference. Each pair is of one
--- packet or unit, and two batches of the same packet or unit are a pair.
+-- What `agree` prints of two captures of a talker that keeps the rules, whatever each lost: the last lines, and no
+-- difference. Both batches of a pair are of one packet or unit. Two batches of the same packet or unit form a pair.
 pub record HasAgreement (asked : Agreeing) (p : PacketJournal) (x y : List ℕ) (text : List ℕ) : Type 0 where
   pub printed : text ≡ last_lines asked.listener.limit (counts_of (merged_in asked x y)) (end_of asked.listener.limit x) (end_of asked.listener.limit y)
   pub none : (counts_of (merged_in asked x y)).differ ≡ 0

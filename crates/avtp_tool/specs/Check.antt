@@ -29,7 +29,7 @@ use Rattle.avtp_tool.specs.Yield.{says}
 
 -- ---- a record by itself
 
--- what `check` makes of a record that is refused or read
+-- `Malformed` if there is a refusal, otherwise `checked`
 abbrev pub malformed_or : Option Refusal → Checked → Checked
 malformed_or (Some refusal) checked = Malformed refusal
 malformed_or None checked = checked
@@ -45,18 +45,19 @@ seen_of stream packet = record {
   stamp_wrong = stamp_is_off packet;
 }
 
--- what `check` makes of a packet: it is noted if its stream id is valid, and passed over if its format is not read
+-- What `check` makes of a packet. If its format is not read, the packet is passed over. Otherwise the packet is noted
+-- if its stream ID is valid.
 abbrev pub checked_stream : Option PacketStream → AnyPacket → Checked
 checked_stream None packet = Passed
 checked_stream (Some stream) packet =
     if stream.sv then Marked (seen_of stream packet) else Unmarked stream.id (has_reserved packet)
 
--- what `check` makes of an AVTP packet that begins at this offset of its frame
+-- what `check` makes of an AVTP packet that begins at offset `start` of its frame
 unfoldable pub checked_packet : ℕ → List ℕ → Checked
 checked_packet start pdu =
     malformed_or (option_map (inside start) (packet_refusal pdu)) (checked_stream (stream_of (packet_of pdu)) (packet_of pdu))
 
--- what `check` makes of a frame; a frame of another EtherType is skipped
+-- what `check` makes of a frame: a frame whose EtherType is not AVTP's is passed over
 unfoldable pub checked_frame : Frame → Checked
 checked_frame frame = if frame.ethertype == avtp_ethertype then checked_packet frame.start frame.payload else Passed
 
@@ -66,51 +67,52 @@ checked_record bytes = malformed_or (frame_refusal bytes) (checked_frame (frame_
 
 -- ---- a record after others
 
--- what a record adds to the packets that are noted: its packet, or nothing
+-- what a record adds to the list of noted packets: its packet, or nothing
 abbrev pub noted : Checked → List Seen
 noted (Marked seen) = seen ∷ []
 noted checked = []
 
--- the packets of these records that are noted, in order
+-- the noted packets of these records, in order
 abbrev pub notes_of : List Record → List Seen
 notes_of records = flat_map (λ r. noted (checked_record r.bytes)) records
 
--- what `check` finds in a packet whose stream id is not valid: only whether a reserved bit is set
+-- what `check` finds in a packet whose stream ID is not valid: only whether a reserved bit is set
 abbrev pub unmarked_findings : Bool → Findings
 unmarked_findings reserved = record { reserved = reserved; step = None; hold = None; stamp = false; untracked = false }
 
--- a line for each finding in a record with this number, given the packets that were noted before it
+-- a line for each finding in the record `number`, given the packets that were noted before it
 abbrev pub found_lines : ℕ → List Seen → Checked → List (List ℕ)
 found_lines number notes Passed = []
 found_lines number notes (Malformed refusal) = malformed_line number refusal ∷ []
 found_lines number notes (Unmarked id reserved) = map (packet_line number id) (finding_texts (unmarked_findings reserved))
 found_lines number notes (Marked seen) = map (packet_line number seen.id) (finding_texts (findings notes seen))
 
--- a line for each finding in the next record after these
+-- a line for each finding in the record `r`, which follows the records `earlier`
 abbrev pub check_lines : List Record → Record → List (List ℕ)
 check_lines earlier r = found_lines (length earlier + 1) (notes_of earlier) (checked_record r.bytes)
 
 -- ---- a capture
 
--- lines one after another, as one text
+-- these lines in order, as one text
 abbrev pub joined_lines : List (List ℕ) → List ℕ
 joined_lines lines = flat_map (λ line. line) lines
 
--- the last line: the counts if the capture was read to its end, otherwise why it was not
+-- the last line: the counts, or why the capture was not read to its end
 abbrev pub total_line : ℕ → ℕ → ℕ → ℕ → End → List ℕ
 total_line limit frames streams found end.Whole = end_check_line frames streams found
 total_line limit frames streams found (end.Refused refusal) = capture_refused_line refusal
 total_line limit frames streams found end.ReadFault = read_fault_line
 total_line limit frames streams found end.Limit = limit_line limit
 
--- what `check` prints of a capture with this name, whose reading ends in this way after these records: its name, a line for
--- each finding, and the last line
+-- What `check` prints of the capture `name` with these records, whose reading ends as `how`: the name, a line for each
+-- finding, and the last line.
 abbrev pub check_text : ℕ → List ℕ → List Record → End → List ℕ
 check_text limit name records how =
     (capture_line name ++ joined_lines (of_each check_lines records))
     ++ total_line limit (length records) (length (tracked (notes_of records))) (length (of_each check_lines records)) how
 
--- The status of a capture: whether it has findings if it was read to its end, otherwise the status of how its reading ended.
+-- The status of a capture. If the capture was read to its end, the status says whether there are findings. Otherwise it
+-- is the status of how the reading ended.
 abbrev pub check_status : ℕ → End → Status
 check_status found end.Whole = if found == 0 then status.Done else status.Findings
 check_status found how = status_of how
@@ -122,6 +124,6 @@ check_report limit name = record {
   yields = λ records how. says (check_text limit name records how);
 }
 
--- what `check` reads, and what it makes of each file
+-- the plan of `check`: which files it reads, and what it makes of each
 abbrev pub check_plan : ℕ → List (List ℕ) → ReadPlan
 check_plan limit names = record { names = names; limit = limit; report = check_report limit }

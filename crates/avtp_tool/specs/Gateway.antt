@@ -40,7 +40,7 @@ format_of words.Aaf = to.Aaf
 
 -- ---- names and lines
 
--- the name of what keeps a stream from being converted
+-- the printed name of the reason why a stream cannot be converted
 abbrev pub fault_name : ScanFault → List ℕ
 fault_name fault.Kind = codes "kind"
 fault_name fault.Format = codes "format"
@@ -52,34 +52,35 @@ fault_name fault.Label = codes "label"
 abbrev pub fault_line : FaultAt → List ℕ
 fault_line at = gateway_input_line (fault_name at.fault) at.frame
 
--- the name of a reason to skip a batch
+-- the printed name of a reason to skip a batch
 abbrev pub skip_name : Skip → List ℕ
 skip_name skip.ShapeOff = codes "shape"
 skip_name skip.Overlap = codes "overlap"
 skip_name skip.Range = codes "range"
 
--- A batch that is skipped: the frame of its packet, and why.
+-- A skipped batch: the number of its packet's frame, and the reason.
 pub record Skipped : Type 0 where
   pub frame : ℕ
   pub why : Skip
 
--- the line of a batch that is skipped
+-- the line of a skipped batch
 abbrev pub skipped_line : Skipped → List ℕ
 skipped_line s = skip_line s.frame (skip_name s.why)
 
--- ---- batches that are skipped
+-- ---- skipped batches
 
--- the batch of this frame, if there is a reason to skip it
+-- the skipped batch of frame `frame`, if there is a reason to skip it
 abbrev pub skipped_at : ℕ → Option Skip → List Skipped
 skipped_at frame None = []
 skipped_at frame (Some why) = record { frame = frame; why = why } ∷ []
 
--- what was given out once this batch is taken, too; a batch that is skipped changes nothing
+-- What the gateway has given out after `batch`, if `given` is what it had given out before. A skipped batch changes
+-- nothing.
 abbrev pub given_next : To → Option Shape → Given → Presented → Given
 given_next to None given batch = given
 given_next to (Some shape) given batch = unless (skip_by to shape given batch) (given_with to shape given batch) given
 
--- the batches of a list that are skipped, in order, given what was given out before them
+-- the skipped batches of a list, in order, if `given` is what the gateway had given out before them
 abbrev pub skips_after : To → Option Shape → Given → List Presented → List Skipped
 skips_after to shape given [] = []
 skips_after to shape given (batch ∷ batches) =
@@ -87,11 +88,11 @@ skips_after to shape given (batch ∷ batches) =
 
 -- ---- a capture that is converted
 
--- the records of IN that are read within the limit
+-- the records that are read from IN within the limit
 abbrev pub records_of : Turning → List ℕ → List Record
 records_of asked bytes = records_in (take asked.listener.limit bytes)
 
--- the first of these records that cannot be converted, if there is one
+-- the first of these records that cannot be converted, if any
 abbrev pub fault_in : Turning → List Record → Option FaultAt
 fault_in asked records = first_fault (format_of asked.to) asked.listener.stream records
 
@@ -99,7 +100,7 @@ fault_in asked records = first_fault (format_of asked.to) asked.listener.stream 
 abbrev pub shape_asked : Turning → List Record → Option Shape
 shape_asked asked records = shape_in asked.listener.stream records
 
--- what a listener presents of these records if the reading of their capture ended in this way
+-- the batches that a listener presents from these records if the reading of their capture ended as `how`
 abbrev pub batches_by : Turning → List Record → End → List Presented
 batches_by asked records how = presented_of (shown_by (plan_of asked.listener) records how)
 
@@ -107,26 +108,27 @@ batches_by asked records how = presented_of (shown_by (plan_of asked.listener) r
 abbrev pub turned_frames : Turning → Option Shape → List Presented → List SentFrame
 turned_frames asked shape batches = gateway_frames (format_of asked.to) shape asked.id batches
 
--- the batches of this list that are skipped
+-- the skipped batches of this list
 abbrev pub skips_in : Turning → Option Shape → List Presented → List Skipped
 skips_in asked shape batches = skips_after (format_of asked.to) shape nothing_given batches
 
--- the capture that is made: a record for each frame
+-- the capture that is made: one record for each frame
 abbrev pub turned_capture : Turning → Option Shape → List Presented → List ℕ
 turned_capture asked shape batches = capture_of (turned_frames asked shape batches)
 
--- the last line, if the reading ended in this way: the numbers of batches, packets and skipped batches, or why the capture was
--- not read to its end
+-- The last line, if the reading ended as `how`: the numbers of batches, packets and skipped batches, or why the capture
+-- was not read to its end.
 abbrev pub turned_last : Turning → Option Shape → List Presented → End → List ℕ
 turned_last asked shape batches end.Whole =
     gateway_line (length batches) (length (turned_frames asked shape batches)) (length (skips_in asked shape batches))
 turned_last asked shape batches how = side_line asked.listener.limit how
 
--- the text: a line for each batch that is skipped, and the last line
+-- the text: a line for each skipped batch, then the last line
 abbrev pub turned_text : Turning → Option Shape → List Presented → End → List ℕ
 turned_text asked shape batches how = flat_map skipped_line (skips_in asked shape batches) ++ turned_last asked shape batches how
 
--- the status: whether batches were skipped if the capture was read to its end, otherwise the status of how its reading ended
+-- The status. If the capture was read to its end, the status says whether batches were skipped. Otherwise it is the
+-- status of how the reading ended.
 abbrev pub turned_status : ℕ → End → Status
 turned_status skipped end.Whole = if skipped == 0 then status.Done else status.Findings
 turned_status skipped how = status_of how
@@ -138,8 +140,8 @@ pub record CanTurn (asked : Turning) (bytes : List ℕ) : Type 0 where
   pub whole : end_of asked.listener.limit bytes ≡ end.Whole
   pub none : fault_in asked (records_of asked bytes) ≡ None
 
--- IN can be converted, and its stream has this shape. It was read again, to its end or to a fault of reading, and a listener
--- presents these batches of what was read.
+-- IN can be converted, and its stream has the shape `shape`. IN was read again, to its end or to a read fault.
+-- `batches` are what a listener presents from what was read.
 pub record HearsInput (asked : Turning) (files : Files) (fault : Type 0) (shape : Option Shape) (batches : List Presented) (how : End) : Type 0 where
   pub bytes : List ℕ
   pub prefix : List ℕ
@@ -149,8 +151,8 @@ pub record HearsInput (asked : Turning) (files : Files) (fault : Type 0) (shape 
   pub shape_is : shape ≡ shape_asked asked (records_of asked bytes)
   pub presented : batches ≡ batches_by asked (records_in prefix) how
 
--- What a run of `gateway` over these files can come to: the names that it asks for, the status that it ends with, the text that
--- it prints, and the capture that it makes. A fault of reading can come only if `fault` holds.
+-- What a run of `gateway` over these files can result in: the names that it asks for, its status, its text, and the
+-- capture that it makes. A read fault is possible only if `fault` holds.
 pub data GatewayOutcome (asked : Turning) (files : Files) (fault : Type 0) (came : List (List ℕ)) (ended : Status) (text : List ℕ) (made : Option (List ℕ)) : Type 0 where
   -- IN was not opened.
   unopened : IsUnopened files fault asked.input → came ≡ asked.input ∷ [] → ended ≡ status.ReadFault → text ≡ read_fault_line → made ≡ None
@@ -158,7 +160,7 @@ pub data GatewayOutcome (asked : Turning) (files : Files) (fault : Type 0) (came
   -- A record of IN cannot be converted.
   faulty : (bytes : List ℕ) (at : FaultAt) → files asked.input ≡ Some bytes → fault_in asked (records_of asked bytes) ≡ Some at
       → came ≡ asked.input ∷ [] → ended ≡ status.TalkInput → text ≡ fault_line at → made ≡ None → GatewayOutcome asked files fault came ended text made
-  -- The scan ended before the end of IN, and each record up to there can be converted.
+  -- The scan ended before the end of IN, and each record that was read can be converted.
   cut : (bytes prefix : List ℕ) (how : End) → files asked.input ≡ Some bytes → EndsAt asked.listener.limit (Some bytes) fault how prefix → how ≢ end.Whole
       → fault_in asked (records_in prefix) ≡ None → came ≡ asked.input ∷ [] → ended ≡ status_of how → text ≡ side_line asked.listener.limit how → made ≡ None
       → GatewayOutcome asked files fault came ended text made
@@ -167,9 +169,9 @@ pub data GatewayOutcome (asked : Turning) (files : Files) (fault : Type 0) (came
       → ended ≡ turned_status (length (skips_in asked shape batches)) how → text ≡ turned_text asked shape batches how → made ≡ Some (turned_capture asked shape batches)
       → GatewayOutcome asked files fault came ended text made
 
--- What the capture that `gateway` makes keeps of IN. It is whole. A listener presents in it exactly the samples of the batches
--- that are presented of IN and not skipped, in order, with the same values at the same instants. `check` prints no finding of it.
--- With status 0 no batch is skipped.
+-- What the capture OUT keeps of IN. OUT is whole. From OUT a listener presents exactly the samples of those batches of
+-- IN that are not skipped, in order, with the same values at the same instants. `check` prints no finding for OUT. With
+-- status 0 no batch is skipped.
 pub record KeepsInput (asked : Turning) (files : Files) (fault : Type 0) (ended : Status) (capture : List ℕ) : Type 0 where
   pub shape : Option Shape
   pub batches : List Presented
@@ -179,48 +181,50 @@ pub record KeepsInput (asked : Turning) (files : Files) (fault : Type 0) (ended 
   pub silent : of_each check_lines (whole_records capture) ≡ []
   pub all : ended ≡ status.Done → SkipsNone (format_of asked.to) shape batches
 
--- ---- if no fault of reading comes
+-- ---- if no read fault occurs
 
--- the names that `gateway` asks for, given the first record that cannot be converted, if any, and how the scan ended
+-- the names that `gateway` asks for, given how the scan ended and the first record that cannot be converted, if any
 abbrev pub came_by : Turning → Option FaultAt → End → List (List ℕ)
 came_by asked (Some at) how = asked.input ∷ []
 came_by asked None end.Whole = asked.input ∷ asked.output ∷ asked.input ∷ []
 came_by asked None how = asked.input ∷ []
 
--- the status of `gateway`, given the records of IN, the first that cannot be converted, if any, and how the scan ended
+-- the status of `gateway`, given the records of IN, how the scan ended, and the first record that cannot be converted,
+-- if any
 abbrev pub ended_by : Turning → List Record → Option FaultAt → End → Status
 ended_by asked records (Some at) how = status.TalkInput
 ended_by asked records None how = turned_status (length (skips_in asked (shape_asked asked records) (batches_by asked records how))) how
 
--- the text of `gateway`, given the records of IN, the first that cannot be converted, if any, and how the scan ended
+-- the text of `gateway`, given the records of IN, how the scan ended, and the first record that cannot be converted, if
+-- any
 abbrev pub text_by : Turning → List Record → Option FaultAt → End → List ℕ
 text_by asked records (Some at) how = fault_line at
 text_by asked records None end.Whole = turned_text asked (shape_asked asked records) (batches_by asked records end.Whole) end.Whole
 text_by asked records None how = side_line asked.listener.limit how
 
--- the capture that `gateway` makes, if it makes one, given the records of IN, the first that cannot be converted, if any, and
--- how the scan ended
+-- the capture that `gateway` makes, or `None`, given the records of IN, how the scan ended, and the first record that
+-- cannot be converted, if any
 abbrev pub made_by : Turning → List Record → Option FaultAt → End → Option (List ℕ)
 made_by asked records (Some at) how = None
 made_by asked records None end.Whole = Some (turned_capture asked (shape_asked asked records) (batches_by asked records end.Whole))
 made_by asked records None how = None
 
--- the names that `gateway` asks for if no fault of reading comes, given the bytes of IN or that IN is missing
+-- the names that `gateway` asks for if no read fault occurs, given the bytes of IN, or `None` if IN is missing
 abbrev pub gateway_came : Turning → Option (List ℕ) → List (List ℕ)
 gateway_came asked None = asked.input ∷ []
 gateway_came asked (Some bytes) = came_by asked (fault_in asked (records_of asked bytes)) (end_of asked.listener.limit bytes)
 
--- the status of `gateway` if no fault of reading comes, given the bytes of IN or that IN is missing
+-- the status of `gateway` if no read fault occurs, given the bytes of IN, or `None` if IN is missing
 abbrev pub gateway_ended : Turning → Option (List ℕ) → Status
 gateway_ended asked None = status.ReadFault
 gateway_ended asked (Some bytes) = ended_by asked (records_of asked bytes) (fault_in asked (records_of asked bytes)) (end_of asked.listener.limit bytes)
 
--- the whole text of `gateway` if no fault of reading comes, given the bytes of IN or that IN is missing
+-- the whole text of `gateway` if no read fault occurs, given the bytes of IN, or `None` if IN is missing
 abbrev pub gateway_report : Turning → Option (List ℕ) → List ℕ
 gateway_report asked None = read_fault_line
 gateway_report asked (Some bytes) = text_by asked (records_of asked bytes) (fault_in asked (records_of asked bytes)) (end_of asked.listener.limit bytes)
 
--- the capture that `gateway` makes if no fault of reading comes, given the bytes of IN or that IN is missing
+-- the capture that `gateway` makes if no read fault occurs, given the bytes of IN, or `None` if IN is missing
 abbrev pub gateway_made : Turning → Option (List ℕ) → Option (List ℕ)
 gateway_made asked None = None
 gateway_made asked (Some bytes) = made_by asked (records_of asked bytes) (fault_in asked (records_of asked bytes)) (end_of asked.listener.limit bytes)

@@ -1,4 +1,4 @@
--- What the command promises: one record for words that are a command line, and one for words that are not.
+-- What the command promises: `HasRun` if the words are a command line, `RefusesWords` if they are not.
 use Rattle.std.specs.Prelude.{◌≡◌, ◌≢◌, ◌≤◌, ◌⊎◌, ◌++◌, ◌∷◌, ℕ, ℤ, List, length, take, Option, Some, None, IsSome, Bool, true, false}
 use mathlib.Core.List.{IsPrefix}
 use Rattle.avtp_base.specs.Faults.{IsQuiet, Rose}
@@ -24,12 +24,12 @@ use Rattle.avtp_tool.specs.Yield.{Yield}
 
 -- ---- what is printed and given to devices
 
--- no fault of reading came
+-- no read fault occurred
 abbrev pub ReadsAll : ShelfState → ShelfState → Type 0
 ReadsAll shelf shelf' = IsQuiet shelf.reading_faults shelf'.reading_faults
 
--- `agree` compares two captures, each up to its end, a refused field or the limit, and both have what a listener hears of one
--- talker that keeps the rules, whatever each lost, repeated or reordered.
+-- `agree` compares the captures `x` and `y`, each up to its end, a refused field or the limit. In both, a listener
+-- hears the same talker, which keeps the rules, whatever each capture lost, repeated or reordered.
 pub record ComparesTalker (request : Request) (files : Files) (asked : Agreeing) (x y : List ℕ) (shift : ℤ) (p : PacketJournal) : Type 0 where
   pub compares : request ≡ agree asked
   pub told_a : files asked.a ≡ Some x
@@ -40,35 +40,37 @@ pub record ComparesTalker (request : Request) (files : Files) (asked : Agreeing)
 -- What a run of the request over these files printed, gave to devices, asked for and made.
 pub record Reports (request : Request) (files : Files) (failed : Bool) (handed : List Shown → Type 0) (shelf shelf' : ShelfState)
     (out out' : SinkState) (ended : Status) : Type 0 where
-  -- the names of the files that the run reached, the status of reading them, and what this yields
+  -- the names of the files that the run reached, the status of its outcome, and what the run yields
   pub came : List (List ℕ)
   pub reached : Status
   pub yields : Yield
-  -- the capture that the run makes, if it makes one
+  -- the capture that the run makes, if any
   pub made : Option (List ℕ)
   pub outcome : Outcome request files (Rose shelf.reading_faults shelf'.reading_faults) failed came reached yields made
-  -- Unless memory ran out or a write failed, the run ends with that status, all of the text was written, each item was given to
-  -- the devices, the shelf was asked only for these names, and the output has what the run makes.
+  -- Unless memory ran out or a write failed: The run ends with the status `reached`. All of the text was written, and
+  -- each item was given to the devices. The shelf was asked for exactly the names `came`. The output has what the run
+  -- makes.
   pub whole : ended ≢ status.Memory → ended ≢ status.WriteFault →
       (ended ≡ reached) × Appends out.held out'.held yields.text × handed yields.items × Asks came shelf shelf' × MakesOutput (output_of request) made shelf.files shelf'.files
-  -- In any case a prefix of the text was written, a prefix of the items was given to the devices, and the output is unchanged
-  -- or has a prefix of what the run makes.
+  -- In any case, a prefix of the text was written, and a prefix of the items was given to the devices. The output is
+  -- unchanged or has a prefix of what the run makes.
   pub written : AppendsPrefix out.held out'.held yields.text
   pub items : List Shown
   pub first : IsPrefix items yields.items
   pub given : handed items
   pub begun : MakesPart (output_of request) made shelf.files shelf'.files
-  -- If no fault of reading came, this is the whole report on these files.
+  -- If no read fault occurred, the names, the status, the yield and the capture are those of the whole report on these
+  -- files.
   pub complete : ReadsAll shelf shelf' →
       (came ≡ came_for request files) × (reached ≡ status_for request files failed) × (yields ≡ yield_for request files failed) × (made ≡ made_for request files)
-  -- What `listen` yields of each file that it reached is as the headline says, as far as the file was read and is of a talker
-  -- that keeps the rules. Each file may have its own journal.
+  -- Each file that `listen` reached yields what the headline says, as far as the file was read and its talker keeps the
+  -- rules. Each file may have its own journal.
   pub headline : (asked : Listening) (earlier later : List (List ℕ)) (name bytes : List ℕ) → request ≡ listen asked → came ≡ earlier ++ name ∷ later →
       files name ≡ Some bytes → HasHeadline asked files (Rose shelf.reading_faults shelf'.reading_faults) earlier name bytes yields
-  -- What `agree` prints of two captures of a talker that keeps the rules.
+  -- what `agree` prints of two captures of one talker that keeps the rules, if no read fault occurred
   pub agreement : ReadsAll shelf shelf' → (asked : Agreeing) (x y : List ℕ) (shift : ℤ) (p : PacketJournal) →
       ComparesTalker request files asked x y shift p → HasAgreement asked p x y yields.text
-  -- What the capture that `gateway` makes keeps.
+  -- what the capture that `gateway` makes keeps of its input
   pub kept : (asked : Turning) (capture : List ℕ) → request ≡ gateway asked → made ≡ Some capture →
       KeepsInput asked files (Rose shelf.reading_faults shelf'.reading_faults) reached capture
 
@@ -80,9 +82,9 @@ pub record TellsFailed (request : Request) (failed : Bool) (ended : Status) : Ty
   pub fault : ended ≡ status.DeviceFault → (is_listening request ≡ true) × (failed ≡ true)
   pub quiet : is_listening request ≡ true → ended ≡ status.Done → failed ≡ false
 
--- A run ends with a fault of reading only if the shelf counted one or a file is missing, and with a fault of writing only if
--- the sink or the shelf counted one. The counts of writing faults rise only then; that of reading faults may also rise if
--- memory ran out or a write failed.
+-- A run ends with a read fault only if the shelf counted a read fault or a file is missing. It ends with a write fault
+-- only if the sink or the shelf counted a write fault. The counts of write faults rise only then. The count of read
+-- faults may also rise if memory ran out or a write failed.
 pub record HasCauses (request : Request) (shelf shelf' : ShelfState) (out out' : SinkState) (ended : Status) : Type 0 where
   pub read : ended ≡ status.ReadFault → Rose shelf.reading_faults shelf'.reading_faults ⊎ IsOneMissing (files_of request) shelf.files
   pub not_read : ended ≢ status.ReadFault → ended ≢ status.WriteFault → ended ≢ status.Memory → shelf'.reading_faults ≡ shelf.reading_faults
@@ -98,7 +100,7 @@ pub record HasCauses (request : Request) (shelf shelf' : ShelfState) (out out' :
 -- unchanged, and `failed` whether a device failed.
 pub record HasRun (request : Request) (handed : List Shown → Type 0) (still : Type 0) (failed : Bool) (shelf shelf' : ShelfState)
     (out out' : SinkState) (ended : Status) : Type 0 where
-  -- what is printed and given to devices, if the shelf shows its files before and after the run
+  -- what the run printed and gave to devices, if the shelf shows its files before and after the run
   pub reports : (files : Files) → shelf.files ≡ Some files → IsSome shelf'.files → Reports request files failed handed shelf shelf' out out' ended
   -- the sink keeps what it held
   pub grows : Grows out.held out'.held
@@ -106,7 +108,8 @@ pub record HasRun (request : Request) (handed : List Shown → Type 0) (still : 
   pub files : KeepsFilesBut (output_of request) shelf.files shelf'.files
   -- each file that was opened is closed
   pub slots : KeepsSlotsFor (output_of request) shelf'.files shelf.slots shelf'.slots
-  -- only names that the words give were asked for, in their order; all of them if everything was done
+  -- The shelf was asked only for names that the words give, in their order. If everything was done, it was asked for
+  -- all of them.
   pub names : AsksFor (names_of request) shelf shelf' (is_through ended ≡ true)
   pub devices : TellsFailed request failed ended
   -- only `listen` touches the devices
@@ -114,8 +117,8 @@ pub record HasRun (request : Request) (handed : List Shown → Type 0) (still : 
   pub causes : HasCauses request shelf shelf' out out' ended
   pub not_words : ended ≢ status.Words
 
--- A run whose words are not a command line printed the position of the first word that is not accepted there, and did nothing
--- else. `still` says that the shelf and the devices are unchanged.
+-- If the words are not a command line, the run prints the position of the first wrong word, and does nothing else.
+-- `still` says that the shelf and the devices are unchanged.
 pub record RefusesWords (position : ℕ) (still : Type 0) (out out' : SinkState) (ended : Status) : Type 0 where
   pub whole : ended ≢ status.Memory → ended ≢ status.WriteFault → (ended ≡ status.Words) × Appends out.held out'.held (words_line position)
   pub written : AppendsPrefix out.held out'.held (words_line position)

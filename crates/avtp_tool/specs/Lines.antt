@@ -1,12 +1,13 @@
--- What is printed of the records of a capture, one after another.
+-- What is printed of the records of a capture, in order.
 use Rattle.std.specs.Prelude.{List, [], ◌∷◌, ◌++◌}
 use Rattle.pcap_frames.specs.Capture.{Record}
 
--- What `one` makes of each of these records, given the records before it: `earlier` are those before the first.
+-- For each of `records`, what `one` makes of it and of the records before it. `earlier` are the records before the
+-- first of `records`.
 unfoldable pub after : {A : Type 0} → (List Record → Record → List A) → List Record → List Record → List A
 after one earlier [] = []
 after one earlier (r ∷ records) = one earlier r ++ after one (earlier ++ r ∷ []) records
 
--- what `one` makes of each record of a capture, given the records before it
+-- for each record of a capture, what `one` makes of it and of the records before it
 abbrev pub of_each : {A : Type 0} → (List Record → Record → List A) → List Record → List A
 of_each one records = after one [] records

@@ -24,31 +24,31 @@ use Rattle.avtp_tool.specs.Reading.{InOrder, one_outcome, ReadPlan, Report}
 use Rattle.avtp_tool.specs.Status.{status_of}
 use Rattle.avtp_tool.specs.Yield.{says, with_more, Yield}
 
--- the listener that the words ask for
+-- the plan of the listener that the words ask for
 abbrev pub plan_of : ListenerOptions → ListenPlan
 plan_of asked = record { stream = asked.stream; clock = asked.clock; buffer = asked.buffer; room = asked.room; look = asked.look; lead = asked.lead; shift = asked.shift }
 
--- What is shown of these records, if the reading of their capture ended in this way: all of it at the capture's end or at a
--- field that is refused, and what was due so far if the reading was cut short.
+-- What is shown of these records, if the reading of their capture ended as `how`. At the capture's end or at a refused
+-- field, everything is shown. If the reading was cut short, only what was due by then is shown.
 abbrev pub shown_by : ListenPlan → List Record → End → List Shown
 shown_by plan records end.Whole = shown_of plan records
 shown_by plan records (end.Refused refusal) = shown_of plan records
 shown_by plan records end.ReadFault = due_of plan records
 shown_by plan records end.Limit = due_of plan records
 
--- the last line: the counts if the capture was read to its end, otherwise why it was not
+-- the last line: the counts, or why the capture was not read to its end
 abbrev pub last_line : ℕ → Counts → End → List ℕ
 last_line limit counts end.Whole = end_listen_line counts
 last_line limit counts (end.Refused refusal) = capture_refused_line refusal
 last_line limit counts end.ReadFault = read_fault_line
 last_line limit counts end.Limit = limit_line limit
 
--- the capture's name, and the lines of what is shown of it
+-- the capture's name, and the lines of what is shown of the capture
 abbrev pub shown_text : List ℕ → List Shown → List ℕ
 shown_text name shown = capture_line name ++ list_lines shown
 
--- What an open capture with this name yields if its reading ends in this way after these records: its name, the lines of each
--- item that is shown, the items for the devices, and the last line.
+-- What the open capture `name` yields if its reading ends as `how` after these records. The text is the name, the lines
+-- of each shown item, and the last line. The devices get the shown items.
 abbrev pub heard_yield : Listening → List ℕ → List Record → End → Yield
 heard_yield asked name records how = record {
   text = shown_text name (shown_by (plan_of asked.listener) records how)
@@ -60,37 +60,38 @@ heard_yield asked name records how = record {
 abbrev pub listen_report : Listening → List ℕ → Report
 listen_report asked name = record { status = λ records how. status_of how; yields = heard_yield asked name }
 
--- what `listen` reads, and what it makes of each file
+-- the plan of `listen`: which files it reads, and what it makes of each
 abbrev pub listen_plan : Listening → ReadPlan
 listen_plan asked = record { names = asked.files; limit = asked.listener.limit; report = listen_report asked }
 
 -- ---- a talker that keeps the rules
 
--- the capture was read neither to its end nor to a field that is refused
+-- the reading was cut short, by a read fault or the limit
 abbrev pub is_cut_short : End → Bool
 is_cut_short end.Whole = false
 is_cut_short (end.Refused refusal) = false
 is_cut_short end.ReadFault = true
 is_cut_short end.Limit = true
 
--- What an opened capture yields: the lines of what is shown of the records that were read, which the devices get, too. As far as
--- these records are of a talker that keeps the rules, it is as the headline says.
+-- What an opened capture yields: the text and the items of the records that were read. As far as the records are those
+-- of a talker that keeps the rules, what is shown is as the headline says.
 pub record YieldsHeadline (asked : Listening) (name bytes : List ℕ) (fault : Type 0) (yields : Yield) : Type 0 where
-  -- how the reading ended, and the bytes before that place
+  -- how the reading ended, and the bytes that were read before it ended
   pub how : End
   pub read : List ℕ
   pub ends : EndsAt asked.listener.limit (Some bytes) fault how read
   pub same : yields ≡ heard_yield asked name (records_in read) how
-  -- If the first records are a talker's, what is shown begins with what is due of them, and that is as the headline says, whatever
-  -- records follow.
+  -- If the records `first` are a talker's, what is shown begins with what is due of `first`. That part is as the
+  -- headline says, whatever records follow.
   pub front : (shift : ℤ) (p : PacketJournal) (first others : List Record) → records_in read ≡ first ++ others → HearsTalker shift p (plan_of asked.listener) first →
       IsPrefix (due_of (plan_of asked.listener) first) yields.items × IsTrueFront p (plan_of asked.listener) first others
-  -- If all of them are, and the capture was read to its end, all that is shown keeps the headline.
+  -- If all records are a talker's and the reading was not cut short, all that is shown is as the headline says.
   pub whole : (shift : ℤ) (p : PacketJournal) → is_cut_short how ≡ false → HearsTalker shift p (plan_of asked.listener) (records_in read) →
       KeepsHeadline shift p (plan_of asked.listener) (records_in read) yields.items
 
--- What a run yields, in three parts: what the earlier files yield, all of which were read to their ends; what this file yields,
--- which is a fault if it could not be opened and otherwise as the headline says; and the rest.
+-- What a run yields, in three parts. `before` is what the earlier files yield, all of which were read to their ends.
+-- `here` is what this file yields: a read fault if it could not be opened, otherwise what the headline says. `after` is
+-- what later files yield.
 pub record HasHeadline (asked : Listening) (files : Files) (fault : Type 0) (earlier : List (List ℕ)) (name bytes : List ℕ) (yields : Yield) : Type 0 where
   pub before : Yield
   pub done : Status

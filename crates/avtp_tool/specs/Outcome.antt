@@ -1,31 +1,32 @@
--- The possible outcomes of a command's run: the status that it ends with and what it yields.
+-- The possible outcomes of a command's run: its status, and what it yields.
 use Rattle.std.specs.Prelude.{◌≡◌, ℕ, ◌≤◌, List, length, take, Option, Bool, true, false, Contains}
 use Rattle.avtp_base.specs.Files.{Files, IsMissing}
 use Rattle.avtp_base.specs.States.{Asks, ShelfState}
 use Rattle.avtp_tool.specs.declared.status.Status.{Status}
 use Rattle.avtp_tool.specs.declared.status.Status.TheVariants as status
 
--- ---- what a run left
+-- ---- the status and the yield
 
--- the command did all that it does, and ends with `Done` or `Findings`
+-- the status is `Done` or `Findings`: the command did everything that was asked for
 abbrev pub is_done : Status → Bool
 is_done status.Done = true
 is_done status.Findings = true
 is_done ended = false
 
--- the outcome with this status and this yield, and no other
+-- the only possible outcome has the status `ended` and the yield `yields`
 abbrev pub Only : {Y : Type 0} → Status → Y → Status → Y → Type 0
 Only ended yields e y = (e ≡ ended) × (y ≡ yields)
 
--- ---- reading faults, and names
+-- ---- read faults, and names
 
--- the shelf shows that one of these files is missing
+-- at least one of these files is missing on the shelf
 pub record IsOneMissing (names : List (List ℕ)) (files : Option Files) : Type 0 where
   pub name : List ℕ
   pub one : Contains names name
   pub missing : IsMissing files name
 
--- A shelf was asked for the first of these names, in their order, and for no others; for all of them if everything was done.
+-- The names that a shelf was asked for are the first of `names`, in order, and no others. If `done` holds, they are all
+-- of `names`.
 pub record AsksFor (names : List (List ℕ)) (shelf shelf' : ShelfState) (done : Type 0) : Type 0 where
   pub count : ℕ
   pub within : count ≤ length names

@@ -1,4 +1,4 @@
--- Files that a command reads in order: the possible outcomes of each, and of all.
+-- Files that a command reads in order: the possible outcomes of one file, and of all files.
 use Rattle.std.specs.Prelude.{◌≡◌, ◌⊎◌, ℕ, List, [], ◌∷◌, take, Option, Some, None, if◌then◌else◌, true, false}
 use Rattle.avtp_base.specs.Files.{Files}
 use Rattle.pcap_frames.specs.Capture.{Record}
@@ -13,13 +13,13 @@ use Rattle.avtp_tool.specs.Outcome.{is_done}
 
 -- ---- one file
 
--- What a command makes of a file: the status that it ends with and what it yields, each given the records before the place
--- where the reading ended, and how it ended.
+-- What a command makes of a file: the status, and what the command yields. Both depend on the records that were read
+-- and on how the reading ended.
 pub record Report : Type 0 where
   pub status : List Record → End → Status
   pub yields : List Record → End → Yield
 
--- A possible outcome of a file of these bytes that was opened, and of which at most `limit` bytes are read.
+-- A possible outcome of an opened file with these bytes, of which at most `limit` are read.
 pub record ReadOutcome (report : Report) (limit : ℕ) (bytes : List ℕ) (fault : Type 0) (ended : Status) (yields : Yield) : Type 0 where
   pub how : End
   pub prefix : List ℕ
@@ -27,32 +27,33 @@ pub record ReadOutcome (report : Report) (limit : ℕ) (bytes : List ℕ) (fault
   pub status : ended ≡ report.status (records_in prefix) how
   pub given : yields ≡ report.yields (records_in prefix) how
 
--- The possible outcomes of a file, given its bytes or that it is missing: the status that it ends with, and what it yields. A
--- missing file ends with a fault of reading. Any other fault of reading can come only if `fault` holds.
+-- The possible outcomes of a file, given its bytes, or `None` if it is missing: the status, and what the command
+-- yields. A missing file ends with a read fault. Any other read fault is possible only if `fault` holds.
 abbrev pub FileOutcome : Report → ℕ → Option (List ℕ) → Type 0 → Status → Yield → Type 0
 FileOutcome report limit None fault ended yields = (ended ≡ status.ReadFault) × (yields ≡ says read_fault_line)
 FileOutcome report limit (Some bytes) fault ended yields =
     ReadOutcome report limit bytes fault ended yields ⊎ (fault × (ended ≡ status.ReadFault) × (yields ≡ says read_fault_line))
 
--- a file's status if reading it has no fault, given its bytes or that it is missing
+-- a file's status if no read fault occurs, given its bytes, or `None` if it is missing
 abbrev pub file_status : Report → ℕ → Option (List ℕ) → Status
 file_status report limit None = status.ReadFault
 file_status report limit (Some bytes) = report.status (records_in (take limit bytes)) (end_of limit bytes)
 
--- what a file yields if reading it has no fault, given its bytes or that it is missing
+-- what a file yields if no read fault occurs, given its bytes, or `None` if it is missing
 abbrev pub file_yield : Report → ℕ → Option (List ℕ) → Yield
 file_yield report limit None = says read_fault_line
 file_yield report limit (Some bytes) = report.yields (records_in (take limit bytes)) (end_of limit bytes)
 
 -- ---- files in order
 
--- the status of a run whose first file is done: that of the other files, or that of the first file if theirs is `Done`
+-- The status of a run whose first file is done. It is the status of the other files, or that of the first file if
+-- theirs is `Done`.
 abbrev pub joined : Status → Status → Status
 joined first status.Done = first
 joined first rest = rest
 
--- Files are read in order. The first one that does not end with `Done` or `Findings` ends the run. `One` says which statuses a
--- file with a name can end with and what it can yield. `read` are the files that the run reached.
+-- Files are read in order. The first file that does not end with `Done` or `Findings` ends the run. `One` gives the
+-- possible outcomes of the file with a name. `read` are the names of the files that the run reached.
 unfoldable pub InOrder : (List ℕ → Status → Yield → Type 0) → List (List ℕ) → List (List ℕ) → Status → Yield → Type 0
 InOrder One [] read ended yields = (read ≡ []) × (ended ≡ status.Done) × (yields ≡ says [])
 InOrder One (name ∷ names) read ended yields =
@@ -61,7 +62,8 @@ InOrder One (name ∷ names) read ended yields =
     × (is_done first ≡ true) × One name first here × InOrder One names others rest more
     × (read ≡ name ∷ others) × (ended ≡ joined first rest) × (yields ≡ with_more here more))
 
--- the files that a run reaches, given the status of each: those up to the first that does not end with `Done` or `Findings`
+-- the files that a run reaches, given the status of each: all up to the first that does not end with `Done` or
+-- `Findings`
 unfoldable pub in_order_read : (List ℕ → Status) → List (List ℕ) → List (List ℕ)
 in_order_read one [] = []
 in_order_read one (name ∷ names) = name ∷ (if is_done (one name) then in_order_read one names else [])
@@ -71,14 +73,14 @@ unfoldable pub in_order_status : (List ℕ → Status) → List (List ℕ) → S
 in_order_status one [] = status.Done
 in_order_status one (name ∷ names) = if is_done (one name) then joined (one name) (in_order_status one names) else one name
 
--- what a run over files in order yields, given the status of each and what it yields
+-- what a run over files in order yields, given the status and the yield of each
 unfoldable pub in_order_yield : (List ℕ → Status) → (List ℕ → Yield) → List (List ℕ) → Yield
 in_order_yield one yields [] = says []
 in_order_yield one yields (name ∷ names) = with_more (yields name) (if is_done (one name) then in_order_yield one yields names else says [])
 
 -- ---- a command
 
--- Which files a command reads, in order, at most how many bytes of each, and what it makes of each.
+-- Which files a command reads, in this order; how many bytes of each at most; and what it makes of each.
 pub record ReadPlan : Type 0 where
   pub names : List (List ℕ)
   pub limit : ℕ
@@ -88,27 +90,26 @@ pub record ReadPlan : Type 0 where
 abbrev pub one_outcome : ReadPlan → Files → Type 0 → List ℕ → Status → Yield → Type 0
 one_outcome plan files fault name ended yields = FileOutcome (plan.report name) plan.limit (files name) fault ended yields
 
--- the possible outcomes of a command with this plan: the files that it reaches, the status that it ends with, and what it
--- yields
+-- the possible outcomes of a command with this plan: the files that it reaches, its status, and what it yields
 abbrev pub PlanOutcome : ReadPlan → Files → Type 0 → List (List ℕ) → Status → Yield → Type 0
 PlanOutcome plan files fault read ended yields = InOrder (one_outcome plan files fault) plan.names read ended yields
 
--- the status with which the file of this name ends, if no fault of reading comes
+-- the status with which the file of this name ends, if no read fault occurs
 abbrev pub one_status : ReadPlan → Files → List ℕ → Status
 one_status plan files name = file_status (plan.report name) plan.limit (files name)
 
--- what the file of this name yields, if no fault of reading comes
+-- what the file of this name yields, if no read fault occurs
 abbrev pub one_yield : ReadPlan → Files → List ℕ → Yield
 one_yield plan files name = file_yield (plan.report name) plan.limit (files name)
 
--- the files that a command with this plan reaches, if no fault of reading comes
+-- the files that a command with this plan reaches, if no read fault occurs
 abbrev pub plan_read : ReadPlan → Files → List (List ℕ)
 plan_read plan files = in_order_read (one_status plan files) plan.names
 
--- the status with which a command with this plan ends, if no fault of reading comes
+-- the status with which a command with this plan ends, if no read fault occurs
 abbrev pub plan_status : ReadPlan → Files → Status
 plan_status plan files = in_order_status (one_status plan files) plan.names
 
--- what a command with this plan yields, if no fault of reading comes
+-- what a command with this plan yields, if no read fault occurs
 abbrev pub plan_yield : ReadPlan → Files → Yield
 plan_yield plan files = in_order_yield (one_status plan files) (one_yield plan files) plan.names

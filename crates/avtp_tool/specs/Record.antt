@@ -1,4 +1,4 @@
--- What `show` says of a record: the text between the record's number and arrival and the end of its line.
+-- What `show` says of a record: the text after the record's number and arrival, up to the end of its line.
 use Rattle.std.specs.Prelude.{ℕ, ◌+◌, ◌==◌, List, Option, Some, None, if◌then◌else◌}
 use Rattle.std.specs.Option.{option_map}
 use Rattle.avtp_base.specs.declared.refusal.Refusal.{Refusal}
@@ -7,12 +7,13 @@ use Rattle.packet_journal.specs.Deliveries.{avtp_ethertype}
 use Rattle.avtp_packet.specs.Packet.{AnyPacket, OfAaf, OfCrf, OfH264, OfIec, OfOther, packet_of, packet_refusal}
 use Rattle.avtp_text.specs.Show.{refused_content, ethertype_content, other_content, iec_content, aaf_content, h264_content, crf_content}
 
--- the text of the refusal if there is one, otherwise that of what was read
+-- the text of the refusal if there is one, otherwise the text of what was read
 abbrev pub refused_or : Option Refusal → List ℕ → List ℕ
 refused_or (Some refusal) content = refused_content refusal
 refused_or None content = content
 
--- a refusal in a frame's payload, with its offset counted from the start of the frame; the payload begins at this offset
+-- A refusal in a frame's payload, with its offset counted from the start of the frame. The payload begins at offset
+-- `start`.
 abbrev pub inside : ℕ → Refusal → Refusal
 inside start refusal = record refusal { at = refusal.at + start }
 
@@ -24,7 +25,7 @@ fields_content (OfH264 v) = h264_content v
 fields_content (OfCrf v) = crf_content v
 fields_content (OfOther subtype) = other_content subtype
 
--- what `show` says of an AVTP packet that begins at this offset of its frame
+-- what `show` says of an AVTP packet that begins at offset `start` of its frame
 unfoldable pub packet_content : ℕ → List ℕ → List ℕ
 packet_content start pdu = refused_or (option_map (inside start) (packet_refusal pdu)) (fields_content (packet_of pdu))
 

@@ -1,4 +1,4 @@
--- The possible outcomes of a run, whichever command the words ask for.
+-- The possible outcomes of a run of any command.
 use Rattle.std.specs.Prelude.{◌≡◌, ℕ, List, [], ◌∷◌, ◌++◌, if◌then◌else◌, Option, None, option_to_list, Bool, true, false}
 use Rattle.avtp_base.specs.Files.{Files}
 use Rattle.avtp_text.specs.Notices.{device_fault_line}
@@ -16,24 +16,24 @@ use Rattle.avtp_tool.specs.Soak.{soak_report}
 use Rattle.avtp_tool.specs.Talk.{TalkOutcome, talk_made, talk_plan, talk_report, talk_status}
 use Rattle.avtp_tool.specs.Yield.{says, with_more, Yield}
 
--- the names that a run of `talk` with this status asks for: that of its output only if it was made
+-- the names that a run of `talk` with this status asks for: its input, and its output only if the output was made
 abbrev pub talk_came : Talking → Status → List (List ℕ)
 talk_came asked ended = asked.input ∷ (if is_done ended then asked.output ∷ [] else [])
 
--- the status of a run of `listen`, given whether a device failed and the status of reading the files: a failed device counts
--- only after `Done`
+-- The status of a run of `listen`, given whether a device failed and the status of reading the files. A failed device
+-- counts only if that status is `Done`.
 abbrev pub device_status : Bool → Status → Status
 device_status true status.Done = status.DeviceFault
 device_status failed ended = ended
 
--- the last line of a run of `listen`, given whether a device failed and the status of reading the files: nothing unless that is
--- `Done`
+-- The last line of a run of `listen`, given whether a device failed and the status of reading the files. There is one
+-- only if a device failed and that status is `Done`.
 abbrev pub device_notice : Bool → Status → List ℕ
 device_notice true status.Done = device_fault_line
 device_notice failed ended = []
 
--- the possible outcomes of a run of `listen` over these files: those of reading them, and the line and status of a failed
--- device
+-- The possible outcomes of a run of `listen` over these files: an outcome of reading them, then the line and the status
+-- of a failed device.
 pub record ListenOutcome (asked : Listening) (files : Files) (fault : Type 0) (failed : Bool) (came : List (List ℕ)) (ended : Status) (yields : Yield) : Type 0 where
   pub heard : Status
   pub given : Yield
@@ -41,9 +41,8 @@ pub record ListenOutcome (asked : Listening) (files : Files) (fault : Type 0) (f
   pub status : ended ≡ device_status failed heard
   pub notice : yields ≡ with_more given (says (device_notice failed heard))
 
--- What a run of the request over these files can come to: the names that it reaches, the status that it ends with, what it
--- yields, and the capture that it makes. A fault of reading can come only if `fault` holds, and `failed` says whether a device
--- failed.
+-- What a run of the request over these files can result in: the names that it reaches, its status, what it yields, and
+-- the capture that it makes. A read fault is possible only if `fault` holds. `failed` says whether a device failed.
 abbrev pub Outcome : Request → Files → Type 0 → Bool → List (List ℕ) → Status → Yield → Option (List ℕ) → Type 0
 Outcome (show limit file) files fault failed came ended yields made = PlanOutcome (show_plan limit file) files fault came ended yields × (made ≡ None)
 Outcome (check limit names) files fault failed came ended yields made = PlanOutcome (check_plan limit names) files fault came ended yields × (made ≡ None)
@@ -55,9 +54,9 @@ Outcome (soak packets) files fault failed came ended yields made = (came ≡ [])
 Outcome (agree asked) files fault failed came ended yields made = AgreeOutcome asked files fault came ended yields.text × (yields.items ≡ []) × (made ≡ None)
 Outcome (gateway asked) files fault failed came ended yields made = GatewayOutcome asked files fault came ended yields.text made × (yields.items ≡ [])
 
--- ---- if no fault of reading comes
+-- ---- if no read fault occurs
 
--- the status of a run, if no fault of reading comes
+-- the status of a run, if no read fault occurs
 abbrev pub status_for : Request → Files → Bool → Status
 status_for (show limit file) files failed = plan_status (show_plan limit file) files
 status_for (check limit names) files failed = plan_status (check_plan limit names) files
@@ -67,7 +66,7 @@ status_for (soak packets) files failed = status.Done
 status_for (agree asked) files failed = agree_ended asked (files asked.a) (files asked.b)
 status_for (gateway asked) files failed = gateway_ended asked (files asked.input)
 
--- all that a run yields, if no fault of reading comes
+-- all that a run yields, if no read fault occurs
 abbrev pub yield_for : Request → Files → Bool → Yield
 yield_for (show limit file) files failed = plan_yield (show_plan limit file) files
 yield_for (check limit names) files failed = plan_yield (check_plan limit names) files
@@ -78,7 +77,7 @@ yield_for (soak packets) files failed = says (soak_report packets)
 yield_for (agree asked) files failed = says (agree_report asked (files asked.a) (files asked.b))
 yield_for (gateway asked) files failed = says (gateway_report asked (files asked.input))
 
--- the names that a run reaches, if no fault of reading comes
+-- the names that a run reaches, if no read fault occurs
 abbrev pub came_for : Request → Files → List (List ℕ)
 came_for (show limit file) files = plan_read (show_plan limit file) files
 came_for (check limit names) files = plan_read (check_plan limit names) files
@@ -88,21 +87,21 @@ came_for (soak packets) files = []
 came_for (agree asked) files = agree_came asked (files asked.a)
 came_for (gateway asked) files = gateway_came asked (files asked.input)
 
--- the capture that a run makes, if it makes one and no fault of reading comes
+-- the capture that a run makes, or `None`, if no read fault occurs
 abbrev pub made_for : Request → Files → Option (List ℕ)
 made_for (talk asked) files = talk_made (talk_plan asked) (files asked.input) (talk_status (talk_plan asked) (files asked.input))
 made_for (gateway asked) files = gateway_made asked (files asked.input)
 made_for request files = None
 
--- ---- what a run does besides
+-- ---- the names that a run asks for, and its devices
 
--- the files that are read again once the output was made
+-- the files that are read again after the output was made
 abbrev pub again_of : Request → List (List ℕ)
 again_of (gateway asked) = asked.input ∷ []
 again_of request = []
 
--- the names that a request asks a shelf for: of the files that are read, in order, then of the one that is written, and then of
--- those that are read again
+-- The names that a request asks a shelf for, in order: the files that are read, the file that is written, and the files
+-- that are read again.
 abbrev pub names_of : Request → List (List ℕ)
 names_of request = files_of request ++ (option_to_list (output_of request) ++ again_of request)
 
@@ -111,7 +110,7 @@ abbrev pub is_listening : Request → Bool
 is_listening (listen asked) = true
 is_listening request = false
 
--- the command did all that it does, though a device may have failed
+-- the command did everything that was asked for, though a device may have failed
 abbrev pub is_through : Status → Bool
 is_through status.DeviceFault = true
 is_through ended = is_done ended

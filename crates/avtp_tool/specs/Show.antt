@@ -11,19 +11,19 @@ use Rattle.avtp_tool.specs.Record.{record_content}
 use Rattle.avtp_tool.specs.Status.{status_of}
 use Rattle.avtp_tool.specs.Yield.{says}
 
--- the line of the next record after these
+-- the line of the record `r`, which follows the records `earlier`
 abbrev pub show_line : List Record → Record → List ℕ
 show_line earlier r = frame_line (length earlier + 1) r.arrival (record_content r.bytes)
 
--- the last line of `show`: the number of records if the capture was read to its end, otherwise why it was not
+-- the last line of `show`: the number of records, or why the capture was not read to its end
 abbrev pub end_line : ℕ → ℕ → End → List ℕ
 end_line limit frames end.Whole = end_frames_line frames
 end_line limit frames (end.Refused refusal) = capture_refused_line refusal
 end_line limit frames end.ReadFault = read_fault_line
 end_line limit frames end.Limit = limit_line limit
 
--- The text of a capture whose reading ends in this way after these records: a line for each of them, numbered from 1, and the
--- last line.
+-- The text that `show` prints of a capture with these records, whose reading ends as `how`: a line for each record,
+-- numbered from 1, and the last line.
 abbrev pub show_text : ℕ → List Record → End → List ℕ
 show_text limit records how = of_each show_line records ++ end_line limit (length records) how
 
@@ -31,6 +31,6 @@ show_text limit records how = of_each show_line records ++ end_line limit (lengt
 abbrev pub show_report : ℕ → Report
 show_report limit = record { status = λ records how. status_of how; yields = λ records how. says (show_text limit records how) }
 
--- what `show` reads, and what it makes of the file
+-- the plan of `show`: the file that it reads, and what it makes of the file
 abbrev pub show_plan : ℕ → List ℕ → ReadPlan
 show_plan limit file = record { names = file ∷ []; limit = limit; report = λ name. show_report limit }

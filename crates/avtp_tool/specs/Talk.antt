@@ -42,12 +42,12 @@ talk_plan asked = record {
   crf = option_map talk_clock asked.crf;
 }
 
--- the line with the numbers of packets of the stream and of its media clock
+-- the line with the number of the stream's packets and the number of its media clock's packets
 abbrev pub sent_line : TalkPlan → List ℕ → List ℕ
 sent_line plan input = talk_line (length (stream_frames plan input)) (length (clock_frames plan input))
 
--- The possible outcomes of `talk` for an input of these bytes: the status that it ends with, and the text that it prints. A
--- fault of reading can come only if `fault` holds.
+-- The possible outcomes of `talk` for an input of these bytes: its status, and the text that it prints. A read fault is
+-- possible only if `fault` holds.
 abbrev pub TalkedOutcome : TalkPlan → List ℕ → Type 0 → Status → List ℕ → Type 0
 TalkedOutcome plan bytes fault status.Done text = (length bytes ≤ most_input) × (fault_of plan bytes ≡ None) × (text ≡ sent_line plan bytes)
 TalkedOutcome plan bytes fault status.TalkInput text =
@@ -56,13 +56,13 @@ TalkedOutcome plan bytes fault status.Limit text = (most_input < length bytes) �
 TalkedOutcome plan bytes fault status.ReadFault text = fault × (text ≡ read_fault_line)
 TalkedOutcome plan bytes fault ended text = ⊥
 
--- The possible outcomes of `talk`, given the bytes of its input or that it is missing. A missing input gives a fault of
--- reading.
+-- The possible outcomes of `talk`, given the bytes of its input, or `None` if the input is missing. A missing input
+-- results in a read fault.
 abbrev pub TalkOutcome : TalkPlan → Option (List ℕ) → Type 0 → Status → List ℕ → Type 0
 TalkOutcome plan None fault ended text = (ended ≡ status.ReadFault) × (text ≡ read_fault_line)
 TalkOutcome plan (Some bytes) fault ended text = TalkedOutcome plan bytes fault ended text
 
--- ---- if no fault of reading comes
+-- ---- if no read fault occurs
 
 -- the status of `talk` for an input within the limit, given the input's fault, if any
 abbrev pub status_by : Option TalkFault → Status
@@ -74,19 +74,19 @@ abbrev pub line_by : Option TalkFault → TalkPlan → List ℕ → List ℕ
 line_by None plan bytes = sent_line plan bytes
 line_by (Some why) plan bytes = talk_input_line why
 
--- the status of `talk` if no fault of reading comes, given the bytes of its input or that it is missing
+-- the status of `talk` if no read fault occurs, given the bytes of its input, or `None` if the input is missing
 abbrev pub talk_status : TalkPlan → Option (List ℕ) → Status
 talk_status plan None = status.ReadFault
 talk_status plan (Some bytes) = if nat_le (length bytes) most_input then status_by (fault_of plan bytes) else status.Limit
 
--- the whole text of `talk` if no fault of reading comes, given the bytes of its input or that it is missing
+-- the whole text of `talk` if no read fault occurs, given the bytes of its input, or `None` if the input is missing
 abbrev pub talk_report : TalkPlan → Option (List ℕ) → List ℕ
 talk_report plan None = read_fault_line
 talk_report plan (Some bytes) = if nat_le (length bytes) most_input then line_by (fault_of plan bytes) plan bytes else limit_line most_input
 
--- ---- what it makes
+-- ---- the capture that is made
 
--- the capture that a run of `talk` with this status makes, given its input
+-- the capture that a run of `talk` makes, or `None`, given its input and its status
 abbrev pub talk_made : TalkPlan → Option (List ℕ) → Status → Option (List ℕ)
 talk_made plan (Some bytes) status.Done = Some (capture plan bytes)
 talk_made plan told ended = None

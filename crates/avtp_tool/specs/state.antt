@@ -1,4 +1,4 @@
--- Kept for proofs alone: no clause of a public call rests on anything here.
+-- Kept for proofs alone: no clause of a public call uses anything here.
 pub mod Agree
 pub mod Check
 pub mod Comparing

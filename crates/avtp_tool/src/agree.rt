@@ -1,4 +1,4 @@
-//! The command `agree`: where two captures present different samples of a stream.
+//! The command `agree`: compares the samples of a stream that a listener presents from two captures.
 
 ghost use Rattle.std.specs.Prelude.{◌≡◌, [], ◌∷◌, ◌++◌};
 ghost use Rattle.avtp_text.specs.Written.{Prints, PrintsPart};
@@ -20,9 +20,10 @@ use capture_io::End;
 use listener_pair::{Difference, PairCounts, Way};
 use std::alloc::Global;
 
-/// Prints where two captures present different samples of a stream, and how many packets are presented of both or of only one.
-/// Each capture is read only as far as the comparison needs it. All memory but that of samples is allocated before the first
-/// line.
+/// Prints each difference between the samples that a listener presents of a stream from two captures. Then prints how
+/// many packets it presents from both captures and how many from only one, or why a capture was not read to its end.
+/// Each capture is read only as far as the comparison needs. All memory except that of samples is allocated before the
+/// first line is printed.
 pub fn agree<F: Shelf, S: Sink>(
     alloc: Global,
     asked: &Agree<'_>,
@@ -75,7 +76,7 @@ pub fn print_difference<S: Sink>(
     }
 }
 
-/// Prints the last lines, and returns the status.
+/// Prints the last lines, and returns the status of the run.
 fn print_end<S: Sink>(
     text: &mut Text,
     out: &mut S,
@@ -90,7 +91,7 @@ fn print_end<S: Sink>(
     Ok(status_of(counts.differ, a, b))
 }
 
-/// Prints the counts if both captures were read to their ends, otherwise a line for each that was not.
+/// If both captures were read to their ends, prints the counts. Otherwise prints a line for each capture that was not.
 fn print_last<S: Sink>(
     text: &mut Text,
     out: &mut S,
@@ -108,7 +109,7 @@ fn print_last<S: Sink>(
     }
 }
 
-/// Prints for each of two captures why it was not read to its end, if it was not.
+/// For each capture that was not read to its end, prints the reason.
 fn print_sides<S: Sink>(
     text: &mut Text,
     out: &mut S,
@@ -122,7 +123,7 @@ fn print_sides<S: Sink>(
     print_side(text, out, limit, b)
 }
 
-/// Prints how many packets both listeners present, how many only one of them presents, and how many differ.
+/// Prints how many packets both listeners present, how many only one presents, and how many pairs differ.
 fn print_counts<S: Sink>(text: &mut Text, out: &mut S, counts: &PairCounts) -> Result<(), Failed>
     ensures { Prints (S.state out.old) (S.state out.new) text.old text.new result (counts_line counts.now) }
 {
@@ -135,7 +136,7 @@ fn print_counts<S: Sink>(text: &mut Text, out: &mut S, counts: &PairCounts) -> R
     )
 }
 
-/// Prints why a capture was not read to its end, if it was not.
+/// If a capture was not read to its end, prints the reason.
 pub fn print_side<S: Sink>(text: &mut Text, out: &mut S, limit: u64, end: End) -> Result<(), Failed>
     ensures { Prints (S.state out.old) (S.state out.new) text.old text.new result (side_line limit end) }
 {
@@ -147,7 +148,7 @@ pub fn print_side<S: Sink>(text: &mut Text, out: &mut S, limit: u64, end: End) -
     }
 }
 
-/// The status of a comparison of two captures whose readings ended in these ways.
+/// The status of a run that found `found` differences and whose readings ended as `a` and `b` say.
 fn status_of(found: u64, a: End, b: End) -> Status
     ensures { result ≡ agree_status found a b }
 {

@@ -1,4 +1,4 @@
-//! Text that is written before a read that may wait.
+//! Writes the pending text before a read that may block.
 
 ghost use Rattle.std.specs.Prelude.{IsSome};
 ghost use Rattle.capture_io.specs.Source.{slot_of};
@@ -10,8 +10,8 @@ use avtp_files::{Shelf, Sink};
 use avtp_text::Text;
 use capture_io::{End, Source};
 
-/// Reads on to the next record. If the command may have to wait for it, the text that waits is written first, so whoever watches
-/// a growing capture sees each line as soon as its packet has come.
+/// Reads the next record. If the record may not be there yet, the pending text is written first: whoever watches a
+/// growing capture sees each line as soon as its packet has arrived.
 #[inline(always)]
 pub fn next_record<F: Shelf, S: Sink>(
     source: &mut Source,
@@ -29,7 +29,7 @@ pub fn next_record<F: Shelf, S: Sink>(
     Ok(source.next(shelf))
 }
 
-/// Writes the text that waits, if the next record may not be there yet.
+/// If the next record may not be there yet, writes the pending text.
 #[inline(always)]
 fn write_ahead<S: Sink>(source: &Source, text: &mut Text, out: &mut S) -> Result<(), Failed>
     ensures { WritesWaiting (S.state out.old) (S.state out.new) text.old text.new result }
@@ -41,7 +41,7 @@ fn write_ahead<S: Sink>(source: &Source, text: &mut Text, out: &mut S) -> Result
     }
 }
 
-/// Writes the text that waits.
+/// Writes the pending text.
 pub fn write_waiting<S: Sink>(text: &mut Text, out: &mut S) -> Result<(), Failed>
     ensures { WritesWaiting (S.state out.old) (S.state out.new) text.old text.new result }
 {

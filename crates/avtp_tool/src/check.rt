@@ -1,4 +1,4 @@
-//! The command `check`: what breaks the rules of a stream.
+//! The command `check`: finds what breaks the rules of a stream.
 
 ghost use Rattle.std.specs.Prelude.{◌≡◌, ◌^◌, ◌≤◌, [], map};
 ghost use Rattle.sequence_track.specs.Tracking.{StandsFor};
@@ -29,8 +29,8 @@ pub struct Total {
     pub end: End,
 }
 
-/// Prints a capture's name, the findings in it, and its counts. Reads at most `limit` bytes of it. All memory is allocated
-/// before the first line, so nothing is printed if memory runs out.
+/// Prints a capture's name, the findings in it, and its counts. Reads at most `limit` bytes of the capture. All memory
+/// is allocated before the first line, so nothing is printed if memory runs out.
 pub fn check<F: Shelf, S: Sink>(
     alloc: Global,
     limit: u64,
@@ -58,7 +58,7 @@ pub fn check<F: Shelf, S: Sink>(
     }
 }
 
-/// Prints a capture's name and the findings in each of its records, in order, as far as it can be read.
+/// Prints a capture's name and the findings in each of its records, in order, as far as the capture can be read.
 fn check_records<F: Shelf, S: Sink>(
     file: &str,
     mut tracker: Tracker,
@@ -89,8 +89,8 @@ fn check_records<F: Shelf, S: Sink>(
     }
 }
 
-/// Notes the packet of a record, and prints a line for each finding in it, or no line if the sink fails. Returns how many
-/// findings there are.
+/// Notes the packet of a record, and prints a line for each finding in the record. If the sink fails, no line is
+/// printed. Returns the number of findings.
 fn print_checked<S: Sink>(
     tracker: &mut Tracker,
     text: &mut Text,
@@ -116,7 +116,7 @@ fn print_checked<S: Sink>(
     }
 }
 
-/// The findings in a packet whose stream id is not valid: only whether a reserved bit is set.
+/// The findings in a packet whose stream ID is not valid: only whether a reserved bit is set.
 fn of_unmarked(reserved: bool) -> Findings
     ensures { result ≡ unmarked_findings reserved }
 {
@@ -129,7 +129,7 @@ fn of_unmarked(reserved: bool) -> Findings
     }
 }
 
-/// Prints a line for each finding in a packet. Returns how many findings there are.
+/// Prints a line for each finding in a packet. Returns the number of findings.
 fn print_findings<S: Sink>(
     text: &mut Text,
     out: &mut S,
@@ -146,7 +146,7 @@ fn print_findings<S: Sink>(
     Ok(count)
 }
 
-/// Prints the counts of a capture, or why it was not read to its end.
+/// Prints the counts of a capture, or why the capture was not read to its end.
 fn print_total<S: Sink>(
     text: &mut Text,
     out: &mut S,
@@ -164,7 +164,7 @@ fn print_total<S: Sink>(
     Ok(status_of(total))
 }
 
-/// The status of a run that ends with a capture with these counts.
+/// The status of a run whose last capture was checked with this total.
 fn status_of(total: Total) -> Status
     ensures { result ≡ check_status total.findings total.end }
 {

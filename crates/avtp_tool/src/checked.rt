@@ -13,21 +13,21 @@ use avtp_packet::{Packet, read_packet, reserved, stamp_is_wrong, stream_of};
 use pcap_frames::{FrameView, read_frame};
 use sequence_track::{Findings, Seen};
 
-/// What `check` makes of one record.
+/// The result of checking one record.
 #[derive(Clone, Copy, Debug)]
 pub enum Checked {
-    /// A frame of another EtherType, or a packet of a format that is not read.
+    /// A frame whose EtherType is not AVTP's, or a packet of a format that is not read.
     Passed,
-    /// A frame or a packet that is refused, with the offset in the frame.
+    /// A refused frame or packet, with the offset in the frame of the refused field.
     Malformed(Refusal),
-    /// A packet whose stream id is not valid.
+    /// A packet whose stream ID is not valid.
     Unmarked {
-        /// The packet's stream id, though it is not valid.
+        /// The packet's stream ID, though it is not valid.
         id: u64,
-        /// A reserved bit is set.
+        /// Whether a reserved bit is set.
         reserved: bool,
     },
-    /// A packet with a valid stream id.
+    /// A packet with a valid stream ID.
     Marked(Seen),
 }
 

@@ -26,8 +26,8 @@ use presenter_ring::Gate;
 use std::alloc::Global;
 use std::thread::Threads;
 
-/// Does what the words ask for: reads and writes the files that they name, writes the text, gives what `listen` presents to the
-/// devices, and returns the status.
+/// Does what the words ask for: reads and writes the files that they name, writes the text, gives the devices the items
+/// that `listen` shows, and returns the status.
 pub fn run<T: Threads + Sync, F: Shelf + Send, S: Sink + Send, G: Gate, D: Devices + Send>(
     rt: &T,
     alloc: Global,
@@ -51,7 +51,7 @@ pub fn run<T: Threads + Sync, F: Shelf + Send, S: Sink + Send, G: Gate, D: Devic
     finish(&mut text, out, ended)
 }
 
-/// Does what the words ask for, or prints the position of the first wrong word.
+/// Does what the words ask for. If they are not a command line, prints the position of the first wrong word.
 fn execute<T: Threads + Sync, F: Shelf + Send, S: Sink + Send, G: Gate, D: Devices + Send>(
     rt: &T,
     alloc: Global,
@@ -107,7 +107,7 @@ pub fn print_fault<S: Sink>(text: &mut Text, out: &mut S) -> Result<Status, Fail
     Ok(Status::ReadFault)
 }
 
-/// Prints that a file could not be opened; if memory ran out, only the status says so.
+/// Prints that a file could not be opened. If memory ran out, nothing is printed, and the status says so.
 pub fn print_unopened<S: Sink>(
     text: &mut Text,
     out: &mut S,
@@ -122,7 +122,7 @@ pub fn print_unopened<S: Sink>(
     }
 }
 
-/// Writes the text that still waits.
+/// Writes the text that is still pending.
 fn finish<S: Sink>(text: &mut Text, out: &mut S, ended: Result<Status, Failed>) -> Status
     ensures { Finishes (S.state out.old) (S.state out.new) text.old text.new ended result }
 {

@@ -1,4 +1,4 @@
-//! Two captures that are read side by side, each only as far as the comparison needs it.
+//! Two captures that are read side by side, each only as far as the comparison needs.
 
 ghost use Rattle.std.specs.Prelude.{◌≡◌, ◌≤◌, ◌<◌, ◌^◌, Some, IsSome};
 ghost use Rattle.capture_io.specs.Source.{held_in, slot_of};
@@ -21,35 +21,35 @@ use std::alloc::Global;
 /// How far two captures were compared.
 #[derive(Clone, Copy, Debug, PartialEq, Eq)]
 pub enum Compared {
-    /// To the ends of both readings, with how these ended and the counts.
+    /// Both readings ended, as `a` and `b` say. `counts` are the final counts.
     Ended { a: End, b: End, counts: PairCounts },
-    /// Up to a fault of reading.
+    /// The comparison stopped at a read fault.
     Fault,
-    /// Up to a record for which there was no memory.
+    /// The comparison stopped at a record for which there was no memory.
     NoMemory,
 }
 
-/// The result of reading on in one of two captures.
+/// The result of one step of reading one of two captures.
 #[derive(Clone, Copy, Debug, PartialEq, Eq)]
 pub enum Step {
-    /// A record was taken.
+    /// A record was read and given to the pair.
     Took,
-    /// The reading ended in this way, and no record follows.
+    /// The reading ended in this way. No record follows.
     Ended(End),
-    /// A fault of reading came.
+    /// A read fault occurred.
     Fault,
     /// There was no memory for a record.
     NoMemory,
 }
 
-/// One of two captures, and how its reading ended, once it has.
+/// One of two captures. `end` says how its reading ended, once it has.
 #[derive(Drop)]
 pub struct Side {
     pub source: Source,
     pub end: Option<End>,
 }
 
-/// Two captures, and the comparison of what a listener presents of each.
+/// Two captures, and the comparison of what a listener presents from each.
 #[derive(Drop)]
 pub struct Comparing {
     pub a: Side,
@@ -58,8 +58,8 @@ pub struct Comparing {
 }
 
 impl Comparing {
-    /// Opens two captures, A before B. At most `limit` bytes of each may be read. If one cannot be opened or memory runs out,
-    /// none is open.
+    /// Opens two captures, A before B. At most `limit` bytes of each will be read. If either cannot be opened or memory
+    /// runs out, neither stays open.
     pub fn open<F: Shelf>(
         alloc: Global,
         limit: u64,
@@ -108,7 +108,7 @@ impl Comparing {
         a.source.close(shelf);
     }
 
-    /// Compares both captures as far as they can be read, and prints each difference once it is known.
+    /// Compares both captures as far as they can be read, and prints each difference as soon as it is known.
     pub fn compare<F: Shelf, S: Sink>(
         &mut self,
         alloc: Global,
@@ -133,7 +133,7 @@ impl Comparing {
         }
     }
 
-    /// Reads on in the capture that the pair needs next.
+    /// Reads the next record of the capture that the pair needs next.
     fn read_on<F: Shelf, S: Sink>(
         &mut self,
         alloc: Global,
@@ -153,7 +153,7 @@ impl Comparing {
         }
     }
 
-    /// How far both captures were compared, once both readings have ended and all differences are printed.
+    /// The result of the comparison, once both readings have ended and all differences are printed.
     fn ended(&self) -> Compared
         requires ends { IsSome self.now.a.end × IsSome self.now.b.end }
         requires through { IsThrough self.now.pair }
@@ -170,7 +170,7 @@ impl Comparing {
     }
 }
 
-/// Prints the differences that are known so far.
+/// Prints the known differences that were not printed yet.
 fn print_differences<S: Sink>(
     pair: &mut RecordPair,
     text: &mut Text,
@@ -184,7 +184,7 @@ fn print_differences<S: Sink>(
     Ok(())
 }
 
-/// Reads the next record of the capture `which`, or its end, and gives it to the pair.
+/// Reads the next record of the capture `which` and gives it to the pair, or tells the pair that the capture has ended.
 fn read_side<F: Shelf, S: Sink>(
     alloc: Global,
     which: Which,
@@ -211,14 +211,14 @@ fn read_side<F: Shelf, S: Sink>(
     Ok(Step::Ended(end))
 }
 
-/// Whether a fault ended a reading.
+/// Whether a reading ended with a read fault.
 fn is_fault(end: End) -> bool
     ensures { result ≡ is_fault_end end }
 {
     matches!(end, End::ReadFault)
 }
 
-/// Gives the record that is held to the pair.
+/// Gives the pair the record that `source` holds.
 fn take_record(alloc: Global, which: Which, source: &Source, pair: &mut RecordPair) -> Step
     requires held { IsSome (held_in source.now) }
     requires wanted { wanted_by pair.old ≡ Some which }

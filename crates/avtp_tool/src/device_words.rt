@@ -8,19 +8,19 @@ ghost use Rattle.avtp_tool.specs.DeviceWords.{devices_of, silence_as};
 use avtp_words::{Command, Listen, parse};
 use device_rack::Silence;
 
-/// A device, and the place among the words, from 0, of the name of the file that it writes. With the place the device can be
-/// made without reading the words again.
+/// A device. `word` is the index among the words, from 0, of the name of the file that the device writes. With this
+/// index the device can be made without parsing the words again.
 #[derive(Clone, Copy, Debug, PartialEq, Eq)]
 pub enum DeviceWord {
-    /// Raw audio, with silence of this sort for missing packets.
+    /// Raw audio. `silence` says what is written for missing packets.
     Raw { word: usize, silence: Silence },
-    /// H.264 units as a byte stream.
+    /// H.264 NAL units as a byte stream.
     AnnexB { word: usize },
 }
 
-/// Device `n`, from 0, that the words ask for, with raw audio before a byte stream.
+/// Device `n`, from 0, of those that the words ask for: first the one for raw audio, then the one for a byte stream.
 ///
-/// The result is `None` exactly if the words are not a command line of `listen`, or ask for no such device.
+/// The result is `None` exactly if the words are not a command line of `listen` or ask for at most `n` devices.
 pub fn device_word(words: &[String], n: u32) -> Option<DeviceWord>
     ensures found { (asked : Listening) → IsCommandLine (texts words.now) (listen_request asked) → result ≡ slice_get (devices_of asked) n }
     ensures only { IfSome result (λ device. (asked : Listening) × IsCommandLine (texts words.now) (listen_request asked)) }
@@ -34,7 +34,7 @@ pub fn device_word(words: &[String], n: u32) -> Option<DeviceWord>
     }
 }
 
-/// Device `n`, from 0, that was asked for.
+/// Device `n`, from 0, of those that are asked for.
 fn device_of(asked: &Listen<'_>, n: u32) -> Option<DeviceWord>
     ensures { result ≡ slice_get (devices_of (listening_of asked.now)) n }
 {
@@ -51,7 +51,7 @@ fn device_of(asked: &Listen<'_>, n: u32) -> Option<DeviceWord>
     }
 }
 
-/// The silence of a raw device that the words ask for.
+/// The silence that the words ask for, in the type of the raw device.
 pub fn raw_silence(asked: avtp_words::Silence) -> Silence
     ensures { result ≡ silence_as asked }
 {

@@ -1,4 +1,4 @@
-//! Files that are read one after the other.
+//! Files that are read one after another.
 
 ghost use Rattle.std.specs.Prelude.{◌≡◌, false, nat_lt};
 ghost use Rattle.avtp_tool.specs.Yield.{HandsOn};
@@ -58,7 +58,7 @@ pub fn read_files<T: Threads + Sync, F: Shelf + Send, S: Sink + Send, G: Gate, D
     Ok(ended)
 }
 
-/// Listens to the files in order. If everything was done and a device failed, prints that at the end.
+/// Listens to the files in order. If all were read to their ends and a device failed, the last line says so.
 pub fn hear_files<T: Threads + Sync, F: Shelf + Send, S: Sink + Send, G: Gate, D: Devices + Send>(
     rt: &T,
     alloc: Global,

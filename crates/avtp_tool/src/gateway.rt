@@ -31,7 +31,7 @@ use capture_io::{CaptureWriter, End, Source};
 use listener::RecordListener;
 use std::alloc::Global;
 
-/// The format that the words ask for.
+/// The format that the words ask for, in the gateway's own type.
 pub fn format(asked: GatewayFormat) -> To
     ensures { result ≡ format_of asked }
 {
@@ -41,9 +41,9 @@ pub fn format(asked: GatewayFormat) -> To
     }
 }
 
-/// Converts a stream of a capture to the other format, and prints which batches are skipped and how many packets were made. The
-/// capture is read twice: the first reading only scans it, and a record that cannot be converted ends the run before anything
-/// is made.
+/// Converts a stream of a capture to the other audio format. Prints which batches are skipped, and how many packets
+/// were made. The capture is read twice. The first reading only scans it: if a record cannot be converted, the run ends
+/// before a capture is made.
 pub fn gateway<F: Shelf, S: Sink>(
     alloc: Global,
     asked: &Gateway<'_>,
@@ -62,8 +62,7 @@ pub fn gateway<F: Shelf, S: Sink>(
     }
 }
 
-/// Makes the capture that is written, after the one that is read was scanned. All memory but that of samples is allocated
-/// before the file is made.
+/// Makes the capture OUT after IN was scanned. All memory except that of samples is allocated before OUT is created.
 fn turn<F: Shelf, S: Sink>(
     alloc: Global,
     asked: &Gateway<'_>,
@@ -96,7 +95,7 @@ fn turn<F: Shelf, S: Sink>(
     end_output(output, listener.limit, turned, shelf, text, out)
 }
 
-/// Opens the scanned capture again, and converts what is presented of it.
+/// Opens the scanned capture again, and converts what a listener presents from it.
 fn turn_input<F: Shelf, S: Sink>(
     alloc: Global,
     asked: &Gateway<'_>,
@@ -130,7 +129,7 @@ fn turn_input<F: Shelf, S: Sink>(
     turned
 }
 
-/// How far a capture was converted that could not be opened again.
+/// The result of a conversion whose capture could not be opened again.
 fn unread(fault: OpenFault) -> Turned
     ensures { result ≡ unread_as fault }
 {
@@ -143,8 +142,8 @@ fn unread(fault: OpenFault) -> Turned
     }
 }
 
-/// Finishes the capture that is made, and prints the last line; or only closes the file if the capture could not be made to its
-/// end.
+/// Finishes the capture that is made, and prints the last line. If the capture could not be completed, only closes its
+/// file.
 fn end_output<F: Shelf, S: Sink>(
     output: Output,
     limit: u64,
@@ -177,7 +176,8 @@ fn end_output<F: Shelf, S: Sink>(
     }
 }
 
-/// Prints how many batches were presented, written and skipped, or why the capture was not read to its end.
+/// Prints how many batches were presented and skipped and how many packets were written, or why the capture was not
+/// read to its end.
 fn print_ended<S: Sink>(
     text: &mut Text,
     out: &mut S,
@@ -196,7 +196,7 @@ fn print_ended<S: Sink>(
     Ok(status_after(skipped, end))
 }
 
-/// The status of a run that read a capture until its reading ended in this way, and skipped this many batches.
+/// The status of a run that skipped `skipped` batches and whose reading ended as `end` says.
 fn status_after(skipped: u64, end: End) -> Status
     ensures { result ≡ turned_status skipped end }
 {
@@ -206,7 +206,7 @@ fn status_after(skipped: u64, end: End) -> Status
     }
 }
 
-/// The name of what keeps a stream from being converted.
+/// The printed name of the reason why a stream cannot be converted.
 fn fault_name(fault: ScanFault) -> &'static str
     ensures { result.now ≡ fault_name_of fault }
 {
@@ -219,7 +219,7 @@ fn fault_name(fault: ScanFault) -> &'static str
     }
 }
 
-/// Prints which record keeps a stream from being converted, and why.
+/// Prints which record cannot be converted, and why.
 fn print_fault<S: Sink>(
     text: &mut Text,
     out: &mut S,

@@ -1,4 +1,4 @@
-//! A capture that is heard: its items are shown one by one, as its records are read.
+//! A capture that is read record by record into a listener, which shows the items one by one.
 
 ghost use Rattle.std.specs.Prelude.{◌≡◌, ◌<◌, [], MatchResult, None, false};
 ghost use Rattle.listener.specs.Listening.{IsIdle, is_closed};
@@ -11,29 +11,29 @@ use listener::{Counts, RecordListener};
 use presenter_ring::Pull;
 use std::alloc::Global;
 
-/// The stage of hearing a capture.
+/// The stage that the hearing of a capture has reached.
 #[derive(Clone, Copy, Debug, PartialEq, Eq)]
 pub enum Stage {
-    /// Records are read, and what is due of them is shown.
+    /// Records are being read, and items are shown once they are due.
     Reading,
-    /// The reading ended in this way, and what is left is shown.
+    /// The reading ended in this way, and the remaining items are being shown.
     Showing(End),
-    /// The reading ended in this way, and everything was shown.
+    /// The reading ended in this way, and the last item was shown.
     Ended(End),
     /// There was no memory for a record.
     NoMemory,
 }
 
-/// How far a capture was heard.
+/// The result of hearing a capture.
 #[derive(Clone, Copy, Debug, PartialEq, Eq)]
 pub enum Heard {
-    /// As far as it could be read; with how the reading ended, and the counts.
+    /// The capture was heard as far as it could be read. `end` says how the reading ended.
     Ended { end: End, counts: Counts },
-    /// Up to a record for which there was no memory.
+    /// The hearing stopped at a record for which there was no memory.
     NoMemory,
 }
 
-/// What a receiver returns once everything was shown of a capture whose reading ended in this way.
+/// What a receiver returns after the last item of a capture whose reading ended in this way.
 fn pull_of(end: End) -> Pull
     ensures { result ≡ pull_with end }
 {
@@ -45,7 +45,7 @@ fn pull_of(end: End) -> Pull
     }
 }
 
-/// Closes the listener if everything is shown of a capture whose reading ended in this way.
+/// Closes the listener if items that are not yet due are still shown after the reading ended in this way.
 fn close_at(listener: &mut RecordListener, end: End)
     requires { (is_closed listener.old ≡ false) × IsIdle listener.old }
     ensures { ClosesAt end listener.old listener.new }
@@ -56,7 +56,7 @@ fn close_at(listener: &mut RecordListener, end: End)
     }
 }
 
-/// A capture that is read, the listener that gets its records, and the stage of hearing.
+/// A capture that is read, the listener that gets its records, and the stage of the hearing.
 #[derive(Drop)]
 pub struct Hearing {
     pub source: Source,
@@ -67,7 +67,7 @@ pub struct Hearing {
 }
 
 impl Hearing {
-    /// The next item that is shown, or how the hearing ended.
+    /// Returns the next item that is shown, or how the hearing ended.
     pub fn next<F: Shelf>(&mut self, shelf: &mut F) -> Pull
         requires { IsGoing (F.state shelf.old).slots self.old.source self.old.stage }
         ensures { GivesPull (F.state shelf.old) (F.state shelf.new) self.old.source self.new.source self.old.listener self.new.listener self.old.stage self.new.stage result }
@@ -90,7 +90,7 @@ impl Hearing {
         }
     }
 
-    /// Whether the next item may have to wait until the next record is read.
+    /// Whether `next` may have to read another record, and wait for it.
     pub fn may_wait(&self) -> bool {
         match self.stage {
             Stage::Reading => self.source.must_read(),
@@ -98,7 +98,7 @@ impl Hearing {
         }
     }
 
-    /// Gives the samples of an item that was presented back to the listener, which uses their memory again.
+    /// Returns the samples of a presented item to the listener, which reuses their memory.
     pub fn take_back(&mut self, samples: Bytes)
         ensures source { self.new.source ≡ self.old.source }
         ensures listener { self.new.listener ≡ self.old.listener }
@@ -107,7 +107,8 @@ impl Hearing {
         self.listener.give_back(samples);
     }
 
-    /// Reads the next record and gives it to the listener, or ends the reading. No item may be due of the records before.
+    /// Reads the next record and gives it to the listener, or ends the reading. All items that are due must have been
+    /// returned before.
     fn read_record<F: Shelf>(&mut self, shelf: &mut F) -> Result<(), NoMemory>
         requires reading { IsAtReading (F.state shelf.old).slots self.old.source self.old.stage }
         requires idle { IsIdle self.old.listener }
@@ -133,7 +134,7 @@ impl Hearing {
         Ok(())
     }
 
-    /// How far the capture was heard, once the hearing has ended.
+    /// The result of the hearing, once it has ended.
     pub fn heard(&self) -> Heard
         ensures { result ≡ heard_at self.now.stage self.now.listener }
     {

@@ -1,12 +1,13 @@
-//! Laws of every report, whoever prints it.
+//! Laws of the reports of `show`, `check` and `listen`.
 
 ghost use Rattle.std.specs.Prelude.{◌≡◌, ℕ, List, Some, take, true};
 ghost use Rattle.capture_io.specs.Ends.{end_of};
 ghost use Rattle.capture_io.specs.Formats.{AreBytes, as_classic, is_pcapng, records_in};
 ghost use Rattle.avtp_tool.specs.Reading.{file_status, file_yield, Report};
 
-/// `show`, `check` and `listen` treat a pcapng capture like a classic capture of the same records, little-endian and in
-/// nanoseconds. Only the end of the reading is the pcapng capture's own: its first refused field, or the limit on its bytes.
+/// `show`, `check` and `listen` report a pcapng capture like a classic capture of the same records that is
+/// little-endian and has nanosecond timestamps. Only the end of the reading depends on the pcapng file: its first
+/// refused field, or the limit on its bytes.
 pub fn pcapng_reports()
     ensures { (report : Report) (limit : ℕ) (bytes : List ℕ) → AreBytes (take limit bytes) → is_pcapng (take limit bytes) ≡ true →
         (file_status report limit (Some bytes) ≡ report.status (records_in (as_classic (take limit bytes))) (end_of limit bytes))

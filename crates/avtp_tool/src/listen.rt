@@ -33,7 +33,7 @@ use presenter_ring::{Gate, Pipe};
 use std::alloc::Global;
 use std::thread::Threads;
 
-/// The listener that the words ask for.
+/// The plan of the listener that the words ask for.
 pub fn plan(asked: &ListenerOptions) -> ListenPlan
     ensures { result ≡ plan_of asked.now }
 {
@@ -48,9 +48,9 @@ pub fn plan(asked: &ListenerOptions) -> ListenPlan
     }
 }
 
-/// Prints which packets of the stream in a capture are presented, at which instants, and why the others are not, each once it
-/// is due. One thread reads and judges; another writes, and gives each item to the devices after its text. Memory is allocated
-/// for each packet, so if memory runs out, what was due before is printed.
+/// For each packet of a stream in a capture, prints at which instant it is presented or why it is not, as soon as that
+/// is due. One thread reads and judges. Another writes the text of each item, and then gives the item to the devices.
+/// Memory is allocated for each packet: if it runs out, what was due before has been printed.
 pub fn listen<T: Threads + Sync, F: Shelf + Send, S: Sink + Send, G: Gate, D: Devices + Send>(
     rt: &T,
     alloc: Global,
@@ -100,8 +100,8 @@ pub fn listen<T: Threads + Sync, F: Shelf + Send, S: Sink + Send, G: Gate, D: De
     }
 }
 
-/// Prints a capture's name and what is shown of its records, as far as it can be read, each item once it is due. At most `ring`
-/// items wait between the two threads.
+/// Prints a capture's name and, as far as the capture can be read, the items that are shown of its records, each once
+/// it is due. At most `ring` items are queued between the two threads.
 fn hear_records<T: Threads + Sync, F: Shelf + Send, S: Sink + Send, G: Gate, D: Devices + Send>(
     rt: &T,
     alloc: Global,
@@ -127,7 +127,7 @@ fn hear_records<T: Threads + Sync, F: Shelf + Send, S: Sink + Send, G: Gate, D: 
     Ok(hearing.heard())
 }
 
-/// Prints a capture's name, so that it can be read before the first packet comes.
+/// Prints a capture's name at once, so that it is visible before the first packet arrives.
 fn print_name<S: Sink>(text: &mut Text, out: &mut S, file: &str) -> Result<(), Failed>
     ensures { PrintsPart (S.state out.old) (S.state out.new) text.old text.new result (capture_line file.now) }
 {
@@ -135,7 +135,7 @@ fn print_name<S: Sink>(text: &mut Text, out: &mut S, file: &str) -> Result<(), F
     write_waiting(text, out)
 }
 
-/// Prints what is shown of a capture's records, as far as it can be read.
+/// Prints the items that are shown of a capture's records, as far as the capture can be read.
 fn hear_items<T: Threads + Sync, F: Shelf + Send, S: Sink + Send, G: Gate, D: Devices + Send>(
     rt: &T,
     pipe: &mut Pipe,
@@ -160,7 +160,7 @@ fn hear_items<T: Threads + Sync, F: Shelf + Send, S: Sink + Send, G: Gate, D: De
     hear_through(rt, pipe, &mut receiver, &mut presenter, gate)
 }
 
-/// Runs the thread that receives and the one that presents until everything is done.
+/// Runs the receiving thread and the presenting thread until everything is done.
 fn hear_through<T: Threads + Sync, F: Shelf + Send, S: Sink + Send, G: Gate, D: Devices + Send>(
     rt: &T,
     pipe: &mut Pipe,
@@ -179,7 +179,7 @@ fn hear_through<T: Threads + Sync, F: Shelf + Send, S: Sink + Send, G: Gate, D: 
     present_all(rt, pipe, receiver, presenter, gate)
 }
 
-/// Prints the counts of a capture, or why it was not read to its end.
+/// Prints the counts of a capture, or why the capture was not read to its end.
 fn print_last<S: Sink>(
     text: &mut Text,
     out: &mut S,

@@ -11,14 +11,14 @@ use device_rack::Devices;
 use presenter_ring::Presenter;
 use sample_schedule::Shown;
 
-/// The text of what is shown, the sink that it goes to, and the devices that get each item after its text. Once the sink has
-/// failed, later items are neither written nor given to the devices, so no text ever comes after a gap.
+/// The text of the shown items, the sink that the text is written to, and the devices, which get each item after its
+/// text. Once the sink has failed, later items are neither written nor given to the devices: no text follows a gap.
 #[derive(Drop)]
 pub struct Presenting<'a, S: Sink + Send, D: Devices + Send> {
     pub text: &'a mut Text,
     pub out: &'a mut S,
     pub rack: &'a mut D,
-    /// Whether the sink has failed.
+    /// `Err` once the sink has failed.
     pub result: Result<(), Failed>,
 }
 

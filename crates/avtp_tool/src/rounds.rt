@@ -1,4 +1,4 @@
-//! The rounds of a pipe.
+//! Runs a receiver and a presenter, round by round, over a pipe.
 
 ghost use Rattle.avtp_tool.specs.state.Presenting.{CanPass, HasPassed};
 
@@ -6,7 +6,7 @@ use avtp_base::Failed;
 use presenter_ring::{Gate, Pipe, Presenter, Receiver, Round};
 use std::thread::Threads;
 
-/// Runs round after round until the receiver has ended and everything that it gave was presented, or until the presenter fails.
+/// Runs rounds until the receiver has ended and all its items are presented, or until the presenter fails.
 pub fn present_all<T: Threads + Sync, R: Receiver, P: Presenter, G: Gate>(
     rt: &T,
     pipe: &mut Pipe,

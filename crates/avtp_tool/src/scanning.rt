@@ -16,11 +16,12 @@ use std::alloc::Global;
 /// What a scan found in a capture.
 #[derive(Clone, Copy, Debug, PartialEq, Eq)]
 pub enum Scanned {
-    /// It was read to its end, and each record can be converted; with the shape of the stream, if it has packets of samples.
+    /// The capture was read to its end, and each record can be converted. The shape is that of the stream, or `None` if
+    /// the stream has no packets of samples.
     Clean(Option<Shape>),
     /// The record with this number, from 1, cannot be converted.
     Faulty { fault: ScanFault, frame: u64 },
-    /// The reading ended in this way before the capture's end, and each record up to there can be converted.
+    /// The reading ended in this way before the capture's end. Each record that was read can be converted.
     Cut(End),
 }
 
@@ -40,7 +41,7 @@ pub fn scan<F: Shelf>(
     Ok(scanned)
 }
 
-/// Scans the records of an open capture, as far as it can be read.
+/// Scans the records of an open capture until one cannot be converted or the reading ends.
 fn scan_records<F: Shelf>(to: To, stream: u64, source: &mut Source, shelf: &mut F) -> Scanned
     requires { IsOpen (F.state shelf.old).slots source.old }
     ensures { ScansRecords to stream (F.state shelf.old) (F.state shelf.new) source.old source.new result }
@@ -58,7 +59,8 @@ fn scan_records<F: Shelf>(to: To, stream: u64, source: &mut Source, shelf: &mut 
     }
 }
 
-/// What a scan found if the reading ended in this way and no record has a fault. The shape is that of the stream.
+/// The result of a scan whose reading ended in this way and in which no record has a fault. `shape` is that of the
+/// stream.
 fn scanned_by(end: End, shape: Option<Shape>) -> Scanned
     ensures { result ≡ scanned_as end shape }
 {

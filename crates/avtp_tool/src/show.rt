@@ -50,7 +50,7 @@ pub fn show<F: Shelf, S: Sink>(
     }
 }
 
-/// Prints each record of an open capture, in order, as far as it can be read.
+/// Prints each record of an open capture, in order, as far as the capture can be read.
 fn print_records<F: Shelf, S: Sink>(
     source: &mut Source,
     shelf: &mut F,
@@ -70,7 +70,7 @@ fn print_records<F: Shelf, S: Sink>(
     }
 }
 
-/// Prints the number of a capture's records, or why it was not read to its end.
+/// Prints the number of a capture's records, or why the capture was not read to its end.
 fn print_end<S: Sink>(
     text: &mut Text,
     out: &mut S,

@@ -32,7 +32,7 @@ pub fn soak<T: Threads + Sync, S: Sink>(
     }
 }
 
-/// Prints what became of the deliveries of this many packets.
+/// Prints what became of the deliveries of `packets` packets.
 fn print_counts<S: Sink>(
     text: &mut Text,
     out: &mut S,

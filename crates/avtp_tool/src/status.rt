@@ -5,12 +5,13 @@ ghost use Rattle.avtp_tool.specs.Status.{code_of, status_of};
 
 use capture_io::End;
 
-/// How a run ended. The exit status of the command is the code of this.
+/// How a run ended. Its code is the exit status of the command.
 #[derive(Clone, Copy, Debug, PartialEq, Eq)]
 pub enum Status {
     /// Everything that was asked for was done.
     Done,
-    /// `check` found something, captures that `agree` compares differ, or `gateway` skipped a packet. The text says what.
+    /// `check` found something, the captures that `agree` compares differ, or `gateway` skipped a batch. The text gives
+    /// the details.
     Findings,
     /// The words are not a command line.
     Words,
@@ -31,7 +32,7 @@ pub enum Status {
 }
 
 impl Status {
-    /// The status of a run that ends with a capture whose reading ends in this way.
+    /// The status of a run whose last capture's reading ended in this way.
     pub fn of(end: End) -> Status
         ensures { result ≡ status_of end }
     {

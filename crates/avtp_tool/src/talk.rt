@@ -26,7 +26,7 @@ use capture_io::{CaptureWriter, Contents, Stop, read_contents};
 use std::alloc::Global;
 use talker::{CrfPlan, TalkFault, TalkKind, TalkPlan, Talker, Turn};
 
-/// The most bytes of an input: 256 MiB.
+/// The maximum size of an input: 256 MiB.
 const LIMIT: u64 = 268_435_456;
 
 /// The frame that a talker sends next.
@@ -76,7 +76,7 @@ fn clock(asked: Option<Crf>) -> Option<CrfPlan>
     })
 }
 
-/// The stream that is sent, and how.
+/// The plan of the talker that the words ask for.
 fn plan(asked: &Talk<'_>) -> TalkPlan
     ensures { result ≡ talk_plan (talking_of asked.now) }
 {
@@ -94,7 +94,8 @@ fn plan(asked: &Talk<'_>) -> TalkPlan
     }
 }
 
-/// Reads an input whole, makes a capture of it, and prints how many packets the capture has; or prints why none was made.
+/// Reads an input completely, makes a capture of it, and prints how many packets the capture has. If the input cannot
+/// be read or makes no stream, prints why.
 pub fn talk<F: Shelf, S: Sink>(
     alloc: Global,
     asked: &Talk<'_>,
@@ -173,11 +174,12 @@ pub fn unmade(fault: OpenFault) -> Status
     }
 }
 
-/// Makes a file, or empties it, and writes the capture of all frames of a talker. All memory is allocated before the file is
-/// made. If it cannot be made or written, nothing is printed, because the line of `talk` says what was made.
+/// Creates or empties a file, and writes the capture of all frames of a talker to it. All memory is allocated before
+/// the file is created. If the file cannot be created or written, nothing is printed, because the line of `talk` says
+/// what was made.
 ///
-/// Returns `Failed` only if the writing count rose; the file then is unchanged, or has a prefix of the capture. `Memory` leaves
-/// it unchanged, and `Missing` is never returned.
+/// Returns `Failed` only if the count of writing faults rose; the file then is unchanged or has a prefix of the
+/// capture. If `Memory` is returned, the file is unchanged. `Missing` is never returned.
 fn make_capture<F: Shelf>(
     alloc: Global,
     shelf: &mut F,
@@ -233,7 +235,7 @@ fn print_sent<S: Sink>(
     Ok(Status::Done)
 }
 
-/// Prints why the input makes no stream; if memory ran out, only the status says so.
+/// Prints why the input makes no stream. If memory ran out, nothing is printed, and the status says so.
 fn print_talk_fault<S: Sink>(
     text: &mut Text,
     out: &mut S,

@@ -1,4 +1,4 @@
-//! A capture that is converted: what is presented of it is written as packets of the other format.
+//! A capture that is converted: what a listener presents from it is written as packets of the other format.
 
 ghost use Rattle.std.specs.Prelude.{◌≡◌, ◌≤◌, ◌<◌, ◌^◌, length};
 ghost use Rattle.avtp_files.specs.ShelfCalls.{IsMadeIn};
@@ -22,14 +22,15 @@ use presenter_ring::Pull;
 use sample_schedule::{Batch, Shown};
 use talker::Turn;
 
-/// How far a capture was converted.
+/// The result of converting a capture.
 #[derive(Clone, Copy, Debug, PartialEq, Eq)]
 pub enum Turned {
-    /// As far as it could be read; with how the reading ended, and how many batches were presented.
+    /// The capture was converted as far as it could be read. `end` says how the reading ended; `presented` is the
+    /// number of presented batches.
     Ended { end: End, presented: u64 },
-    /// Up to a record for which there was no memory.
+    /// The conversion stopped at a record for which there was no memory.
     NoMemory,
-    /// Up to a packet that could not be written.
+    /// The conversion stopped at a packet that could not be written.
     Unwritten,
 }
 
@@ -65,7 +66,7 @@ impl Spelled for PieceFrame<'_> {
     }
 }
 
-/// The capture that is made: a gateway cuts batches into packets, which go to a writer.
+/// The capture that is made: a gateway cuts batches into packets, and a writer adds them to the file.
 #[derive(Drop)]
 pub struct Output {
     pub gateway: Gateway,
@@ -73,7 +74,7 @@ pub struct Output {
 }
 
 impl Output {
-    /// Writes the packets of a batch, or prints why it is skipped.
+    /// Writes the packets of a batch, or prints why the batch is skipped.
     fn put<F: Shelf, S: Sink>(
         &mut self,
         batch: Batch,
@@ -122,7 +123,7 @@ fn write_frames<F: Shelf>(
     Ok(())
 }
 
-/// The name of a reason to skip a batch.
+/// The printed name of a reason to skip a batch.
 fn skip_name(skip: Skip) -> &'static str
     ensures { result.now ≡ skip_name_of skip }
 {
@@ -140,7 +141,7 @@ fn print_skip<S: Sink>(text: &mut Text, out: &mut S, frame: u64, skip: Skip) -> 
     text.skip(out, frame, skip_name(skip))
 }
 
-/// Writes the text that waits if the next item may not be there yet.
+/// If the next item may not be there yet, writes the pending text.
 fn write_ahead<S: Sink>(hearing: &Hearing, text: &mut Text, out: &mut S) -> Result<(), Failed>
     ensures { WritesWaiting (S.state out.old) (S.state out.new) text.old text.new result }
 {
@@ -151,7 +152,7 @@ fn write_ahead<S: Sink>(hearing: &Hearing, text: &mut Text, out: &mut S) -> Resu
     }
 }
 
-/// Gives the samples whose packets were written back to the listener, which uses their memory again.
+/// Returns the samples of the last batch to the listener, which reuses their memory.
 fn give_back(hearing: &mut Hearing, output: &mut Output)
     ensures source { hearing.new.source ≡ hearing.old.source }
     ensures listener { hearing.new.listener ≡ hearing.old.listener }
@@ -163,7 +164,8 @@ fn give_back(hearing: &mut Hearing, output: &mut Output)
     }
 }
 
-/// Converts each batch that is presented of a capture, as far as the capture can be read, and writes its packets.
+/// Converts each batch that a listener presents from a capture, as far as the capture can be read, and writes the
+/// batch's packets.
 pub fn turn_records<F: Shelf, S: Sink>(
     hearing: &mut Hearing,
     output: &mut Output,
@@ -193,7 +195,7 @@ pub fn turn_records<F: Shelf, S: Sink>(
     }
 }
 
-/// How far a capture was converted, given how far it was heard.
+/// The result of a conversion, given the result of the hearing.
 fn turned_by(heard: Heard) -> Turned
     ensures { result ≡ turned_as heard }
 {

@@ -1,4 +1,4 @@
--- Kept for proofs: what the code's own parts hold and do. No clause of a public call rests on it.
+-- Kept for proofs: what private code holds and does. No clause of a public call uses it.
 -- How `agree` ends.
 use Rattle.std.specs.Prelude.{◌≡◌, ℕ, ◌^◌, ◌≤◌, List, [], Result, IfOk, MatchResult}
 use Rattle.avtp_base.specs.declared.failed.Failed.{Failed}
@@ -15,17 +15,17 @@ use Rattle.avtp_tool.specs.Listen.{plan_of}
 use Rattle.avtp_tool.specs.Yield.{Yield}
 use Rattle.avtp_tool.specs.state.Outcome.{KeepsSink}
 
--- what the words ask of `agree` is within its bounds
+-- the values that the words give to `agree` are within their bounds
 pub record IsAgreeing (asked : Agreeing) : Type 0 where
   pub limit : asked.listener.limit ≤ 2 ^ 40
   pub plan : IsPlan (schedule_plan (plan_of asked.listener))
 
--- what a run of `agree` over these files can come to: the names that it asks for, its status, and what it yields
+-- what a run of `agree` over these files can result in: the names that it asks for, its status, and what it yields
 abbrev pub AgreeYields : Agreeing → Files → Type 0 → List (List ℕ) → Status → Yield → Type 0
 AgreeYields asked files fault came ended yields = AgreeOutcome asked files fault came ended yields.text × (yields.items ≡ [])
 
--- The last lines of a run were printed, and the run ends with this status; or the sink failed, and a prefix of the lines was
--- printed.
+-- The last lines of a run were printed, and the run ends with the status `ended`. Or the sink failed, and only a prefix
+-- of the lines was printed.
 pub record EndsWithLines (ended : Status) (out out' : SinkState) (waits waits' : List ℕ) (result : Result Status Failed) (lines : List ℕ) : Type 0 where
   pub status : IfOk result (λ s. s ≡ ended)
   pub written : MatchResult result (λ _. Appends (written out.held waits) (written out'.held waits') lines) (λ _. AppendsPrefix (written out.held waits) (written out'.held waits') lines)

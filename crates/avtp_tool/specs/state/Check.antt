@@ -1,4 +1,4 @@
--- Kept for proofs: what the code's own parts hold and do. No clause of a public call rests on it.
+-- Kept for proofs: what private code holds and does. No clause of a public call uses it.
 -- What `check` prints and how it ends. Its rules are this project's own.
 use Rattle.std.specs.Prelude.{◌≡◌, ◌≤◌, ℕ, List, ◌++◌, length, take, Option, MatchResult, IfOk, Result, Ok, Err}
 use Rattle.avtp_base.specs.declared.failed.Failed.{Failed}
@@ -22,22 +22,23 @@ use Rattle.avtp_tool.specs.Check.{noted, notes_of, found_lines, check_lines, joi
 
 -- ---- what is done
 
--- The lines of the findings in a record were printed and counted, at most five; or none was printed, because the sink failed.
+-- The lines of the findings in a record were printed and counted, at most five. Or the sink failed, and none of them
+-- was printed.
 pub record PrintsFound (out out' : SinkState) (waits waits' : List ℕ) (result : Result ℕ Failed) (lines : List (List ℕ)) : Type 0 where
   pub written : MatchResult result (λ _. Appends (written out.held waits) (written out'.held waits') (joined_lines lines)) (λ _. Keeps (written out.held waits) (written out'.held waits'))
   pub counted : IfOk result (λ n. n ≡ length lines)
   pub few : IfOk result (λ n. n ≤ 5)
   pub sink : KeepsSink out out' result
 
--- The packet of a record of this number was noted, and what is found in it was printed.
+-- The packet of the record `number` was noted, and the findings in the record were printed.
 pub record ChecksOne (tracker tracker' : List (StreamKey × StreamState)) (number : ℕ) (checked : Checked) (out out' : SinkState) (waits waits' : List ℕ) (result : Result ℕ Failed) : Type 0 where
   pub stands : (notes : List Seen) → StandsFor tracker notes → StandsFor tracker' (notes ++ noted checked)
   pub prints : (notes : List Seen) → StandsFor tracker notes → PrintsFound out out' waits waits' result (found_lines number notes checked)
   pub few : IfOk result (λ n. n ≤ 5)
   pub sink : KeepsSink out out' result
 
--- The records of a file of these bytes, as far as it could be read, were checked and counted, and its reading ended in this
--- way.
+-- The records of a file of these bytes were checked and counted, as far as the file could be read. `total` has the
+-- counts and how the reading ended.
 pub record HasChecked (limit : ℕ) (name bytes : List ℕ) (fault : Type 0) (total : Total) (before now : Option (List ℕ)) : Type 0 where
   pub records : List Record
   pub ends : EndsAfter limit bytes fault total.end records
@@ -46,7 +47,7 @@ pub record HasChecked (limit : ℕ) (name bytes : List ℕ) (fault : Type 0) (to
   pub found : total.findings ≡ length (of_each check_lines records)
   pub lines : Appends before now (capture_line name ++ joined_lines (of_each check_lines records))
 
--- The records were checked, or a prefix of their lines was printed if the sink failed.
+-- The records were checked. Or the sink failed, and only a prefix of their lines was printed.
 abbrev pub ChecksRecords : ℕ → List ℕ → List ℕ → Type 0 → Option (List ℕ) → Option (List ℕ) → Result Total Failed → Type 0
 ChecksRecords limit name bytes fault before now (Ok total) = HasChecked limit name bytes fault total before now
 ChecksRecords limit name bytes fault before now (Err e) =

@@ -1,4 +1,4 @@
--- Kept for proofs: what the code's own parts hold and do. No clause of a public call rests on it.
+-- Kept for proofs: what private code holds and does. No clause of a public call uses it.
 -- Two captures that are read side by side and compared.
 use Rattle.std.specs.Prelude.{◌≡◌, ◌≢◌, ℕ, ◌+◌, ◌^◌, ◌≤◌, Bool, true, false, List, [], ◌∷◌, ◌++◌, take, Option, Some, None, IfErr, IfOk, IsErrOf, IsSome, is_some, OnErr, OnOk, Result, Ok, Err}
 use Rattle.avtp_base.specs.declared.failed.Failed.{Failed}
@@ -38,7 +38,7 @@ use Rattle.listener_pair.specs.Merged.{known, merged}
 
 -- ---- two open files
 
--- files are open in two slots
+-- files are open in the slots `k` and `j`
 pub record AreOpen (shelf : ShelfState) (k j : ℕ) : Type 0 where
   pub apart : k ≢ j
   pub a : IsSome (shelf.slots k)
@@ -48,7 +48,7 @@ pub record AreOpen (shelf : ShelfState) (k j : ℕ) : Type 0 where
 abbrev pub IsOpenAt : ShelfState → Comparing → Type 0
 IsOpenAt shelf c = AreOpen shelf (slot_of c.a.source) (slot_of c.b.source)
 
--- The files in two slots were read, and are still open. All else is unchanged, and no name was asked for.
+-- The files in the slots `k` and `j` were read, and are still open. All else is unchanged, and no name was asked for.
 pub record ReadsTwo (before after : ShelfState) (k j : ℕ) : Type 0 where
   pub files : KeepsFiles before.files after.files
   pub live : AreOpen after k j
@@ -57,7 +57,7 @@ pub record ReadsTwo (before after : ShelfState) (k j : ℕ) : Type 0 where
   pub writing : after.writing_faults ≡ before.writing_faults
   pub asked : AsksNothing before after
 
--- Two files of these names were opened, in two slots that had been free. All else is unchanged.
+-- The files `a` and `b` were opened, in the slots `k` and `j`, which had been free. All else is unchanged.
 pub record OpensSlots (before after : ShelfState) (a b : List ℕ) (k j : ℕ) : Type 0 where
   pub free_a : before.slots k ≡ None
   pub free_b : before.slots j ≡ None
@@ -68,7 +68,7 @@ pub record OpensSlots (before after : ShelfState) (a b : List ℕ) (k j : ℕ) :
   pub writing : after.writing_faults ≡ before.writing_faults
   pub asked : Asks (a ∷ b ∷ []) before after
 
--- The files in two slots were closed. All else is unchanged.
+-- The files in the slots `k` and `j` were closed. All else is unchanged.
 pub record ClosesTwo (before after : ShelfState) (k j : ℕ) : Type 0 where
   pub ended_a : after.slots k ≡ None
   pub ended_b : after.slots j ≡ None
@@ -80,7 +80,7 @@ pub record ClosesTwo (before after : ShelfState) (k j : ℕ) : Type 0 where
 
 -- ---- opening
 
--- nothing was read of a capture yet
+-- nothing was read from a capture yet
 pub record IsFresh (side : Side) (listener : ListenState) : Type 0 where
   pub going : side.source.ended ≡ None
   pub unended : side.end ≡ None
@@ -88,13 +88,13 @@ pub record IsFresh (side : Side) (listener : ListenState) : Type 0 where
   pub none : listener.counts.frames ≡ 0
   pub listens : is_closed listener ≡ false
 
--- nothing was read of either capture yet
+-- nothing was read from either capture yet
 pub record IsBegun (c : Comparing) : Type 0 where
   pub a : IsFresh c.a c.pair.a
   pub b : IsFresh c.b c.pair.b
   pub stands : StandsFor [] [] 0 c.pair
 
--- both captures have these bytes, and none of their records was given yet
+-- The captures `a` and `b` have known bytes, and none of their records was given to the pair yet.
 pub record AreTold (limit : ℕ) (files : Files) (a b : List ℕ) (shelf : ShelfState) (c : Comparing) : Type 0 where
   pub bytes_a : List ℕ
   pub bytes_b : List ℕ
@@ -103,17 +103,17 @@ pub record AreTold (limit : ℕ) (files : Files) (a b : List ℕ) (shelf : Shelf
   pub given_a : HasGivenOf limit bytes_a shelf c.a.source []
   pub given_b : HasGivenOf limit bytes_b shelf c.b.source []
 
--- why a file of this name was not opened
+-- the file `name` was not opened, for the reason `fault`
 pub record Refuses (before after : ShelfState) (name : List ℕ) (fault : OpenFault) : Type 0 where
   pub missing : IsErrOf {T = Sourcing} (Err fault) open_fault.Missing → IsMissing before.files name
   pub counted : IsOpenCounted {T = Sourcing} before.reading_faults after.reading_faults (Err fault)
 
--- The first of two files was not opened; or it was, and the second was not, or there was no memory to go on.
+-- Either the first file was not opened. Or it was, and then the second file was not opened or memory ran out.
 pub data RefusesTwo (before after : ShelfState) (a b : List ℕ) (fault : OpenFault) : Type 0 where
   first : OnlyReads before after (a ∷ []) → Refuses before after a fault → RefusesTwo before after a b fault
   second : ((files : Files) → before.files ≡ Some files → IsSome (files a)) → OnlyReads before after (a ∷ b ∷ []) → Refuses before after b fault → RefusesTwo before after a b fault
 
--- Two captures were opened, and nothing was read of them yet; or they were not opened.
+-- Two captures were opened, and nothing was read from them yet. Or they were not opened.
 pub record OpensTwo (before after : ShelfState) (limit : ℕ) (plan : ListenPlan) (a b : List ℕ) (result : Result Comparing OpenFault) : Type 0 where
   pub told : IfOk result (λ c. (files : Files) → before.files ≡ Some files → IsSome after.files → AreTold limit files a b after c)
   pub begun : IfOk result IsBegun
@@ -123,14 +123,15 @@ pub record OpensTwo (before after : ShelfState) (limit : ℕ) (plan : ListenPlan
 
 -- ---- differences
 
--- By now all known differences are printed; or the sink failed at one of them, and only those before it are printed.
+-- All differences that are known by now are printed. Or the sink failed at one of them, and only those before it are
+-- printed.
 abbrev pub PrintedAll : List Record → List Record → PairState → List Difference → Option (List ℕ) → Result Unit Failed → Option (List ℕ) → Type 0
 PrintedAll records others pair all base (Ok x) now =
     (given : ℕ) × (take given all ≡ all) × StandsFor records others given pair × Appends base now (difference_lines all)
 PrintedAll records others pair all base (Err e) now =
     (n : ℕ) × StandsFor records others (n + 1) pair × Appends base now (difference_lines (take n all))
 
--- The known differences that had not been printed were printed, or some of them if the sink failed.
+-- The known differences that had not been printed were printed. If the sink failed, only some of them were.
 pub record PrintsDifferences (pair pair' : PairState) (out out' : SinkState) (waits waits' : List ℕ) (result : Result Unit Failed) : Type 0 where
   pub printed : (records others : List Record) (given : ℕ) (base : Option (List ℕ)) → StandsFor records others given pair
       → Appends base (written out.held waits) (difference_lines (take given (differences (known_by pair records others))))
@@ -142,33 +143,33 @@ pub record PrintsDifferences (pair pair' : PairState) (out out' : SinkState) (wa
 
 -- ---- a step
 
--- a fault ended the reading
+-- the reading ended with a read fault
 abbrev pub is_fault : End → Bool
 is_fault end.ReadFault = true
 is_fault how = false
 
--- a pair was given these records of the side `which`, and those of the other side
+-- the pair was given the records `mine` of the side `which`, and the records `theirs` of the other side
 abbrev pub StandsOn : Which → List Record → List Record → ℕ → PairState → Type 0
 StandsOn A mine theirs given pair = StandsFor mine theirs given pair
 StandsOn B mine theirs given pair = StandsFor theirs mine given pair
 
--- The next record of a side was taken.
+-- The pair took `r`, the next record of the side `which`.
 pub record Takes (which : Which) (r : Record) (old new : PairState) : Type 0 where
   pub stands : (mine theirs : List Record) (given : ℕ) → StandsOn which mine theirs given old → StandsOn which (mine ++ r ∷ []) theirs given new
   pub changes : Changes which 1 false old new
 
--- No more records of a side follow.
+-- The pair was told that no more records of the side `which` follow.
 pub record Shuts (which : Which) (old new : PairState) : Type 0 where
   pub stands : (mine theirs : List Record) (given : ℕ) → StandsOn which mine theirs given old → StandsOn which mine theirs given new
   pub changes : Changes which 0 true old new
 
--- The record that is held was taken, or there was no memory for it, and nothing changed.
+-- The pair took the held record. Or there was no memory for it, and nothing changed.
 abbrev pub TakesHeld : Which → Option Record → PairState → PairState → Step → Type 0
 TakesHeld which held old new step.Took = (r : Record) × (held ≡ Some r) × Takes which r old new
 TakesHeld which held old new step.NoMemory = new ≡ old
 TakesHeld which held old new other = ⊥
 
--- One of the captures was read on: its next record was given to the pair, or its reading ended.
+-- One step of reading the capture `which` was done: its next record was given to the pair, or its reading ended.
 abbrev pub StepsTo : Which → ShelfState → ShelfState → Side → Side → PairState → PairState → Step → Type 0
 StepsTo which shelf shelf' side side' pair pair' step.Took =
     (side'.end ≡ None) × GivesNext shelf shelf' side.source side'.source None × TakesHeld which (held_in side'.source) pair pair' step.Took
@@ -179,27 +180,28 @@ StepsTo which shelf shelf' side side' pair pair' step.Fault =
 StepsTo which shelf shelf' side side' pair pair' step.NoMemory =
     (side'.end ≡ None) × GivesNext shelf shelf' side.source side'.source None × (pair' ≡ pair)
 
--- One of the captures was read on, after the text that waits was written; or writing failed, and nothing was read.
+-- The pending text was written, and then one step of reading the capture `which` was done. Or writing failed, and
+-- nothing was read.
 pub record ReadsSide (which : Which) (shelf shelf' : ShelfState) (side side' : Side) (pair pair' : PairState) (out out' : SinkState) (waits waits' : List ℕ) (result : Result Step Failed) : Type 0 where
   pub steps : IfOk result (StepsTo which shelf shelf' side side' pair pair')
   pub cut : OnErr result ((shelf' ≡ shelf) × (slot_of side'.source ≡ slot_of side.source))
   pub kept : Keeps (written out.held waits) (written out'.held waits')
   pub sink : KeepsSink out out' result
 
--- The capture `which` was read on, and the other is unchanged.
+-- One step of reading the capture `which` was done. The other capture is unchanged.
 pub record ReadsOn (which : Which) (shelf shelf' : ShelfState) (c c' : Comparing) (out out' : SinkState) (waits waits' : List ℕ) (result : Result Step Failed) : Type 0 where
   pub in_a : which ≡ A → ReadsSide A shelf shelf' c.a c'.a c.pair c'.pair out out' waits waits' result × (c'.b ≡ c.b)
   pub in_b : which ≡ B → ReadsSide B shelf shelf' c.b c'.b c.pair c'.pair out out' waits waits' result × (c'.a ≡ c.a)
 
 -- ---- two captures, as far as they were compared
 
--- a capture that is read, and its listener: the listener is closed once the reading has ended
+-- A capture that is read, and its listener. The listener is closed once the reading has ended.
 pub record IsSideAt (side : Side) (listener : ListenState) : Type 0 where
   pub going : side.end ≡ None → (side.source.ended ≡ None) × (listener.counts.frames + to_do side.source ≤ 2 ^ 41)
   pub closed : is_closed listener ≡ is_some side.end
   pub no_fault : side.end ≢ Some end.ReadFault
 
--- how much is still to be read of a capture, which falls with each record and at the capture's end
+-- how much of a capture is still to be read; this falls with each record and at the capture's end
 abbrev pub left_by : Side → Option End → ℕ
 left_by side None = to_do side.source + 1
 left_by side (Some how) = 0
@@ -207,7 +209,7 @@ left_by side (Some how) = 0
 abbrev pub left_of : Side → ℕ
 left_of side = left_by side side.end
 
--- Two captures were read on, and no fault of reading was counted.
+-- Two captures were read further, and no read fault was counted.
 pub record IsAmidTwo (shelf shelf' : ShelfState) (old new : Comparing) : Type 0 where
   pub reads : ReadsTwo shelf shelf' (slot_of old.a.source) (slot_of old.b.source)
   pub slot_a : slot_of new.a.source ≡ slot_of old.a.source
@@ -218,12 +220,12 @@ pub record IsAmidTwo (shelf shelf' : ShelfState) (old new : Comparing) : Type 0 
   pub plan_a : new.pair.a.plan ≡ old.pair.a.plan
   pub plan_b : new.pair.b.plan ≡ old.pair.b.plan
 
--- These records were given from a capture whose reading goes on or has ended in this way.
+-- The records that were given from a capture so far, or all of its records once its reading has ended.
 abbrev pub SideRead : ℕ → List ℕ → ShelfState → Sourcing → Option End → List Record → Type 0
 SideRead limit bytes shelf source None records = HasGivenOf limit bytes shelf source records
 SideRead limit bytes shelf source (Some how) records = (how ≡ end_of limit bytes) × (records ≡ records_in (take limit bytes))
 
--- Two captures of these bytes were read, and the first differences of what is known were printed.
+-- Two captures with these bytes were read up to some point, and a prefix of the known differences was printed.
 pub record IsComparedTo (asked : Agreeing) (x y : List ℕ) (shelf : ShelfState) (c : Comparing) (before now : Option (List ℕ)) : Type 0 where
   pub records_a : List Record
   pub records_b : List Record
@@ -233,36 +235,37 @@ pub record IsComparedTo (asked : Agreeing) (x y : List ℕ) (shelf : ShelfState)
   pub stands : StandsFor records_a records_b given c.pair
   pub printed : Appends before now (difference_lines (take given (differences (known_by c.pair records_a records_b))))
 
--- A fault of reading came after a prefix of one of two captures, and what was known by then was printed.
+-- A read fault occurred after a prefix of one of two captures, and the differences that were known by then were
+-- printed.
 pub data IsCutIn (asked : Agreeing) (x y : List ℕ) (fault : Type 0) (before now : Option (List ℕ)) : Type 0 where
   in_a : (prefix : List ℕ) → EndsAt asked.listener.limit (Some x) fault end.ReadFault prefix
       → Appends before now (difference_lines (differences (known false true (merged (due_in asked prefix) (presented_in asked y))))) → IsCutIn asked x y fault before now
   in_b : (prefix : List ℕ) → EndsAt asked.listener.limit (Some y) fault end.ReadFault prefix
       → Appends before now (difference_lines (differences (known true false (merged (presented_in asked x) (due_in asked prefix))))) → IsCutIn asked x y fault before now
 
--- two captures were read to these ends, and all their differences printed
+-- two captures were read to their ends `a` and `b`, and all their differences were printed
 pub record HasCompared (asked : Agreeing) (x y : List ℕ) (a b : End) (counts : PairCounts) (before now : Option (List ℕ)) : Type 0 where
   pub end_a : a ≡ end_of asked.listener.limit x
   pub end_b : b ≡ end_of asked.listener.limit y
   pub counted : counts ≡ counts_of (merged_in asked x y)
   pub lines : Appends before now (difference_lines (differences (merged_in asked x y)))
 
--- what was compared of two captures of these bytes, and printed
+-- what a comparison of two captures with these bytes results in, and what it printed
 abbrev pub ComparesTo : Agreeing → List ℕ → List ℕ → Type 0 → Option (List ℕ) → Option (List ℕ) → Result Compared Failed → Type 0
 ComparesTo asked x y fault before now (Ok (compared.Ended a b counts)) = HasCompared asked x y a b counts before now
 ComparesTo asked x y fault before now (Ok compared.Fault) = IsCutIn asked x y fault before now
 ComparesTo asked x y fault before now (Ok compared.NoMemory) = AppendsPrefix before now (difference_lines (differences (merged_in asked x y)))
 ComparesTo asked x y fault before now (Err e) = AppendsPrefix before now (difference_lines (differences (merged_in asked x y)))
 
--- The count of reading faults rose if a fault ended the comparison, and is otherwise unchanged. A comparison that came to both
--- ends had no fault.
+-- The count of reading faults rose if a read fault ended the comparison, and is otherwise unchanged. If both readings
+-- ended, neither ended with a read fault.
 abbrev pub CountsCompared : Result Compared Failed → ℕ → ℕ → Type 0
 CountsCompared (Ok (compared.Ended a b counts)) before after = (a ≢ end.ReadFault) × (b ≢ end.ReadFault) × (after ≡ before)
 CountsCompared (Ok compared.Fault) before after = Rose before after
 CountsCompared (Ok compared.NoMemory) before after = after ≡ before
 CountsCompared (Err e) before after = after ≡ before
 
--- both readings have ended, and this is how far the captures were compared
+-- both readings have ended, and `result` is the result of the comparison
 pub record EndsCompared (c : Comparing) (result : Compared) : Type 0 where
   pub a : End
   pub b : End
@@ -272,7 +275,7 @@ pub record EndsCompared (c : Comparing) (result : Compared) : Type 0 where
   pub is : result ≡ compared.Ended a b counts
   pub counted : (records others : List Record) (given : ℕ) → StandsFor records others given c.pair → counts ≡ counts_of (known_by c.pair records others)
 
--- Two captures were compared, as far as they could be read, and what differs was printed.
+-- Two captures were compared, as far as they could be read, and their differences were printed.
 pub record Compares (shelf shelf' : ShelfState) (old new : Comparing) (out out' : SinkState) (waits waits' : List ℕ) (result : Result Compared Failed) : Type 0 where
   pub told : (asked : Agreeing) (x y : List ℕ) → HavePlan (plan_of asked.listener) old.pair
       → HasGivenOf asked.listener.limit x shelf old.a.source [] → HasGivenOf asked.listener.limit y shelf old.b.source []

@@ -1,4 +1,4 @@
--- Kept for proofs: what the code's own parts hold and do. No clause of a public call rests on it.
+-- Kept for proofs: what private code holds and does. No clause of a public call uses it.
 -- A run of `gateway` after its scan: OUT is made, and IN is read again.
 use Rattle.std.specs.Prelude.{◌≡◌, ◌≢◌, ◌⊎◌, ℕ, ◌-◌, ◌^◌, ◌≤◌, Bool, true, false, List, [], ◌∷◌, length, Option, Some, IfOk, IsErr, IsSome, Result, Ok, Err}
 use Rattle.avtp_base.specs.declared.failed.Failed.{Failed}
@@ -35,7 +35,7 @@ use Rattle.avtp_tool.specs.state.Made.{CountsWriting, Produces}
 use Rattle.avtp_tool.specs.state.Outcome.{CountsReading, EndsWith, KeepsSink}
 use Rattle.avtp_tool.specs.state.Turning.{IsFreshOutput, TurnsTo, WritesOutput, ended_turn}
 
--- what the words ask of `gateway` is within its bounds
+-- the values that the words give to `gateway` are within their bounds
 pub record IsTurning (asked : Turning) : Type 0 where
   pub limit : asked.listener.limit ≤ 2 ^ 40
   pub plan : IsPlan (schedule_plan (plan_of asked.listener))
@@ -43,27 +43,29 @@ pub record IsTurning (asked : Turning) : Type 0 where
 
 -- ---- the second reading
 
--- The capture to convert was opened again, converted as far as it could be read and written, and closed; or it was not opened.
+-- The capture to convert was opened again, converted as far as it could be read and written, and closed. Or it was not
+-- opened.
 pub record TurnsInput (asked : Turning) (before after : ShelfState) (listener : ListenState) (old new : Output) (out out' : SinkState) (waits waits' : List ℕ) (result : Result Turned Failed) : Type 0 where
   pub told : (shape : Option Shape) (bytes : List ℕ) (files : Option Files) (all : Files) → before.files ≡ Some all → all asked.input ≡ Some bytes → IsSome after.files → IsFreshOutput asked shape files before old
       → StandsFor [] 0 listener → is_closed listener ≡ false → listener.plan ≡ plan_of asked.listener → end_of asked.listener.limit bytes ≡ end.Whole
       → TurnsTo asked shape bytes (Rose before.reading_faults after.reading_faults) files after new (written out.held waits) (written out'.held waits') result
   pub slots : KeepsOtherFiles before.slots after.slots (name_in before.slots old.writer.slot)
   pub writes : WritesOutput before after old new result
-  -- a fault of reading was counted, or the file is missing; at any other end none was counted
+  -- If a read fault ended the reading, it was counted or the file is missing. At any other end, no read fault was
+  -- counted.
   pub fault : (presented : ℕ) → result ≡ Ok (turned.Ended end.ReadFault presented) → Rose before.reading_faults after.reading_faults ⊎ IsMissing before.files asked.input
   pub quiet : (how : End) → ended_turn result ≡ Some how → how ≢ end.ReadFault → after.reading_faults ≡ before.reading_faults
   pub asks : Asks (asked.input ∷ []) before after
   pub sink : KeepsSink out out' result
 
--- how far a capture was converted that could not be opened: nothing was presented of it
+-- the result of a conversion whose capture could not be opened: no batch was presented
 abbrev pub unread_as : OpenFault → Turned
 unread_as open_fault.Memory = turned.NoMemory
 unread_as fault = turned.Ended end.ReadFault 0
 
 -- ---- the end
 
--- the last line, if the reading ended in this way and this many batches were presented
+-- the last line, if the reading ended as `how` and `presented` batches were presented
 abbrev pub ended_line : ℕ → ℕ → Gating → End → List ℕ
 ended_line limit presented g end.Whole = gateway_line presented g.given.packets (presented - g.given.batches)
 ended_line limit presented g how = side_line limit how
@@ -73,19 +75,20 @@ pub record PrintsNothing (out out' : SinkState) (waits waits' : List ℕ) : Type
   pub sink : out' ≡ out
   pub text : waits' ≡ waits
 
--- The capture that is made was finished, and the last line printed; or it could not be written to its end.
+-- The capture that is made was finished, and the last line was printed. Or the capture could not be completed.
 pub data FinishesOutput (limit : ℕ) (how : End) (presented : ℕ) (before after : ShelfState) (o : Output) (out out' : SinkState) (waits waits' : List ℕ) (result : Result Status Failed) : Type 0 where
   finished : FinishesCapture before after o.writer (Ok tt) → EndsWith (turned_status (presented - o.gateway.given.batches) how) out out' waits waits' result (ended_line limit presented o.gateway how)
       → FinishesOutput limit how presented before after o out out' waits waits' result
   unfinished : (e : Failed) → FinishesCapture before after o.writer (Err e) → result ≡ Ok status.WriteFault → PrintsNothing out out' waits waits' → FinishesOutput limit how presented before after o out out' waits waits' result
 
--- The capture that is made was closed as it is, and the run ends in this way without a line.
+-- The capture that is made was closed without being finished. The run ends without a line, and its result satisfies
+-- `so`.
 pub record AbandonsOutput (so : Result Status Failed → Type 0) (before after : ShelfState) (o : Output) (out out' : SinkState) (waits waits' : List ℕ) (result : Result Status Failed) : Type 0 where
   pub closes : ClosesCapture before after o.writer (Ok tt)
   pub ended : so result
   pub nothing : PrintsNothing out out' waits waits'
 
--- how the capture that is made is ended, given how far the other one was converted
+-- how the capture that is made was closed, given the result of the conversion
 abbrev pub EndsOutput : ℕ → Result Turned Failed → ShelfState → ShelfState → Output → SinkState → SinkState → List ℕ → List ℕ → Result Status Failed → Type 0
 EndsOutput limit (Ok (turned.Ended how presented)) before after o out out' waits waits' result = FinishesOutput limit how presented before after o out out' waits waits' result
 EndsOutput limit (Ok turned.NoMemory) before after o out out' waits waits' result = AbandonsOutput (λ r. r ≡ Ok status.Memory) before after o out out' waits waits' result
@@ -94,7 +97,7 @@ EndsOutput limit (Err e) before after o out out' waits waits' result = AbandonsO
 
 -- ---- a capture that was scanned
 
--- A possible outcome of a run over an input of these bytes that was scanned, and whose stream has this shape.
+-- A possible outcome of a run whose input has these bytes and was scanned, and whose stream has the shape `shape`.
 pub record TurnedOutcome (asked : Turning) (shape : Option Shape) (bytes : List ℕ) (fault : Type 0) (ended : Status) (text : List ℕ) (made : Option (List ℕ)) : Type 0 where
   pub how : End
   pub prefix : List ℕ
@@ -103,14 +106,14 @@ pub record TurnedOutcome (asked : Turning) (shape : Option Shape) (bytes : List 
   pub printed : text ≡ turned_text asked shape (batches_by asked (records_in prefix) how) how
   pub written : made ≡ Some (turned_capture asked shape (batches_by asked (records_in prefix) how))
 
--- A status with which a run of `gateway` can end after its scan found no record that cannot be converted.
+-- The status is one with which a run of `gateway` can end after its scan found that each record can be converted.
 abbrev pub is_of_gateway : Status → Bool
 is_of_gateway status.Words = false
 is_of_gateway status.DeviceFault = false
 is_of_gateway status.TalkInput = false
 is_of_gateway ended = true
 
--- OUT was made of an input that was scanned.
+-- OUT was made from an input that was scanned.
 pub record TurnsFile (asked : Turning) (shape : Option Shape) (before after : ShelfState) (out out' : SinkState) (waits waits' : List ℕ) (result : Result Status Failed) : Type 0 where
   pub told : (all : Files) (bytes : List ℕ) → before.files ≡ Some all → all asked.input ≡ Some bytes → IsSome after.files → end_of asked.listener.limit bytes ≡ end.Whole
       → Produces (TurnedOutcome asked shape bytes (Rose before.reading_faults after.reading_faults)) (Some asked.output) (written out.held waits) (written out'.held waits') before.files after.files result

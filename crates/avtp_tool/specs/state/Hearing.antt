@@ -1,4 +1,4 @@
--- Kept for proofs: what the code's own parts hold and do. No clause of a public call rests on it.
+-- Kept for proofs: what private code holds and does. No clause of a public call uses it.
 -- A capture that is heard item by item, and what was shown of it so far.
 use Rattle.std.specs.Prelude.{◌≡◌, ℕ, ◌+◌, ◌-◌, ◌^◌, ◌≤◌, Bool, true, false, List, [], ◌++◌, length, take, Option, None, Some, IsSome, is_some, ⊤}
 use mathlib.Core.List.{IsPrefix}
@@ -23,7 +23,7 @@ use Rattle.avtp_tool.specs.state.Reading.{ReadsCapture}
 
 -- ---- stages
 
--- everything is shown of a capture whose reading ends in this way; otherwise only what was due is shown
+-- after a reading that ended in this way, all items are shown, not only those that were due
 abbrev pub is_all : End → Bool
 is_all end.Whole = true
 is_all (end.Refused refusal) = true
@@ -36,14 +36,14 @@ closed_at (Showing how) = is_all how
 closed_at (Ended how) = is_all how
 closed_at NoMemory = false
 
--- how the reading ended, if it ended
+-- how the reading ended, if it has ended
 abbrev pub read_end : Stage → Option End
 read_end Reading = None
 read_end (Showing how) = Some how
 read_end (Ended how) = Some how
 read_end NoMemory = None
 
--- what a receiver returns once everything was shown of a capture whose reading ended in this way
+-- what a receiver returns after the last item of a capture whose reading ended in this way
 abbrev pub pull_with : End → Pull
 pull_with end.Whole = pull.Done
 pull_with (end.Refused refusal) = pull.Refused refusal
@@ -57,17 +57,18 @@ pull_at (Showing how) = None
 pull_at (Ended how) = Some (pull_with how)
 pull_at NoMemory = Some pull.Memory
 
--- what a receiver returned at its end, if it has ended: a receiver whose file is not open counts as ended by a fault of reading
+-- What a receiver returned at its end, if it has ended. A receiver whose file is not open counts as ended by a read
+-- fault.
 abbrev pub ended_at : Option Open → Stage → Option Pull
 ended_at None stage = Some pull.ReadFault
 ended_at (Some file) stage = pull_at stage
 
--- how far the capture was heard, once the hearing has ended
+-- the result of the hearing, once it has ended
 abbrev pub heard_at : Stage → ListenState → Heard
 heard_at (Ended how) listener = heard.Ended how listener.counts
 heard_at stage listener = heard.NoMemory
 
--- the reading of the file has ended, although the stage is that of reading
+-- the stage is `Reading`, but the reading of the file has ended
 abbrev pub has_stopped : Stage → Sourcing → Bool
 has_stopped Reading source = is_some source.ended
 has_stopped stage source = false
@@ -80,7 +81,7 @@ IsGoing slots source stage = IsSome (slots (slot_of source)) × (pull_at stage �
 abbrev pub IsAtReading : Slots → Sourcing → Stage → Type 0
 IsAtReading slots source stage = IsSome (slots (slot_of source)) × (stage ≡ Reading)
 
--- The listener was closed exactly if everything is shown of a capture whose reading ended in this way.
+-- The listener was closed exactly if all items are shown after a reading that ended as `how`.
 pub record ClosesAt (how : End) (old new : ListenState) : Type 0 where
   pub stands : (records : List Record) (given : ℕ) → StandsFor records given old → StandsFor records given new
   pub plan : new.plan ≡ old.plan
@@ -89,7 +90,7 @@ pub record ClosesAt (how : End) (old new : ListenState) : Type 0 where
 
 -- ---- how much is left
 
--- how much is still to be read, which falls with each record
+-- how much is still to be read; this falls with each record
 abbrev pub reads_left : Stage → Sourcing → ℕ
 reads_left Reading source = to_do source + 1
 reads_left stage source = 0
@@ -98,22 +99,23 @@ abbrev pub unread : Stage → Sourcing → ℕ
 unread Reading source = to_do source
 unread stage source = 0
 
--- the most items that can still be shown: one for each record that was taken or may come, less those that were shown
+-- The maximum number of items that can still be shown: one for each record that was taken or is still unread, minus the
+-- items that were shown.
 abbrev pub left_of : Stage → Sourcing → ListenState → ℕ
 left_of stage source listener = (listener.counts.frames + unread stage source) - (listener.counts.presented + listener.counts.flagged)
 
--- some records were given to the listener, and it has shown this many of their items
+-- some records were given to the listener, and some of their items were shown
 pub record WasGiven (listener : ListenState) : Type 0 where
   pub records : List Record
   pub given : ℕ
   pub stands : StandsFor records given listener
 
--- some records were given to the listener, whichever they are
+-- some list of records was given to the listener
 abbrev pub IsStable : ListenState → Type 0
 IsStable listener = (WasGiven listener → ⊥) → ⊥
 
--- The invariant of every hearing at this stage: the number of records that may still come is bounded, the reading of the file
--- ends with the stage, and the listener is closed if everything is shown.
+-- What holds of every hearing at this stage: The number of taken and unread records is bounded. The stage is not
+-- `Reading` once the reading of the file has ended. The listener is closed if all items are shown.
 pub record IsSoundAt (stage : Stage) (source : Sourcing) (listener : ListenState) : Type 0 where
   pub bounded : listener.counts.frames + unread stage source ≤ 2 ^ 41
   pub going : has_stopped stage source ≡ false
@@ -122,15 +124,15 @@ pub record IsSoundAt (stage : Stage) (source : Sourcing) (listener : ListenState
 
 -- ---- what was shown
 
--- The records of a file of these bytes were read to this stage.
+-- The reading of a file of these bytes has reached this stage, after these records.
 abbrev pub ReadTo : Stage → ℕ → List ℕ → Type 0 → Option (List ℕ) → Sourcing → List Record → Type 0
 ReadTo Reading limit bytes fault remains source records = HasGiven limit bytes remains source records
 ReadTo (Showing how) limit bytes fault remains source records = EndsAfter limit bytes fault how records
 ReadTo (Ended how) limit bytes fault remains source records = EndsAfter limit bytes fault how records
 ReadTo NoMemory limit bytes fault remains source records = ⊤
 
--- Some records of a file of these bytes were read to this stage, and these items of them were shown: all items, once the
--- hearing has ended.
+-- The reading of a file of these bytes has reached this stage, and these items of its records were shown. Once the
+-- hearing has ended, these are all items.
 pub record IsShown (stage : Stage) (limit : ℕ) (bytes : List ℕ) (fault : Type 0) (remains : Option (List ℕ)) (source : Sourcing) (listener : ListenState) (items : List Shown) : Type 0 where
   pub records : List Record
   pub first : IsPrefix records (records_in (take limit bytes))
@@ -139,7 +141,8 @@ pub record IsShown (stage : Stage) (limit : ℕ) (bytes : List ℕ) (fault : Typ
   pub given : IsPrefix items (out listener records)
   pub whole : (how : End) → stage ≡ Ended how → items ≡ out listener records
 
--- Since a capture was opened and a listener made for it, these items were shown, and the capture was only read.
+-- Since a capture was opened and a listener was made for it, these items were shown. The shelf changed only by reading
+-- the capture.
 pub record Shows (shelf shelf' : ShelfState)
     (old_source source : Sourcing) (old_listener listener : ListenState) (stage : Stage) (items : List Shown) : Type 0 where
   pub capture : ReadsCapture shelf shelf' (slot_of old_source) (slot_of source) (read_end stage)
@@ -147,15 +150,14 @@ pub record Shows (shelf shelf' : ShelfState)
   pub shown : (limit : ℕ) (bytes : List ℕ) → HasGiven limit bytes (left_in shelf.slots (slot_of old_source)) old_source [] → StandsFor [] 0 old_listener → is_closed old_listener ≡ false
       → IsShown stage limit bytes (Rose shelf.reading_faults shelf'.reading_faults) (left_in shelf'.slots (slot_of source)) source listener items
 
--- The hearing moved on: these items were shown after all that were shown since the capture was opened, and fewer can still be
--- shown.
+-- The hearing moved on. These items were shown after those that were shown earlier, and fewer can still be shown.
 pub record GoesOn (shelf shelf' : ShelfState) (old_source source : Sourcing) (old_listener listener : ListenState) (old_stage stage : Stage) (items : List Shown) : Type 0 where
   pub shows : (begun : ShelfState) (first : Sourcing) (fresh : ListenState) (earlier : List Shown)
       → Shows begun shelf first old_source fresh old_listener old_stage earlier → Shows begun shelf' first source fresh listener stage (earlier ++ items)
   pub live : IsSome (shelf'.slots (slot_of source))
   pub left : left_of stage source listener + length items ≤ left_of old_stage old_source old_listener
 
--- The hearing moved on and returned this: the next item, or how the hearing ended.
+-- The hearing moved on and returned `answer`: the next item, or how the hearing ended.
 pub record GivesPull (shelf shelf' : ShelfState) (old_source source : Sourcing) (old_listener listener : ListenState) (old_stage stage : Stage) (answer : Pull) : Type 0 where
   pub on : GoesOn shelf shelf' old_source source old_listener listener old_stage stage (items_of answer)
   pub ended : pull_at stage ≡ ending_of answer

@@ -1,4 +1,4 @@
--- Kept for proofs: what the code's own parts hold and do. No clause of a public call rests on it.
+-- Kept for proofs: what private code holds and does. No clause of a public call uses it.
 -- What `listen` prints and how it ends.
 use Rattle.std.specs.Prelude.{◌≡◌, ℕ, List, [], Option, None, Some, IfOk, IsSome, OnOk, Result, Ok, Err}
 use Rattle.avtp_base.specs.declared.failed.Failed.{Failed}
@@ -28,8 +28,8 @@ use Rattle.avtp_tool.specs.Listen.{plan_of, shown_by, shown_text, listen_report}
 
 -- ---- the records of a capture
 
--- The records of a file of these bytes, as far as it could be read, were heard, and its reading ended in this way. What is
--- shown of the records was printed, given to devices and counted.
+-- The records of a file of these bytes were heard, as far as the file could be read, and its reading ended as `how`.
+-- What is shown of the records was printed, given to devices and counted.
 pub record HasHeard (asked : Listening) (handed : List Shown → Type 0) (name bytes : List ℕ) (fault : Type 0) (how : End) (counts : Counts) (before now : Option (List ℕ)) : Type 0 where
   pub records : List Record
   pub ends : EndsAfter asked.listener.limit bytes fault how records
@@ -37,7 +37,7 @@ pub record HasHeard (asked : Listening) (handed : List Shown → Type 0) (name b
   pub lines : Appends before now (shown_text name (shown_by (plan_of asked.listener) records how))
   pub items : handed (shown_by (plan_of asked.listener) records how)
 
--- The records were heard; or a part of what the file yields was given out, if memory ran out or the sink failed.
+-- The records were heard. If memory ran out or the sink failed, only a part of what the file yields was given out.
 abbrev pub HearsRecords : Listening → (List Shown → Type 0) → List ℕ → List ℕ → Type 0 → Option (List ℕ) → Option (List ℕ) → Result Heard Failed → Type 0
 HearsRecords asked handed name bytes fault before now (Ok (Ended how counts)) = HasHeard asked handed name bytes fault how counts before now
 HearsRecords asked handed name bytes fault before now (Ok NoMemory) = GivesPart handed before now (file_yield (listen_report asked name) asked.listener.limit (Some bytes))
@@ -48,8 +48,8 @@ abbrev pub heard_end : Heard → Option End
 heard_end (Ended how counts) = Some how
 heard_end NoMemory = None
 
--- Items were shown: their lines were printed, and each item was given to the devices after its lines. These are all items if
--- the hearing ended, or a prefix if the sink failed.
+-- Items were shown: their lines were printed, and each item was given to the devices after its lines. If the hearing
+-- ended, these are all items. If the sink failed, they are a prefix of the items.
 pub record HearsItems (handed : List Shown → Type 0) (shelf shelf' : ShelfState)
     (old_source source : Sourcing) (old_listener listener : ListenState) (stage : Stage) (out out' : SinkState) (waits waits' : List ℕ) (result : Result Unit Failed) : Type 0 where
   pub items : List Shown
@@ -57,8 +57,8 @@ pub record HearsItems (handed : List Shown → Type 0) (shelf shelf' : ShelfStat
   pub gives : GivesItems handed out out' waits waits' result items
   pub over : OnOk result (IsSome (pull_at stage))
 
--- The records of an open capture were heard by this listener, and reported. The count of reading faults rose if a fault ended
--- the reading, and the sink keeps what it held.
+-- The records of an open capture were heard by this listener, and reported. If a read fault ended the reading, the
+-- count of reading faults rose. The sink keeps what it held.
 pub record HearsCapture (handed : List Shown → Type 0) (name : List ℕ) (listener : ListenState) (shelf shelf' : ShelfState) (old new : Sourcing) (out out' : SinkState) (waits waits' : List ℕ) (result : Result Heard Failed) : Type 0 where
   pub heard : (asked : Listening) (bytes : List ℕ) → listener.plan ≡ plan_of asked.listener → HasGivenOf asked.listener.limit bytes shelf old []
       → HearsRecords asked handed name bytes (Rose shelf.reading_faults shelf'.reading_faults) (written out.held waits) (written out'.held waits') result

@@ -1,4 +1,4 @@
--- Kept for proofs: what the code's own parts hold and do. No clause of a public call rests on it.
+-- Kept for proofs: what private code holds and does. No clause of a public call uses it.
 -- What a command does to the files of a shelf: it writes one of them, or none.
 use Rattle.std.specs.Prelude.{◌≡◌, ◌≢◌, ℕ, ◌≤◌, List, [], ◌∷◌, ◌++◌, map, take, Option, None, Some, Result, Ok, IfOk, IsErrOf, IsOk, OnErr, OnOk}
 use Rattle.avtp_base.specs.declared.failed.OpenFault.{OpenFault}
@@ -17,15 +17,15 @@ use Rattle.avtp_tool.specs.state.Outcome.{TellsText}
 use Rattle.avtp_tool.specs.declared.status.Status.{Status}
 use Rattle.avtp_tool.specs.declared.status.Status.TheVariants as status
 
--- A run that makes the file with this name ended in this way. If everything was done, the file has these bytes; if memory ran
--- out or a write failed, it is unchanged or has a prefix of them; otherwise all files are unchanged.
+-- A run that makes the file `name` ended in this way. If everything was done, the file has these bytes. If memory ran
+-- out or a write failed, the file is unchanged or has a prefix of them. Otherwise all files are unchanged.
 pub record Makes (name bytes : List ℕ) (files files' : Option Files) (result : Result Status Failed) : Type 0 where
   pub done : result ≡ Ok status.Done → PutsFile files files' name bytes
   pub part : MakesPrefix files files' name bytes
   pub untouched : IfOk result (λ s. s ≢ status.Done → s ≢ status.WriteFault → s ≢ status.Memory → KeepsFiles files files')
 
--- The count of writing faults of a run: it never falls, rises if a file could not be written, and is otherwise unchanged. If no
--- file is written, it is unchanged.
+-- The count of writing faults of a run never falls. It rises if a file could not be written, and is otherwise
+-- unchanged. If no file is written, it is unchanged.
 pub record CountsWriting (name : Option (List ℕ)) (before after : ℕ) (result : Result Status Failed) : Type 0 where
   pub never_falls : before ≤ after
   pub failed : result ≡ Ok status.WriteFault → Rose before after
@@ -34,8 +34,9 @@ pub record CountsWriting (name : Option (List ℕ)) (before after : ℕ) (result
 
 -- ---- one file
 
--- A call made a file of these bytes, or returns why not. If the file was not made, it is unchanged or has a prefix of the
--- bytes, and memory ran out or a writing fault was counted. All else is unchanged, and no other name was asked for.
+-- A call made the file `name` with these bytes, or returns why it did not. If the file was not made, it is unchanged or
+-- has a prefix of the bytes, and memory ran out or a writing fault was counted. All else is unchanged, and no other
+-- name was asked for.
 pub record MakesFile (shelf shelf' : ShelfState) (name bytes : List ℕ) (result : Result Unit OpenFault) : Type 0 where
   pub made : OnOk result (PutsFile shelf.files shelf'.files name bytes)
   pub part : OnErr result (MakesPrefix shelf.files shelf'.files name bytes)
@@ -50,7 +51,8 @@ abbrev pub frame_bytes : Option SentFrame → List ℕ
 frame_bytes None = []
 frame_bytes (Some f) = f.bytes
 
--- The first of these frames were added to the capture, in order, or some of them if the shelf failed.
+-- The first `number` of these frames were added to the capture, in order. If the shelf failed, some first part of the
+-- frames was added.
 pub record WritesFrames (frames : List SentFrame) (number : ℕ) (before after : ShelfState) (old new : Writing) (result : Result Unit Failed) : Type 0 where
   pub added : OnOk result ((files : Option Files) (name : List ℕ) (records : List Record) → HoldsCapture files before old name records → HoldsCapture files after new name (records ++ map record_of (take number frames)))
   pub part : OnErr result ((files : Option Files) (name : List ℕ) (records : List Record) → HoldsCapture files before old name records

@@ -1,4 +1,4 @@
--- Kept for proofs: what the code's own parts hold and do. No clause of a public call rests on it. The possible outcomes of a
+-- Kept for proofs: what private code holds and does. No clause of a public call uses it. The possible outcomes of a
 -- command's run: the status that it ends with and what it yields; and how much of that stays if it is cut short.
 use Rattle.std.specs.Prelude.{◌≡◌, ◌≢◌, ◌⊎◌, ℕ, ◌≤◌, List, [], Option, Result, Ok, Err, IfOk, true, IsErr, MatchResult}
 use Rattle.avtp_base.specs.declared.failed.Failed.{Failed}
@@ -21,8 +21,8 @@ abbrev pub IsDone : Result Status Failed → Type 0
 IsDone (Ok ended) = is_done ended ≡ true
 IsDone (Err e) = ⊥
 
--- A run gave out what one of the possible outcomes yields. If memory ran out or a write failed, it gave out a part of that;
--- otherwise all of it, and the run ended with the outcome's status.
+-- A run gave out what one of the possible outcomes yields. If memory ran out or a write failed, it gave out only a part
+-- of that. Otherwise it gave out all of it, and ended with the outcome's status.
 pub record Tells {Y : Type 0} (Outcome : Status → Y → Type 0) (Whole Part : Y → Type 0) (result : Result Status Failed) : Type 0 where
   pub ended : Status
   pub yields : Y
@@ -30,7 +30,7 @@ pub record Tells {Y : Type 0} (Outcome : Status → Y → Type 0) (Whole Part : 
   pub whole : IfOk result (λ s. s ≢ status.Memory → s ≢ status.WriteFault → (s ≡ ended) × Whole yields)
   pub part : Part yields
 
--- a text was given out: known bytes grew by it from `before` to `now`
+-- a text was given out: the known bytes grew by this text from `before` to `now`
 abbrev pub TellsText : (Status → List ℕ → Type 0) → Option (List ℕ) → Option (List ℕ) → Result Status Failed → Type 0
 TellsText Outcome before now result = Tells Outcome (Appends before now) (AppendsPrefix before now) result
 
@@ -38,8 +38,9 @@ TellsText Outcome before now result = Tells Outcome (Appends before now) (Append
 abbrev pub TellsYield : (Status → Yield → Type 0) → (List Shown → Type 0) → Option (List ℕ) → Option (List ℕ) → Result Status Failed → Type 0
 TellsYield Outcome handed before now result = Tells Outcome (Gives handed before now) (GivesPart handed before now) result
 
--- A whole run gave out what one of the possible outcomes yields. If memory ran out or a write failed, it gave out a part of
--- that; otherwise all of it, with the status of the outcome, and the shelf was asked for exactly the names of the outcome.
+-- A whole run gave out what one of the possible outcomes yields. If memory ran out or a write failed, it gave out only
+-- a part of that. Otherwise it gave out all of it, ended with the outcome's status, and asked the shelf for exactly the
+-- outcome's names.
 pub record TellsRun (Outcome : List (List ℕ) → Status → Yield → Type 0) (handed : List Shown → Type 0) (shelf shelf' : ShelfState) (before now : Option (List ℕ)) (result : Result Status Failed) : Type 0 where
   pub came : List (List ℕ)
   pub ended : Status
@@ -53,28 +54,29 @@ pub record KeepsSink {T : Type 0} (out out' : SinkState) (result : Result T Fail
   pub grows : Grows out.held out'.held
   pub counted : IsCounted out.faults out'.faults result
 
--- The text that waits was written, or a part of it if the sink failed: what was written so far, with what still waits, is
+-- The pending text was written, or a part of it if the sink failed. The written text followed by the pending text is
 -- unchanged.
 pub record WritesWaiting (out out' : SinkState) (waits waits' : List ℕ) (result : Result Unit Failed) : Type 0 where
   pub kept : Keeps (written out.held waits) (written out'.held waits')
   pub sink : KeepsSink out out' result
 
--- The last line of a run was printed whole, and the run ends with this status; or the sink failed, and nothing of the line was
--- printed.
+-- The last line of a run was printed whole, and the run ends with the status `ended`. Or the sink failed, and nothing
+-- of the line was printed.
 pub record EndsWith (ended : Status) (out out' : SinkState) (waits waits' : List ℕ) (result : Result Status Failed) (line : List ℕ) : Type 0 where
   pub status : IfOk result (λ s. s ≡ ended)
   pub written : MatchResult result (λ _. Appends (written out.held waits) (written out'.held waits') line) (λ _. Keeps (written out.held waits) (written out'.held waits'))
   pub sink : KeepsSink out out' result
 
--- A run ends because a file could not be opened. If memory ran out, the status says so, and nothing is printed; otherwise the
--- line of a fault of reading is printed.
+-- A run ends because a file could not be opened. If memory ran out, the status says so, and nothing is printed.
+-- Otherwise the line of a read fault is printed.
 pub record EndsUnopened (fault : OpenFault) (out out' : SinkState) (waits waits' : List ℕ) (result : Result Status Failed) : Type 0 where
   pub memory : fault ≡ open_fault.Memory → (result ≡ Ok status.Memory) × Keeps (written out.held waits) (written out'.held waits')
   pub other : fault ≢ open_fault.Memory → EndsWith status.ReadFault out out' waits waits' result read_fault_line
   pub sink : KeepsSink out out' result
 
--- The text that waits was written, and the run ends with this status: its own if the sink took everything, otherwise that of a
--- failed write. The sink keeps what it held, and got all of the text or a prefix of it.
+-- The pending text was written, and the run ends with the status `result`. If the sink took everything, this is the
+-- run's own status. Otherwise it is that of a failed write. The sink keeps what it held, and got all of the text or a
+-- prefix of it.
 pub record Finishes (out out' : SinkState) (waits waits' : List ℕ) (ended : Result Status Failed) (result : Status) : Type 0 where
   pub whole : result ≢ status.WriteFault → (ended ≡ Ok result) × (waits' ≡ [])
   pub kept : Keeps (written out.held waits) (written out'.held waits')
@@ -83,8 +85,9 @@ pub record Finishes (out out' : SinkState) (waits waits' : List ℕ) (ended : Re
   pub fault : result ≡ status.WriteFault → IsErr ended ⊎ ((ended ≡ Ok status.WriteFault) ⊎ Rose out.faults out'.faults)
   pub quiet : result ≢ status.WriteFault → out'.faults ≡ out.faults
 
--- A run that reads some of these files ended in this way. It ends with a fault of reading only if a fault was counted or one of
--- the files is missing. If it ends otherwise, and neither memory ran out nor a write failed, the count of faults is unchanged.
+-- A run that reads some of these files ended in this way. It ends with a read fault only if a read fault was counted or
+-- one of the files is missing. If it ends otherwise, and neither memory ran out nor a write failed, the count of
+-- reading faults is unchanged.
 pub record CountsReading (names : List (List ℕ)) (files : Option Files) (before after : ℕ) (result : Result Status Failed) : Type 0 where
   pub never_falls : before ≤ after
   pub fault : result ≡ Ok status.ReadFault → Rose before after ⊎ IsOneMissing names files

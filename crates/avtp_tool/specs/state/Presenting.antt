@@ -1,4 +1,4 @@
--- Kept for proofs: what the code's own parts hold and do. No clause of a public call rests on it. What the two sides of a ring
+-- Kept for proofs: what private code holds and does. No clause of a public call uses it. What the two sides of a ring
 -- did until everything was presented or the presenter failed.
 use Rattle.std.specs.Prelude.{◌≡◌, ℕ, ◌+◌, ◌^◌, ◌≤◌, ◌++◌, List, [], Option, None, IsSome, Result, Ok, Err, OnOk, OnErr}
 use mathlib.Core.List.{IsPrefix}
@@ -12,13 +12,13 @@ use Rattle.presenter_ring.specs.declared.receiver.Pull.{Pull}
 use Rattle.presenter_ring.specs.Pipes.{ended_with, given_to, waiting_in}
 use Rattle.avtp_base.specs.States.{SinkState}
 
--- how many failures a presenter that stops at the first has counted
+-- the number of failures counted by a presenter that stops at its first failure
 abbrev pub failures : Result Unit Failed → ℕ
 failures (Ok x) = 0
 failures (Err e) = 1
 
--- The lines of items were printed, and each item was given to the devices after its lines. If the sink failed, a part of the
--- lines was printed, and neither the item whose lines failed nor a later one was given to the devices.
+-- The lines of these items were printed, and each item was given to the devices after its lines. If the sink failed at
+-- an item, only a part of the lines was printed, and neither this item nor a later one was given to the devices.
 pub record GivesItems (handed : List Shown → Type 0) (out out' : SinkState) (waits waits' : List ℕ) (result : Result Unit Failed) (items : List Shown) : Type 0 where
   pub prints : PrintsPart out out' waits waits' result (list_lines items)
   pub front : List Shown
@@ -26,7 +26,7 @@ pub record GivesItems (handed : List Shown → Type 0) (out out' : SinkState) (w
   pub all : OnOk result (front ≡ items)
   pub hands : handed front
 
--- Nothing waits in a pipe, neither it nor its receiver has ended, and there is room to count all items that the receiver can
+-- The pipe is empty. The pipe and its receiver have not ended. There is room to count all items that the receiver can
 -- still give.
 pub record CanPass (pipe : Pipe) (ended : Option Pull) (left : ℕ) : Type 0 where
   pub empty : waiting_in pipe ≡ []
@@ -34,8 +34,8 @@ pub record CanPass (pipe : Pipe) (ended : Option Pull) (left : ℕ) : Type 0 whe
   pub live : ended ≡ None
   pub room : given_to pipe + left ≤ 2 ^ 62
 
--- The receiver gave these items, and the presenter got them in this order: all of them, or the first ones if it failed.
--- Contracts see what each side did as a list of items.
+-- The receiver gave the items `given`, and the presenter got them in this order. If the presenter failed, it got only
+-- the first of them. Contracts see what each side did as a list of items.
 pub record HasPassed {R P : Type 0} (gave : R → R → List Shown → Type 0) (ended : R → Option Pull) (handed : P → P → List Shown → Type 0) (faults : P → ℕ) (receiver receiver' : R) (presenter presenter' : P) (result : Result Unit Failed) : Type 0 where
   pub given : List Shown
   pub presented : List Shown

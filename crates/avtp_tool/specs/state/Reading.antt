@@ -1,4 +1,4 @@
--- Kept for proofs: what the code's own parts hold and do. No clause of a public call rests on it.
+-- Kept for proofs: what private code holds and does. No clause of a public call uses it.
 -- Files that a command reads in order: what may become of each, and of all.
 use Rattle.std.specs.Prelude.{◌≡◌, ℕ, ◌^◌, ◌≤◌, List, [], ◌∷◌, length, take, Option, Some, None, IfOk, IsSome, OnErr, Result, Ok, Err, Bool, true, false}
 use Rattle.avtp_base.specs.declared.failed.Failed.{Failed}
@@ -20,7 +20,7 @@ use Rattle.avtp_tool.specs.Yield.{Yield}
 
 -- ---- an open capture
 
--- The file may be read, up to this many bytes, and its reading has not ended.
+-- The file is open, its reading has not ended, and the number of bytes still to be read is bounded.
 abbrev pub IsOpen : Slots → Sourcing → Type 0
 IsOpen slots source = (source.ended ≡ None) × IsSome (slots (slot_of source)) × (to_do source ≤ 2 ^ 41)
 
@@ -29,13 +29,13 @@ abbrev pub ended_in : {T E : Type 0} → (T → End) → Result T E → Option E
 ended_in end (Ok x) = Some (end x)
 ended_in end (Err e) = None
 
--- The file was read, and is still open; all else is unchanged. The count of reading faults rose if a fault ended the reading,
--- and is otherwise unchanged.
+-- The file was read, and is still open. All else is unchanged. The count of reading faults rose if a read fault ended
+-- the reading, and is otherwise unchanged.
 pub record ReadsCapture (shelf shelf' : ShelfState) (k now : ℕ) (how : Option End) : Type 0 where
   pub reads : ReadsSlot shelf shelf' k now
   pub counted : CountsFault None how shelf.reading_faults shelf'.reading_faults
 
--- The text that waits was written, and then the next record was read, or the reading ended; or writing failed, and nothing was
+-- The pending text was written. Then the next record was read, or the reading ended. If writing failed, nothing was
 -- read.
 pub record ReadsAhead (shelf shelf' : ShelfState) (old new : Sourcing) (out out' : SinkState) (waits waits' : List ℕ) (result : Result (Option End) Failed) : Type 0 where
   pub gives : IfOk result (λ how. GivesNext shelf shelf' old new how)
@@ -43,8 +43,8 @@ pub record ReadsAhead (shelf shelf' : ShelfState) (old new : Sourcing) (out out'
   pub kept : Keeps (written out.held waits) (written out'.held waits')
   pub sink : KeepsSink out out' result
 
--- The records of the file were read, as far as possible, and reported. `Told` is the report: it relates the most bytes that are
--- read, the bytes of the file, the condition for a fault of reading, the text that was known before and now, and the result.
+-- The records of the file were read as far as possible, and reported. `Told` is the report. It relates the limit, the
+-- bytes of the file, the condition for a read fault, the known text before and now, and the result.
 pub record ReadsRecords {T : Type 0} (Told : ℕ → List ℕ → Type 0 → Option (List ℕ) → Option (List ℕ) → Result T Failed → Type 0) (ending : T → End)
     (shelf shelf' : ShelfState) (old new : Sourcing) (out out' : SinkState) (waits waits' : List ℕ) (result : Result T Failed) : Type 0 where
   pub told : (limit : ℕ) (bytes : List ℕ) → HasGivenOf limit bytes shelf old [] → Told limit bytes (Rose shelf.reading_faults shelf'.reading_faults) (written out.held waits) (written out'.held waits') result
@@ -53,7 +53,8 @@ pub record ReadsRecords {T : Type 0} (Told : ℕ → List ℕ → Type 0 → Opt
 
 -- ---- what was done
 
--- The status of a run that only reads: none of a failed write, of bad words, of a device or of the input of `talk`.
+-- The status is one of a run that only reads: not that of a failed write, of wrong words, of a failed device or of the
+-- input of `talk`.
 abbrev pub is_of_reading : Status → Bool
 is_of_reading status.Words = false
 is_of_reading status.WriteFault = false
@@ -64,7 +65,7 @@ is_of_reading ended = true
 abbrev pub IsReadingStatus : Result Status Failed → Type 0
 IsReadingStatus result = IfOk result (λ s. is_of_reading s ≡ true)
 
--- The file with this name was read, up to `limit` bytes, and its report was printed and given to devices. Nothing else was
+-- The file `name` was read, up to `limit` bytes. Its report was printed and given to devices, and nothing else was
 -- done.
 pub record DoesFile (report : Report) (handed : List Shown → Type 0) (limit : ℕ) (name : List ℕ) (shelf shelf' : ShelfState) (out out' : SinkState) (waits waits' : List ℕ) (result : Result Status Failed) : Type 0 where
   pub tells : (all : Files) → shelf.files ≡ Some all → TellsYield (FileOutcome report limit (all name) (Rose shelf.reading_faults shelf'.reading_faults)) handed (written out.held waits) (written out'.held waits') result
@@ -73,8 +74,8 @@ pub record DoesFile (report : Report) (handed : List Shown → Type 0) (limit : 
   pub own : IsReadingStatus result
   pub sink : KeepsSink out out' result
 
--- A command read some of these files, in this order, and what it yields was printed and given to devices. Nothing else was
--- done. `Outcome` gives the possible outcomes over the files that a shelf shows.
+-- A command read some of these files, in this order. What it yields was printed and given to devices, and nothing else
+-- was done. `Outcome` gives the possible outcomes over the files that a shelf shows.
 pub record DoesReading (Outcome : Files → Type 0 → List (List ℕ) → Status → Yield → Type 0) (names : List (List ℕ)) (handed : List Shown → Type 0) (shelf shelf' : ShelfState) (out out' : SinkState) (waits waits' : List ℕ) (result : Result Status Failed) : Type 0 where
   pub tells : (all : Files) → shelf.files ≡ Some all → IsSome shelf'.files → TellsRun (Outcome all (Rose shelf.reading_faults shelf'.reading_faults)) handed shelf shelf' (written out.held waits) (written out'.held waits') result
   pub count : ℕ

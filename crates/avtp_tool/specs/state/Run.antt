@@ -1,4 +1,4 @@
--- Kept for proofs: what the code's own parts hold and do. No clause of a public call rests on it. The outcome of a run, whichever
+-- Kept for proofs: what private code holds and does. No clause of a public call uses it. The outcome of a run, whichever
 -- command the words ask for.
 use Rattle.std.specs.Prelude.{◌≡◌, ◌≢◌, ◌⊎◌, ℕ, ◌^◌, ◌≤◌, List, Option, Some, IfOk, IsSome, Result, Ok, Err, Bool, true, false}
 use Rattle.avtp_base.specs.declared.failed.Failed.{Failed}
@@ -23,7 +23,7 @@ use Rattle.avtp_tool.specs.state.Outcome.{CountsReading, KeepsSink, TellsRun}
 use Rattle.avtp_tool.specs.Talk.{talk_plan}
 use Rattle.avtp_tool.specs.Run.{Outcome, names_of, is_listening, is_through}
 
--- What a run printed, gave to devices and made, over the files that a shelf shows before and after.
+-- What a run printed, gave to devices and made, if a shelf shows its files before and after the run.
 pub record TellsAll (request : Request) (all : Files) (fault : Type 0) (failed : Bool) (handed : List Shown → Type 0) (shelf shelf' : ShelfState) (before now : Option (List ℕ)) (result : Result Status Failed) : Type 0 where
   pub made : Option (List ℕ)
   pub tells : TellsRun (λ came ended yields. Outcome request all fault failed came ended yields made) handed shelf shelf' before now result
@@ -54,7 +54,7 @@ pub record Runs (request : Request) (handed : List Shown → Type 0) (failed : B
   pub asks : AsksFor (names_of request) shelf shelf' (IsThrough result)
   pub sink : KeepsSink out out' result
 
--- the words are a command line, or have an offence
+-- the words are a command line, or one of them is wrong
 abbrev pub IsAsked : List (List ℕ) → Type 0
 IsAsked words = ((request : Request) × IsCommandLine words request) ⊎ ((position : ℕ) × IsOffence words position)
 

@@ -1,4 +1,4 @@
--- Kept for proofs: what the code's own parts hold and do. No clause of a public call rests on it. A capture that is scanned for
+-- Kept for proofs: what private code holds and does. No clause of a public call uses it. A capture that is scanned for
 -- records that cannot be converted.
 use Rattle.std.specs.Prelude.{◌≡◌, ◌≢◌, ℕ, List, [], ◌∷◌, take, Option, Some, None, Result, Ok, Err, IfErr, IfOk, IfSome, IsErrOf}
 use Rattle.avtp_base.specs.declared.failed.OpenFault.{OpenFault}
@@ -27,12 +27,13 @@ ended_scan (scanned.Clean shape) = Some end.Whole
 ended_scan (scanned.Faulty fault frame) = None
 ended_scan (scanned.Cut how) = Some how
 
--- what a scan found if the reading ended in this way and no record of the stream with this shape has a fault
+-- The result of a scan whose reading ended in this way and in which no record has a fault. The shape is that of the
+-- stream.
 abbrev pub scanned_as : End → Option Shape → Scanned
 scanned_as end.Whole shape = scanned.Clean shape
 scanned_as how shape = scanned.Cut how
 
--- What a scan for packets to this format found in the stream of a file of these bytes.
+-- What the result of a scan says of the stream in a file of these bytes, which is to be converted to the format `to`.
 abbrev pub ScansTo : To → ℕ → ℕ → List ℕ → Type 0 → Scanned → Type 0
 ScansTo to stream limit bytes fault (scanned.Clean shape) =
     (end_of limit bytes ≡ end.Whole) × (first_fault to stream (records_in (take limit bytes)) ≡ None) × (shape ≡ shape_in stream (records_in (take limit bytes)))
@@ -41,14 +42,14 @@ ScansTo to stream limit bytes fault (scanned.Faulty why frame) =
 ScansTo to stream limit bytes fault (scanned.Cut how) =
     (prefix : List ℕ) × EndsAt limit (Some bytes) fault how prefix × (first_fault to stream (records_in prefix) ≡ None)
 
--- The records of an open capture were scanned, as far as they can be read and converted.
+-- The records of an open capture were scanned until one could not be converted or the reading ended.
 pub record ScansRecords (to : To) (stream : ℕ) (shelf shelf' : ShelfState) (old new : Sourcing) (result : Scanned) : Type 0 where
   pub told : (limit : ℕ) (bytes : List ℕ) → HasGivenOf limit bytes shelf old [] → ScansTo to stream limit bytes (Rose shelf.reading_faults shelf'.reading_faults) result
   pub reads : ReadsCapture shelf shelf' (slot_of old) (slot_of new) (ended_scan result)
   pub cut : (how : End) → result ≡ scanned.Cut how → how ≢ end.Whole
   pub sound : (shape : Option Shape) → result ≡ scanned.Clean shape → IfSome shape IsShape
 
--- The capture to convert was opened, scanned and closed; or it was not opened.
+-- The capture to convert was opened, scanned and closed. Or it was not opened.
 pub record ScansFile (asked : Turning) (shelf shelf' : ShelfState) (result : Result Scanned OpenFault) : Type 0 where
   pub told : IfOk result (λ found. (all : Files) → shelf.files ≡ Some all
       → (bytes : List ℕ) × (all asked.input ≡ Some bytes) × ScansTo (format_of asked.to) asked.listener.stream asked.listener.limit bytes (Rose shelf.reading_faults shelf'.reading_faults) found)

@@ -1,4 +1,4 @@
--- Kept for proofs: what the code's own parts hold and do. No clause of a public call rests on it.
+-- Kept for proofs: what private code holds and does. No clause of a public call uses it.
 -- What `show` prints and how it ends.
 use Rattle.std.specs.Prelude.{◌≡◌, ℕ, List, length, take, Option, Result, Ok, Err}
 use Rattle.pcap_frames.specs.Capture.{Record}
@@ -13,15 +13,15 @@ use Rattle.avtp_tool.specs.Show.{show_line}
 
 -- ---- the records of a capture
 
--- The records of a file of these bytes, as far as it could be read, were printed and counted, and its reading ended in this
--- way.
+-- The records of a file of these bytes were printed and counted, as far as the file could be read. `printed` has their
+-- number and how the reading ended.
 pub record HasPrinted (limit : ℕ) (bytes : List ℕ) (fault : Type 0) (printed : Printed) (before now : Option (List ℕ)) : Type 0 where
   pub records : List Record
   pub ends : EndsAfter limit bytes fault printed.end records
   pub counted : printed.frames ≡ length records
   pub lines : Appends before now (of_each show_line records)
 
--- The records were printed, or a prefix of their lines if the sink failed.
+-- The records were printed. Or the sink failed, and only a prefix of their lines was printed.
 abbrev pub PrintsRecords : ℕ → List ℕ → Type 0 → Option (List ℕ) → Option (List ℕ) → Result Printed Failed → Type 0
 PrintsRecords limit bytes fault before now (Ok printed) = HasPrinted limit bytes fault printed before now
 PrintsRecords limit bytes fault before now (Err e) = AppendsPrefix before now (of_each show_line (records_in (take limit bytes)))

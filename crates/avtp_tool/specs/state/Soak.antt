@@ -1,4 +1,4 @@
--- Kept for proofs: what the code's own parts hold and do. No clause of a public call rests on it.
+-- Kept for proofs: what private code holds and does. No clause of a public call uses it.
 -- What `soak` prints and how it ends.
 use Rattle.std.specs.Prelude.{◌≡◌, ◌⊎◌, ℕ, List, Result, IfOk}
 use Rattle.avtp_base.specs.declared.failed.Failed.{Failed}

@@ -1,4 +1,4 @@
--- Kept for proofs: what the code's own parts hold and do. No clause of a public call rests on it.
+-- Kept for proofs: what private code holds and does. No clause of a public call uses it.
 -- What `talk` prints and how it ends.
 use Rattle.std.specs.Prelude.{◌≡◌, ◌≢◌, ℕ, List, [], ◌∷◌, Option, Some, Result, Ok, IfOk, if◌then◌else◌, slice_get}
 use Rattle.avtp_base.specs.declared.failed.Failed.{Failed}
@@ -32,16 +32,16 @@ next_bytes t = frame_bytes (slice_get (frames t.plan t.input) t.given)
 
 -- ---- what is done
 
--- A run over an input ends with a fault of reading exactly if such a fault stopped the reading, unless memory ran out or a
--- write failed. It never ends with the status of wrong words or of a failed device.
+-- A run over an input ends with a read fault exactly if a read fault stopped the reading, unless memory ran out or a
+-- write failed. The run never ends with the status of wrong words or of a failed device.
 pub record FaultStops (halt : Stop) (result : Result Status Failed) : Type 0 where
   pub fault : result ≡ Ok status.ReadFault → halt ≡ stop.Fault
   pub quiet : IfOk result (λ s. s ≢ status.ReadFault → s ≢ status.Memory → s ≢ status.WriteFault → halt ≢ stop.Fault)
   pub no_words : result ≢ Ok status.Words
   pub no_devices : result ≢ Ok status.DeviceFault
 
--- The state of all other files, of the slots and of the counts after a call that writes only one file and asks only for its
--- name.
+-- A call wrote only the file `name` and asked only for this name. This says what became of all other files, the slots
+-- and the counts.
 pub record WritesOnly (shelf shelf' : ShelfState) (name : List ℕ) (result : Result Status Failed) : Type 0 where
   pub files : KeepsFilesBut (Some name) shelf.files shelf'.files
   pub slots : KeepsSlotsBut shelf.files shelf.slots shelf'.slots name
@@ -50,11 +50,12 @@ pub record WritesOnly (shelf shelf' : ShelfState) (name : List ℕ) (result : Re
   pub asked : AsksFor (name ∷ []) shelf shelf' (IsDone result)
   pub came : IfOk result (λ s. s ≢ status.Memory → s ≢ status.WriteFault → Asks (if is_done s then name ∷ [] else []) shelf shelf')
 
--- a possible outcome, and the files are unchanged unless everything was done
+-- a possible outcome; the files are unchanged unless everything was done
 abbrev pub OutcomeWith : (Status → List ℕ → Type 0) → Option Files → Option Files → Status → List ℕ → Type 0
 OutcomeWith Outcome files files' ended text = Outcome ended text × (ended ≢ status.Done → KeepsFiles files files')
 
--- A call that makes the file with this name of these bytes gave out one of the possible outcomes, and left all else unchanged.
+-- A call that makes the file `name` with these bytes gave out one of the possible outcomes, and left all else
+-- unchanged.
 pub record Talks (Outcome : Status → List ℕ → Type 0) (name bytes : List ℕ) (shelf shelf' : ShelfState)
     (out out' : SinkState) (waits waits' : List ℕ) (result : Result Status Failed) : Type 0 where
   pub tells : TellsText (OutcomeWith Outcome shelf.files shelf'.files) (written out.held waits) (written out'.held waits') result
@@ -62,7 +63,8 @@ pub record Talks (Outcome : Status → List ℕ → Type 0) (name bytes : List �
   pub writes : WritesOnly shelf shelf' name result
   pub sink : KeepsSink out out' result
 
--- A call that makes the capture of an input gave out one of the possible outcomes for what was read of the input.
+-- A call that makes the capture of an input gave out one of the possible outcomes for the bytes that were read from the
+-- input.
 pub record TalksContents (plan : TalkPlan) (contents : Contents) (name : List ℕ) (shelf shelf' : ShelfState)
     (out out' : SinkState) (waits waits' : List ℕ) (result : Result Status Failed) : Type 0 where
   pub tells : (bytes : List ℕ) → IsContents most_input bytes contents.stop contents.bytes.items → TellsText (OutcomeWith (TalkedOutcome plan bytes (contents.stop ≡ stop.Fault)) shelf.files shelf'.files) (written out.held waits) (written out'.held waits') result
@@ -71,8 +73,8 @@ pub record TalksContents (plan : TalkPlan) (contents : Contents) (name : List �
   pub counts : FaultStops contents.stop result
   pub sink : KeepsSink out out' result
 
--- A run ends because the input makes no stream. If memory ran out, the status says so, and nothing is printed; otherwise the
--- line that gives the reason is printed.
+-- A run ends because the input makes no stream. If memory ran out, the status says so, and nothing is printed.
+-- Otherwise the line that gives the reason is printed.
 pub record EndsRefused (why : TalkFault) (out out' : SinkState) (waits waits' : List ℕ) (result : Result Status Failed) : Type 0 where
   pub memory : why ≡ fault.Memory → (result ≡ Ok status.Memory) × Keeps (written out.held waits) (written out'.held waits')
   pub other : why ≢ fault.Memory → EndsWith status.TalkInput out out' waits waits' result (talk_input_line why)

@@ -1,4 +1,4 @@
--- Kept for proofs: what the code's own parts hold and do. No clause of a public call rests on it. A capture that is converted:
+-- Kept for proofs: what private code holds and does. No clause of a public call uses it. A capture that is converted:
 -- what is presented of it is written as packets of the other format.
 use Rattle.std.specs.Prelude.{◌≡◌, ◌≢◌, ℕ, ◌+◌, ◌≤◌, List, [], ◌∷◌, ◌++◌, flat_map, length, map, slice_get, take, Option, Some, None, IfOk, IsSome, OnErr, OnOk, Result, Ok, Err, option_map, false}
 use Rattle.avtp_base.specs.declared.failed.Failed.{Failed}
@@ -39,46 +39,47 @@ use Rattle.avtp_tool.specs.state.Outcome.{KeepsSink}
 
 -- ---- the batches so far
 
--- what was given out after these batches
+-- what the gateway has given out after these batches
 abbrev pub given_over : To → Option Shape → List Presented → Given
 given_over to None batches = nothing_given
 given_over to (Some shape) batches = given_by to shape nothing_given batches
 
--- A gateway to this format, for a stream of this shape and under this id, was given these batches.
+-- The gateway `g` was given these batches. It converts a stream of this shape to the format `to`, under the stream ID
+-- `id`.
 pub record HasPut (to : To) (shape : Option Shape) (id : ℕ) (batches : List Presented) (g : Gating) : Type 0 where
   pub to_is : g.to ≡ to
   pub shape_is : g.shape ≡ shape
   pub id_is : g.id ≡ id
   pub given : g.given ≡ given_over to shape batches
 
--- the records of the frames of these batches
+-- the records of the frames that carry these batches
 abbrev pub records_for : To → Option Shape → ℕ → List Presented → List Record
 records_for to shape id batches = map record_of (gateway_frames to shape id batches)
 
--- The file that is written has a capture of the first of these records, however many.
+-- The file that is written has a capture of a prefix of these records.
 pub record HoldsFirst (files : Option Files) (shelf : ShelfState) (writer : Writing) (name : List ℕ) (records : List Record) : Type 0 where
   pub count : ℕ
   pub holds : HoldsCapture files shelf writer name (take count records)
 
 -- ---- the packets of a batch
 
--- the bytes of frame i of the last batch that was not skipped
+-- the bytes of frame `i` of the last batch that was not skipped
 abbrev pub piece_bytes : Gating → ℕ → List ℕ
 piece_bytes g i = frame_bytes (slice_get g.frames i)
 
--- what was written of a batch, as the writer's calls have it
+-- the result of writing the packets of a batch, in the type of a writer's result
 abbrev pub wrote : Result Put Failed → Result Unit Failed
 wrote (Ok did.Done) = Ok tt
 wrote (Ok did.Unwritten) = Err (record {})
 wrote (Err e) = Ok tt
 
--- A batch was put: its packets were written, or the line that says why it is skipped was printed.
+-- A batch was put: its packets were written, or it was skipped and the line that says why was printed.
 pub record PutsBatch (batch : Presented) (before after : ShelfState) (old new : Output) (out out' : SinkState) (waits waits' : List ℕ) (result : Result Put Failed) : Type 0 where
-  -- the gateway was given this batch, too
+  -- if the batch is done, the gateway was given it after `batches`
   pub put : result ≡ Ok did.Done → (to : To) (shape : Option Shape) (id : ℕ) (batches : List Presented) → HasPut to shape id batches old.gateway → HasPut to shape id (batches ++ batch ∷ []) new.gateway
   pub frames : result ≡ Ok did.Done → (to : To) (shape : Option Shape) (id : ℕ) (batches : List Presented) (files : Option Files) (name : List ℕ) → HasPut to shape id batches old.gateway
       → HoldsCapture files before old.writer name (records_for to shape id batches) → HoldsCapture files after new.writer name (records_for to shape id (batches ++ batch ∷ []))
-  -- a part of the packets may have been written
+  -- in any case, some first part of the batch's packets was written
   pub part : (to : To) (shape : Option Shape) (id : ℕ) (batches : List Presented) (files : Option Files) (name : List ℕ) → HasPut to shape id batches old.gateway
       → HoldsCapture files before old.writer name (records_for to shape id batches) → HoldsFirst files after new.writer name (records_for to shape id (batches ++ batch ∷ []))
   pub lines : IfOk result (λ so. Appends (written out.held waits) (written out'.held waits') (flat_map skipped_line (skipped_at batch.frame (skip_of old.gateway.to old.gateway.shape old.gateway.given batch))))
@@ -87,39 +88,39 @@ pub record PutsBatch (batch : Presented) (before after : ShelfState) (old new : 
   pub few : new.gateway.given.batches ≤ old.gateway.given.batches + 1
   pub sink : KeepsSink out out' result
 
--- ---- samples that are given back
+-- ---- samples that are returned
 
--- the output once the samples of the last batch were given back: no piece of it is left
+-- the output after the samples of the last batch were returned: no piece of the batch is left
 abbrev pub given_back : Output → Output
 given_back o = record o { gateway = record o.gateway { frames = [] } }
 
 -- ---- a capture
 
--- how far a capture was converted, given how far it was heard
+-- the result of a conversion, given the result of the hearing
 abbrev pub turned_as : Heard → Turned
 turned_as (heard.Ended how counts) = turned.Ended how counts.presented
 turned_as heard.NoMemory = turned.NoMemory
 
--- how the reading of a capture ended, if the capture was converted up to there
+-- how the reading of a capture ended, if the conversion came to the end of the reading
 abbrev pub ended_turn : Result Turned Failed → Option End
 ended_turn (Ok (turned.Ended how presented)) = Some how
 ended_turn (Ok other) = None
 ended_turn (Err e) = None
 
--- whether the packets of a capture were written, as the result of a writer's call
+-- whether all packets of a capture were written, in the type of a writer's result
 abbrev pub wrote_all : Result Turned Failed → Result Unit Failed
 wrote_all (Ok turned.Unwritten) = Err (record {})
 wrote_all other = Ok tt
 
--- No batch was put yet into the capture that is made, which has a name of its own.
+-- No batch was put yet into the capture that is made. Its file has another name than the one that is read.
 pub record IsFreshOutput (asked : Asked) (shape : Option Shape) (files : Option Files) (shelf : ShelfState) (o : Output) : Type 0 where
   pub apart : asked.input ≢ asked.output
   pub named : name_in shelf.slots o.writer.slot ≡ Some asked.output
   pub none : HasPut (format_of asked.to) shape asked.id [] o.gateway
   pub holds : HoldsCapture files shelf o.writer asked.output []
 
--- No batch was put yet into the capture that is made, and nothing was heard of the capture that is read, which has these bytes
--- and a name of its own.
+-- No batch was put yet into the capture that is made, and nothing was heard yet of the capture that is read. The latter
+-- has these bytes, and the two files have different names.
 pub record IsToTurn (asked : Asked) (shape : Option Shape) (bytes : List ℕ) (files : Option Files) (shelf : ShelfState) (source : Sourcing) (listener : ListenState) (o : Output) : Type 0 where
   pub fresh : IsFreshOutput asked shape files shelf o
   pub named : name_in shelf.slots (slot_of source) ≡ Some asked.input
@@ -128,21 +129,21 @@ pub record IsToTurn (asked : Asked) (shape : Option Shape) (bytes : List ℕ) (f
   pub going : is_closed listener ≡ false
   pub plan : listener.plan ≡ plan_of asked.listener
 
--- These batches were put: the packets of each were written, or the line of a skipped batch was printed.
+-- These batches were put. The packets of each were written, or the line of a skipped batch was printed.
 pub record HasTurned (asked : Asked) (shape : Option Shape) (batches : List Presented) (files : Option Files) (shelf : ShelfState) (o : Output) (before now : Option (List ℕ)) : Type 0 where
   pub put : HasPut (format_of asked.to) shape asked.id batches o.gateway
   pub lines : Appends before now (flat_map skipped_line (skips_in asked shape batches))
   pub holds : HoldsCapture files shelf o.writer asked.output (map record_of (turned_frames asked shape batches))
 
--- All batches that are presented of a capture of these bytes, as far as it could be read, were put.
+-- All batches that a listener presents from a capture of these bytes, as far as it could be read, were put.
 pub record HasHeard (asked : Asked) (shape : Option Shape) (bytes : List ℕ) (fault : Type 0) (files : Option Files) (shelf : ShelfState) (o : Output) (how : End) (presented : ℕ) (before now : Option (List ℕ)) : Type 0 where
   pub prefix : List ℕ
   pub ends : EndsAt asked.listener.limit (Some bytes) fault how prefix
   pub turned : HasTurned asked shape (batches_by asked (records_in prefix) how) files shelf o before now
   pub counted : presented ≡ length (batches_by asked (records_in prefix) how)
 
--- Some of all batches of a capture of these bytes were put: the file holds the first of their records, and a prefix of their
--- lines was printed.
+-- Some first part of the batches of a capture of these bytes was put. The file holds the first of their records, and a
+-- prefix of their lines was printed.
 pub record IsCutShort (asked : Asked) (shape : Option Shape) (bytes : List ℕ) (files : Option Files) (shelf : ShelfState) (o : Output) (before now : Option (List ℕ)) : Type 0 where
   pub lines : AppendsPrefix before now (flat_map skipped_line (skips_in asked shape (batches_by asked (records_in (take asked.listener.limit bytes)) end.Whole)))
   pub holds : HoldsFirst files shelf o.writer asked.output (map record_of (turned_frames asked shape (batches_by asked (records_in (take asked.listener.limit bytes)) end.Whole)))
@@ -151,14 +152,14 @@ abbrev pub TurnsTo : Asked → Option Shape → List ℕ → Type 0 → Option F
 TurnsTo asked shape bytes fault files shelf o before now (Ok (turned.Ended how presented)) = HasHeard asked shape bytes fault files shelf o how presented before now
 TurnsTo asked shape bytes fault files shelf o before now other = IsCutShort asked shape bytes files shelf o before now
 
--- the file that is read and the one that is written are open, each in its own slot
+-- the file that is read and the file that is written are open, each in its own slot
 pub record AreOpenIn (slots : Slots) (source : Sourcing) (o : Output) : Type 0 where
   pub apart : slot_of source ≢ o.writer.slot
   pub live : IsSome (slots (slot_of source))
   pub made : IsMadeIn slots o.writer.slot
 
--- A capture was written to a file through a writer, while another was read: what the file has, which had no record before, and
--- the counts of faults.
+-- A capture was written to a file while another file was read. This says what the file has, if it had no record before,
+-- and how the counts of faults changed.
 pub record WritesOutput (before after : ShelfState) (old new : Output) (result : Result Turned Failed) : Type 0 where
   pub slot : new.writer.slot ≡ old.writer.slot
   pub made : IsMadeIn after.slots old.writer.slot
@@ -173,8 +174,8 @@ pub record Turns (before after : ShelfState) (source source' : Sourcing) (listen
   pub told : (asked : Asked) (shape : Option Shape) (bytes : List ℕ) (files : Option Files) → IsToTurn asked shape bytes files before source listener old
       → TurnsTo asked shape bytes (Rose before.reading_faults after.reading_faults) files after new (written out.held waits) (written out'.held waits') result
   pub slot : slot_of source' ≡ slot_of source
-  -- each slot keeps its file, and what is left to read there, except in the slot that is read and in those of the file that is
-  -- written
+  -- Each slot keeps its file. What is left to read in a slot is unchanged, except in the slot that is read and in those
+  -- of the file that is written.
   pub same : (j : ℕ) → option_map file_of (after.slots j) ≡ option_map file_of (before.slots j)
   pub left : (j : ℕ) → j ≢ slot_of source → name_in before.slots j ≢ name_in before.slots old.writer.slot → left_in after.slots j ≡ left_in before.slots j
   pub writes : WritesOutput before after old new result

@@ -1,4 +1,4 @@
--- Kept for proofs: what the code's own parts hold and do. No clause of a public call rests on it.
+-- Kept for proofs: what private code holds and does. No clause of a public call uses it.
 -- What a run yields: the text that it prints, and the items that it hands to devices.
 use Rattle.std.specs.Prelude.{◌≡◌, ℕ, List, [], Option}
 use mathlib.Core.List.{IsPrefix}
@@ -11,7 +11,7 @@ use Rattle.avtp_tool.specs.Yield.{Yield}
 abbrev pub HandsNothing : List Shown → Type 0
 HandsNothing items = items ≡ []
 
--- The known bytes grew by the text, and the devices got the items. `handed` says which items they got.
+-- The known bytes grew by the text, and the devices got the items. `handed` says which items the devices got.
 pub record Gives (handed : List Shown → Type 0) (before now : Option (List ℕ)) (yields : Yield) : Type 0 where
   pub text : Appends before now yields.text
   pub items : handed yields.items
