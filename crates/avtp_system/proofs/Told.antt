@@ -1,4 +1,4 @@
--- A fact about the arguments of a program is a fact about those that its system shows.
+-- Facts about the arguments of a program, as facts about the arguments that its system shows.
 use Rattle.std.proofs.Common.{◌≡◌, ℕ, List, Option, Some, None, subst, refl}
 use Rattle.std.specs.Prelude.{IfSome, IsSome}
 use Rattle.avtp_base.specs.States.{SinkState}
@@ -9,6 +9,6 @@ pub said_as : (P : List (List ℕ) → Type 0) (told : Option (List (List ℕ)))
 said_as P None words same holds = tt
 said_as P (Some said) words same holds = subst P same (holds refl)
 
--- what was refused is still refused if less is said to be unchanged
+-- `RefusesWords` still holds if `still` is weakened to `other`
 pub refuses_as : {position : ℕ} {still other : Type 0} {out out' : SinkState} {ended : Status} → RefusesWords position still out out' ended → (still → other) → RefusesWords position other out out' ended
 refuses_as refuses weaker = record { whole = refuses.whole; written = refuses.written; grows = refuses.grows; kept = weaker refuses.kept; write = refuses.write; not_write = refuses.not_write }

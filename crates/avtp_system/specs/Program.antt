@@ -14,34 +14,35 @@ use Rattle.avtp_tool.specs.DeviceWords.{silence_as}
 use Rattle.avtp_tool.specs.HasRun.{HasRun, RefusesWords}
 use Rattle.avtp_tool.specs.Yield.{HandsOn}
 
--- The sinks of a system's files, and their paths.
+-- `path` gives the path of the file of a sink, and `state` gives the state of a sink.
 module _ {S : Type 0} (path : S → List ℕ) (state : S → SinkState) where
-  -- A device writes raw samples to the file that was asked for, with the silence that was asked for, and has taken nothing yet.
+  -- The device writes raw samples to the file that was asked for, with the silence that was asked for. It has taken
+  -- nothing yet.
   pub record WritesRaw (asked : NamedRaw) (device : RawDevice S) : Type 0 where
     pub name : path (raw_sink device) ≡ asked.file.name
     pub silence : silence_in device ≡ silence_as asked.silence
     pub failed : raw_failed device ≡ false
     pub new : HasTakenRaw state (state (raw_sink device)) device []
 
-  -- A device writes units to the file that was asked for, and has taken nothing yet.
+  -- The device writes NAL units to the file that was asked for. It has taken nothing yet.
   pub record WritesUnits (asked : NamedFile) (device : AnnexBDevice S) : Type 0 where
     pub name : path (annexb_sink device) ≡ asked.name
     pub failed : annexb_failed device ≡ false
     pub new : HasTakenUnits state (state (annexb_sink device)) device []
 
-  -- there is a live device that does what was asked for, or none if none was asked for
+  -- If something was asked for, there is a live device that does it. If nothing was asked for, there is no device.
   abbrev pub IsFor : {Asked D : Type 0} → (Asked → D → Type 0) → Option Asked → Option (Outlet D) → Type 0
   IsFor Writes None None = ⊤
   IsFor Writes None (Some outlet) = ⊥
   IsFor Writes (Some asked) None = ⊥
   IsFor Writes (Some asked) (Some outlet) = Writes asked outlet.device × (outlet.live ≡ true)
 
-  -- the devices are those that a request asks for: `listen` may ask for both, and no other command for any
+  -- The devices are those that a request asks for. `listen` may ask for both devices; no other command asks for any.
   abbrev pub AreAsked : Request → OutputFiles S → Type 0
   AreAsked (listen asked) outputs = IsFor WritesRaw asked.raw (raw_outlet outputs) × IsFor WritesUnits asked.annexb (units_outlet outputs)
   AreAsked request outputs = (raw_outlet outputs ≡ None) × (units_outlet outputs ≡ None)
 
-  -- A request was run with the devices that it asks for, and these got the items that the run promises.
+  -- A request was run with the devices that it asks for. They got the items that the run promises.
   pub record RunsWith (request : Request) (shelf shelf' : ShelfState) (out out' : SinkState) (ended : Status) : Type 0 where
     pub before : OutputFiles S
     pub after : OutputFiles S
@@ -53,8 +54,8 @@ module _ {S : Type 0} (path : S → List ℕ) (state : S → SinkState) where
 abbrev pub IsLacking : Type 0 → Status → Type 0
 IsLacking untouched ended = (ended ≡ status.Memory) × untouched
 
--- What a program with these arguments did. `still` says that the shelf is unchanged, and `untouched` that the shelf and the
--- sink are.
+-- What a program with these arguments did. `still` says that the shelf is unchanged. `untouched` says that the shelf
+-- and the sink are unchanged.
 pub record HasEnded {S : Type 0} (path : S → List ℕ) (state : S → SinkState) (arguments : List (List ℕ)) (still untouched : Type 0)
     (shelf shelf' : ShelfState) (out out' : SinkState) (ended : Status) : Type 0 where
   pub runs : (request : Request) → IsCommandLine arguments request → IsLacking untouched ended ⊎ RunsWith path state request shelf shelf' out out' ended

@@ -24,8 +24,9 @@ pub use system::System;
 /// The program's name, which begins each of its lines on standard error.
 const PROGRAM: &str = "avtp";
 
-/// Does what the arguments ask for, over real files and standard output, and returns the exit status. If a file or standard
-/// output fails, standard error says which and why. A terminal shows there how much was read, after a second.
+/// Does what the arguments ask for, over real files and standard output, and returns the exit status. If a file or
+/// standard output fails, standard error says which and why. If standard error is a terminal, it shows after one second
+/// how much was read.
 pub fn run_program<T: Threads + Sync>(rt: &HostRuntime, threads: &T) -> ExitCode
     ensures { (ended : Status) × (exit_status result ≡ code_of ended) }
 {

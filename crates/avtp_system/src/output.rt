@@ -4,12 +4,13 @@ use crate::progress::ProgressLine;
 use avtp_files::FaultTeller;
 use std::io::{self, ErrorKind, IsTerminal, Print, Write};
 
-/// Standard output, which says on standard error why a write fails. It says nothing if the reader has ended, as `head` does.
+/// Standard output. If a write fails, the reason is printed on standard error. Nothing is printed there if the reader
+/// has ended, as `head` does.
 #[derive(Drop)]
 pub struct Output<'a> {
     rt: &'a HostRuntime,
     teller: FaultTeller<&'a HostRuntime>,
-    /// The line in whose place the text comes, if standard output is a terminal.
+    /// If standard output is a terminal: the progress line, which is removed before text is written.
     covered: Option<&'a ProgressLine>,
 }
 

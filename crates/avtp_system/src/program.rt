@@ -15,7 +15,7 @@ use presenter_ring::NoGate;
 use std::alloc::Global;
 use std::thread::Threads;
 
-/// Does what the arguments ask for, over these files and this text, and returns the status.
+/// Does what the arguments ask for, over the files of `shelf` and the text of `out`, and returns the status.
 pub fn run_over<
     T: Threads + Sync,
     S: Sink + Drop + Send,
@@ -36,7 +36,7 @@ pub fn run_over<
     }
 }
 
-/// The devices that the words ask for: none if they are not a command line of `listen`.
+/// The devices that the words ask for. There are none if the words are not a command line of `listen`.
 fn outputs_for<S: Sink + Drop, Y: System<S>>(
     alloc: Global,
     system: &Y,
@@ -53,7 +53,7 @@ fn outputs_for<S: Sink + Drop, Y: System<S>>(
     }
 }
 
-/// The devices that `listen` is asked for.
+/// The devices that a command line of `listen` asks for.
 fn outputs_of<S: Sink + Drop, Y: System<S>>(
     alloc: Global,
     system: &Y,
@@ -96,7 +96,7 @@ fn units_device<S: Sink + Drop, Y: System<S>>(
     Ok(AnnexBDevice::over(file))
 }
 
-/// The files that `listen` opens, other than the one with this name: its captures, and the file of its other device.
+/// The files that `listen` opens, except the file `name`: its captures, and the file of its other device.
 fn other_files(alloc: Global, asked: &Listen<'_>, name: &str) -> Result<Vec<String>, NoMemory> {
     let mut others = Vec::new(alloc);
     for file in asked.files {

@@ -1,4 +1,4 @@
-//! What a long run says on a terminal while it goes on.
+//! The progress that a long run shows on a terminal.
 
 use avtp_base::{Failed, OpenFault};
 use avtp_files::{Shelf, Slot};
@@ -6,15 +6,16 @@ use std::io::{Eprint, IsTerminal};
 use std::sync::atomic::{AtomicBool, Ordering};
 use std::time::{Duration, Instant};
 
-/// How many milliseconds a run works before it says how much it read.
+/// The time in milliseconds before a run first shows how much it has read.
 const FIRST: u64 = 1000;
 
-/// How many milliseconds it then works before it says so again.
+/// The time in milliseconds from one update of the progress to the next.
 const AGAIN: u64 = 100;
 
-/// A line on standard error that says how much was read, as `12.3 MB read`.
+/// A line on standard error that says how much was read, such as `12.3 MB read`.
 ///
-/// The cursor stays at its start. Every line that tells a fault is at least as long, and so covers it.
+/// The cursor stays at the start of this line. Each line that reports a fault is at least as long, so it covers this
+/// line.
 #[derive(Drop)]
 pub struct ProgressLine {
     rt: HostRuntime,
@@ -35,7 +36,7 @@ impl ProgressLine {
         let _ = eprint!(self.rt; "{whole}.{tenths} MB read\r");
     }
 
-    /// Leaves the line blank, if it is shown.
+    /// If the line is shown, makes it blank.
     pub fn remove(&self) {
         if self.is_shown.swap(false, Ordering::SeqCst) {
             let _ = eprint!(self.rt; "                    \r");
@@ -43,14 +44,14 @@ impl ProgressLine {
     }
 }
 
-/// How much a run has read. It says so only if standard error is a terminal.
+/// How much a run has read. The run shows this only if standard error is a terminal.
 #[derive(Drop)]
 struct Progress<'a> {
     line: &'a ProgressLine,
-    /// When the run began, if it is to say anything.
+    /// When the run began; `None` if no progress is shown.
     start: Option<Instant>,
     bytes: u64,
-    /// How long the run has worked when it next says how much it read.
+    /// The running time at which the progress is next shown.
     due: Duration,
 }
 
@@ -84,7 +85,7 @@ impl<'a> Progress<'a> {
     }
 }
 
-/// Files of which a long run says how much it has read, on a terminal.
+/// Files that count the bytes that are read from them, so that a long run can show its progress on a terminal.
 #[derive(Drop)]
 pub struct WatchedShelf<'a, F> {
     shelf: F,
