@@ -1,4 +1,4 @@
-//! The command `avtp` once more, stored with a capture that it refuses: it ends with the exit status of the refusal.
+//! The command `avtp` again, stored with a capture that it refuses. It ends with the exit status of a refused capture.
 #![tactic(auto)]
 
 use avtp_system::run_program;
