@@ -1,4 +1,4 @@
--- What a run of `listen` with default words gives.
+-- What a run of `listen` with default words gives to devices.
 use Rattle.std.proofs.Common.{◌≡◌, ◌≢◌, ℕ, ◌^◌, ◌≤◌, [], ◌∷◌, pos, Bool, true, false, List, length, take, Option, None, Some, IsSome, inl, inr, refl, sym, ap, subst, ◌∙◌, append-nil, nat_le}
 use Rattle.std.specs.Prelude.{◌⊎◌}
 use Rattle.std.proofs.lemmas.Bool.{cases_Bool, le-leb, leb-true}
@@ -87,7 +87,7 @@ shown_whole : (asked : Listening) (bytes read : List ℕ) (how : End) → how �
     → shown_by (plan_of asked.listener) (records_in read) how ≡ shown_of (plan_of asked.listener) (records_in bytes)
 shown_whole asked bytes read how is same = rw (is, same) refl
 
--- what is yielded of it is what is shown of it, and keeps the headline
+-- if a capture was read to its end, `listen` yields what is shown of the capture, as the headline says
 kept : (asked : Listening) (name bytes : List ℕ) (fault : Type 0) (here : Yield) (p : PacketJournal) → (fault → ⊥) → end_of asked.listener.limit bytes ≡ end.Whole → take asked.listener.limit bytes ≡ bytes
     → HearsTalker (pos 0) p (plan_of asked.listener) (records_in bytes) → (fault × (here ≡ says read_fault_line)) ⊎ YieldsHeadline asked name bytes fault here
     → KeepsHeadline (pos 0) p (plan_of asked.listener) (records_in bytes) (shown_of (plan_of asked.listener) (records_in bytes))
@@ -103,7 +103,7 @@ kept asked name bytes fault here p none ends taken hears (inr yields) =
 
 -- ---- the run
 
--- unless memory ran out or a write failed, a run over one capture ends as reading it ends
+-- unless memory ran out or a write failed, a run over one capture ends as the reading of the capture ends
 ended_by : (id : ℕ) (word name bytes : List ℕ) (files after : Files) (handed : List Shown → Type 0) (still : Type 0) (failed : Bool) (ended : Status) → IsId word id → IsName name → files name ≡ Some bytes
     → Ran (listen_words word name) handed still failed files after ended → ended ≢ status.Memory → ended ≢ status.WriteFault → ended ≡ device_status failed (status_of (end_of (2 ^ 40) bytes))
 ended_by id word name bytes files after handed still failed ended is named holds ran memory written =

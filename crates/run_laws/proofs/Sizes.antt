@@ -1,4 +1,4 @@
--- A capture of audio without a clock is far shorter than `listen` reads by default.
+-- A capture of audio without a clock is far shorter than the default limit of `listen`.
 use Rattle.std.proofs.Common.{◌≡◌, ℕ, ◌+◌, ◌*◌, ◌/◌, ◌^◌, ◌≤◌, List, [], ◌∷◌, ◌++◌, map, flat_map, length, Option, None, Some, IsSome, refl, arith, length-append}
 use Rattle.std.specs.List.{AllByRecursion}
 use Rattle.std.proofs.Math.Nat.{div-le_self}
@@ -25,7 +25,7 @@ number_size size n = length-bytes_low_first 0 size n
 record_long : (r : Record) → length (record_spelling capture_style r) ≡ 16 + length r.bytes
 record_long r = simp (length-append, number_size)
 
--- each frame fits Ethernet
+-- the frame is short enough for Ethernet
 abbrev IsShort : SentFrame → Type 0
 IsShort f = length f.bytes ≤ 1518
 

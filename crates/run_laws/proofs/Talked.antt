@@ -39,7 +39,7 @@ makes bytes input output files after handed still failed input_is output_is apar
 
 -- ---- how it ends
 
--- whole sample frames have no fault
+-- an input of whole sample frames has no fault
 no_fault : (bytes : List ℕ) → IsPlan (plain false) → length bytes ≤ most_input → length bytes % 4 ≡ 0 → fault_of (plain false) bytes ≡ None
 unfolding fault_of
 no_fault bytes is limit whole = let fours : (length bytes % 4 == 0) ≡ true = rw whole refl in rw (fours, none_late (plain false) bytes is limit) refl

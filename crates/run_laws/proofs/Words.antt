@@ -18,7 +18,7 @@ no_settings rows = record { each = All-nil (IsSetting rows); once = λ i j d lt 
 names_are : (words : List (List ℕ)) → AllByRecursion IsName words → All IsName words
 names_are words named = All-from_recursion IsName words named
 
--- names are no options
+-- a name is not an option
 lack : (words options : List (List ℕ)) → AllByRecursion IsName words → AllByRecursion BeginsWithDash options → Lacks words options
 lack words options named dashes k d lt within =
     name-dash _ (All-contains IsName words _ (names_are words named) within) (All-from_recursion BeginsWithDash options dashes k d lt)

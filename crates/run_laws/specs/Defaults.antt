@@ -8,7 +8,7 @@ use Rattle.avtp_words.specs.Grammar.{Listening, Talking}
 abbrev pub listen_words : List ℕ → List ℕ → List (List ℕ)
 listen_words stream file = codes "listen" ∷ stream ∷ file ∷ []
 
--- what `listen` is asked for by a stream and a file alone
+-- the request of `listen` if only a stream and a file are given
 abbrev pub listen_default : ℕ → List ℕ → Listening
 listen_default stream file = record {
   listener = record { stream = stream; limit = 2 ^ 40; buffer = 4096; room = 67108864; look = 0; lead = 2000000; clock = None; shift = pos 0 };
@@ -22,8 +22,8 @@ listen_default stream file = record {
 abbrev pub talk_words : List ℕ → List ℕ → List (List ℕ)
 talk_words input output = codes "talk" ∷ input ∷ output ∷ []
 
--- what `talk` is asked for by its input and output alone: dense PCM of 16 bits, stereo, at 48 kHz, with 6 sample frames in a
--- packet, sent from 1 s on, 2 ms before it is due
+-- The request of `talk` if only its input and its output are given: dense PCM of 16 bits, stereo, at 48 kHz, with 6
+-- sample frames in a packet. Sending begins at 1 s, and each packet is sent 2 ms before it is due.
 abbrev pub talk_default : List ℕ → List ℕ → Talking
 talk_default input output = record {
   kind = Aaf Int16 false;

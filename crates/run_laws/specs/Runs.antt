@@ -1,4 +1,4 @@
--- Runs of the command, and what one of `listen` gave.
+-- Runs of the command, and what a run of `listen` gave to devices.
 use Rattle.std.specs.Prelude.{◌≡◌, ℕ, Bool, false, pos, List, Some}
 use Rattle.std.specs.List.{range_with_len}
 use Rattle.avtp_base.specs.Files.{Files}
@@ -14,9 +14,9 @@ use Rattle.avtp_words.specs.Grammar.{IsCommandLine, Request}
 use Rattle.avtp_tool.specs.declared.status.Status.{Status}
 use Rattle.avtp_tool.specs.HasRun.{HasRun, ReadsAll}
 
--- A run of these words that ended with this status. All that is known of it is what `run` promises of one request (`HasRun`),
--- with the same `handed`, `still` and `failed`. No fault of reading came, and the shelf shows its files, which were `files`
--- before the run and are `files'` after it.
+-- A run of these words ended with the status `ended`. All that is known of the run is what `run` promises of one
+-- request (`HasRun`), with the same `handed`, `still` and `failed`. No read fault occurred. The shelf shows its files:
+-- `files` before the run and `files'` after it.
 pub record Ran (words : List (List ℕ)) (handed : List Shown → Type 0) (still : Type 0) (failed : Bool) (files files' : Files) (ended : Status) : Type 0 where
   pub shelf : ShelfState
   pub shelf' : ShelfState
@@ -27,8 +27,9 @@ pub record Ran (words : List (List ℕ)) (handed : List Shown → Type 0) (still
   pub told_after : shelf'.files ≡ Some files'
   pub read : ReadsAll shelf shelf'
 
--- The devices got what a listener shows of a capture of the plan: it keeps the headline, and presents exactly these packets, or the
--- units of H.264 that they end, each once, in order, with its bytes and at its instants. Nothing else is shown.
+-- The devices got what a listener shows of a capture of the plan, as the headline says. It presents exactly these
+-- packets, or the H.264 units that they end, each once, in order, with its bytes and at its instants. Nothing else is
+-- shown.
 pub record GaveAll (plan : TalkPlan) (input packets : List ℕ) (handed : List Shown → Type 0) : Type 0 where
   pub items : List Shown
   pub given : handed items

@@ -1,4 +1,4 @@
-//! Laws of the whole command. Each call only states its contract, and does nothing.
+//! Laws of the whole command. Each function only states its contract, and does nothing.
 
 ghost use Rattle.std.specs.Prelude.{◌≡◌, ◌≢◌, ◌≤◌, ◌%◌, ℕ, Bool, List, Some, codes, false, length};
 ghost use Rattle.avtp_base.specs.Files.{Files};
@@ -23,9 +23,10 @@ use talked_presented::laws::{
 };
 use talker::laws::capture_reads_back;
 
-/// A stream id of 16 hexadecimal digits and the name of a file alone are a command line of `listen`, and the names of two
-/// different files alone are one of `talk`. Each option then has its default, and what is asked for is the listener and the plan
-/// for which other laws say what is presented. The digits 0200000000010001 are the id of that plan.
+/// A stream ID of 16 hexadecimal digits and the name of a file are a complete command line of `listen`. The names of
+/// two different files are a complete command line of `talk`. Each option then has its default. Other laws say what is
+/// presented for the listener and the plan that are asked for in this way. The digits 0200000000010001 are the stream
+/// ID of this plan.
 pub fn default_words_are_command_lines()
     ensures listen { (word name : List ℕ) (id : ℕ) → IsId word id → IsName name → IsCommandLine (listen_words word name) (listen (listen_default id name)) }
     ensures listener { (id : ℕ) (name : List ℕ) → plan_of (listen_default id name).listener ≡ default_listener id }
@@ -34,9 +35,10 @@ pub fn default_words_are_command_lines()
     ensures id { IsId (codes "0200000000010001") (plain false).id }
 {}
 
-/// A run of `listen` with default words, over a shelf that holds a capture of a plan with the default lead under this name, gives
-/// the devices all that the capture holds of the plan, as the headline says: for H.264, each unit. This follows from what `run`
-/// promises (`HasRun.reports.headline`). For audio it ends with `Done`, unless memory runs out, a write fails or a device fails.
+/// Let a shelf hold, under this name, a capture of a plan with the default lead. Then a run of `listen` with default
+/// words gives the devices all that the capture holds of the plan, as the headline says: for H.264, each unit. This
+/// follows from what `run` promises (`HasRun.reports.headline`). For audio, the run ends with `Done`, unless memory
+/// runs out, a write fails or a device fails.
 pub fn default_words_present_all<D: Devices>()
     ensures given { (plan : TalkPlan) (input word name : List ℕ) (files after : Files) (old new : D) (failed : Bool) → HasDefaultLead plan input → IsId word plan.id → IsName name
         → files name ≡ Some (capture plan input) → Ran (listen_words word name) (HandsOn D.handed old new) (new ≡ old) failed files after Done → GaveAll plan input (each_packet plan input) (HandsOn D.handed old new) }
@@ -51,9 +53,10 @@ pub fn default_words_present_all<D: Devices>()
     capture_reads_back();
 }
 
-/// After `talk IN OUT` and then `listen 0200000000010001 OUT`, if both ended with `Done` and OUT was not changed in between, the
-/// devices got each packet that the plan makes of the bytes of IN, once, in order and at its instants, and nothing else. If IN is
-/// whole sample frames, `talk` ends with `Done`, unless memory runs out or a write fails.
+/// Let `talk IN OUT` and then `listen 0200000000010001 OUT` both end with `Done`, and let OUT be unchanged in between.
+/// Then the devices got each packet that the plan makes of the bytes of IN, once, in order and at its instants, and
+/// nothing else. If IN consists of whole sample frames, `talk` ends with `Done`, unless memory runs out or a write
+/// fails.
 pub fn talk_and_listen_present_all<D: Devices>()
     ensures made { (bytes input output : List ℕ) (files after : Files) (old new : D) (failed : Bool) → IsName input → IsName output → input ≢ output → files input ≡ Some bytes
         → Ran (talk_words input output) (HandsOn D.handed old new) (new ≡ old) failed files after Done → HasDefaultLead (plain false) bytes × (after output ≡ Some (capture (plain false) bytes)) }

@@ -1,4 +1,4 @@
-//! Laws of the whole command, from its words on.
+//! Laws of the whole command, from its words to what it gives out.
 #![tactic(auto)]
 
 pub mod laws;
