@@ -56,8 +56,8 @@ fn a_pair_differs_in_the_first_sample_that_does(rt: HostRuntime) -> Result<(), N
     follow(&rt, rt.alloc(), CAPTURES)
 }
 
-/// A packet is due before the next one of its capture is read, so its differences are known even if a capture cannot be read
-/// further.
+/// A packet is due before the next packet of its capture is read. Its differences are therefore known even if the
+/// capture cannot be read further.
 const ENDS: &str = "\
 < a V1
 < b V1 ..105
@@ -133,9 +133,9 @@ fn a_side_that_ends_early_is_compared_up_to_there(rt: HostRuntime) -> Result<(),
     follow(&rt, rt.alloc(), ENDS)
 }
 
-/// A row has the input of `talk`; the options of `talk`; those of `agree`; and, for each of two captures, the records that
-/// come, written as in the rows of `losses`. In the first row of H.264 each access unit has 255 units. In the second, the
-/// second access unit is one unit in 255 fragments, which all come.
+/// A row has the input of `talk`, the options of `talk`, the options of `agree` and, for each of two captures, the
+/// records that are delivered, written as in the rows of `losses`. In the first row of H.264, each access unit has 255
+/// NAL units. In the second, the second access unit is one NAL unit in 255 fragments, and all fragments are delivered.
 const ROWS: &str = "\
 noise:2400 | --sparse --restart 12 |  | mixed | 0/0/0
 noise:2400 | --sparse --restart 12 |  | mixed | 9/3/4
@@ -153,8 +153,8 @@ x0000000106ab*254 x000000016588 x0000000106cd*254 x000000016588 | --kind h264 | 
 x0000000106ab*254 x000000016588 x0000000165 xff*356000 x0000000106cd*254 x000000016588 | --kind h264 |  | 600/0/0 | 520/0/0
 ";
 
-/// The parts of the line of a packet's first sample that are the same in every capture of its talker: the instant, and the text
-/// from the sequence number on.
+/// The parts of the line of a packet's first sample that are the same in each capture of one talker: the instant, and
+/// the text from the sequence number on.
 #[derive(Clone, Copy)]
 struct Sample<'a> {
     instant: &'a str,
@@ -202,7 +202,8 @@ fn in_both(a: &[Sample<'_>], b: &[Sample<'_>]) -> usize {
     both
 }
 
-/// What `agree` prints of two captures of one talker, and what it should print, given what `listen` presents of each.
+/// What `agree` prints of two captures of one talker, and what it should print, according to what `listen` presents
+/// from each.
 fn compare<T: Threads + Sync>(
     rt: &T,
     alloc: Global,

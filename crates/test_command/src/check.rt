@@ -92,7 +92,7 @@ fn each_packet_is_checked_by_itself(rt: HostRuntime) -> Result<(), NoMemory> {
     follow(&rt, rt.alloc(), CAPTURES)
 }
 
-/// Packets as they were sent; then one is lost, one is repeated, and one comes after a restart that is too early.
+/// Packets as they were sent; then one packet is lost and one is repeated; then a media clock restart comes too early.
 const STREAMS: &str = "\
 < a.raw noise:480
 $ talk --sparse a.raw c.pcap

@@ -27,7 +27,7 @@ impl Notes {
         )?)
     }
 
-    /// The frames of the items, or the highest number if the device was not dropped exactly once.
+    /// The frames of the taken items, as digits; or the highest number if the device was not dropped exactly once.
     pub fn taken(&self) -> u64 {
         if self.drops.load(Ordering::SeqCst) != 1 {
             return u64::MAX;
@@ -48,7 +48,7 @@ impl Notes {
     }
 }
 
-/// A device that records what is done to it in memory that it shares with the test.
+/// A device that records what is done to it, in memory that it shares with the test.
 struct Noting {
     device: MemoryDevice,
     notes: Arc<Notes, Global>,
@@ -82,7 +82,7 @@ impl Device for Noting {
     }
 }
 
-/// A device in a rack. The call with the number `fails` fails.
+/// A device in a rack. Its call number `fails` fails.
 fn place_of(alloc: Global, notes: &Arc<Notes, Global>, fails: u64) -> Result<Place, NoMemory>
     ensures { IfOk result (λ place. place.live ≡ true) }
 {
@@ -96,7 +96,7 @@ fn place_of(alloc: Global, notes: &Arc<Notes, Global>, fails: u64) -> Result<Pla
     })
 }
 
-/// A rack of devices. The list has, for each device, the number of the call that fails.
+/// A rack of devices. The list has one entry for each device: the number of its call that fails.
 pub fn rack_of(
     alloc: Global,
     fails: [u64; 3],

@@ -1,5 +1,5 @@
-//! Each call to the shelf or the sink fails in turn, whether a call moves one byte or many. The status names the fault, and the
-//! text is what was certain before the fault.
+//! Each call to the shelf or the sink fails in turn, both if calls move one byte and if they move many. The status
+//! names the fault, and the text is what was certain before the fault.
 
 use crate::recipe::file_of;
 use crate::transcript::{status_of, words_of};
@@ -11,13 +11,13 @@ use std::alloc::Global;
 use std::process::Abort;
 use std::thread::Threads;
 
-/// The most bytes that a read moves, and the most that a write moves.
+/// The maximum sizes of one read that are tried.
 const READS: [usize; 2] = [1, 65_536];
 
 const WRITES: [usize; 2] = [7, 65_536];
 
-/// A command that reads one or two captures of equal size: what it prints before it reads, what it prints once it has all
-/// bytes, what it prints at the end, and its status then.
+/// A command that reads one or two captures of equal size. The fields say what it prints before it reads, what it
+/// prints once it has all bytes, what it prints at the end, and its status.
 #[derive(Clone, Copy)]
 struct Case {
     line: &'static str,
@@ -57,7 +57,7 @@ end frames 1 packets 1 presented 1 flagged 0
     status: Status::Done,
 };
 
-/// Two packets of a stream, and a clock whose second timestamp comes after them.
+/// Two packets of a stream, and a media clock whose second timestamp arrives after them.
 const CLOCKED: Case = Case {
     line: "listen --buffer 8 --room 192 --look 2 --clock 0200000000010002 0200000000010001 c.pcap",
     capture: "\
@@ -108,8 +108,8 @@ const HEARD_NG: Case = Case {
     ..HEARD
 };
 
-/// Two packets in each of two captures. The first packet is due once the second comes, and its differences are certain once the
-/// first capture has ended.
+/// Two packets in each of two captures. The first packet is due once the second arrives. Its differences are certain
+/// once the first capture has ended.
 const AGREED: Case = Case {
     line: "agree --buffer 8 --room 192 0200000000010001 c.pcap d.pcap",
     capture: "\
@@ -160,13 +160,14 @@ impl Case {
         if self.second.is_some() { 2 } else { 1 }
     }
 
-    /// How many calls of the shelf a run makes if each capture takes this many reads: it opens all captures first, and the last
-    /// read of each finds that nothing is left.
+    /// The number of calls of the shelf that a run makes if each capture takes this many reads. The run first opens all
+    /// captures. The last read of each capture finds that nothing is left.
     fn calls(&self, reads: usize) -> usize {
         self.captures().saturating_mul(reads.saturating_add(2))
     }
 
-    /// What is printed, and the status, if this call of the shelf fails and each capture takes this many reads.
+    /// The status and the text of a run in which call number `call` of the shelf fails and each capture takes `reads`
+    /// reads.
     fn told(&self, alloc: Global, call: usize, reads: usize) -> Result<(Status, String), NoMemory> {
         let Case {
             before,
@@ -198,7 +199,7 @@ impl Case {
     }
 }
 
-/// How a run ended, what it printed, and the file `c.pcap` then.
+/// How a run ended, what it printed, and what the file `c.pcap` then held.
 #[derive(Drop)]
 pub struct Outcome {
     pub status: Status,
@@ -206,7 +207,8 @@ pub struct Outcome {
     pub made: Option<Vec<u8>>,
 }
 
-/// Runs a command over files. One call of the shelf and one of the sink fail, and each call moves at most a few bytes.
+/// Runs a command over files. `calls` are the numbers of the call of the shelf and of the call of the sink that fail.
+/// Each call moves at most `most` bytes.
 pub fn ended<T: Threads + Sync>(
     rt: &T,
     alloc: Global,
@@ -230,7 +232,7 @@ pub fn ended<T: Threads + Sync>(
     Ok(Outcome { status, text, made })
 }
 
-/// The run ends as stated, whichever call of the shelf fails.
+/// Whichever call of the shelf fails, the run ends as the case states.
 fn ends_where_a_read_fails<T: Threads + Sync + Abort>(
     rt: &T,
     alloc: Global,
@@ -267,7 +269,7 @@ fn a_failing_read_of_either_capture_ends_their_comparison(rt: HostRuntime) -> Re
     ends_where_a_read_fails(&rt, rt.alloc(), &AGREED)
 }
 
-/// What was written is a prefix of the whole text, and a later failure leaves at least as much.
+/// The written text is a prefix of the whole text. If a later call fails, at least as much is written.
 #[test]
 fn a_failing_write_leaves_a_prefix_of_the_text(rt: HostRuntime) -> Result<(), NoMemory> {
     let alloc = rt.alloc();
@@ -303,9 +305,9 @@ fn a_failing_write_leaves_a_prefix_of_the_text(rt: HostRuntime) -> Result<(), No
     Ok(())
 }
 
-/// What `talk` makes of the first vector's samples if this call of the shelf fails and each call moves at most `most` bytes:
-/// the status, and the size of the capture if it was made. The calls open the input, read it, find its end, make the capture
-/// and write it.
+/// What `talk` makes of the first vector's samples if call number `call` of the shelf fails and each call moves at most
+/// `most` bytes: the status, and the size of the capture if it was created. The calls open the input, read it, find its
+/// end, create the capture and write it.
 fn made(call: usize, most: usize) -> (Status, Option<usize>) {
     let create = 24usize.div_ceil(most.max(1)).saturating_add(3);
     let writes = 106usize.div_ceil(most.max(1));

@@ -1,4 +1,4 @@
-//! The command `gateway`. The first vector with 24 bits a sample is a packet of four stereo frames.
+//! The command `gateway`. With 24 bits per sample, the packet of the first vector has four stereo sample frames.
 
 use crate::faults::{ended, one_file};
 use crate::recipe::{bytes_of, file_of};
@@ -64,7 +64,7 @@ fn each_sample_is_due_when_it_was_in_the_other_format(rt: HostRuntime) -> Result
     follow(&rt, rt.alloc(), TURNED)
 }
 
-/// The block count of a packet of four blocks goes on at the next multiple of eight.
+/// After a packet of four blocks, the DBC of the next packet is the next multiple of eight.
 const OUTPUT: &str = "\
 < in V1 74=03 77=18
 + in V1/58 2=01 16=03 19=18 ts:1012000000 record:1010000000
@@ -108,7 +108,8 @@ fn the_capture_has_the_packets_of_what_was_due(rt: HostRuntime) -> Result<(), No
     follow(&rt, rt.alloc(), OUTPUT)
 }
 
-/// The last sample of the first packet is due at 1002062500. An arrival is at most a nanosecond below 2^32 seconds.
+/// The last sample of the first packet is due at 1002062500. The largest possible arrival is one nanosecond below 2^32
+/// seconds.
 const SKIPPED: &str = "\
 < in V1 74=03 77=18
 + in V1/58 2=01 16=03 19=18 ts:1002062500 record:1000062500
@@ -243,7 +244,7 @@ gateway input: {fault}
     Ok(())
 }
 
-/// Packets that the scan ignores, and after each a packet that is converted.
+/// The format that is asked for, a packet that the scan ignores, and a packet that is converted.
 const PASSED: &str = "\
 am824 | V1/58 1=01 | V1/58 16=03 19=18
 am824 | V1/58 11=02 | V1/58 16=03 19=18
@@ -275,8 +276,8 @@ gateway batches 1 packets 1 skipped 0
     Ok(())
 }
 
-/// A second in 1,000 packets of each format. In the last, the timestamp of a packet of six blocks can be of a later block than
-/// the first.
+/// One second of each format in 1,000 packets, and then an eighth of a second of AM824. In the last case, the timestamp
+/// of a packet of six blocks can belong to a later block than the first.
 const SECONDS: &str = "\
 < a.raw noise:96000
 $ talk --format int24 --rate 32000 --channels 1 --count 32 a.raw c
@@ -325,9 +326,10 @@ fn a_second_turned_there_and_back_is_the_same_bytes(rt: HostRuntime) -> Result<(
 
 const TURN: &str = "gateway --to am824 0200000000010001 a.pcap c.pcap";
 
-/// The outcome for a capture of 106 bytes if this call of the shelf fails and each call moves at most `most` bytes: the status,
-/// and the size of the capture that is made. The calls open the input, read it and find its end; make the capture; open and
-/// read the input again; and write the capture's 122 bytes, or only its header after a failed read.
+/// The outcome for a capture of 106 bytes if call number `call` of the shelf fails and each call moves at most `most`
+/// bytes: the status, and the size of the capture that is made. The calls open the input, read it and find its end.
+/// Then they create the capture, and open and read the input again. Last they write the capture's 122 bytes, or only
+/// its header after a failed read.
 fn made(call: usize, most: usize) -> (Status, Option<usize>) {
     let reading = 106usize.div_ceil(most.max(1)).saturating_add(2);
     let create = reading.saturating_add(1);
@@ -388,7 +390,7 @@ fn a_failing_call_of_either_reading_leaves_a_prefix(rt: HostRuntime) -> Result<(
     Ok(())
 }
 
-/// The second packet overlaps the first, and the third makes it due.
+/// The second packet overlaps the first. The third packet makes the second one due.
 const OVERLAPPED: &str = "\
 V1 74=03 77=18
 V1/58 2=01 16=03 19=18 ts:1002062500 record:1000062500

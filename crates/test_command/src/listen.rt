@@ -233,7 +233,8 @@ fn packets_are_presented_in_order_once_and_as_far_as_there_is_room(
     follow(&rt, rt.alloc(), SEVERAL)
 }
 
-/// The fifth of the six blocks of the first packet is stamped with 5 s. No block of the second packet is stamped.
+/// The timestamp of the first packet, 5 s, belongs to the fifth of its six blocks. No block of the second packet has a
+/// timestamp.
 const BLOCKS: &str = "\
 < c.pcap V2 27=0c ts:705032704 capture:4997916666
 + c.pcap V2 1=8001 27=12 ts:0 record:4998041666
@@ -269,7 +270,8 @@ fn blocks_are_counted_from_the_stamped_one(rt: HostRuntime) -> Result<(), NoMemo
     follow(&rt, rt.alloc(), BLOCKS)
 }
 
-/// Packets 0 to 3 are the first fragment of a NAL unit, a middle one, the middle one again, and the last.
+/// Packets 0 to 3 are the first fragment of a NAL unit, a middle fragment, the same middle fragment again, and the last
+/// fragment.
 const FRAGMENTS: &str = "\
 < c.pcap V3 28=7c85 capture:1000000000
 + c.pcap V3 2=01 28=7c05 record:1000000000
@@ -329,7 +331,8 @@ fn a_nal_unit_is_heard_only_of_all_its_fragments(rt: HostRuntime) -> Result<(), 
     follow(&rt, rt.alloc(), FRAGMENTS)
 }
 
-/// A timestamp of the clock comes after the packets that it covers. The spacing at 44.1 kHz is 19,140.625 ns.
+/// A timestamp of the clock arrives after the packets that it covers. With the clock of 44.1 kHz in the last run,
+/// samples are 19,140.625 ns apart.
 const CLOCKS: &str = "\
 < c.pcap V4 capture:1000000000
 + c.pcap V1/58 ts:1004000000 record:1002000000
@@ -390,8 +393,8 @@ fn samples_follow_the_points_that_the_look_ahead_reaches(rt: HostRuntime) -> Res
     follow(&rt, rt.alloc(), CLOCKS)
 }
 
-/// The frames of the items that a device took are the digits of a number. In the last run each packet makes the one before it
-/// due, and the third record exceeds the limit.
+/// Each number after `=` has as its digits the frames of the items that a device took. In the last run, each packet
+/// makes the one before it due, and the third record exceeds the limit.
 const RACKS: &str = "\
 < one.pcap V1
 ! devices 1 0 0

@@ -1,5 +1,5 @@
-//! Captures in which packets of a talker and of its clock are lost, repeated and reordered: all that is presented is at the
-//! talker's instants.
+//! Captures in which packets of a talker and of its clock are lost, repeated and reordered. All that is presented is at
+//! the talker's instants.
 
 use crate::recipe::{bytes_of, number};
 use crate::transcript::{Bench, numbers_in, records_at, records_in};
@@ -8,13 +8,15 @@ use std::alloc::Global;
 use std::thread::Threads;
 use vectors_avtp::Draws;
 
-/// A row has the options of `talk`, over 9,600 bytes of input; the options of `listen`; the number of items that it looks
-/// ahead; the records that come, in their order; and the end of the text, or the least number of packets that are presented.
-/// `mixed` are the records of `MIXED`. `7/5/3` loses each seventh record; of the others, each fifth comes twice and each third
-/// overtakes the one before. `drawn:9` draws what happens to each record, from the seed 9.
+/// A row has the options of `talk`, over 9,600 bytes of input; the options of `listen`; the number of items of its
+/// look-ahead; the records that are delivered, in order; and the end of the text, or the least number of packets that
+/// are presented. `mixed` are the records of `MIXED`. `7/5/3` loses each seventh record; of the remaining records, each
+/// fifth is delivered twice and each third overtakes the record before it. `drawn:9` draws what happens to each record,
+/// from the seed 9.
 ///
-/// AAF restarts after each 12 packets, so 12 to 15 come after a restart and before the next stamp. Its rows lose nothing, some
-/// packets, or stamps; repeat each packet; and let packets overtake a stamp or a restart.
+/// AAF restarts after each 12 packets, so packets 12 to 15 come after a restart and before the next timestamp. Its six
+/// rows lose nothing; lose some packets; lose timestamps; repeat each packet; let packets overtake a timestamp; and let
+/// packets overtake a restart.
 const ROWS: &str = "\
 --sparse --restart 12 |  | 0 | 0 1 2 3 4 5 6 7 8 9 10 11 12 13 14 15 16 17 18 19 20 21 22 23 24 25 26 27 | presented 24 flagged 4
 --sparse --restart 12 |  | 0 | 0 2 5 11 12 16 17 23 24 31 | presented 8 flagged 2
@@ -49,7 +51,7 @@ const ROWS: &str = "\
 /// Record numbers with losses, repeats and reordering, also after restarts.
 const MIXED: &str = "0 1 1 3 2 5 6 8 9 7 9 11 13 12 14 16 17 19 18 20 23 25 24 26 32 33 33 39";
 
-/// The numbers of the records that are delivered, of a capture with `records` records.
+/// The numbers of the delivered records of a capture with `records` records.
 pub fn places_of(alloc: Global, comes: &str, records: usize) -> Result<Vec<usize>, NoMemory> {
     match comes {
         "mixed" => numbers_in(alloc, MIXED),
@@ -77,7 +79,7 @@ fn network_places(alloc: Global, comes: &str, records: usize) -> Result<Vec<usiz
     Ok(places)
 }
 
-/// Of eight records, about one is lost, one comes twice, and one overtakes the one before.
+/// Of eight records, about one is lost, one is delivered twice, and one overtakes the record before it.
 fn drawn_places(alloc: Global, seed: usize, records: usize) -> Result<Vec<usize>, NoMemory> {
     let mut draws = Draws::seeded(seed as u64);
     let mut places = Vec::new(alloc);
@@ -116,12 +118,12 @@ fn deliver(places: &mut Vec<usize>, n: usize, fate: Fate) -> Result<(), NoMemory
     Ok(())
 }
 
-/// Whether `n` is the last of its group of `each` numbers, counted from 0; never if `each` is 0.
+/// Whether `n`, counted from 0, is the last of a group of `each` numbers. If `each` is 0, it never is.
 fn is_each(n: usize, each: usize) -> bool {
     each > 0 && n % each == each - 1
 }
 
-/// The line that the complete capture has for this one, if it is the line of a sample.
+/// If `line` is the line of a sample, the line that the complete capture has for this sample.
 fn as_sent(alloc: Global, line: &str, places: &[usize]) -> Result<Option<String>, NoMemory> {
     if let Some((instant, rest)) = line.split_once(" frame ")
         && let Some((frame, sample)) = rest.split_once(" seq ")
@@ -137,8 +139,8 @@ fn as_sent(alloc: Global, line: &str, places: &[usize]) -> Result<Option<String>
     Ok(None)
 }
 
-/// Whether each sample that is presented of these records is one that is presented of the complete capture, at the same instant
-/// and in the same order.
+/// Whether each sample that is presented from these records is also presented from the complete capture, at the same
+/// instant and in the same order.
 fn is_among(alloc: Global, whole: &str, text: &str, places: &[usize]) -> Result<bool, NoMemory> {
     let mut sent = whole.lines();
     for line in text.lines() {
@@ -151,7 +153,8 @@ fn is_among(alloc: Global, whole: &str, text: &str, places: &[usize]) -> Result<
     Ok(true)
 }
 
-/// Whether the text ends like this, or presents at least this many packets.
+/// If `end` is a number, whether the text presents at least so many packets. Otherwise, whether the text ends with
+/// `end`.
 fn ends_as_stated(text: &str, end: &str) -> bool {
     if end.starts_with("presented") {
         return text.trim_ascii_end().ends_with(end);
@@ -173,7 +176,7 @@ struct Heard {
     places: Vec<usize>,
 }
 
-/// What `listen` prints, with these options and this look-ahead, of the complete capture and of the records that are delivered.
+/// What `listen` prints, with these options and this look-ahead, of the complete capture and of the delivered records.
 fn hear<T: Threads + Sync>(
     rt: &T,
     alloc: Global,

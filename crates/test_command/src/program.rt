@@ -12,7 +12,7 @@ use std::sync::atomic::{AtomicU64, Ordering};
 use std::test::Fail;
 use vectors_avtp::vector;
 
-/// A file that counts its bytes in memory that it shares with the test.
+/// A file that counts its bytes, in memory that it shares with the test.
 #[derive(Drop)]
 struct Counting {
     bytes: Arc<AtomicU64, Global>,
@@ -29,8 +29,8 @@ impl Sink for Counting {
     }
 }
 
-/// A system with these arguments, or one without the memory for any. The file `x` counts its bytes, and the other files count
-/// theirs together.
+/// A system with the arguments `line`, or, if `line` is `None`, without memory for arguments. The file `x` counts its
+/// bytes. All other files share one count.
 #[derive(Drop)]
 struct Arguments {
     alloc: Global,

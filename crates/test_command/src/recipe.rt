@@ -1,12 +1,14 @@
-//! The files of a transcript, each written as steps, which add bytes or change them one after another:
+//! The files of a transcript. Each file is written as steps, which add bytes or change them, one after another:
 //!
-//! - `V1` adds a published vector and `V1/58` its bytes from 58 on, `x0a0b` these bytes, `xff*9` nine such bytes, `zeros:9` nine
-//!   zero bytes, `noise:9` nine bytes of samples that differ from packet to packet;
-//! - `..24` keeps the first 24 bytes;
-//! - `75=50ff` puts bytes at an offset, `ts:9` an AVTP timestamp into a packet, `point:9` a CRF timestamp;
-//! - `record:9` puts a packet into a frame and this into a record with that arrival, `capture:9` into a capture of it alone.
+//! - `V1` adds a published vector, and `V1/58` adds the vector's bytes from offset 58 on.
+//! - `x0a0b` adds these bytes, `xff*9` adds nine such bytes, and `zeros:9` adds nine zero bytes. `noise:9` adds nine bytes of
+//!   samples that differ from packet to packet.
+//! - `..24` keeps only the first 24 bytes.
+//! - `75=50ff` overwrites bytes from offset 75 on. `ts:9` writes an AVTP timestamp into a packet, `point:9` a CRF timestamp.
+//! - `record:9` puts a packet into a frame, and the frame into a record that arrived at 9 ns. `capture:9` makes a capture of
+//!   this record alone.
 //!
-//! A step that is none of these does nothing, so the test that states the file's bytes fails.
+//! Any other step does nothing, so the test that states the file's bytes fails.
 
 use avtp_base::NoMemory;
 use std::alloc::Global;
@@ -74,7 +76,7 @@ const V1_HEADER: [u8; 24] = [
     0x4d, 0x3c, 0xb2, 0xa1, 2, 0, 4, 0, 0, 0, 0, 0, 0, 0, 0, 0, 0, 0, 4, 0, 1, 0, 0, 0,
 ];
 
-/// The addresses, the tag and the EtherType of the first vector's frame.
+/// The addresses, the VLAN tag and the EtherType of the first vector's frame.
 const V1_FRAME: [u8; 18] = [
     0x91, 0xe0, 0xf0, 0x00, 0xfe, 0x00, 0x02, 0x00, 0x00, 0x00, 0x00, 0x01, 0x81, 0x00, 0x60, 0x02,
     0x22, 0xf0,
@@ -129,7 +131,7 @@ fn put(bytes: &mut Vec<u8>, at: usize, piece: &[u8]) {
     }
 }
 
-/// The bytes before a record, and the record of a packet that arrived at this nanosecond.
+/// The bytes `before`, followed by the record of a packet that arrived at `arrival` ns.
 fn framed(before: Vec<u8>, packet: &[u8], arrival: usize) -> Result<Vec<u8>, NoMemory> {
     let mut bytes = before;
     let size = small(packet.len()).saturating_add(18);

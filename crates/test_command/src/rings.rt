@@ -12,7 +12,7 @@ use std::alloc::Global;
 use std::sync::Arc;
 use std::sync::atomic::{AtomicBool, AtomicU64, Ordering};
 
-/// Counts the steps of each side, and the steps whose number is not the next one.
+/// Counts the steps of each side, and the steps that do not have the next number.
 #[derive(Drop)]
 struct Counting {
     pushes: AtomicU64,
@@ -70,7 +70,7 @@ fn each_item_is_pushed_and_popped_once_whatever_room_the_ring_has(
     Ok(())
 }
 
-/// Which of two calls are running, and whether one saw the other.
+/// Which of the two calls are running, and whether one of them saw the other.
 #[derive(Drop)]
 struct Meeting {
     reading: AtomicBool,
@@ -78,7 +78,7 @@ struct Meeting {
     met: AtomicBool,
 }
 
-/// Waits until the other call is running, or for 20,000,000 turns. Once one has seen the other, neither waits.
+/// Waits until the other call is running, for at most 20,000,000 rounds. Once a call has seen the other, no call waits.
 fn stay(mine: &AtomicBool, other: &AtomicBool, met: &AtomicBool) {
     mine.store(true, Ordering::SeqCst);
     for _ in 0..20_000_000 {
@@ -92,7 +92,8 @@ fn stay(mine: &AtomicBool, other: &AtomicBool, met: &AtomicBool) {
     mine.store(false, Ordering::SeqCst);
 }
 
-/// A shelf whose reads, from that of the third record on, wait until they see a write of the sink running.
+/// A shelf for `one_thread_reads_while_the_other_writes`. From the fourth read on, each read waits until it sees a
+/// write of the sink running.
 #[derive(Drop)]
 struct MeetingShelf {
     shelf: MemoryShelf,
@@ -137,7 +138,7 @@ impl Shelf for MeetingShelf {
     }
 }
 
-/// A sink whose writes wait until they see a read of the shelf running.
+/// A sink. Each of its writes waits until it sees a read of the shelf running.
 #[derive(Drop)]
 struct MeetingSink {
     sink: MemorySink,
@@ -160,7 +161,7 @@ impl Sink for MeetingSink {
     }
 }
 
-/// The vector's samples in packets that come a second apart.
+/// The vector's samples in packets that arrive one second apart.
 fn seconds_apart(alloc: Global, count: u8) -> Result<Vec<u8>, NoMemory> {
     let mut capture = bytes_of(alloc, "V1 ..24")?;
     for n in 0..count {
@@ -172,8 +173,8 @@ fn seconds_apart(alloc: Global, count: u8) -> Result<Vec<u8>, NoMemory> {
     Ok(capture)
 }
 
-/// Packets come one a second, so each makes the one before it due. They are more than the ring has room for, so both threads
-/// have something to do in the second round at the latest.
+/// One packet arrives each second, and makes the packet before it due. There are more packets than the ring has room
+/// for, so both threads have work in the second round at the latest.
 #[test]
 fn one_thread_reads_while_the_other_writes(rt: HostRuntime) -> Result<(), NoMemory> {
     let alloc = rt.alloc();
@@ -185,7 +186,7 @@ fn one_thread_reads_while_the_other_writes(rt: HostRuntime) -> Result<(), NoMemo
             met: AtomicBool::new(false),
         },
     )?;
-    // The first read returns the file header and a part of the first record, and each later one completes a record.
+    // The first read returns the file header and a part of the first record. Each later read completes a record.
     let mut shelf = MeetingShelf {
         shelf: shelf_of(alloc, seconds_apart(alloc, 16)?)?.at_most(82),
         meeting: meeting.clone()?,

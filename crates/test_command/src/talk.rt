@@ -81,7 +81,8 @@ fn words_and_inputs_that_make_no_capture_leave_none(rt: HostRuntime) -> Result<(
     follow(&rt, rt.alloc(), REFUSED)
 }
 
-/// Sample 5 of packet 999 is 5,999 sample frames after 1.002 s, and that of packet 3,999 is 23,999 after it.
+/// Sample 5 of packet 999 is 5,999 sample frames after 1.002 s. Sample 5 of packet 3,999 is 23,999 sample frames after
+/// 1.002 s.
 const HEARD: &str = "\
 < a.raw noise:24000
 $ talk a.raw c.pcap
@@ -119,7 +120,7 @@ fn what_is_talked_is_heard_whole(rt: HostRuntime) -> Result<(), NoMemory> {
     follow(&rt, rt.alloc(), HEARD)
 }
 
-/// A second of stereo at 48 kHz. The packets before the clock's second timestamp have no media clock.
+/// One second of stereo at 48 kHz. The packets before the clock's second timestamp have no media clock.
 const CLOCKS: &str = "\
 < a.raw noise:192000
 $ talk --crf 0200000000010002 a.raw c.pcap
@@ -166,7 +167,8 @@ fn a_second_beside_a_clock_of_another_rate_is_heard_on_it(rt: HostRuntime) -> Re
     follow(&rt, rt.alloc(), OTHER_CLOCKS)
 }
 
-/// A sparse stream can be timed only from its next stamped packet on. A stamp of 256 packets before does not count.
+/// After a lost timestamp or a restart, a sparse stream is timed only from its next packet with a timestamp on. A
+/// timestamp from 256 packets before does not count.
 const SPARSE: &str = "\
 < a.raw noise:384
 $ talk --sparse a.raw c.pcap
@@ -218,7 +220,8 @@ fn a_sparse_stream_is_known_from_a_stamp_of_its_own_run_on(
     follow(&rt, rt.alloc(), SPARSE)
 }
 
-/// With one packet, its only copy comes 0.48 ms after its presentation time. With two, the second comes exactly at its own.
+/// If one packet is sent, its only copy arrives 0.48 ms after its presentation time. If two are sent, the second
+/// arrives exactly at its presentation time.
 const SOAKS: &str = "\
 $ soak 0
 soak 0 delivered 0 presented 0 late 0 repeat 0 untimed 0 full 0
@@ -245,7 +248,8 @@ const RATES: [&str; 10] = [
     "8000", "16000", "24000", "32000", "44100", "48000", "88200", "96000", "176400", "192000",
 ];
 
-/// The sample formats, and what `show` prints of six stereo sample frames of each: the depth, the count and the bytes.
+/// The sample formats, and what `show` prints of six stereo sample frames in each format: the depth, the count and the
+/// bytes.
 const FORMATS: [(&str, &str); 4] = [
     ("int16", "depth 16 count 6 bytes 24"),
     ("int24", "depth 24 count 6 bytes 36"),
@@ -280,7 +284,7 @@ fn a_sample_longer_than_a_piece_of_digits_is_printed_whole(
 ) -> Result<(), NoMemory> {
     let alloc = rt.alloc();
     let mut bench = Bench::new(alloc);
-    // One sample frame of 1,023 channels of 32 bits: 4,092 bytes, in a record of 4,134.
+    // One sample frame of 1,023 channels of 32 bits has 4,092 bytes. Its record has 4,134.
     let wide = "V1 32=2610 36=2610 74=0253ff20 78=0ffc ..82 noise:4092";
     let capture = bytes_of(alloc, wide)?;
     let digits = hex::encode(alloc, capture.get(82..).unwrap_or(&[]))?;

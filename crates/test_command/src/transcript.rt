@@ -1,12 +1,14 @@
-//! Transcripts: runs of the command over files in memory, with what each prints and how it ends.
+//! Transcripts: runs of the command over files in memory, with what each run prints and how it ends.
 //!
-//! - `< NAME STEPS` puts a file on the shelf, `+ NAME STEPS` adds to it, `@ NAME PLACES` keeps these records of it in this
-//!   order; `? NAME STEPS` asserts what it holds, `~ NAME OTHER` that it holds the same as another, and `# NAME 24` how many
-//!   bytes.
-//! - `! shelf 3`, `! sink 3` and `! devices 0 3 0` make the third call of the shelf, of the sink, and of the second of the three
-//!   devices fail in the next run.
-//! - `$ WORDS` runs the command, and the lines after it are its text, where `...` is any lines, and `*` at a line's end any
-//!   rest of it. `[3]` is its exit status, if not 0, and `= 12 1 12` the frames of the items that each device took.
+//! - `< NAME STEPS` puts a file on the shelf, `+ NAME STEPS` adds to a file, and `@ NAME PLACES` keeps only these records of a
+//!   file, in this order.
+//! - `? NAME STEPS` asserts what a file holds, `~ NAME OTHER` asserts that it holds the same as another file, and `# NAME 24`
+//!   asserts how many bytes it holds.
+//! - `! shelf 3` makes the third call of the shelf fail in the next run, and `! sink 3` the third call of the sink.
+//!   `! devices 0 3 0` makes the third call of the second of the three devices fail.
+//! - `$ WORDS` runs the command. The lines after it are the command's text: `...` stands for any lines, and `*` at the end of a
+//!   line stands for any rest of this line.
+//! - `[3]` is the exit status, if it is not 0. `= 12 1 12` are the frames of the items that each device took.
 
 use crate::devices::rack_of;
 use crate::recipe::{bytes_of, number};
@@ -19,7 +21,7 @@ use std::alloc::Global;
 use std::process::Abort;
 use std::thread::Threads;
 
-/// The files of a shelf, the newest first; what is to fail in the next run; and the result of the last one.
+/// The files of a shelf, the newest first; what is to fail in the next run; and the result of the last run.
 #[derive(Drop)]
 pub struct Bench {
     alloc: Global,
@@ -93,7 +95,7 @@ impl Bench {
         Ok(MemoryShelf::over(self.alloc, files, fails))
     }
 
-    /// Runs the command, and returns its text. The file that its last word names is then as the command left it.
+    /// Runs the command, and returns its text. Afterwards, the file that the last word names is as the command left it.
     pub fn run<T: Threads + Sync>(&mut self, rt: &T, line: &str) -> Result<String, NoMemory> {
         let words = words_of(self.alloc, line)?;
         let mut shelf = self.shelf()?;
@@ -124,7 +126,7 @@ impl Bench {
         Ok(())
     }
 
-    /// Follows the lines that are neither a command line nor its text.
+    /// Follows those lines that are neither a command line nor its text.
     fn follow(&mut self, rt: &impl Abort, lines: &str) -> Result<(), NoMemory> {
         for line in lines.lines() {
             if let Some((sign, rest)) = line.split_once(' ') {
@@ -254,7 +256,7 @@ fn fits(line: &str, stated: &str) -> bool {
     }
 }
 
-/// The first line of a text that differs from the one stated.
+/// The first line of a text that differs from the stated line.
 fn other_line<'a>(text: &'a str, stated: &[&str]) -> Option<&'a str> {
     let mut place = 0usize;
     let mut skips = false;
