@@ -8,7 +8,8 @@ use std::alloc::Global;
 use std::thread::Threads;
 use vectors_avtp::vector;
 
-/// The arguments of the talkers. All have the same stream id, and the same id of their media clocks.
+/// The arguments of the talkers. All talkers have the same stream ID, and all their media clocks have the same stream
+/// ID.
 pub const TALKS: [&str; 9] = [
     "--kind aaf",
     "--sparse --restart 8",
@@ -21,7 +22,7 @@ pub const TALKS: [&str; 9] = [
     "--kind h264 --last-stamp --rate 240",
 ];
 
-/// The most records of a stream.
+/// The maximum number of records of a stream.
 const MOST: usize = 160;
 
 /// The inputs of the talkers, and the records of their streams and of the vectors.
@@ -67,7 +68,8 @@ impl Bases {
     }
 }
 
-/// Whole sample frames for each talker. They are a byte stream of H.264, too, with short NAL units and one that needs fragments.
+/// An input of whole sample frames for each talker. It is also an H.264 byte stream, with short NAL units and one NAL
+/// unit that needs fragments.
 fn input(alloc: Global) -> Result<Vec<u8>, NoMemory> {
     let mut bytes = Vec::new(alloc);
     for n in 0..3_840_u32 {

@@ -28,9 +28,9 @@ struct Report {
 pub enum Wrong {
     /// The command's text does not follow the grammar, or does not fit its status.
     Text,
-    /// A second run over the same files gives something else.
+    /// A second run over the same files gives a different result.
     SecondRun,
-    /// A run that is given the file in pieces of one byte gives something else.
+    /// A run that reads the file in pieces of one byte gives a different result.
     Pieces,
 }
 
@@ -73,7 +73,8 @@ fn shelf_of(alloc: Global, file: &[u8]) -> Result<MemoryShelf, NoMemory> {
     Ok(MemoryShelf::over(alloc, files, Vec::new(alloc)))
 }
 
-/// Runs a command line three times over a file, the last time in pieces of one byte, and returns what is wrong.
+/// Runs a command line three times over a file, and returns what is wrong. The last run reads the file in pieces of one
+/// byte.
 pub fn wrong_with<T: Threads + Sync>(
     rt: &T,
     alloc: Global,

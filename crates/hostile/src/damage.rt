@@ -5,11 +5,11 @@ use crate::records::{LONGEST, Record, spelled};
 use avtp_base::NoMemory;
 use std::alloc::Global;
 
-/// Large distances in time, in nanoseconds: multiples of half the range of an AVTP timestamp, up to more than a capture can
-/// have.
+/// Large distances in time, in nanoseconds: multiples of half the range of an AVTP timestamp, up to distances that no
+/// capture can have.
 const TURNS: [u64; 6] = [0, 1 << 31, 1 << 32, 3 << 31, 1 << 62, 1 << 63];
 
-/// Short times: between packets, and the max transit time.
+/// Short distances in time, in nanoseconds: those between packets, and the max transit time.
 const STEPS: [u64; 4] = [0, 1, 125_000, 2_000_000];
 
 /// Lengths, counts and other numbers at their bounds.
@@ -17,13 +17,13 @@ const BOUNDS: [u64; 16] = [
     0, 1, 3, 4, 7, 8, 15, 24, 255, 256, 1_476, 32_767, 65_535, 262_144, 262_145, 0xffffffff,
 ];
 
-/// The ids of the talkers' streams and of their clocks, and two others.
+/// The stream IDs of the talkers' streams and of their clocks, and two others.
 const IDS: [u64; 4] = [0x0200_0000_0001_0001, 0x0200_0000_0001_0002, 0, u64::MAX];
 
 /// The subtypes that are read, and two others.
 const SUBTYPES: [u64; 6] = [0x00, 0x02, 0x03, 0x04, 0x6e, 0xff];
 
-/// Where the packet begins in a frame with a VLAN tag.
+/// The offset of the packet in a frame with a VLAN tag.
 const PACKET: usize = 18;
 
 /// Overwrites bytes from an offset on, up to the end of the slice.
@@ -44,7 +44,7 @@ fn flip(draws: &mut Draws, bytes: &mut [u8], most: usize) {
     }
 }
 
-/// Appends equal bytes up to a length.
+/// Appends bytes of one value until there are `size` bytes.
 fn lengthen(draws: &mut Draws, bytes: &mut Vec<u8>, size: usize) -> Result<(), NoMemory> {
     let byte = if draws.one_in(2) { 0 } else { 255 };
     for _ in bytes.len()..size {
@@ -53,7 +53,7 @@ fn lengthen(draws: &mut Draws, bytes: &mut Vec<u8>, size: usize) -> Result<(), N
     Ok(())
 }
 
-/// A time that lies before or after another one by one of the amounts in `by`.
+/// A time that is before or after `time` by one of the amounts in `by`.
 fn moved(draws: &mut Draws, time: u64, by: &[u64]) -> u64 {
     let by = draws.pick(by);
     if draws.one_in(2) {
@@ -63,8 +63,8 @@ fn moved(draws: &mut Draws, time: u64, by: &[u64]) -> u64 {
     }
 }
 
-/// Damages a field of a record's packet: a length, a number, a timestamp, those of a media clock, the stream id, the
-/// subtype, the sequence number or any bit.
+/// Damages a field of a record's packet: a length, a number, a timestamp, a timestamp of a media clock, the stream ID,
+/// the subtype, the sequence number or any bit.
 fn damage_field(draws: &mut Draws, record: &mut Record) {
     let turned = moved(draws, record.at, &TURNS);
     let time = moved(draws, turned, &STEPS).to_be_bytes();
@@ -86,7 +86,7 @@ fn damage_field(draws: &mut Draws, record: &mut Record) {
     }
 }
 
-/// Cuts a frame or makes it longer, rarely to about the length that a capture allows.
+/// Cuts a frame or makes it longer, rarely to about the maximum length in a capture.
 fn damage_size(draws: &mut Draws, frame: &mut Vec<u8>) -> Result<(), NoMemory> {
     let size = draws.below(frame.len());
     let more = draws.below(40);
@@ -140,7 +140,7 @@ pub fn damage_bytes(draws: &mut Draws, bytes: &mut Vec<u8>) -> Result<(), NoMemo
     Ok(())
 }
 
-/// A capture of these records after some damage, or none.
+/// A capture of these records, with some damage or with none.
 pub fn damaged(
     alloc: Global,
     draws: &mut Draws,

@@ -1,4 +1,4 @@
-//! The draws for a capture: they depend only on the seed and the capture's number.
+//! The random draws for a capture. They depend only on the seed and the capture's number.
 
 ghost use Rattle.std.specs.Prelude.{◌<◌, max};
 

@@ -3,7 +3,7 @@
 use avtp_base::NoMemory;
 use std::alloc::Global;
 
-/// The rules: the pattern for each word in capital letters, which may use the words of later rules.
+/// The rules: each word in capital letters, and its pattern. A pattern may use the words of later rules.
 const RULES: [(&str, &str); 27] = [
     ("TEXT", "^(?:SHOW|CHECK|LISTEN|TALK|AGREE|GATEWAY)\n$"),
     (

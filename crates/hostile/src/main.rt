@@ -1,8 +1,8 @@
-//! `hostile SEED COUNT` damages COUNT captures and runs every command over each, in this process. The text must follow
-//! the grammar and fit the status; a second run must give the same, and so must one that reads its file in pieces of
-//! one byte. The program prints a line for each command that is wrong, and at the end how many there were. It ends with
-//! 0 if none was. `hostile SEED COUNT FIRST` begins at FIRST instead of 1: a capture depends on the seed and its number
-//! alone.
+//! `hostile SEED COUNT` damages COUNT captures and runs every command over each of them, in this process. The text must
+//! follow the grammar and fit the status. A second run must give the same result, and so must a run that reads its file
+//! in pieces of one byte. The program prints a line for each command that is wrong, and at the end the number of these
+//! commands. It ends with 0 if there are none. `hostile SEED COUNT FIRST` begins with capture FIRST instead of 1: a
+//! capture depends only on the seed and its own number.
 #![tactic(auto)]
 
 mod bases;

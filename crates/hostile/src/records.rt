@@ -1,4 +1,4 @@
-//! The records of a capture, and how they are spelled.
+//! The records of a capture, and how they are written as bytes.
 
 use crate::draws::Draws;
 use avtp_base::NoMemory;
@@ -44,7 +44,7 @@ impl Style {
         Ok(())
     }
 
-    /// Two numbers of 16 bits as one of 32.
+    /// Two numbers of 16 bits as one number of 32 bits.
     fn pair(self, first: u16, second: u16) -> u32 {
         if self.big {
             u32::from(first) * 65_536 + u32::from(second)
@@ -53,7 +53,7 @@ impl Style {
         }
     }
 
-    /// The header of a pcap file, or that of a pcapng file and its one interface.
+    /// Appends the header of a pcap file, or the header of a pcapng file and of its one interface.
     fn add_header(self, bytes: &mut Vec<u8>, pcapng: bool) -> Result<(), NoMemory> {
         if !pcapng {
             let magic = if self.micro { 0xa1b2_c3d4 } else { 0xa1b2_3c4d };
@@ -96,7 +96,7 @@ impl Style {
     }
 }
 
-/// A capture of these records, pcap or pcapng, in a style that is drawn.
+/// A capture of these records, as pcap or pcapng, in a style that is drawn.
 pub fn spelled(alloc: Global, draws: &mut Draws, records: &[Record]) -> Result<Vec<u8>, NoMemory> {
     let style = Style {
         big: draws.one_in(3),
@@ -111,7 +111,7 @@ pub fn spelled(alloc: Global, draws: &mut Draws, records: &[Record]) -> Result<V
     Ok(bytes)
 }
 
-/// The first records of a capture of `talk`.
+/// The first records of a capture that `talk` made, at most `most`.
 pub fn records_of(alloc: Global, capture: &[u8], most: usize) -> Result<Vec<Record>, NoMemory> {
     let mut records = Vec::new(alloc);
     let mut rest = capture.get(24..).unwrap_or(&[]);

@@ -9,7 +9,7 @@ use regex::Matcher;
 use std::alloc::Global;
 use std::thread::Threads;
 
-/// The most bytes that may be read.
+/// The maximum number of bytes that may be read.
 const LIMIT: usize = 1 << 40;
 
 /// What `listen` is asked for.
@@ -53,7 +53,7 @@ pub struct Found {
     pub wrong: Wrong,
 }
 
-/// Runs each command over a damaged capture, or `talk` over damaged samples, and returns those that went wrong.
+/// Runs each command over a damaged capture, or `talk` over damaged samples, and returns the runs that went wrong.
 pub fn try_commands<T: Threads + Sync>(
     rt: &T,
     alloc: Global,
