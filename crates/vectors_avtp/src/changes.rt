@@ -1,8 +1,8 @@
-//! Bytes that differ from others in a few places.
+//! Changes a few bytes.
 
 use avtp_base::NoMemory;
 
-/// The bytes with some of them changed, each at its offset, then cut to `len` bytes, and then with `zeros` zero bytes added.
+/// The bytes after each change was made at its offset, then cut to `len` bytes, and then followed by `zeros` zero bytes.
 pub fn changed(
     bytes: Vec<u8>,
     changes: &[(usize, u8)],

@@ -1,20 +1,20 @@
-//! Bytes and refusals as the rows of tables write them.
+//! Bytes and refusals, as they are written in the rows of tables.
 
 use crate::vectors::vector;
 use avtp_base::Refusal;
 use std::alloc::{AllocError, Global};
 use std::test::Fail;
 
-/// The places in the first vector at which the frame and the packet in it begin.
+/// The offset in the first vector of the frame and, below, of the packet in the frame.
 const FRAME: usize = 40;
 
 const PACKET: usize = 58;
 
-/// The bytes that a row gives. Each word continues from those before it:
+/// The bytes that a row gives. Each word adds to the bytes of the words before it, or changes them:
 ///
-/// - `pcap`, `pcapng`, `frame`, `aaf`, `iec`, `h264` and `crf` add a vector, or the frame or the packet of the first one;
-/// - hex digits add these bytes;
-/// - `17=53ff` puts these bytes over others, from offset 17 on;
+/// - `pcap`, `pcapng`, `iec`, `h264` and `crf` add a vector; `frame` and `aaf` add the frame and the packet of the first vector.
+/// - Hexadecimal digits add these bytes.
+/// - `17=53ff` overwrites bytes with these, from offset 17 on.
 /// - `len=47` cuts the bytes to this length, or adds zeros up to it.
 pub fn bytes_of(alloc: Global, row: &str) -> Result<Vec<u8>, Fail> {
     let mut bytes = Vec::new(alloc);
