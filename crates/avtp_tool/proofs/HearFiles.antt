@@ -34,7 +34,7 @@ joins_text handed xs ys first none = subst handed (sym (append-nil xs) ∙ ap (�
 
 -- ---- no device failed, or not everything was done
 
--- a run ends as it would without devices
+-- the run did not end with `Done`, or no device failed
 abbrev pub IsPlain : Bool → Result Status Failed → Type 0
 IsPlain failed result = result ≡ Ok status.Done → failed ≡ true → ⊥
 

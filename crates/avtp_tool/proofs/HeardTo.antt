@@ -49,7 +49,7 @@ shown_first plan records (end.Refused refusal) = due_first plan records
 shown_first plan records end.ReadFault = ([], append-nil (due_of plan records))
 shown_first plan records end.Limit = ([], append-nil (due_of plan records))
 
--- If the listener is closed exactly if all items are shown, the items that it shows are those of `shown_by`.
+-- If the listener is closed as `is_all how` says, the items that it shows are those of `shown_by`.
 out_at : (how : End) (listener : ListenState) (records : List Record) → is_closed listener ≡ is_all how → out listener records ≡ shown_by listener.plan records how
 out_at end.Whole listener records closed = rw closed refl
 out_at (end.Refused refusal) listener records closed = rw closed refl

@@ -14,9 +14,9 @@ use Rattle.avtp_tool.specs.Yield.{says, with_more, Yield}
 use Rattle.avtp_tool.specs.state.Yield.{Gives}
 use Rattle.avtp_tool.proofs.Yields.{gives_then, Joins, more_more, more_none, part_before, part_then}
 
--- ---- the status of files that follow each other
+-- ---- the status of files that are read one after another
 
--- a status other than `Done` is the joined status, whatever came before
+-- if the later status is not `Done`, it is the joined status, whatever the earlier status is
 last_of : (s : Status) → (s ≡ status.Done) ⊎ ((first : Status) → joined first s ≡ s)
 last_of status.Done = inl refl
 last_of status.Findings = inr (λ first. refl)
@@ -38,14 +38,14 @@ joined_twice a b c = elim (last_of c) [
   | inr last ↦ last (joined a b) ∙ sym (ap (joined a) (last b) ∙ last a)
 ]
 
--- if all files are done, so are all after the first
+-- if a run over files is done, so is the run over the files after the first
 pub rest_done : (first rest : Status) → is_done (joined first rest) ≡ true → is_done rest ≡ true
 rest_done first rest done = elim (last_of rest) [ inl is ↦ ap is_done is | inr last ↦ ap is_done (sym (last first)) ∙ done ]
 
 pub all_done : (first rest : Status) → is_done first ≡ true → is_done rest ≡ true → is_done (joined first rest) ≡ true
 all_done first rest done more = elim (last_of rest) [ inl is ↦ ap (λ (s : Status). is_done (joined first s)) is ∙ done | inr last ↦ ap is_done (last first) ∙ more ]
 
--- a run that stops ends as its last file does
+-- if the later files are not done, their status is the joined status
 joined_stop : (first rest : Status) → is_done rest ≡ false → joined first rest ≡ rest
 joined_stop first rest stops = elim (last_of rest) [ inl is ↦ absurd (let t : true ≡ false = sym (ap is_done is) ∙ stops in cc) | inr last ↦ last first ]
 
@@ -55,7 +55,8 @@ pub none_read : (one : List ℕ → Status → Yield → Type 0) → InOrder one
 unfolding InOrder
 none_read one = (refl, refl, refl)
 
--- if each outcome of a file under `one` is an outcome under `other`, so is each outcome of a run
+-- If each outcome of a file under `one` is an outcome under `other`, each outcome of a run under `one` is an outcome
+-- under `other`.
 pub order_weaker : (one other : List ℕ → Status → Yield → Type 0) → ((name : List ℕ) (ended : Status) (yields : Yield) → one name ended yields → other name ended yields)
     → (names read : List (List ℕ)) (ended : Status) (yields : Yield) → InOrder one names read ended yields → InOrder other names read ended yields
 unfolding InOrder
@@ -64,7 +65,6 @@ order_weaker one other weaker (name ∷ names) read ended yields (inl (stops, ca
 order_weaker one other weaker (name ∷ names) read ended yields (inr (others, first, rest, here, more, goes, outcome, order, came, is, all)) =
     inr (others, first, rest, here, more, goes, weaker name first here outcome, order_weaker one other weaker names others rest more order, came, is, all)
 
--- files that were read to their ends, and then others
 pub order_then : (one : List ℕ → Status → Yield → Type 0) (names more read others : List (List ℕ)) (first rest : Status) (yields after : Yield) → is_done first ≡ true
     → InOrder one names read first yields → InOrder one more others rest after → InOrder one (names ++ more) (read ++ others) (joined first rest) (with_more yields after)
 unfolding InOrder
@@ -89,17 +89,14 @@ order_then one (name ∷ names) more read others first rest yields after done (i
       ap (λ (y : Yield). with_more y after) all ∙ more_more here last after,
     )
 
--- one file that was read to its end
 pub order_one : (one : List ℕ → Status → Yield → Type 0) (name : List ℕ) (yields : Yield) (ended : Status) → is_done ended ≡ true → one name ended yields → InOrder one (name ∷ []) (name ∷ []) ended yields
 unfolding InOrder
 order_one one name yields ended done outcome = inr ([], ended, status.Done, yields, says [], done, outcome, (refl, refl, refl), refl, refl, sym (more_none yields))
 
--- the file that ends the run
 pub order_last : (one : List ℕ → Status → Yield → Type 0) (name : List ℕ) (yields : Yield) (rest : List (List ℕ)) (ended : Status) → is_done ended ≡ false → one name ended yields → InOrder one (name ∷ rest) (name ∷ []) ended yields
 unfolding InOrder
 order_last one name yields rest ended stops outcome = inl (stops, refl, outcome)
 
--- the only outcome if no fault of reading comes
 pub order_here : (one : List ℕ → Status → Yield → Type 0) (ends : List ℕ → Status) (yields : List ℕ → Yield) → ((name : List ℕ) → one name (ends name) (yields name))
     → (names : List (List ℕ)) → InOrder one names (in_order_read ends names) (in_order_status ends names) (in_order_yield ends yields names)
 unfolding InOrder in_order_read in_order_status in_order_yield
@@ -119,7 +116,6 @@ order_here one ends yields here (name ∷ names) =
 
 -- ---- what a run gives out of its files
 
--- a file ended the run
 pub tells_stopped : {a b : ShelfState} {before mid now : Option (List ℕ)} {earlier handed all_handed : List Shown → Type 0} {result : Result Status Failed} (one : List ℕ → Status → Yield → Type 0) (ends : List ℕ → Status) (yields : List ℕ → Yield) → ((name : List ℕ) → one name (ends name) (yields name))
     → Joins earlier handed all_handed → (names rest all : List (List ℕ)) (name : List ℕ) (first : Yield) (so_far : Status) → all ≡ names ++ name ∷ rest → is_done so_far ≡ true → InOrder one names names so_far first → Gives earlier before mid first → TellsYield (one name) handed mid now result
     → (IsDone result → ⊥) → Asks (names ++ name ∷ []) a b → TellsRun (InOrder one all) all_handed a b before now result
@@ -164,7 +160,6 @@ tells_stopped {a} {b} {before} {mid} {now} {earlier} {handed} {all_handed} {resu
       part = part_then join first (with_more t.yields after) gives (part_before t.yields after t.part);
     }
 
--- a file was read to its end
 pub tells_done : {earlier handed all_handed : List Shown → Type 0} (before mid now : Option (List ℕ)) (one : List ℕ → Status → Yield → Type 0) (names : List (List ℕ)) (name : List ℕ) (first : Yield) (so_far ended : Status) → Joins earlier handed all_handed → is_done so_far ≡ true → is_done ended ≡ true
     → InOrder one names names so_far first → Gives earlier before mid first → TellsYield (one name) handed mid now (Ok ended)
     → (yields : Yield) × InOrder one (names ++ name ∷ []) (names ++ name ∷ []) (joined so_far ended) yields × Gives all_handed before now yields

@@ -1,4 +1,4 @@
--- What calls that read leave unchanged.
+-- What is unchanged after calls that read.
 use Rattle.std.proofs.Common.{◌≡◌, ◌+◌, ◌^◌, ◌≤◌, ℕ, true, false, List, [], ◌∷◌, Option, Some, None, Result, Ok, Err, sym, ap, subst, refl, arith, ◌∙◌}
 use Rattle.std.specs.Prelude.{IfOk, IsErr, IsSome}
 use Rattle.avtp_base.specs.declared.failed.Failed.{Failed}
@@ -19,31 +19,28 @@ use Rattle.capture_io.specs.Source.{EndsAfter, GivesNext, HasGivenOf, Sourcing, 
 use Rattle.capture_io.proofs.Ending.{after_weaker}
 use Rattle.capture_io.proofs.Leaving.{only_reads_closed, opens_then, reads_nothing, reads_then}
 
--- the slot that was read is live under its present number
+-- the slot that was read is still open, under its present number
 pub live_now : {s t : ShelfState} {k j : ℕ} → ReadsSlot s t k j → IsSome (t.slots j)
 live_now {t = t} reads = subst (λ (n : ℕ). IsSome (t.slots n)) (sym reads.slot) reads.live
 
--- a fact about every failure holds for this failure
 pub on_err : {T : Type 0} (A : Result T Failed → Type 0) (result : Result T Failed) → IsErr result → ((e : Failed) → A (Err e)) → A result
 on_err A (Ok x) err holds = absurd cc
 on_err A (Err e) err holds = holds e
 
--- a file was opened, read and closed
 pub read_through : {s t u v : ShelfState} {name : List ℕ} {k j : ℕ}
     → OpensSlot s t name k → ReadsSlot t u k j → ClosesSlot u v j → OnlyReads s v (name ∷ [])
 read_through {s} {t} {u} {v} {name} {k} {j} opens reads closes = only_reads_closed s u v name k (opens_then s t u name k j opens reads) (subst (ClosesSlot u v) reads.slot closes)
 
--- a reading that had not ended has ended in this way
 pub ended_so : (ended : Option End) (how : End) (before after : ℕ) → ended ≡ None → CountsFault ended (Some how) before after → CountsFault None (Some how) before after
 ended_so ended how before after none counts = subst (λ (e : Option End). CountsFault e (Some how) before after) none counts
 
--- one more record was read, so no fault was counted
+-- if one more record was read, no read fault was counted
 pub quiet_next : (ended result : Option End) (before after : ℕ) → ended ≡ None → result ≡ None → CountsFault ended result before after → after ≡ before
 quiet_next ended result before after none more counts = subst (λ (r : Option End). CountsFault None r before after) more (subst (λ (e : Option End). CountsFault e result before after) none counts)
 
 -- ---- an open capture between two of its records
 
--- It was read on, its reading has not ended, and no fault was counted.
+-- The capture was read further. Its reading has not ended, and no fault was counted.
 pub record IsAmid (shelf shelf' : ShelfState) (old new : Sourcing) (frames : ℕ) : Type 0 where
   pub going : new.ended ≡ None
   pub bounded : frames + to_do new ≤ 2 ^ 41
@@ -54,7 +51,6 @@ pub amid_begun : (shelf : ShelfState) (source : Sourcing) → IsOpen shelf.slots
 amid_begun shelf source ready = record { going = ready.0; bounded = omega (arith, ready.2); reading = refl; reads = reads_nothing shelf (slot_of source) ready.1 }
 
 module _ {s t u : ShelfState} {first old new : Sourcing} {frames : ℕ} where
-  -- one more record was read
   pub amid_next : {result : Option End} → IsAmid s t first old frames → result ≡ None → GivesNext t u old new result → IsAmid s u first new (frames + 1)
   amid_next {result} amid none next = record {
     going = next.ended ∙ none;
@@ -63,7 +59,6 @@ module _ {s t u : ShelfState} {first old new : Sourcing} {frames : ℕ} where
     reads = reads_then amid.reads next.reads;
   }
 
-  -- the reading ended in this way
   pub amid_over : (how : End) → IsAmid s t first old frames → GivesNext t u old new (Some how) → ReadsCapture s u (slot_of first) (slot_of new) (Some how)
   amid_over how amid next = record {
     reads = reads_then amid.reads next.reads;
@@ -74,7 +69,6 @@ module _ {s t u : ShelfState} {first old new : Sourcing} {frames : ℕ} where
   amid_ends how limit bytes records amid next given =
       after_weaker limit bytes (Rose t.reading_faults u.reading_faults) (Rose s.reading_faults u.reading_faults) how records (λ rose. subst (λ (n : ℕ). Rose n u.reading_faults) amid.reading rose) (next.ends limit bytes records given)
 
--- reporting the records was cut short
 pub amid_cut : {s t : ShelfState} {first old : Sourcing} {frames : ℕ} → IsAmid s t first old frames → ReadsCapture s t (slot_of first) (slot_of old) None
 amid_cut amid = record { reads = amid.reads; counted = amid.reading }
 
@@ -85,7 +79,6 @@ pub none_left : {A : Type 0} (o : Option A) → ((x : A) → o ≡ Some x → �
 none_left None other = refl
 none_left (Some x) other = absurd (other x refl)
 
--- nothing was written
 pub only_read : {before after : ℕ} {result : Result Status Failed} → after ≡ before → (result ≡ Ok status.WriteFault → ⊥) → CountsWriting None before after result
 only_read same never = record { never_falls = omega (arith, same); failed = λ e. absurd (never e); other = λ e. same; unwritten = λ e. same }
 
@@ -101,11 +94,10 @@ ends_reading (end.Refused refusal) = refl
 ends_reading end.ReadFault = refl
 ends_reading end.Limit = refl
 
--- a run that ends as its reading did
 pub own_ended : (result : Result Status Failed) (how : End) → IfOk result (λ s. s ≡ status_of how) → IsReadingStatus result
 own_ended result how is = own_as result (status_of how) (ends_reading how) is
 
--- a run that only reads does not end otherwise
+-- a run that only reads does not end with any status that is not one of reading
 pub never_ends : (result : Result Status Failed) (other : Status) → is_of_reading other ≡ false → IsReadingStatus result → result ≡ Ok other → ⊥
 never_ends (Ok s) other differs own is = let same : s ≡ other = cc in let t : true ≡ false = sym own ∙ (ap is_of_reading same ∙ differs) in cc
 never_ends (Err e) other differs own is = absurd cc

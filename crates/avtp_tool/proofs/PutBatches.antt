@@ -130,7 +130,7 @@ packets_shaped to shape id (b ∷ batches) given =
     let sized = length_frames to shape id given.packets b (pieces_of to shape b given.block) in
     packets_one (skip_by to shape given b) to shape id given (given_with to shape given b) batches (frames_with to shape id given b) (ap (λ (n : ℕ). given.packets + n) (sym sized)) (packets_shaped to shape id batches)
 
--- each packet has a frame
+-- the number of packets is the number of frames
 pub packets_count : (to : To) (shape : Option Shape) (id : ℕ) (batches : List Presented) → (given_over to shape batches).packets ≡ length (gateway_frames to shape id batches)
 packets_count to None id batches = refl
 packets_count to (Some shape) id batches = omega (arith, packets_shaped to shape id batches nothing_given)

@@ -37,23 +37,20 @@ frames_more frames i turn records is =
     append_assoc records (map record_of (take i frames)) (record_of f ∷ [])
     ∙ ap (λ (rs : List Record). records ++ rs) (sym (ap (map record_of) longer ∙ map-append record_of (take i frames) (f ∷ [])))
 
--- fewer are left
+-- after one more frame, fewer frames are left
 pub frames_fewer : (frames : List SentFrame) (i next : ℕ) (turn : Turn) → option_map turn_of (slice_get frames i) ≡ Some turn → next ≡ min (i + 1) (length frames) → (next ≡ i + 1) × (length frames - next < length frames - i)
 frames_fewer frames i next turn is goes =
     let within : i < length frames = slice_get_within frames i _ (turned_frame (slice_get frames i) turn is) in
     (omega arith, omega arith)
 
--- no frame so far
 pub frames_none : (frames : List SentFrame) (i : ℕ) (records : List Record) → i ≡ 0 → records ≡ records ++ map record_of (take i frames)
 frames_none frames i records none = rw none (sym (append-nil records))
 
--- all frames
 pub frames_all : {files : Option Files} {s : ShelfState} {w : Writing} {name : List ℕ} (frames : List SentFrame) → HoldsCapture files s w name (map record_of (take (length frames) frames)) → HoldsCapture files s w name (map record_of frames)
 frames_all {files} {s} {w} {name} frames holds = subst (λ (fs : List SentFrame). HoldsCapture files s w name (map record_of fs)) (take_all (length frames) frames (omega arith)) holds
 
 -- ---- the file
 
--- nothing was written yet
 pub writes_nothing : (s : ShelfState) (w : Writing) → IsMadeIn s.slots w.slot → WritesSlot s s w w (Ok tt)
 writes_nothing s w made = record {
   slot = refl;
@@ -64,7 +61,6 @@ writes_nothing s w made = record {
   asked = λ names stands. stands;
 }
 
--- a failure is one, whatever it says
 pub writes_err : {s t : ShelfState} {v w : Writing} {e e' : Failed} → WritesSlot s t v w (Err e) → WritesSlot s t v w (Err e')
 writes_err writes = record {
   slot = writes.slot;

@@ -38,11 +38,9 @@ pub record IsPrintedTo (limit : ℕ) (bytes : List ℕ) (remains : Option (List 
 pub none_printed : (limit : ℕ) (bytes : List ℕ) (remains : Option (List ℕ)) (source : Sourcing) (before : Option (List ℕ)) → HasGiven limit bytes remains source [] → IsPrintedTo limit bytes remains source 0 before before
 none_printed limit bytes remains source before given = record { records = []; given = given; counted = refl; lines = subst (Appends before before) (sym (each_none show_line)) (Appends-nil before) }
 
--- the lines of the records, with that of the record that is held
 line_of : (frames : ℕ) (records : List Record) (r : Record) → frames ≡ length records → of_each show_line (records ++ r ∷ []) ≡ of_each show_line records ++ frame_line (frames + 1) r.arrival (record_content r.bytes)
 line_of frames records r counted = each_more show_line records r ∙ ap (λ (n : ℕ). of_each show_line records ++ frame_line (n + 1) r.arrival (record_content r.bytes)) (sym counted)
 
--- one more record was printed
 pub one_printed : (limit : ℕ) (bytes : List ℕ) (remains : Option (List ℕ)) (source : Sourcing) (records : List Record) (r : Record) (frames : ℕ) (before mid now : Option (List ℕ))
     → HasGiven limit bytes remains source (records ++ r ∷ []) → frames ≡ length records → Appends before mid (of_each show_line records) → Appends mid now (frame_line (frames + 1) r.arrival (record_content r.bytes))
     → IsPrintedTo limit bytes remains source (frames + 1) before now
@@ -55,7 +53,6 @@ one_printed limit bytes remains source records r frames before mid now given cou
 
 -- ---- what `show` makes of a file
 
--- the records of a file and the last line were printed
 pub show_told : {h h' : SinkState} {w w' : List ℕ} {result : Result Status Failed} (limit : ℕ) (bytes : List ℕ) (fault : Type 0) (printed : Printed) (before : Option (List ℕ)) → HasPrinted limit bytes fault printed before (written h.held w)
     → EndsWith (status_of printed.end) h h' w w' result (end_line limit printed.frames printed.end) → IsReadAndTold (show_report limit) HandsNothing limit bytes fault printed.end before (written h'.held w') result
 show_told limit bytes fault printed before p ends = record {
@@ -64,6 +61,5 @@ show_told limit bytes fault printed before p ends = record {
   tells = tells_end (of_each show_line p.records) [] (refl, ap (λ (k : ℕ). says (of_each show_line p.records ++ end_line limit k printed.end)) p.counted) p.lines refl ends;
 }
 
--- a part of a file's lines was printed
 pub some_lines : (limit : ℕ) (bytes : List ℕ) (before now : Option (List ℕ)) → AppendsPrefix before now (of_each show_line (records_in (take limit bytes))) → GivesPart HandsNothing before now (file_yield (show_report limit) limit (Some bytes))
 some_lines limit bytes before now prefix = part_text refl _ (prefix_before before now _ (end_line limit (length (records_in (take limit bytes))) (end_of limit bytes)) prefix)

@@ -78,7 +78,7 @@ lines_next list n d is =
 
 -- ---- a pair that gave a difference
 
--- keeping the pair keeps what is known of it
+-- if `KeepsPair` holds, what is known of the pair is unchanged
 pub known_same : (old new : PairState) (records others : List Record) → KeepsPair old new → known_by new records others ≡ known_by old records others
 known_same old new records others keeps = rw (keeps.closed_a, keeps.closed_b, keeps.plan_a, keeps.plan_b) refl
 
@@ -511,7 +511,7 @@ told_cut_b {s} {t} {a} {b} b' {pair} {asked} {x} {y} {before} {mid} {now} {fault
 
 -- ---- a step, for either side
 
--- the capture that is side `which`
+-- the side `which` of a comparison
 abbrev pub side_of : Which → Comparing → Side
 side_of A c = c.a
 side_of B c = c.b

@@ -156,7 +156,7 @@ quiet_by : (halt : Stop) (result : Result Status Failed) (before after : ℕ) �
 quiet_by halt (Ok s) before after counts quiet = λ fault memory write. still_by halt before after counts (quiet fault memory write)
 quiet_by halt (Err e) before after counts quiet = tt
 
--- the bytes that were read of the input, if the shelf shows its files
+-- what was read from the input, if the shelf shows its files
 abbrev pub IsInput : Option Files → List ℕ → Contents → Type 0
 IsInput files name contents = (all : Files) → files ≡ Some all → (bytes : List ℕ) × (all name ≡ Some bytes) × IsContents most_input bytes contents.stop contents.bytes.items
 

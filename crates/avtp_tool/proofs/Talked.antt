@@ -120,7 +120,7 @@ tells_caused f g plan bytes a b weaker tells = tells_weaker (λ ended text o. (t
 pub whole_is : (limit : ℕ) (bytes : List ℕ) (halt : Stop) (prefix slice : List ℕ) → halt ≡ stop.End → slice ≡ prefix → IsContents limit bytes halt prefix → slice ≡ bytes
 whole_is limit bytes halt prefix slice is same has = same ∙ sym (subst (λ (h : Stop). IsContents limit bytes h prefix) is has).0
 
--- an outcome for what was read of a whole input is an outcome for all bytes of the input
+-- if an input was read to its end, an outcome for the bytes that were read is an outcome for the whole input
 pub tells_read : {before now : Option (List ℕ)} {result : Result Status Failed} {prefix : List ℕ} (f g : Option Files) (plan : TalkPlan) (bytes input : List ℕ) (halt : Stop)
     → halt ≡ stop.End → input ≡ prefix → IsContents most_input bytes halt prefix → TellsText (OutcomeWith (TalkedOutcome plan input ⊥) f g) before now result → TellsText (OutcomeWith (TalkedOutcome plan bytes (halt ≡ stop.Fault)) f g) before now result
 tells_read {before} {now} {result} {prefix} f g plan bytes input halt is same has tells =

@@ -91,7 +91,8 @@ module _ {s t u v : ShelfState} {a b : List ℕ} {k j : ℕ} (opens : OpensSlots
     asked = λ earlier was. closes.asked (earlier ++ a ∷ b ∷ []) (reads.asked (earlier ++ a ∷ b ∷ []) (opens.asked earlier was));
   }
 
--- The first file was opened, the second could not be opened, and the first was closed.
+-- If the first file was opened, the second could not be opened, and the first was closed, then the files were only
+-- read.
 pub second_refused : {s t u v : ShelfState} {a b : List ℕ} {k : ℕ} → OpensSlot s t a k → OnlyReads t u (b ∷ []) → ClosesSlot u v k → OnlyReads s v (a ∷ b ∷ [])
 second_refused {s} {t} {u} {v} {a} {b} {k} opens only closes = record {
   files = KeepsFiles-trans s.files u.files v.files (KeepsFiles-trans s.files t.files u.files opens.files only.files) closes.files;

@@ -88,7 +88,7 @@ abbrev pub compared_status : Agreeing → List ℕ → List ℕ → Status
 compared_status asked x y =
     agree_status (counts_of (merged_in asked x y)).differ (end_of asked.listener.limit x) (end_of asked.listener.limit y)
 
--- ---- a fault of reading
+-- ---- a read fault
 
 -- what is already due when only `prefix`, the first bytes of a capture, was read
 abbrev pub due_in : Agreeing → List ℕ → List Presented

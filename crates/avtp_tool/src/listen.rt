@@ -48,7 +48,7 @@ pub fn plan(asked: &ListenerOptions) -> ListenPlan
     }
 }
 
-/// For each packet of a stream in a capture, prints at which instant it is presented or why it is not, as soon as that
+/// For each packet of a stream in a capture, prints at which instant it is presented or why it is not, as soon as this
 /// is due. One thread reads and judges. Another writes the text of each item, and then gives the item to the devices.
 /// Memory is allocated for each packet: if it runs out, what was due before has been printed.
 pub fn listen<T: Threads + Sync, F: Shelf + Send, S: Sink + Send, G: Gate, D: Devices + Send>(

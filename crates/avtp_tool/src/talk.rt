@@ -120,7 +120,7 @@ pub fn talk<F: Shelf, S: Sink>(
     }
 }
 
-/// Makes the capture of an input, if the input was read whole.
+/// If an input was read whole, makes its capture. Otherwise prints why there is none.
 fn talk_contents<F: Shelf, S: Sink>(
     alloc: Global,
     plan: TalkPlan,

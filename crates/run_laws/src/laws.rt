@@ -35,7 +35,7 @@ pub fn default_words_are_command_lines()
     ensures id { IsId (codes "0200000000010001") (plain false).id }
 {}
 
-/// Let a shelf hold, under this name, a capture of a plan with the default lead. Then a run of `listen` with default
+/// Let a shelf hold, under the name `name`, a capture of a plan with the default lead. Then a run of `listen` with default
 /// words gives the devices all that the capture holds of the plan, as the headline says: for H.264, each unit. This
 /// follows from what `run` promises (`HasRun.reports.headline`). For audio, the run ends with `Done`, unless memory
 /// runs out, a write fails or a device fails.

@@ -1,5 +1,5 @@
-//! Each call to the shelf or the sink fails in turn, both if calls move one byte and if they move many. The status
-//! names the fault, and the text is what was certain before the fault.
+//! Each call to the shelf or the sink fails in turn, whether calls move few bytes or many. The status names the fault,
+//! and the text is what was certain before the fault.
 
 use crate::recipe::file_of;
 use crate::transcript::{status_of, words_of};
@@ -11,7 +11,7 @@ use std::alloc::Global;
 use std::process::Abort;
 use std::thread::Threads;
 
-/// The maximum sizes of one read that are tried.
+/// Limits on the number of bytes that one read moves.
 const READS: [usize; 2] = [1, 65_536];
 
 const WRITES: [usize; 2] = [7, 65_536];

@@ -5,7 +5,7 @@ use avtp_base::Refusal;
 use std::alloc::{AllocError, Global};
 use std::test::Fail;
 
-/// The offset in the first vector of the frame and, below, of the packet in the frame.
+/// The offset of the frame in the first vector. `PACKET` is the offset of the frame's packet.
 const FRAME: usize = 40;
 
 const PACKET: usize = 58;

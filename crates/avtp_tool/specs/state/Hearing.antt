@@ -150,7 +150,8 @@ pub record Shows (shelf shelf' : ShelfState)
   pub shown : (limit : ℕ) (bytes : List ℕ) → HasGiven limit bytes (left_in shelf.slots (slot_of old_source)) old_source [] → StandsFor [] 0 old_listener → is_closed old_listener ≡ false
       → IsShown stage limit bytes (Rose shelf.reading_faults shelf'.reading_faults) (left_in shelf'.slots (slot_of source)) source listener items
 
--- The hearing moved on. These items were shown after those that were shown earlier, and fewer can still be shown.
+-- The hearing moved on. These items were shown after those that were shown earlier. The number of items that can still
+-- be shown fell at least by their number.
 pub record GoesOn (shelf shelf' : ShelfState) (old_source source : Sourcing) (old_listener listener : ListenState) (old_stage stage : Stage) (items : List Shown) : Type 0 where
   pub shows : (begun : ShelfState) (first : Sourcing) (fresh : ListenState) (earlier : List Shown)
       → Shows begun shelf first old_source fresh old_listener old_stage earlier → Shows begun shelf' first source fresh listener stage (earlier ++ items)

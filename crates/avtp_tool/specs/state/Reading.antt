@@ -1,5 +1,5 @@
--- Kept for proofs: what private code holds and does. No clause of a public call uses it.
--- Files that a command reads in order: what may become of each, and of all.
+-- Kept for proofs: what private code holds and does. No clause of a public call uses it. Files that a command reads in
+-- order: the possible outcomes of one file, and of all files.
 use Rattle.std.specs.Prelude.{◌≡◌, ℕ, ◌^◌, ◌≤◌, List, [], ◌∷◌, length, take, Option, Some, None, IfOk, IsSome, OnErr, Result, Ok, Err, Bool, true, false}
 use Rattle.avtp_base.specs.declared.failed.Failed.{Failed}
 use Rattle.avtp_base.specs.Faults.{Rose}
@@ -20,7 +20,7 @@ use Rattle.avtp_tool.specs.Yield.{Yield}
 
 -- ---- an open capture
 
--- The file is open, its reading has not ended, and the number of bytes still to be read is bounded.
+-- The file is open, its reading has not ended, and what is left to read is bounded.
 abbrev pub IsOpen : Slots → Sourcing → Type 0
 IsOpen slots source = (source.ended ≡ None) × IsSome (slots (slot_of source)) × (to_do source ≤ 2 ^ 41)
 

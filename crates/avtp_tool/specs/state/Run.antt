@@ -1,5 +1,5 @@
--- Kept for proofs: what private code holds and does. No clause of a public call uses it. The outcome of a run, whichever
--- command the words ask for.
+-- Kept for proofs: what private code holds and does. No clause of a public call uses it. The outcome of a run of any
+-- command.
 use Rattle.std.specs.Prelude.{◌≡◌, ◌≢◌, ◌⊎◌, ℕ, ◌^◌, ◌≤◌, List, Option, Some, IfOk, IsSome, Result, Ok, Err, Bool, true, false}
 use Rattle.avtp_base.specs.declared.failed.Failed.{Failed}
 use Rattle.avtp_base.specs.Faults.{Rose}
@@ -58,7 +58,7 @@ pub record Runs (request : Request) (handed : List Shown → Type 0) (failed : B
 abbrev pub IsAsked : List (List ℕ) → Type 0
 IsAsked words = ((request : Request) × IsCommandLine words request) ⊎ ((position : ℕ) × IsOffence words position)
 
--- ---- what the words keep within bounds
+-- ---- values within their bounds
 
 pub record IsListening (asked : Listening) : Type 0 where
   pub limit : asked.listener.limit ≤ 2 ^ 40

@@ -33,7 +33,8 @@ abbrev pub scanned_as : End → Option Shape → Scanned
 scanned_as end.Whole shape = scanned.Clean shape
 scanned_as how shape = scanned.Cut how
 
--- What the result of a scan says of the stream in a file of these bytes, which is to be converted to the format `to`.
+-- What the result of a scan says of the stream in a file of these bytes, if the stream is to be converted to the format
+-- `to`.
 abbrev pub ScansTo : To → ℕ → ℕ → List ℕ → Type 0 → Scanned → Type 0
 ScansTo to stream limit bytes fault (scanned.Clean shape) =
     (end_of limit bytes ≡ end.Whole) × (first_fault to stream (records_in (take limit bytes)) ≡ None) × (shape ≡ shape_in stream (records_in (take limit bytes)))

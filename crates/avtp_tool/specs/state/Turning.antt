@@ -1,5 +1,5 @@
 -- Kept for proofs: what private code holds and does. No clause of a public call uses it. A capture that is converted:
--- what is presented of it is written as packets of the other format.
+-- what a listener presents from it is written as packets of the other format.
 use Rattle.std.specs.Prelude.{◌≡◌, ◌≢◌, ℕ, ◌+◌, ◌≤◌, List, [], ◌∷◌, ◌++◌, flat_map, length, map, slice_get, take, Option, Some, None, IfOk, IsSome, OnErr, OnOk, Result, Ok, Err, option_map, false}
 use Rattle.avtp_base.specs.declared.failed.Failed.{Failed}
 use Rattle.avtp_base.specs.Faults.{Rose}
@@ -112,15 +112,15 @@ abbrev pub wrote_all : Result Turned Failed → Result Unit Failed
 wrote_all (Ok turned.Unwritten) = Err (record {})
 wrote_all other = Ok tt
 
--- No batch was put yet into the capture that is made. Its file has another name than the one that is read.
+-- No batch was put yet into the capture that is made. The captures that are read and made have different names.
 pub record IsFreshOutput (asked : Asked) (shape : Option Shape) (files : Option Files) (shelf : ShelfState) (o : Output) : Type 0 where
   pub apart : asked.input ≢ asked.output
   pub named : name_in shelf.slots o.writer.slot ≡ Some asked.output
   pub none : HasPut (format_of asked.to) shape asked.id [] o.gateway
   pub holds : HoldsCapture files shelf o.writer asked.output []
 
--- No batch was put yet into the capture that is made, and nothing was heard yet of the capture that is read. The latter
--- has these bytes, and the two files have different names.
+-- No batch was put yet into the capture that is made, and nothing was heard yet of the capture that is read. The
+-- capture that is read has these bytes. The two captures have different names.
 pub record IsToTurn (asked : Asked) (shape : Option Shape) (bytes : List ℕ) (files : Option Files) (shelf : ShelfState) (source : Sourcing) (listener : ListenState) (o : Output) : Type 0 where
   pub fresh : IsFreshOutput asked shape files shelf o
   pub named : name_in shelf.slots (slot_of source) ≡ Some asked.input
