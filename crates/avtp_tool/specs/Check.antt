@@ -104,7 +104,7 @@ total_line limit frames streams found (end.Refused refusal) = capture_refused_li
 total_line limit frames streams found end.ReadFault = read_fault_line
 total_line limit frames streams found end.Limit = limit_line limit
 
--- What `check` prints of the capture `name` with these records, whose reading ends as `how`: the name, a line for each
+-- What `check` prints of the capture `name`, given its records and how its reading ends: the name, a line for each
 -- finding, and the last line.
 abbrev pub check_text : ℕ → List ℕ → List Record → End → List ℕ
 check_text limit name records how =

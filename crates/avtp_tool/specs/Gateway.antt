@@ -116,8 +116,8 @@ skips_in asked shape batches = skips_after (format_of asked.to) shape nothing_gi
 abbrev pub turned_capture : Turning → Option Shape → List Presented → List ℕ
 turned_capture asked shape batches = capture_of (turned_frames asked shape batches)
 
--- The last line, if the reading ended as `how`: the numbers of batches, packets and skipped batches, or why the capture
--- was not read to its end.
+-- The last line, given how the reading ended. It has the numbers of batches, packets and skipped batches, or says why
+-- the capture was not read to its end.
 abbrev pub turned_last : Turning → Option Shape → List Presented → End → List ℕ
 turned_last asked shape batches end.Whole =
     gateway_line (length batches) (length (turned_frames asked shape batches)) (length (skips_in asked shape batches))
@@ -152,7 +152,7 @@ pub record HearsInput (asked : Turning) (files : Files) (fault : Type 0) (shape 
   pub presented : batches ≡ batches_by asked (records_in prefix) how
 
 -- What a run of `gateway` over these files can result in: the names that it asks for, its status, its text, and the
--- capture that it makes. A read fault is possible only if `fault` holds.
+-- capture made. A read fault is possible only if `fault` holds.
 pub data GatewayOutcome (asked : Turning) (files : Files) (fault : Type 0) (came : List (List ℕ)) (ended : Status) (text : List ℕ) (made : Option (List ℕ)) : Type 0 where
   -- IN was not opened.
   unopened : IsUnopened files fault asked.input → came ≡ asked.input ∷ [] → ended ≡ status.ReadFault → text ≡ read_fault_line → made ≡ None
@@ -169,8 +169,8 @@ pub data GatewayOutcome (asked : Turning) (files : Files) (fault : Type 0) (came
       → ended ≡ turned_status (length (skips_in asked shape batches)) how → text ≡ turned_text asked shape batches how → made ≡ Some (turned_capture asked shape batches)
       → GatewayOutcome asked files fault came ended text made
 
--- What the capture OUT keeps of IN. OUT is whole. From OUT a listener presents exactly the samples of those batches of
--- IN that are not skipped, in order, with the same values at the same instants. `check` prints no finding for OUT. With
+-- What the capture OUT keeps of IN. OUT is whole. From OUT a listener presents exactly the samples of the batches of IN
+-- that are not skipped. Their order, values and instants are those of IN. `check` prints no finding for OUT. With
 -- status 0 no batch is skipped.
 pub record KeepsInput (asked : Turning) (files : Files) (fault : Type 0) (ended : Status) (capture : List ℕ) : Type 0 where
   pub shape : Option Shape
@@ -202,8 +202,8 @@ text_by asked records (Some at) how = fault_line at
 text_by asked records None end.Whole = turned_text asked (shape_asked asked records) (batches_by asked records end.Whole) end.Whole
 text_by asked records None how = side_line asked.listener.limit how
 
--- the capture that `gateway` makes, or `None`, given the records of IN, how the scan ended, and the first record that
--- cannot be converted, if any
+-- The capture that `gateway` makes, or `None`. It depends on the records of IN, how the scan ended, and the first
+-- record that cannot be converted, if any.
 abbrev pub made_by : Turning → List Record → Option FaultAt → End → Option (List ℕ)
 made_by asked records (Some at) how = None
 made_by asked records None end.Whole = Some (turned_capture asked (shape_asked asked records) (batches_by asked records end.Whole))

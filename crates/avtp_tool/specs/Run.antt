@@ -32,8 +32,8 @@ abbrev pub device_notice : Bool → Status → List ℕ
 device_notice true status.Done = device_fault_line
 device_notice failed ended = []
 
--- The possible outcomes of a run of `listen` over these files: an outcome of reading them, then the line and the status
--- of a failed device.
+-- The possible outcomes of a run of `listen` over these files: an outcome of reading the files, then the last line and
+-- status of a failed device.
 pub record ListenOutcome (asked : Listening) (files : Files) (fault : Type 0) (failed : Bool) (came : List (List ℕ)) (ended : Status) (yields : Yield) : Type 0 where
   pub heard : Status
   pub given : Yield
@@ -41,8 +41,8 @@ pub record ListenOutcome (asked : Listening) (files : Files) (fault : Type 0) (f
   pub status : ended ≡ device_status failed heard
   pub notice : yields ≡ with_more given (says (device_notice failed heard))
 
--- What a run of the request over these files can result in: the names that it reaches, its status, what it yields, and
--- the capture that it makes. A read fault is possible only if `fault` holds. `failed` says whether a device failed.
+-- What a run of the request over these files can result in: the names that it reaches, its status, its yield, and the
+-- capture made. A read fault is possible only if `fault` holds. `failed` says whether a device failed.
 abbrev pub Outcome : Request → Files → Type 0 → Bool → List (List ℕ) → Status → Yield → Option (List ℕ) → Type 0
 Outcome (show limit file) files fault failed came ended yields made = PlanOutcome (show_plan limit file) files fault came ended yields × (made ≡ None)
 Outcome (check limit names) files fault failed came ended yields made = PlanOutcome (check_plan limit names) files fault came ended yields × (made ≡ None)
@@ -100,8 +100,8 @@ abbrev pub again_of : Request → List (List ℕ)
 again_of (gateway asked) = asked.input ∷ []
 again_of request = []
 
--- The names that a request asks a shelf for, in order: the files that are read, the file that is written, and the files
--- that are read again.
+-- The names that a request asks a shelf for, in order. First come the files that are read, then the file that is
+-- written, then the files that are read again.
 abbrev pub names_of : Request → List (List ℕ)
 names_of request = files_of request ++ (option_to_list (output_of request) ++ again_of request)
 

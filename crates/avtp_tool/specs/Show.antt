@@ -22,7 +22,7 @@ end_line limit frames (end.Refused refusal) = capture_refused_line refusal
 end_line limit frames end.ReadFault = read_fault_line
 end_line limit frames end.Limit = limit_line limit
 
--- The text that `show` prints of a capture with these records, whose reading ends as `how`: a line for each record,
+-- The text that `show` prints of a capture, given its records and how its reading ends: a line for each record,
 -- numbered from 1, and the last line.
 abbrev pub show_text : ℕ → List Record → End → List ℕ
 show_text limit records how = of_each show_line records ++ end_line limit (length records) how

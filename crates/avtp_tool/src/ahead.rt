@@ -10,8 +10,8 @@ use avtp_files::{Shelf, Sink};
 use avtp_text::Text;
 use capture_io::{End, Source};
 
-/// Reads the next record. If the record may not be there yet, the pending text is written first: whoever watches a
-/// growing capture sees each line as soon as its packet has arrived.
+/// Reads the next record. If the record may not be there yet, the pending text is written first. Whoever watches a
+/// growing capture thus sees each line as soon as its packet has arrived.
 #[inline(always)]
 pub fn next_record<F: Shelf, S: Sink>(
     source: &mut Source,

@@ -48,9 +48,9 @@ pub fn plan(asked: &ListenerOptions) -> ListenPlan
     }
 }
 
-/// For each packet of a stream in a capture, prints at which instant it is presented or why it is not, as soon as this
-/// is due. One thread reads and judges. Another writes the text of each item, and then gives the item to the devices.
-/// Memory is allocated for each packet: if it runs out, what was due before has been printed.
+/// For each packet of a stream in a capture, prints its instant of presentation or why it is not presented, as soon as
+/// this is due. One thread reads and judges. Another writes the text of each item, and then gives the item to the
+/// devices. Memory is allocated for each packet: if it runs out, what was due before has been printed.
 pub fn listen<T: Threads + Sync, F: Shelf + Send, S: Sink + Send, G: Gate, D: Devices + Send>(
     rt: &T,
     alloc: Global,
@@ -100,8 +100,8 @@ pub fn listen<T: Threads + Sync, F: Shelf + Send, S: Sink + Send, G: Gate, D: De
     }
 }
 
-/// Prints a capture's name and, as far as the capture can be read, the items that are shown of its records, each once
-/// it is due. At most `ring` items are queued between the two threads.
+/// Prints a capture's name, and the items that are shown of its records, each once it is due. The capture is read as
+/// far as possible. At most `ring` items are queued between the two threads.
 fn hear_records<T: Threads + Sync, F: Shelf + Send, S: Sink + Send, G: Gate, D: Devices + Send>(
     rt: &T,
     alloc: Global,

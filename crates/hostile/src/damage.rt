@@ -63,7 +63,7 @@ fn moved(draws: &mut Draws, time: u64, by: &[u64]) -> u64 {
     }
 }
 
-/// Damages a field of a record's packet: a length, a number, a timestamp, a timestamp of a media clock, the stream ID,
+/// Damages a field of a record's packet: a length, number or timestamp, a timestamp of a media clock, the stream ID,
 /// the subtype, the sequence number or any bit.
 fn damage_field(draws: &mut Draws, record: &mut Record) {
     let turned = moved(draws, record.at, &TURNS);

@@ -22,8 +22,8 @@ listen_default stream file = record {
 abbrev pub talk_words : List ℕ → List ℕ → List (List ℕ)
 talk_words input output = codes "talk" ∷ input ∷ output ∷ []
 
--- The request of `talk` if only its input and its output are given: dense PCM of 16 bits, stereo, at 48 kHz, with 6
--- sample frames in a packet. Sending begins at 1 s, and each packet is sent 2 ms before it is due.
+-- The request of `talk` if only its input and its output are given: dense 16-bit PCM, stereo, at 48 kHz, with 6 sample
+-- frames in a packet. Sending begins at 1 s, and each packet is sent 2 ms before it is due.
 abbrev pub talk_default : List ℕ → List ℕ → Talking
 talk_default input output = record {
   kind = Aaf Int16 false;

@@ -35,10 +35,10 @@ pub fn default_words_are_command_lines()
     ensures id { IsId (codes "0200000000010001") (plain false).id }
 {}
 
-/// Let a shelf hold, under the name `name`, a capture of a plan with the default lead. Then a run of `listen` with default
-/// words gives the devices all that the capture holds of the plan, as the headline says: for H.264, each unit. This
-/// follows from what `run` promises (`HasRun.reports.headline`). For audio, the run ends with `Done`, unless memory
-/// runs out, a write fails or a device fails.
+/// Let a shelf hold, under the name `name`, a capture of a plan with the default lead. Then a run of `listen` with
+/// default words gives the devices all that the capture holds of the plan, as the headline says. For H.264 this is each
+/// unit. This follows from what `run` promises (`HasRun.reports.headline`). For audio, the run ends with `Done`, unless
+/// memory runs out, a write fails or a device fails.
 pub fn default_words_present_all<D: Devices>()
     ensures given { (plan : TalkPlan) (input word name : List ℕ) (files after : Files) (old new : D) (failed : Bool) → HasDefaultLead plan input → IsId word plan.id → IsName name
         → files name ≡ Some (capture plan input) → Ran (listen_words word name) (HandsOn D.handed old new) (new ≡ old) failed files after Done → GaveAll plan input (each_packet plan input) (HandsOn D.handed old new) }

@@ -133,9 +133,10 @@ fn a_side_that_ends_early_is_compared_up_to_there(rt: HostRuntime) -> Result<(),
     follow(&rt, rt.alloc(), ENDS)
 }
 
-/// A row has the input of `talk`, the options of `talk`, the options of `agree` and, for each of two captures, the
-/// records that are delivered, written as in the rows of `losses`. In the first row of H.264, each access unit has 255
-/// NAL units. In the second, the second access unit is one NAL unit in 255 fragments, and all fragments are delivered.
+/// A row has the input of `talk`, the options of `talk`, and the options of `agree`. Then it has, for each of two
+/// captures, the records that are delivered, written as in the rows of `losses`. In the first row of H.264, each access
+/// unit has 255 NAL units. In the second, the second access unit is one NAL unit in 255 fragments, and all fragments
+/// are delivered.
 const ROWS: &str = "\
 noise:2400 | --sparse --restart 12 |  | mixed | 0/0/0
 noise:2400 | --sparse --restart 12 |  | mixed | 9/3/4
@@ -153,8 +154,8 @@ x0000000106ab*254 x000000016588 x0000000106cd*254 x000000016588 | --kind h264 | 
 x0000000106ab*254 x000000016588 x0000000165 xff*356000 x0000000106cd*254 x000000016588 | --kind h264 |  | 600/0/0 | 520/0/0
 ";
 
-/// The parts of the line of a packet's first sample that are the same in each capture of one talker: the instant, and
-/// the text from the sequence number on.
+/// The parts of a line that are the same in each capture of one talker: the instant, and the text from the sequence
+/// number on. The line is that of a packet's first sample.
 #[derive(Clone, Copy)]
 struct Sample<'a> {
     instant: &'a str,

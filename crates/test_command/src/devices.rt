@@ -9,7 +9,8 @@ use std::alloc::Global;
 use std::sync::Arc;
 use std::sync::atomic::{AtomicU64, Ordering};
 
-/// What was done to a device: the frames of the items that it took, as the digits of a number, and how often it was dropped.
+/// What was done to a device: the frames of the items that it took, as the digits of a number; and how often it was
+/// dropped.
 #[derive(Drop)]
 pub struct Notes {
     frames: AtomicU64,

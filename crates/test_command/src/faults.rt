@@ -16,8 +16,8 @@ const READS: [usize; 2] = [1, 65_536];
 
 const WRITES: [usize; 2] = [7, 65_536];
 
-/// A command that reads one or two captures of equal size. The fields say what it prints before it reads, what it
-/// prints once it has all bytes, what it prints at the end, and its status.
+/// A command that reads one or two captures of equal size. The texts are printed before it reads, once it has all
+/// bytes, and at the end.
 #[derive(Clone, Copy)]
 struct Case {
     line: &'static str,
@@ -305,8 +305,8 @@ fn a_failing_write_leaves_a_prefix_of_the_text(rt: HostRuntime) -> Result<(), No
     Ok(())
 }
 
-/// What `talk` makes of the first vector's samples if call number `call` of the shelf fails and each call moves at most
-/// `most` bytes: the status, and the size of the capture if it was created. The calls open the input, read it, find its
+/// The status of `talk` over the first vector's samples, and the size of the capture if it was created. Call number
+/// `call` of the shelf fails, and each call moves at most `most` bytes. The calls open the input, read it, find its
 /// end, create the capture and write it.
 fn made(call: usize, most: usize) -> (Status, Option<usize>) {
     let create = 24usize.div_ceil(most.max(1)).saturating_add(3);

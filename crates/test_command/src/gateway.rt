@@ -326,10 +326,10 @@ fn a_second_turned_there_and_back_is_the_same_bytes(rt: HostRuntime) -> Result<(
 
 const TURN: &str = "gateway --to am824 0200000000010001 a.pcap c.pcap";
 
-/// The outcome for a capture of 106 bytes if call number `call` of the shelf fails and each call moves at most `most`
-/// bytes: the status, and the size of the capture that is made. The calls open the input, read it and find its end.
-/// Then they create the capture, and open and read the input again. Last they write the capture's 122 bytes, or only
-/// its header after a failed read.
+/// The status for a capture of 106 bytes, and the size of the capture that is made. Call number `call` of the shelf
+/// fails, and each call moves at most `most` bytes. The calls open the input, read it and find its end. Then they
+/// create the capture, and open and read the input again. Last they write the capture's 122 bytes, or only its header
+/// after a failed read.
 fn made(call: usize, most: usize) -> (Status, Option<usize>) {
     let reading = 106usize.div_ceil(most.max(1)).saturating_add(2);
     let create = reading.saturating_add(1);

@@ -8,11 +8,13 @@ use std::alloc::Global;
 use std::thread::Threads;
 use vectors_avtp::Draws;
 
-/// A row has the options of `talk`, over 9,600 bytes of input; the options of `listen`; the number of items of its
-/// look-ahead; the records that are delivered, in order; and the end of the text, or the least number of packets that
-/// are presented. `mixed` are the records of `MIXED`. `7/5/3` loses each seventh record; of the remaining records, each
-/// fifth is delivered twice and each third overtakes the record before it. `drawn:9` draws what happens to each record,
-/// from the seed 9.
+/// A row has five fields. The first two are the options of `talk`, over 9,600 bytes of input, and the options of
+/// `listen`. The third is the number of items of its look-ahead. The fourth are the records that are delivered, in
+/// order. The last is the end of the text, or the least number of packets that are presented.
+///
+/// In the fourth field, `mixed` are the records of `MIXED`. `7/5/3` loses each seventh record; of the remaining
+/// records, each fifth is delivered twice and each third overtakes the record before it. `drawn:9` draws what happens
+/// to each record, from the seed 9.
 ///
 /// AAF restarts after each 12 packets, so packets 12 to 15 come after a restart and before the next timestamp. Its six
 /// rows lose nothing; lose some packets; lose timestamps; repeat each packet; let packets overtake a timestamp; and let

@@ -1,13 +1,13 @@
 //! Transcripts: runs of the command over files in memory, with what each run prints and how it ends.
 //!
-//! - `< NAME STEPS` puts a file on the shelf, `+ NAME STEPS` adds to a file, and `@ NAME PLACES` keeps only these records of a
+//! - `< NAME STEPS` puts a file on the shelf. `+ NAME STEPS` adds to a file. `@ NAME PLACES` keeps only these records of a
 //!   file, in this order.
-//! - `? NAME STEPS` asserts what a file holds, `~ NAME OTHER` asserts that it holds the same as another file, and `# NAME 24`
-//!   asserts how many bytes it holds.
+//! - `? NAME STEPS` asserts what a file holds. `~ NAME OTHER` asserts that two files hold the same. `# NAME 24` asserts that a
+//!   file holds 24 bytes.
 //! - `! shelf 3` makes the third call of the shelf fail in the next run, and `! sink 3` the third call of the sink.
 //!   `! devices 0 3 0` makes the third call of the second of the three devices fail.
-//! - `$ WORDS` runs the command. The lines after it are the command's text: `...` stands for any lines, and `*` at the end of a
-//!   line stands for any rest of this line.
+//! - `$ WORDS` runs the command. The lines after it are the command's text. There, `...` stands for any lines, and `*` at the
+//!   end of a line for any rest of this line.
 //! - `[3]` is the exit status, if it is not 0. `= 12 1 12` are the frames of the items that each device took.
 
 use crate::devices::rack_of;

@@ -1,5 +1,5 @@
-//! What tests share: test vectors of AVTP packets and captures, bytes as the rows of tables write them, and pseudo-random
-//! numbers that are the same in each run.
+//! What tests share: test vectors of AVTP packets and captures, the notation for bytes in the rows of tables, and
+//! reproducible pseudo-random numbers.
 #![tactic(auto)]
 
 mod changes;

@@ -99,8 +99,8 @@ abbrev pub unread : Stage → Sourcing → ℕ
 unread Reading source = to_do source
 unread stage source = 0
 
--- The maximum number of items that can still be shown: one for each record that was taken or is still unread, minus the
--- items that were shown.
+-- The maximum number of items that can still be shown. There is one for each record that was taken or is still unread,
+-- minus those that were shown.
 abbrev pub left_of : Stage → Sourcing → ListenState → ℕ
 left_of stage source listener = (listener.counts.frames + unread stage source) - (listener.counts.presented + listener.counts.flagged)
 

@@ -35,7 +35,7 @@ pub record CountsWriting (name : Option (List ℕ)) (before after : ℕ) (result
 -- ---- one file
 
 -- A call made the file `name` with these bytes, or returns why it did not. If the file was not made, it is unchanged or
--- has a prefix of the bytes, and memory ran out or a writing fault was counted. All else is unchanged, and no other
+-- has a prefix of the bytes; and memory ran out or a writing fault was counted. All else is unchanged, and no other
 -- name was asked for.
 pub record MakesFile (shelf shelf' : ShelfState) (name bytes : List ℕ) (result : Result Unit OpenFault) : Type 0 where
   pub made : OnOk result (PutsFile shelf.files shelf'.files name bytes)

@@ -1,5 +1,5 @@
 -- Kept for proofs: what private code holds and does. No clause of a public call uses it. The possible outcomes of a
--- command's run: its status, and what it yields; and how much of this was given out if the run was cut short.
+-- command's run: its status, and what it yields. How much of this a run gave out that was cut short.
 use Rattle.std.specs.Prelude.{◌≡◌, ◌≢◌, ◌⊎◌, ℕ, ◌≤◌, List, [], Option, Result, Ok, Err, IfOk, true, IsErr, MatchResult}
 use Rattle.avtp_base.specs.declared.failed.Failed.{Failed}
 use Rattle.avtp_base.specs.declared.failed.OpenFault.{OpenFault}

@@ -18,7 +18,7 @@ failures (Ok x) = 0
 failures (Err e) = 1
 
 -- The lines of these items were printed, and each item was given to the devices after its lines. If the sink failed at
--- an item, only a part of the lines was printed, and neither this item nor a later one was given to the devices.
+-- an item, only a part of the lines was printed. The devices then got neither this item nor a later one.
 pub record GivesItems (handed : List Shown → Type 0) (out out' : SinkState) (waits waits' : List ℕ) (result : Result Unit Failed) (items : List Shown) : Type 0 where
   pub prints : PrintsPart out out' waits waits' result (list_lines items)
   pub front : List Shown

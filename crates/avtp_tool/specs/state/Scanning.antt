@@ -33,7 +33,7 @@ abbrev pub scanned_as : End → Option Shape → Scanned
 scanned_as end.Whole shape = scanned.Clean shape
 scanned_as how shape = scanned.Cut how
 
--- What the result of a scan says of the stream in a file of these bytes, if the stream is to be converted to the format
+-- What the result of a scan says of the stream in a file of these bytes. The stream is to be converted to the format
 -- `to`.
 abbrev pub ScansTo : To → ℕ → ℕ → List ℕ → Type 0 → Scanned → Type 0
 ScansTo to stream limit bytes fault (scanned.Clean shape) =

@@ -174,8 +174,8 @@ pub record Turns (before after : ShelfState) (source source' : Sourcing) (listen
   pub told : (asked : Asked) (shape : Option Shape) (bytes : List ℕ) (files : Option Files) → IsToTurn asked shape bytes files before source listener old
       → TurnsTo asked shape bytes (Rose before.reading_faults after.reading_faults) files after new (written out.held waits) (written out'.held waits') result
   pub slot : slot_of source' ≡ slot_of source
-  -- Each slot keeps its file. What is left to read in a slot is unchanged, except in the slot that is read and in those
-  -- of the file that is written.
+  -- Each slot keeps its file. What is left to read in a slot is unchanged, except in the slot that is read and in slots
+  -- of the written file.
   pub same : (j : ℕ) → option_map file_of (after.slots j) ≡ option_map file_of (before.slots j)
   pub left : (j : ℕ) → j ≢ slot_of source → name_in before.slots j ≢ name_in before.slots old.writer.slot → left_in after.slots j ≡ left_in before.slots j
   pub writes : WritesOutput before after old new result
