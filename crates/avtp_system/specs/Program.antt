@@ -16,15 +16,15 @@ use Rattle.avtp_tool.specs.Yield.{HandsOn}
 
 -- `path` gives the path of the file of a sink, and `state` gives the state of a sink.
 module _ {S : Type 0} (path : S → List ℕ) (state : S → SinkState) where
-  -- The device writes raw samples to the file that was asked for, with the silence that was asked for. It has taken
-  -- nothing yet.
+  -- The device writes raw samples to the file that was asked for, with the silence that was asked for. It has taken no
+  -- item yet.
   pub record WritesRaw (asked : NamedRaw) (device : RawDevice S) : Type 0 where
     pub name : path (raw_sink device) ≡ asked.file.name
     pub silence : silence_in device ≡ silence_as asked.silence
     pub failed : raw_failed device ≡ false
     pub new : HasTakenRaw state (state (raw_sink device)) device []
 
-  -- The device writes NAL units to the file that was asked for. It has taken nothing yet.
+  -- The device writes NAL units to the file that was asked for. It has taken no item yet.
   pub record WritesUnits (asked : NamedFile) (device : AnnexBDevice S) : Type 0 where
     pub name : path (annexb_sink device) ≡ asked.name
     pub failed : annexb_failed device ≡ false

@@ -201,7 +201,7 @@ counts_by ended (Ok s) falls told is = elim told [
   | inr fault ↦ record { never_falls = falls; fault = λ e. inl fault.1; quiet = λ other memory write. absurd (other (is ∙ fault.0)) }
 ]
 
--- If a run ends with the status of how the reading ended, its count of reading faults agrees with this status.
+-- if a run ends as its reading ended, its count of reading faults agrees with its status
 ends_fault : (how : End) (before after : ℕ) → CountsFault None (Some how) before after → TellsFault (status_of how) before after
 ends_fault end.Whole before after counts = inl (λ e. cc, counts)
 ends_fault (end.Refused refusal) before after counts = inl (λ e. cc, counts)

@@ -231,7 +231,6 @@ err_reading (Ok s) falls err = absurd cc
 err_reading (Err e) falls err = record { never_falls = falls; fault = λ r. absurd cc; quiet = tt }
 
 module _ {s t u : ShelfState} (v : ShelfState) {o o' : Output} {listener : ListenState} {out mid : SinkState} (out' : SinkState) {waits waits1 : List ℕ} (waits' : List ℕ) (result : Result Status Failed) (asked : Turning) (begins : BeginsCapture s t asked.output (Ok o.writer)) where
-  -- the count of writing faults
   writing_by : (turned : Result Turned Failed) → TurnsInput asked t u listener o o' out mid waits waits1 turned → EndsOutput asked.listener.limit turned u v o' mid out' waits1 waits' result → CountsWriting (Some asked.output) s.writing_faults v.writing_faults result
   writing_by (Ok (turn.Ended how presented)) input (finished fin last) = record {
     never_falls = omega (arith, begins.counted.ok, input.writes.falls, fin.closes.counted.never_falls);
@@ -264,7 +263,6 @@ module _ {s t u : ShelfState} (v : ShelfState) {o o' : Output} {listener : Liste
     unwritten = λ r. absurd cc;
   }
 
-  -- the count of reading faults
   reading_by : (turned : Result Turned Failed) → asked.input ≢ asked.output → TurnsInput asked t u listener o o' out mid waits waits1 turned → EndsOutput asked.listener.limit turned u v o' mid out' waits1 waits' result
       → v.reading_faults ≡ u.reading_faults → CountsReading (asked.input ∷ []) s.files s.reading_faults v.reading_faults result
   reading_by (Ok (turn.Ended how presented)) apart input (finished fin last) still = record {

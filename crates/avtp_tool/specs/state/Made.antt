@@ -17,8 +17,9 @@ use Rattle.avtp_tool.specs.state.Outcome.{TellsText}
 use Rattle.avtp_tool.specs.declared.status.Status.{Status}
 use Rattle.avtp_tool.specs.declared.status.Status.TheVariants as status
 
--- A run that makes the file `name` ended in this way. If everything was done, the file has these bytes. If memory ran
--- out or a write failed, the file is unchanged or has a prefix of them. Otherwise all files are unchanged.
+-- What a run that makes the file `name` leaves of the file, given the run's result. If everything was done, the file
+-- has these bytes. If memory ran out or a write failed, the file is unchanged or has a prefix of them. Otherwise all
+-- files are unchanged.
 pub record Makes (name bytes : List ℕ) (files files' : Option Files) (result : Result Status Failed) : Type 0 where
   pub done : result ≡ Ok status.Done → PutsFile files files' name bytes
   pub part : MakesPrefix files files' name bytes

@@ -85,9 +85,9 @@ pub record Finishes (out out' : SinkState) (waits waits' : List ℕ) (ended : Re
   pub fault : result ≡ status.WriteFault → IsErr ended ⊎ ((ended ≡ Ok status.WriteFault) ⊎ Rose out.faults out'.faults)
   pub quiet : result ≢ status.WriteFault → out'.faults ≡ out.faults
 
--- A run that reads some of these files ended in this way. It ends with a read fault only if a read fault was counted or
--- one of the files is missing. If it ends otherwise, and neither memory ran out nor a write failed, the count of
--- reading faults is unchanged.
+-- The count of reading faults of a run that reads some of these files. The run ends with a read fault only if a read
+-- fault was counted or one of the files is missing. If it ends otherwise, and neither memory ran out nor a write
+-- failed, the count is unchanged.
 pub record CountsReading (names : List (List ℕ)) (files : Option Files) (before after : ℕ) (result : Result Status Failed) : Type 0 where
   pub never_falls : before ≤ after
   pub fault : result ≡ Ok status.ReadFault → Rose before after ⊎ IsOneMissing names files

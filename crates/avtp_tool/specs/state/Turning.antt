@@ -129,7 +129,8 @@ pub record IsToTurn (asked : Asked) (shape : Option Shape) (bytes : List ℕ) (f
   pub going : is_closed listener ≡ false
   pub plan : listener.plan ≡ plan_of asked.listener
 
--- These batches were put. The packets of each were written, or the line of a skipped batch was printed.
+-- These batches were put: for each batch, its packets were written, or the line that says why it is skipped was
+-- printed.
 pub record HasTurned (asked : Asked) (shape : Option Shape) (batches : List Presented) (files : Option Files) (shelf : ShelfState) (o : Output) (before now : Option (List ℕ)) : Type 0 where
   pub put : HasPut (format_of asked.to) shape asked.id batches o.gateway
   pub lines : Appends before now (flat_map skipped_line (skips_in asked shape batches))
