@@ -249,7 +249,7 @@ unopened_own {result = result} fault ends =
       | inr opened ↦ own_as result status.ReadFault refl (ends.other opened).status
     ]
 
--- ---- failures, whatever the calls return on success
+-- ---- failures of calls of any result type
 
 pub tells_err : {Y : Type 0} {Outcome : Status → Y → Type 0} {Whole Part : Y → Type 0} {result : Result Status Failed} {e : Failed} → IsErr result → Tells Outcome Whole Part (Err e) → Tells Outcome Whole Part result
 tells_err {result = Ok s} err tells = absurd cc

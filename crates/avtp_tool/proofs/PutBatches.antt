@@ -31,7 +31,7 @@ grows {B = B} f step one xs (y ∷ ys) =
 grows_first : {A B : Type 0} (f : List A → List B) (step : List A → A → List B) → ((xs : List A) (x : A) → f (xs ++ x ∷ []) ≡ f xs ++ step xs x) → (xs all : List A) → IsPrefix xs all → (rest : List B) × (f all ≡ f xs ++ rest)
 grows_first f step one xs all first = let on = grows f step one xs first.0 in (on.0, sym (ap f first.1) ∙ on.1)
 
--- ---- one batch more
+-- ---- one more batch
 
 pub given_over_more : (to : To) (shape : Option Shape) (batches : List Presented) (batch : Presented) → given_over to shape (batches ++ batch ∷ []) ≡ given_next to shape (given_over to shape batches) batch
 given_over_more to None batches batch = refl

@@ -93,7 +93,7 @@ reads_none {s} {now} plan none = record {
   tells = λ all told some. record { yields = says []; order = none_read (one_outcome plan all (Rose s.reading_faults s.reading_faults)); gives = record { text = Appends-nil now; items = none } };
 }
 
--- ---- one file more
+-- ---- one more file
 
 not_done : (s other : Status) → is_done s ≡ true → is_done other ≡ false → s ≢ other
 not_done s other goes stops e = let t : false ≡ true = sym stops ∙ (ap is_done (sym e) ∙ goes) in cc

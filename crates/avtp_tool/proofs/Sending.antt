@@ -15,7 +15,7 @@ use Rattle.talker.specs.Frames.{SentFrame, record_of}
 use Rattle.talker.specs.Turns.{frame_in, turn_of}
 use Rattle.avtp_tool.specs.state.Made.{frame_bytes}
 
--- ---- a frame, given its turn
+-- ---- a frame and its `Turn`
 
 turned_frame : (o : Option SentFrame) (turn : Turn) → option_map turn_of o ≡ Some turn → o ≡ Some (frame_in turn (frame_bytes o))
 turned_frame None turn is = absurd cc
@@ -25,7 +25,7 @@ pub turned_size : (o : Option SentFrame) (turn : Turn) → option_map turn_of o 
 turned_size None turn is = absurd cc
 turned_size (Some f) turn is = let same : turn_of f ≡ turn = cc in ap (λ (t : Turn). t.size) same
 
--- ---- one frame more
+-- ---- one more frame
 
 pub frames_more : (frames : List SentFrame) (i : ℕ) (turn : Turn) (records : List Record) → option_map turn_of (slice_get frames i) ≡ Some turn
     → (records ++ map record_of (take i frames)) ++ whole_record turn.arrival (frame_bytes (slice_get frames i)) ∷ [] ≡ records ++ map record_of (take (i + 1) frames)

@@ -131,7 +131,7 @@ tells_read {before} {now} {result} {prefix} f g plan bytes input halt is same ha
 pub too_long : (limit : ℕ) (bytes : List ℕ) (halt : Stop) (prefix : List ℕ) → halt ≡ stop.Limit → IsContents limit bytes halt prefix → limit < length bytes
 too_long limit bytes halt prefix is has = (subst (λ (h : Stop). IsContents limit bytes h prefix) is has).0
 
--- ---- how a run over an input that was read ends
+-- ---- the end of a run whose input was read
 
 -- a run does not end with a status that no outcome has
 talked_never : {before now : Option (List ℕ)} (plan : TalkPlan) (bytes : List ℕ) (cause : Type 0) (result : Result Status Failed) (other : Status) → other ≢ status.Memory → other ≢ status.WriteFault

@@ -5,7 +5,7 @@ use Rattle.avtp_tool.proofs.Ended.{ended_as}
 use Rattle.avtp_tool.proofs.Promised.{has_run, no_memory, refuses_words, tells_nothing}
 use Rattle.avtp_tool.proofs.command.run.Goals as goal
 
--- ---- no memory was found for the text
+-- ---- there was no memory for the text
 
 pub returns-in_default-clause-has_run : goal.returns-in_default-clause-has_run
 returns-in_default-clause-has_run g c request line = no_memory _ request _ _ _ _ _ line (hands_nothing g.D.Devices.handed c.args.rack.now) refl
