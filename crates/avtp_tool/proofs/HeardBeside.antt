@@ -216,7 +216,7 @@ presented_count [] = refl
 presented_count (Present batch ∷ items) = omega (arith, count-next is_present (Present batch) items, presented_count items)
 presented_count (Flag frame seq reason ∷ items) = omega (arith, count-next is_present (Flag frame seq reason) items, presented_count items)
 
--- What is shown of the records, however the reading ended, is a prefix of what is shown if they are a whole capture.
+-- however the reading ended, what is shown is a prefix of what is shown at the end of a whole capture
 first_of_whole : (plan : ListenPlan) (records : List Record) (how : End) → IsPrefix (shown_by plan records how) (shown_by plan records end.Whole)
 first_of_whole plan records end.Whole = ([], append-nil (shown_by plan records end.Whole))
 first_of_whole plan records (end.Refused refusal) = ([], append-nil (shown_by plan records end.Whole))

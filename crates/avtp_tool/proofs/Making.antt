@@ -1,4 +1,4 @@
--- What a run leaves of the file that it makes.
+-- How a run leaves the file that it makes.
 use Rattle.std.proofs.Common.{◌≡◌, ℕ, suc, ◌≤◌, drop, take, take-append-drop, if◌then◌else◌, List, [], ◌∷◌, ◌++◌, Option, Some, None, Result, Ok, Err, true, false, inl, inr, refl, sym, ap, subst, ◌∙◌, append-nil, append_assoc, arith}
 use Rattle.std.specs.Prelude.{◌≢◌, ◌⊎◌, IfOk, IsOk, IsSome, flat_map, option_and_then, option_map}
 use Rattle.std.proofs.lemmas.Bool.Decides.{eqb_tells}

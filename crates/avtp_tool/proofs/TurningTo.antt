@@ -237,7 +237,7 @@ first_taken zero xs ys = (0, refl)
 first_taken (suc n) [] ys = (0, refl)
 first_taken (suc n) (x ∷ xs) ys = let on = first_taken n xs ys in (suc on.0, ap (λ (l : List Record). x ∷ l) on.1)
 
--- a file that holds some first part of `records` also holds some first part of a longer list
+-- a file that holds a prefix of `records` also holds a prefix of a longer list
 first_further : {files : Option Files} {s : ShelfState} {w : Writing} {name : List ℕ} (records rest all : List Record) → all ≡ records ++ rest → HoldsFirst files s w name records → HoldsFirst files s w name all
 first_further {files} {s} {w} {name} records rest all is holds =
     let some = first_taken holds.count records rest in
@@ -324,7 +324,7 @@ module _ {s t : ShelfState} {first source : Sourcing} {fresh : ListenState} {old
   }
 
 module _ {s t : ShelfState} {first source : Sourcing} {fresh listener : ListenState} {stage : Stage} {old new : Output} {out mid : SinkState} {waits waits' : List ℕ} where
-  -- the file holds some first part of the capture's records
+  -- the file holds a prefix of the capture's records
   some_held : {more : List Shown} → old.gateway.given ≡ nothing_given → IsPutSoFar s t first source fresh listener stage old new out mid waits waits' more
       → (files : Option Files) (name : List ℕ) → HoldsCapture files s old.writer name [] → (records : List Record) × HoldsCapture files t new.writer name records
   some_held none so_far files name held =

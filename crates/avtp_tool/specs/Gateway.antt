@@ -127,8 +127,8 @@ turned_last asked shape batches how = side_line asked.listener.limit how
 abbrev pub turned_text : Turning → Option Shape → List Presented → End → List ℕ
 turned_text asked shape batches how = flat_map skipped_line (skips_in asked shape batches) ++ turned_last asked shape batches how
 
--- The status. If the capture was read to its end, the status says whether batches were skipped. Otherwise it is the
--- status of how the reading ended.
+-- The status. If the capture was read to its end, the status says whether batches were skipped. Otherwise it says how
+-- the reading ended.
 abbrev pub turned_status : ℕ → End → Status
 turned_status skipped end.Whole = if skipped == 0 then status.Done else status.Findings
 turned_status skipped how = status_of how

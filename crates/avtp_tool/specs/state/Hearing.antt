@@ -151,7 +151,7 @@ pub record Shows (shelf shelf' : ShelfState)
       → IsShown stage limit bytes (Rose shelf.reading_faults shelf'.reading_faults) (left_in shelf'.slots (slot_of source)) source listener items
 
 -- The hearing moved on. These items were shown after those that were shown earlier. The number of items that can still
--- be shown fell at least by their number.
+-- be shown fell by at least the number of these items.
 pub record GoesOn (shelf shelf' : ShelfState) (old_source source : Sourcing) (old_listener listener : ListenState) (old_stage stage : Stage) (items : List Shown) : Type 0 where
   pub shows : (begun : ShelfState) (first : Sourcing) (fresh : ListenState) (earlier : List Shown)
       → Shows begun shelf first old_source fresh old_listener old_stage earlier → Shows begun shelf' first source fresh listener stage (earlier ++ items)

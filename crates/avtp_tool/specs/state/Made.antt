@@ -52,7 +52,7 @@ abbrev pub frame_bytes : Option SentFrame → List ℕ
 frame_bytes None = []
 frame_bytes (Some f) = f.bytes
 
--- The first `number` of these frames were added to the capture, in order. If the shelf failed, some first part of the
+-- The first `number` of these frames were added to the capture, in order. If the shelf failed, only a prefix of the
 -- frames was added.
 pub record WritesFrames (frames : List SentFrame) (number : ℕ) (before after : ShelfState) (old new : Writing) (result : Result Unit Failed) : Type 0 where
   pub added : OnOk result ((files : Option Files) (name : List ℕ) (records : List Record) → HoldsCapture files before old name records → HoldsCapture files after new name (records ++ map record_of (take number frames)))

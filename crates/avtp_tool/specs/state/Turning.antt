@@ -79,7 +79,7 @@ pub record PutsBatch (batch : Presented) (before after : ShelfState) (old new : 
   pub put : result ≡ Ok did.Done → (to : To) (shape : Option Shape) (id : ℕ) (batches : List Presented) → HasPut to shape id batches old.gateway → HasPut to shape id (batches ++ batch ∷ []) new.gateway
   pub frames : result ≡ Ok did.Done → (to : To) (shape : Option Shape) (id : ℕ) (batches : List Presented) (files : Option Files) (name : List ℕ) → HasPut to shape id batches old.gateway
       → HoldsCapture files before old.writer name (records_for to shape id batches) → HoldsCapture files after new.writer name (records_for to shape id (batches ++ batch ∷ []))
-  -- in any case, some first part of the batch's packets was written
+  -- in any case, a prefix of the batch's packets was written
   pub part : (to : To) (shape : Option Shape) (id : ℕ) (batches : List Presented) (files : Option Files) (name : List ℕ) → HasPut to shape id batches old.gateway
       → HoldsCapture files before old.writer name (records_for to shape id batches) → HoldsFirst files after new.writer name (records_for to shape id (batches ++ batch ∷ []))
   pub lines : IfOk result (λ so. Appends (written out.held waits) (written out'.held waits') (flat_map skipped_line (skipped_at batch.frame (skip_of old.gateway.to old.gateway.shape old.gateway.given batch))))
@@ -143,7 +143,7 @@ pub record HasHeard (asked : Asked) (shape : Option Shape) (bytes : List ℕ) (f
   pub turned : HasTurned asked shape (batches_by asked (records_in prefix) how) files shelf o before now
   pub counted : presented ≡ length (batches_by asked (records_in prefix) how)
 
--- Some first part of the batches of a capture of these bytes was put. The file holds the first of their records, and a
+-- Only a part of the batches of a capture of these bytes was put. The file holds a prefix of their records, and a
 -- prefix of their lines was printed.
 pub record IsCutShort (asked : Asked) (shape : Option Shape) (bytes : List ℕ) (files : Option Files) (shelf : ShelfState) (o : Output) (before now : Option (List ℕ)) : Type 0 where
   pub lines : AppendsPrefix before now (flat_map skipped_line (skips_in asked shape (batches_by asked (records_in (take asked.listener.limit bytes)) end.Whole)))
