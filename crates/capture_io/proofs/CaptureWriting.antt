@@ -13,9 +13,9 @@ use Rattle.avtp_files.specs.ShelfCalls.{IsMadeIn}
 use Rattle.capture_io.specs.Writing.{ClosesFile, CreatesFile, FinishesFile, IsWriting, KeepsSlotsBut, PutsPrefix, WritesSlot, Writing}
 use Rattle.capture_io.specs.CaptureWriting.{AddsRecord, BeginsCapture, ClosesCapture, FinishesCapture, HoldsCapture, HoldsFile, KeepsBeside, capture_bytes, written_style}
 
--- ---- slots without one of them
+-- ---- slots without slot k
 
--- these slots, except that slot k is free
+-- the slots, with slot k free
 abbrev without : Slots → ℕ → Slots
 without slots k = λ j. if j == k then None else slots j
 
@@ -41,7 +41,7 @@ beside_then {a = a} {b} {c} {k} {name} first second = record {
 
 -- ---- a file that is written
 
--- a state that the shelf may have had when the file was made: as now, with these files and with the writer's slot free
+-- a state that the shelf may have had before the file was made: the state now, with these files and slot k free
 abbrev before_it : Option Files → ShelfState → ℕ → ShelfState
 before_it files s k = record s { files = files; slots = without s.slots k }
 
@@ -61,12 +61,12 @@ writing_of files s w name bytes h = record {
 pub holds_of : (begun s : ShelfState) (w : Writing) (name bytes : List ℕ) → IsWriting begun s w name bytes → HoldsFile begun.files s w name bytes
 holds_of begun s w name bytes is = record { held = is.held; split = is.split; put = is.put; made = is.made; named = is.named }
 
--- a call that keeps `IsWriting` keeps `HoldsFile`, too
+-- a call that preserves `IsWriting` preserves `HoldsFile`
 pub holds_on : (files : Option Files) (s t : ShelfState) (v w : Writing) (name bytes : List ℕ)
     → ((begun : ShelfState) (name all : List ℕ) → IsWriting begun s v name all → IsWriting begun t w name all) → HoldsFile files s v name bytes → HoldsFile files t w name bytes
 holds_on files s t v w name bytes keeps h = holds_of (before_it files s v.slot) t w name bytes (keeps (before_it files s v.slot) name bytes (writing_of files s v name bytes h))
 
--- more bytes wait in the buffer
+-- `HoldsFile` still holds after `more` is appended to the buffered bytes
 pub holds_more : (files : Option Files) (s : ShelfState) (v w : Writing) (name bytes more : List ℕ) → HoldsFile files s v name bytes → w ≡ record v { waiting = v.waiting ++ more } → HoldsFile files s w name (bytes ++ more)
 holds_more files s v w name bytes more h e =
     subst (λ (x : Writing). HoldsFile files s x name (bytes ++ more)) (sym e)
@@ -78,7 +78,7 @@ holds_more files s v w name bytes more h e =
       named = h.named;
     })
 
--- other files were opened or read, and the writer's file and slot were kept
+-- calls that keep the files, and the writer's slot, preserve `HoldsFile`
 pub holds_beside : (files : Option Files) (s t : ShelfState) (w : Writing) (name bytes : List ℕ) → HoldsFile files s w name bytes → KeepsFiles s.files t.files → t.slots w.slot ≡ s.slots w.slot → HoldsFile files t w name bytes
 holds_beside files s t w name bytes h keeps same = record {
   held = h.held;
@@ -90,11 +90,11 @@ holds_beside files s t w name bytes h keeps same = record {
 
 -- ---- a capture
 
--- the file header was written, and no record so far
+-- a new file whose only buffered bytes are the file header is a capture without records
 pub none_written : (files : Option Files) (s : ShelfState) (v w : Writing) (name : List ℕ) → HoldsFile files s v name [] → w ≡ record v { waiting = v.waiting ++ header_spelling written_style } → HoldsCapture files s w name []
 none_written files s v w name h e = subst (HoldsFile files s w name) (sym (append-nil (header_spelling written_style))) (holds_more files s v w name [] (header_spelling written_style) h e)
 
--- a header and a frame were added as one more record
+-- If the bytes `header ++ frame` are the record `r`, appending them to a capture appends `r` to its records.
 pub one_written : (records : List Record) (r : Record) (header frame : List ℕ) → header ++ frame ≡ record_spelling written_style r → (capture_bytes records ++ header) ++ frame ≡ capture_bytes (records ++ r ∷ [])
 one_written records r header frame e =
     append_assoc (capture_bytes records) header frame
@@ -143,7 +143,7 @@ finishes_capture s t w (Ok x) finishes = record {
 }
 finishes_capture s t w (Err e) finishes = record { put = tt; closes = closes_capture s t w (Err e) finishes.closes }
 
--- a file was made for a capture, and the file header was added
+-- if a file was created and the file header was appended to its buffer, a capture was begun
 pub begins_capture : (s t : ShelfState) (v w : Writing) (name header : List ℕ) → CreatesFile s t name (Ok v) → header ≡ header_spelling written_style → w ≡ record v { waiting = v.waiting ++ header } → BeginsCapture s t name (Ok w)
 begins_capture s t v w name header is at e = record {
   begun = none_written s.files t v w name (holds_of s t v name [] is.begun) (e ∙ ap (λ (l : List ℕ). record v { waiting = v.waiting ++ l }) at);
@@ -158,7 +158,7 @@ begins_capture s t v w name header is at e = record {
   slot : w.slot ≡ v.slot
   slot = ap (λ (x : Writing). x.slot) e
 
--- room was made in the buffer, and then a record was added
+-- if room was made in the buffer and then a record was appended, the call added that record
 pub adds_record : (s t : ShelfState) (v m w : Writing) (ok : Unit) (header frame : List ℕ) (r : Record)
     → ((begun : ShelfState) (name all : List ℕ) → IsWriting begun s v name all → IsWriting begun t m name all) → WritesSlot s t v m (Ok ok) → header ++ frame ≡ record_spelling written_style r
     → w ≡ record m { waiting = (m.waiting ++ header) ++ frame } → AddsRecord s t v w r (Ok ok)
@@ -172,7 +172,7 @@ adds_record s t v m w ok header frame r keeps writes e is = record {
   writes = record { slot = ap (λ (x : Writing). x.slot) is ∙ writes.slot; made = writes.made; slots = writes.slots; reading = writes.reading; counted = writes.counted; asked = writes.asked };
 }
 
--- no record was added, because the shelf failed
+-- if the shelf failed, no record was added
 pub adds_none : (s t : ShelfState) (v w : Writing) (r : Record) (result : Result Unit Failed) → IsErr result → ((begun : ShelfState) (name all : List ℕ) → IsWriting begun s v name all → IsWriting begun t w name all) → WritesSlot s t v w result
     → AddsRecord s t v w r result
 adds_none s t v w r (Ok x) failed keeps writes = absurd cc
@@ -184,6 +184,6 @@ pub header_length : length (header_spelling written_style) ≡ 24
 unfolding layout.number_bytes
 header_length = refl
 
--- nothing waits in a writer to whose file nothing was added
+-- if nothing was added to the writer's file, its buffer is empty
 pub none_waits : (s t : ShelfState) (w : Writing) (name : List ℕ) → IsWriting s t w name [] → length w.waiting ≡ 0
 none_waits s t w name is = (let whole = ap (λ (l : List ℕ). length l) is.split in let both = length-append is.held w.waiting in omega (arith, whole, both))

@@ -36,14 +36,14 @@ pub ends_by : (x : Option Refusal) (limit : ℕ) (bytes prefix : List ℕ) (faul
 ends_by None limit bytes prefix fault e f = (e, f)
 ends_by (Some r) limit bytes prefix fault e f = (e, f)
 
--- a file that may be read whole, and was read to its end, ends in this way
+-- if the whole file was read and is within the limit, its reading ends as `at_end` says
 pub ends_whole : (limit : ℕ) (bytes prefix : List ℕ) (fault : Type 0) (how : End) → bytes ≡ prefix → length prefix ≤ limit → how ≡ at_end (refusal_in prefix) → EndsAt limit (Some bytes) fault how prefix
 ends_whole limit bytes prefix fault how all fits is =
     let chosen : at_end (refusal_in prefix) ≡ end_of limit bytes = sym (at_end_is limit prefix fits) ∙ ap (end_of limit) (sym all) in
     let whole : prefix ≡ take limit bytes = sym (take_all limit prefix fits) ∙ ap (take limit) (sym all) in
     subst (λ h. EndsAt limit (Some bytes) fault h prefix) (sym is) (ends_by (refusal_in prefix) limit bytes prefix fault chosen whole)
 
--- a file ends at a field that is refused, whatever bytes follow
+-- if the bytes up to the limit show a refusal that no later bytes can change, the reading ends at that refusal
 pub ends_refused : (limit : ℕ) (bytes : List ℕ) (fault : Type 0) (r : Refusal) → certain_in (take limit bytes) ≡ Some r → EndsAt limit (Some bytes) fault (end.Refused r) (take limit bytes)
 ends_refused limit bytes fault r is =
     elim (cases_lt limit (length bytes)) [
@@ -51,11 +51,11 @@ ends_refused limit bytes fault r is =
       | inr fits ↦ (sym (at_end_is limit bytes fits ∙ ap at_end (certain_first bytes r (subst (λ b. certain_in b ≡ Some r) (take_all limit bytes fits) is))), refl)
     ]
 
--- a file with more bytes than may be read, none of which is refused so far, ends at the limit
+-- if a file is longer than the limit and nothing before the limit is refused, the reading ends at the limit
 pub ends_limit : (limit : ℕ) (bytes prefix : List ℕ) (fault : Type 0) → limit < length bytes → take limit bytes ≡ prefix → certain_in prefix ≡ None → EndsAt limit (Some bytes) fault end.Limit prefix
 ends_limit limit bytes prefix fault more is none = (sym (at_limit_is limit bytes more ∙ ap (λ b. at_limit (certain_in b)) is ∙ ap at_limit none), sym is)
 
--- a prefix of a file, and then the next bytes up to the limit, are all that may be read
+-- a prefix of the file, extended by the next bytes up to the limit, is all that may be read
 pub limited : (bytes prefix rest : List ℕ) (limit : ℕ) → bytes ≡ prefix ++ rest → length prefix ≤ limit → prefix ++ take (limit - length prefix) rest ≡ take limit bytes
 limited bytes prefix rest limit split fits =
     let sum : length prefix + (limit - length prefix) ≡ limit = omega arith in
@@ -67,7 +67,7 @@ ends_limited : (x : Option Refusal) (limit : ℕ) (bytes : List ℕ) (fault : Ty
 ends_limited None limit bytes fault e = (e, refl)
 ends_limited (Some r) limit bytes fault e = (e, refl)
 
--- a file ends in this way if no fault of reading comes
+-- without a fault of reading, the reading ends as `end_of` says
 pub ends_here : (limit : ℕ) (bytes : List ℕ) (fault : Type 0) → EndsAt limit (Some bytes) fault (end_of limit bytes) (take limit bytes)
 ends_here limit bytes fault =
     elim (cases_lt limit (length bytes)) [

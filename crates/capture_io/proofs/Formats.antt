@@ -15,7 +15,7 @@ use Rattle.capture_io.specs.declared.capture_reader.Format.{Format}
 use Rattle.capture_io.specs.declared.capture_reader.Format.TheVariants.{Classic, Pcapng}
 use Rattle.capture_io.specs.Formats.{is_pcapng, format_in, meaning_of, records_in, refusal_in, certain_in}
 
--- the layout stays, whatever bytes follow, once four have come
+-- the first four bytes determine the layout, whatever bytes follow
 format_stays : (bytes more : List ℕ) → 4 ≤ length bytes → is_pcapng (bytes ++ more) ≡ is_pcapng bytes
 unfolding is_pcapng
 format_stays bytes more long =
@@ -25,7 +25,7 @@ few : (bytes : List ℕ) → length bytes < 4 → is_pcapng bytes ≡ false
 unfolding is_pcapng
 few bytes short = grind (arith, nat_tests)
 
--- ---- of a capture in one layout
+-- ---- a capture in one layout
 
 pub is_classic : (bytes : List ℕ) → is_pcapng bytes ≡ false → format_in bytes ≡ Classic
 is_classic bytes is = rw is refl
@@ -51,7 +51,7 @@ pub certain_by : (format : Format) (bytes : List ℕ) → format_in bytes ≡ fo
 unfolding certain_in
 certain_by format bytes is = ap (λ (f : Format). (meaning_of f).certain bytes) is
 
--- ---- of fewer than four bytes
+-- ---- fewer than four bytes
 
 magic_short : (bytes : List ℕ) → length bytes < 4 → file_refusal bytes ≡ Some (record { field = Magic; at = 0; short = true })
 unfolding file_refusal
@@ -74,7 +74,7 @@ short_refusal bytes short = refusal_by Classic bytes (format_short bytes short) 
 pub short_certain : (bytes : List ℕ) → length bytes < 4 → certain_in bytes ≡ None
 short_certain bytes short = certain_by Classic bytes (format_short bytes short) ∙ ap certain (first_short bytes short)
 
--- ---- of a capture that is accepted as classic
+-- ---- a pcapng capture read as classic pcap
 
 magic_other : (bytes : List ℕ) → is_pcapng bytes ≡ true → file_refusal bytes ≡ Some (record { field = Magic; at = 0; short = false })
 unfolding is_pcapng file_refusal
@@ -90,7 +90,7 @@ accepted_classic bytes none = elim (cases_Bool (is_pcapng bytes)) [
   | inr is ↦ is
 ]
 
--- ---- a refusal that stays is the first one
+-- ---- a refusal that no later bytes can change is the first one
 
 settled_first : (x : Option ng.Ending) (r : Refusal) → ng.settled x ≡ Some r → ng.refusal_of x ≡ Some r
 settled_first None r e = absurd cc
@@ -103,7 +103,6 @@ pcapng_first : (bytes : List ℕ) (r : Refusal) → ng.settled (ng.contents byte
 unfolding ng.first_refusal
 pcapng_first bytes r e = settled_first (ng.contents bytes).ending r e
 
--- a refusal that stays whatever bytes follow is the first one
 pub certain_first : (bytes : List ℕ) (r : Refusal) → certain_in bytes ≡ Some r → refusal_in bytes ≡ Some r
 certain_first bytes r e = elim (cases_Bool (is_pcapng bytes)) [
   | inl is ↦ refusal_by Pcapng bytes (is_ng bytes is) ∙ pcapng_first bytes r (sym (certain_by Pcapng bytes (is_ng bytes is)) ∙ e)

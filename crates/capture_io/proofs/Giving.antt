@@ -24,7 +24,7 @@ use Rattle.capture_io.proofs.Ending.{ends_limit, ends_refused, ends_whole, limit
 use Rattle.capture_io.proofs.Leaving.{reads_nothing}
 use Rattle.capture_io.proofs.Reader.{first_held, read_nothing}
 
--- if the reader refused the bytes that wait, the reading ends at that refusal, after the released records
+-- if the reader refused the buffered bytes, the reading ends at that refusal, after the released records
 pub refused_end : (limit : ℕ) (bytes : List ℕ) (remains : Option (List ℕ)) (source : Sourcing) (records : List Record) (fault : Type 0) (r : Refusal) (piece : List ℕ)
     → HasFed limit bytes remains source records → piece ≡ source.pieces.waiting
     → ((bytes more : List ℕ) (records : List Record) → HasRead source.reader bytes records → RefusedAfter ((bytes ++ piece) ++ more) records r)
@@ -37,11 +37,12 @@ refused_end limit bytes remains source records fault r piece fed is refused =
     let here : RefusedAfter (take limit bytes) records r = subst (λ (b : List ℕ). RefusedAfter b records r) all (refused fed.prefix _ records fed.read) in
     record { prefix = take limit bytes; ends = ends_refused limit bytes fault r here.certain; whole = here.all }
 
--- if no record is held, the released records are all records of the bytes that were taken
+-- if no record is held, the released records are all records of the bytes taken
 all_given : (r : CaptureReading) (prefix : List ℕ) (records : List Record) (x : Option Refusal) → EndsHere r prefix records x → held r ≡ None → records_in prefix ≡ records
 all_given r prefix records x here free = here.all ∙ (ap (λ (h : Option Record). records ++ option_to_list h) free ∙ append-nil records)
 
--- if the reading of the file stopped, the reading of the capture ends in this way, after the released records
+-- If the reading of the file stopped at `halt`, the reading of the capture ends at `end_at halt x`, after the released
+-- records.
 pub stopped : (limit : ℕ) (bytes : List ℕ) (remains : Option (List ℕ)) (source : Sourcing) (records : List Record) (fault : Type 0) (halt : Stop) (x : Option Refusal) → (fed : HasFed limit bytes remains source records) → held_in source ≡ None
     → IsContents limit bytes halt fed.prefix → (halt ≡ stop.Fault → fault) → EndsHere source.reader fed.prefix records x → EndsAfter limit bytes fault (end_at halt x) records
 stopped limit bytes remains source records fault stop.End x fed free is cause here =
@@ -51,9 +52,9 @@ stopped limit bytes remains source records fault stop.Fault x fed free is cause 
 stopped limit bytes remains source records fault stop.Limit x fed free is cause here =
     record { prefix = fed.prefix; ends = ends_limit limit bytes fed.prefix fault is.0 (sym is.1) (fed.read.uncertain fed.accepted); whole = all_given source.reader fed.prefix records x here free }
 
--- ---- records that were given
+-- ---- delivered records
 
--- a source that has taken nothing has given no record
+-- a source that has taken no byte has delivered no record
 pub nothing_given : (limit : ℕ) (bytes : List ℕ) (remains : Option (List ℕ)) (source : Sourcing) → HasTaken limit bytes remains source.pieces [] → source.reader ≡ nothing_read → source.ended ≡ None → HasGiven limit bytes remains source []
 nothing_given limit bytes remains source taken is going = record {
   going = going;
@@ -62,7 +63,7 @@ nothing_given limit bytes remains source taken is going = record {
   given = ap (λ (r : CaptureReading). [] ++ option_to_list (held r)) (sym is);
 }
 
--- the records that were given are the first ones of the capture
+-- the delivered records are the first records of the capture
 pub given_first : (limit : ℕ) (bytes : List ℕ) (remains : Option (List ℕ)) (source : Sourcing) (records : List Record) → HasGiven limit bytes remains source records
     → (others : List Record) × (records_in (take limit bytes) ≡ records ++ others)
 given_first limit bytes remains source records given =
@@ -74,7 +75,7 @@ given_first limit bytes remains source records given =
     let first = first_held source.reader fed.prefix (take (limit - length fed.prefix) rest) given.before fed.read in
     (first.0, ap records_in (sym all) ∙ (first.1 ∙ ap (λ (rs : List Record). rs ++ first.0) (sym given.given)))
 
--- the held record was released, and the file's pieces are unchanged
+-- releasing the held record leaves the file's pieces unchanged
 pub released : (shelf : ShelfState) (old new : Sourcing) → new.pieces ≡ old.pieces → Releases old.reader new.reader → (limit : ℕ) (bytes : List ℕ) (records : List Record) → HasGivenOf limit bytes shelf old records → HasFedOf limit bytes shelf new records
 released shelf old new same releases limit bytes records given =
     subst (λ (p : Piecing). HasFed limit bytes (left_in shelf.slots p.slot) new records) (sym same)
@@ -85,7 +86,7 @@ released shelf old new same releases limit bytes records given =
       read = subst (HasRead new.reader given.fed.prefix) (sym given.given) (releases.given_up given.fed.prefix given.before given.fed.read);
     })
 
--- the next record is held, and is given after those before it
+-- the held record is the next one after the delivered records
 holds_next_by : (limit : ℕ) (bytes : List ℕ) (remains : Option (List ℕ)) (source : Sourcing) (records : List Record) (h : Option Record) → held_in source ≡ h → IsSome h → source.ended ≡ None → HasFed limit bytes remains source records
     → (next : Record) × (h ≡ Some next) × HasGiven limit bytes remains source (records ++ next ∷ [])
 holds_next_by limit bytes remains source records None is some going fed = absurd cc
@@ -98,14 +99,12 @@ holds_next limit bytes remains source records some going fed = holds_next_by lim
 
 -- ---- reading on
 
--- the reading ended in this way
 pub ended_so : {before after : ShelfState} {old new : Sourcing} {result : Option End} (how : End) → result ≡ Some how
     → ((limit : ℕ) (bytes : List ℕ) (records : List Record) → HasFed limit bytes (remains_of before old) old records → EndsAfter limit bytes (Rose before.reading_faults after.reading_faults) how records)
     → CountsFault None (Some how) before.reading_faults after.reading_faults → ReadsSlot before after (slot_of old) (slot_of new) → ReadsOn before after old new result
 ended_so {before} {after} {old} {new} how is ends counted reads =
     subst (ReadsOn before after old new) (sym is) (record { more = λ none. absurd cc; ends = ends; less = λ none. absurd cc; counted = counted; reads = reads })
 
--- the count of reading faults rose exactly if a fault stopped the reading
 pub stop_counted : (before after : ℕ) (halt : Stop) (x : Option Refusal) → CountsStop (Some halt) before after → CountsFault None (Some (end_at halt x)) before after
 stop_counted before after stop.End None counted = counted
 stop_counted before after stop.End (Some refusal) counted = counted
@@ -117,7 +116,7 @@ stop_rose before after halt counted is = subst (λ (h : Stop). CountsStop (Some 
 
 -- ---- the next record
 
--- a reading that had ended returns its end again
+-- once the reading has ended, `next` returns the same end again
 pub gives_again : (shelf : ShelfState) (s : Sourcing) (e : Option End) → IsSome (shelf.slots (slot_of s)) → s.ended ≡ e → is_some e ≡ true → GivesNext shelf shelf s s e
 gives_again shelf s None live is some = absurd cc
 gives_again shelf s (Some how) live is some = record {
@@ -135,7 +134,7 @@ pub if_some : {A : Type 0} {P Q : A → Type 0} (o : Option A) → ((x : A) → 
 if_some None more p = tt
 if_some (Some x) more p = more x p
 
--- the held record was released, and then the source read on
+-- releasing the held record and then reading on reads the next record
 pub gives_next : (before after : ShelfState) (old mid next : Sourcing) (result : Option End) → old.ended ≡ None → mid.pieces ≡ old.pieces → Releases old.reader mid.reader → ReadsOn before after mid next result
     → (result ≡ None → IsSome (held_in next)) → GivesNext before after old (record next { ended = result }) result
 gives_next before after old mid next result going same releases on some = record {

@@ -1,4 +1,4 @@
--- What two calls, one after the other, leave of a shelf.
+-- What two successive calls leave of a shelf.
 use Rattle.std.proofs.Common.{◌≡◌, ℕ, List, [], ◌∷◌, ◌++◌, refl, sym, subst, ◌∙◌, arith, append_assoc, append-nil}
 use Rattle.std.specs.Prelude.{IsSome, option_map}
 use Rattle.avtp_base.specs.Files.{KeepsOthers, file_of}
@@ -7,7 +7,6 @@ use Rattle.avtp_base.proofs.Files.{KeepsFiles-refl, KeepsFiles-trans, KeepsOther
 use Rattle.avtp_files.specs.ShelfCalls.{ClosesSlot}
 use Rattle.capture_io.specs.Reads.{OnlyReads, ReadsSlot, OpensSlot}
 
--- no call was made
 pub only_reads_nothing : (s : ShelfState) → OnlyReads s s []
 only_reads_nothing s = record {
   files = KeepsFiles-refl s.files;
@@ -26,7 +25,7 @@ only_reads_then s t u names more first second = record {
   asked = λ earlier stands. subst (WasAsked u.asked) (append_assoc earlier names more) (second.asked (earlier ++ names) (first.asked earlier stands));
 }
 
--- nothing was read in this slot
+-- if nothing is done, slot k counts as read
 pub reads_nothing : (s : ShelfState) (k : ℕ) → IsSome (s.slots k) → ReadsSlot s s k k
 reads_nothing s k live = record {
   slot = refl;
@@ -39,7 +38,7 @@ reads_nothing s k live = record {
   asked = λ names stands. stands;
 }
 
--- nothing was read in slot k, and j is slot k, too
+-- if nothing is done and `j` is `k`, slot k counts as read and is still open as slot j
 pub reads_still : (s : ShelfState) (k j : ℕ) → j ≡ k → IsSome (s.slots k) → ReadsSlot s s k j
 reads_still s k j same live = subst (ReadsSlot s s k) (sym same) (reads_nothing s k live)
 
@@ -67,7 +66,7 @@ opens_then s t u name k j first second = record {
   asked = λ earlier stands. second.asked (earlier ++ name ∷ []) (first.asked earlier stands);
 }
 
--- a file was opened, read and closed
+-- opening a file, reading it and closing it again only reads
 pub only_reads_closed : (s t u : ShelfState) (name : List ℕ) (k : ℕ) → OpensSlot s t name k → ClosesSlot t u k → OnlyReads s u (name ∷ [])
 only_reads_closed s t u name k first second = record {
   files = KeepsFiles-trans s.files t.files u.files first.files second.files;

@@ -28,7 +28,7 @@ use Rattle.capture_io.proofs.Reader.{capture, feeds_as, format_feeds, format_rel
 
 -- ---- the reader
 
--- a reader that takes the next record from a piece was fed as much of the piece
+-- letting the reader take the next record from a piece feeds it the record's bytes
 feeds_by : (format : Option Format) (r : CaptureReading) (piece : List ℕ) (size : ℕ) → r.format ≡ format → size ≤ length piece → IsNextBy format r (take size piece) → Feeds r piece (Ok size) (with_by format r (take size piece))
 feeds_by None r piece size is within next = absurd next
 feeds_by (Some Classic) r piece size is within next =
@@ -41,7 +41,7 @@ feeds_by (Some Pcapng) r piece size is within next =
 next_feeds : (r : CaptureReading) (piece : List ℕ) (size : ℕ) → size ≤ length piece → IsNext r (take size piece) → Feeds r piece (Ok size) (with_record r (take size piece))
 next_feeds r piece size within next = feeds_by r.format r piece size refl within next
 
--- a reader that takes the next record holds it
+-- after the reader takes the next record, it holds that record
 held_as : (format : Option Format) (r : CaptureReading) (bytes : List ℕ) → r.format ≡ format → IsNextBy format r bytes → IsSome (held (with_by format r bytes))
 held_as None r bytes is next = absurd next
 held_as (Some Classic) r bytes is next = subst (λ (f : Option Format). IsSome (held_by f (with_by (Some Classic) r bytes))) (sym is) next.whole
@@ -50,7 +50,7 @@ held_as (Some Pcapng) r bytes is next = subst (λ (f : Option Format). IsSome (h
 next_held : (r : CaptureReading) (bytes : List ℕ) → IsNext r bytes → IsSome (held (with_record r bytes))
 next_held r bytes next = held_as r.format r bytes refl next
 
--- the next record has some bytes
+-- the next record has at least 16 bytes
 long_by : (format : Option Format) (r : CaptureReading) (bytes : List ℕ) → IsNextBy format r bytes → 16 ≤ length bytes
 long_by None r bytes next = absurd next
 long_by (Some Classic) r bytes next = classic_long r.classic bytes next
@@ -72,7 +72,7 @@ pub front_as : (f : Option Format) (format : Format) (front : List ℕ) (c c' : 
 front_as f format front c c' n n' is unused kept =
     subst (λ (g : Option Format). IsFront g front c' n') (sym is) (front_still format front c c' n n' (subst (λ (g : Option Format). IsFront g front c n) is unused) kept)
 
--- a view of the next record shows what a reader that takes it holds
+-- a view of the next record shows the record that the reader holds once it has taken the record's bytes
 pub classic_lends : (f : Option Format) (front : List ℕ) (c : classic.Reading) (n : ng.Reading) (bytes : List ℕ) (view : RecordView) → f ≡ Some Classic → classic.held (classic.with_part c bytes) ≡ Some (shown view) → IsRecordTime view.arrival
     → IsView (held (with_record (capture f front c n) bytes)) view
 classic_lends f front c n bytes view is exact time =
@@ -83,7 +83,7 @@ pub ng_lends : (f : Option Format) (front : List ℕ) (c : classic.Reading) (n :
 ng_lends f front c n bytes view is exact time =
     subst (λ (g : Option Format). IsView (held (with_record (capture g front c n) bytes)) view) (sym is) (record { exact = exact; time = time })
 
--- a reader that skips the next record releases it
+-- skipping the next record has the effect of taking it and then releasing it
 pub classic_passes : (f : Option Format) (front : List ℕ) (c c' : classic.Reading) (n : ng.Reading) (bytes : List ℕ) → f ≡ Some Classic → IsNext (capture f front c n) bytes → c' ≡ record c { start = c.start + length bytes }
     → Releases (with_record (capture f front c n) bytes) (capture f front c' n)
 classic_passes f front c c' n bytes is ahead new =
@@ -121,7 +121,7 @@ fed_more limit bytes remains source size records ahead fed =
       read = feeds.read fed.prefix records fed.read;
     }
 
--- a source that lends the next record has read on to it
+-- lending the next record counts as reading on to it
 reads_ahead : (shelf : ShelfState) (source : Sourcing) (size : ℕ) → IsSome (shelf.slots (slot_of source)) → LiesAhead source size → ReadsOn shelf shelf source (holding source size) None
 reads_ahead shelf source size live ahead =
     let waiting = source.pieces.waiting in
@@ -135,7 +135,7 @@ reads_ahead shelf source size live ahead =
       reads = reads_nothing shelf (slot_of source) live;
     }
 
--- the held record was released, and the next one is lent
+-- if the held record was released and then the next record is lent, `next` succeeded
 lends_next : (shelf : ShelfState) (old mid : Sourcing) (size : ℕ) → IsSome (shelf.slots (slot_of old)) → GivesUp old mid → LiesAhead mid size → GivesNext shelf shelf old (holding mid size) None
 lends_next shelf old mid size live gone ahead =
     let here = subst (λ (p : Piecing). IsSome (shelf.slots p.slot)) (sym gone.pieces) live in
@@ -143,7 +143,7 @@ lends_next shelf old mid size live gone ahead =
     subst (λ (e : Option End). GivesNext shelf shelf old (record (holding mid size) { ended = e }) None) (sym ahead.going)
     (gives_next shelf shelf old mid (holding mid size) None (sym gone.ended ∙ ahead.going) gone.pieces gone.reader (reads_ahead shelf mid size here ahead) (λ none. some))
 
--- the held record was released, so a source that gave it holds none
+-- releasing the held record does not change which records were delivered
 still_given : (shelf : ShelfState) (old mid : Sourcing) → GivesUp old mid → (limit : ℕ) (bytes : List ℕ) (records : List Record) → HasGivenOf limit bytes shelf old records → HasGivenOf limit bytes shelf mid records
 still_given shelf old mid gone limit bytes records given = record {
   going = gone.ended ∙ given.going;
@@ -152,7 +152,7 @@ still_given shelf old mid gone limit bytes records given = record {
   given = sym (ap (λ (h : Option Record). records ++ option_to_list h) gone.reader.free ∙ append-nil records);
 }
 
--- the held record was released, and then the next one was read
+-- releasing the held record first does not change what reading the next record does
 gives_after : (before after : ShelfState) (old mid next : Sourcing) (result : Option End) → GivesUp old mid → GivesNext before after mid next result → GivesNext before after old next result
 gives_after before after old mid next result gone gives = record {
   given = λ none limit bytes records given. gives.given none limit bytes records (still_given before old mid gone limit bytes records given);
@@ -165,7 +165,7 @@ gives_after before after old mid next result gone gives = record {
   reads = subst (λ (p : Piecing). ReadsSlot before after p.slot (slot_of next)) gone.pieces gives.reads;
 }
 
--- if the next record is at hand, it is lent
+-- if `o` is the size of the next record, that record is lent
 pub lent_by : (shelf : ShelfState) (old mid : Sourcing) (o : Option ℕ) → IsSome (shelf.slots (slot_of old)) → GivesUp old mid → IfSome o (λ size. LiesAhead mid size) → is_some o ≡ true → GivesNext shelf shelf old (lending o mid) None
 lent_by shelf old mid None live gone ahead some = absurd cc
 lent_by shelf old mid (Some size) live gone ahead some = lends_next shelf old mid size live gone ahead
@@ -174,7 +174,7 @@ pub read_by : (before after : ShelfState) (old mid next : Sourcing) (o : Option 
 read_by before after old mid next None result gone none gives = gives_after before after old mid next result gone gives
 read_by before after old mid next (Some size) result gone none gives = absurd cc
 
--- a source advances: it lends the next record, or none is at hand
+-- a source advances if it releases the held record and then lends the next one, or finds none
 pub advances : (old mid : Sourcing) (o : Option ℕ) → GivesUp old mid → IfSome o (λ size. LiesAhead mid size) → Advances old (lending o mid) (is_some o)
 advances old mid None gone ahead = record {
   given = λ some. absurd cc;

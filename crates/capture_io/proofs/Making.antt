@@ -23,7 +23,7 @@ writes_then {s} {t} {u} {v = v} {result = result} first second = record {
 
 -- ---- the bytes
 
--- the first n of the bytes that wait were written to the file
+-- `IsWriting` still holds after the first n buffered bytes were written to the file
 pub writing_more : (begun s t : ShelfState) (w : Writing) (name all : List ℕ) (n : ℕ) → IsWriting begun s w name all
     → AppendsTo s.files t.files (name_in s.slots w.slot) (take n w.waiting) → IsMadeIn t.slots w.slot → KeepsOtherFiles s.slots t.slots (name_in s.slots w.slot) → t.reading_faults ≡ s.reading_faults
     → IsWriting begun t (record w { waiting = drop n w.waiting }) name all
@@ -42,7 +42,7 @@ writing_more begun s t w name all n is more made keeps same = record {
 
 -- ---- closing
 
--- if no byte waits and the file is closed, the file has all that was added
+-- if the buffer is empty when the file is closed, the file has all bytes that were added
 pub puts_all : (begun s : ShelfState) (files : Option Files) (w : Writing) (name all : List ℕ) → IsWriting begun s w name all → w.waiting ≡ [] → KeepsFiles s.files files → PutsFile begun.files files name all
 puts_all begun s files w name all is none keeps =
     let whole : is.held ≡ all = sym (is.split ∙ (ap (λ (l : List ℕ). is.held ++ l) none ∙ append-nil is.held)) in

@@ -1,4 +1,4 @@
--- How a reader of captures in either layout goes on.
+-- How a reader of captures in either layout takes bytes.
 use Rattle.std.proofs.Common.{◌≡◌, ◌↔◌, ◌⊎◌, ℕ, ◌+◌, ◌≤◌, ◌<◌, Bool, true, false, nat_lt, if◌then◌else◌, List, [], ◌∷◌, ◌++◌, length, take, drop, Option, Some, None, Ok, Err, IsSome, refl, sym, ap, subst, ◌∙◌, arith, inl, inr, append_assoc, length-append, take-append-drop}
 use Rattle.std.specs.Prelude.{Result, IfSome, is_none, is_some, cond, option_to_list}
 use Rattle.std.specs.Result.{result_err}
@@ -48,7 +48,7 @@ cut_none : (x : Option Refusal) (b : Bool) (p : ng.Place) (bytes : List ℕ) (re
 cut_none (Some why) b p bytes rest is = refl
 cut_none None b p bytes rest is = rw is (if_none (ng.ends_at p.stage p.order p.start (length bytes)) (ng.ends None) (ng.ends (Some (ng.cut_by p.stage p bytes))) refl refl)
 
--- fewer than four bytes hold no packet
+-- fewer than four bytes contain no whole packet
 few_none : (bytes : List ℕ) → length bytes < 4 → (ng.contents bytes).records ≡ []
 unfolding ng.contents
 few_none bytes short =
@@ -89,14 +89,14 @@ none_taken Pcapng c n e g = ap reading.taken g
 
 -- ---- bytes that are held back
 
--- a reader that was given four bytes, and cannot hold a record after fewer, took them all
+-- If `front` has four bytes and no record can be held before all four are taken, the reader took all four.
 all_taken : (front : List ℕ) (k : ℕ) (h : Option Record) → length front ≡ 4 → k ≤ length front → (k < length front → IsSome h) → (length (take k front) < 4 → h ≡ None) → take k front ≡ front
 all_taken front k h size within end free = elim (cases_lt k (length front)) [
   | inl less ↦ absurd (none_some h (free (omega (arith, size, less, length-take-le k front within))) (end less))
   | inr all ↦ take_all k front all
 ]
 
--- fewer than four bytes have come, and are held back
+-- while fewer than four bytes have arrived, they are held back
 front_on : (front front' more : List ℕ) (c : classic.Reading) (n : reading.Reading) → front' ≡ front ++ more → length front' < 4
     → GoesOn (record { format = None; front = front; classic = c; ng = n }) more (record { format = None; front = front'; classic = c; ng = n })
 front_on front front' more c n is short bytes records h =
@@ -104,7 +104,7 @@ front_on front front' more c n is short bytes records h =
     let few : length (bytes ++ more) < 4 = omega (arith, short, ap length all) in
     record { stands = (all, few, h.stands.2); uncertain = λ none. short_certain (bytes ++ more) few }
 
--- four bytes have come, and the reader of their layout has taken them
+-- if four bytes have arrived, the reader of their layout has taken all four
 front_first : (format : Format) (front front' more : List ℕ) (c c' : classic.Reading) (n n' : reading.Reading) → front' ≡ front ++ more → length front' ≡ 4 → format_in front' ≡ format
     → (progress_by format c' n').has_read front' [] → (meaning_of format).certain front' ≡ None
     → GoesOn (record { format = None; front = front; classic = c; ng = n }) more (record { format = Some format; front = front'; classic = c'; ng = n' })
@@ -133,7 +133,7 @@ not_zero n piece h nothing more free = elim (cases_lt 0 n) [
   ]
 ]
 
--- if the reader of a layout was fed, so was the reader of captures that found this layout
+-- feeding the reader of the capture's layout feeds the reader of captures
 pub format_feeds : (format : Format) (front : List ℕ) (c c' : classic.Reading) (n n' : reading.Reading) (piece : List ℕ) (result : Result ℕ Refusal)
     → readers.Feeds (meaning_of format) (progress_by format c n) piece result (progress_by format c' n')
     → Feeds (record { format = Some format; front = front; classic = c; ng = n }) piece result (record { format = Some format; front = front; classic = c'; ng = n' })
@@ -166,7 +166,7 @@ format_feeds format front c c' n n' piece (Err why) fed = record {
 pub longer : (front front' piece : List ℕ) (k : ℕ) → k ≤ length piece → front' ≡ front ++ take k piece → length front' ≡ length front + k
 longer front front' piece k within is = ap length is ∙ (length-append front (take k piece) ∙ ap (λ (m : ℕ). length front + m) (length-take-le k piece within))
 
--- the reader was fed, and fewer than four bytes have come so far
+-- if fewer than four bytes have arrived, feeding holds them back
 pub front_feeds : (front front' piece : List ℕ) (c : classic.Reading) (n : reading.Reading) (k : ℕ) → k ≤ length piece → (0 < length piece → 0 < k) → front' ≡ front ++ take k piece → length front' < 4
     → Feeds (record { format = None; front = front; classic = c; ng = n }) piece (Ok k) (record { format = None; front = front'; classic = c; ng = n })
 front_feeds front front' piece c n k within some is short =
@@ -181,7 +181,7 @@ front_feeds front front' piece c n k within some is short =
       refused = tt;
     }
 
--- the reader was fed, four bytes have come, and the reader of their layout took them
+-- if four bytes have arrived, feeding hands them to the reader of their layout
 pub front_handed : (format : Format) (front front' piece : List ℕ) (c c' : classic.Reading) (n n' : reading.Reading) (k j : ℕ) → k ≤ length piece → (0 < length piece → 0 < k) → front' ≡ front ++ take k piece → length front' ≡ 4
     → format_in front' ≡ format → c ≡ classic.nothing_read → n ≡ reading.nothing_read → readers.Feeds (meaning_of format) (progress_by format c n) front' (Ok j) (progress_by format c' n')
     → Feeds (record { format = None; front = front; classic = c; ng = n }) piece (Ok k) (record { format = Some format; front = front'; classic = c'; ng = n' })
@@ -210,7 +210,7 @@ joins front front' bytes piece more k same is =
     ∙ (ap (λ (b : List ℕ). front ++ b) (sym (append_assoc (take k piece) (drop k piece) more) ∙ ap (λ (b : List ℕ). b ++ more) (take-append-drop k piece))
     ∙ (sym (append_assoc front piece more) ∙ ap (λ (b : List ℕ). (b ++ piece) ++ more) (sym same))))
 
--- the reader was fed, four bytes have come, and the reader of their layout refused them
+-- if the reader of their layout refuses the first four bytes, feeding refuses them
 pub front_rejected : (format : Format) (front front' piece : List ℕ) (c c' : classic.Reading) (n n' : reading.Reading) (k : ℕ) (why : Refusal) → k ≤ length piece → front' ≡ front ++ take k piece → length front' ≡ 4
     → format_in front' ≡ format → c ≡ classic.nothing_read → n ≡ reading.nothing_read → readers.Feeds (meaning_of format) (progress_by format c n) front' (Err why) (progress_by format c' n')
     → Feeds (record { format = None; front = front; classic = c; ng = n }) piece (Err why) (record { format = Some format; front = front'; classic = c'; ng = n' })
@@ -227,7 +227,7 @@ front_rejected format front front' piece c c' n n' k why within is size told unu
       subst (λ (b : List ℕ). RefusedAfter b records why) (joins front front' bytes piece more k h.stands.0 is) (subst (λ (rs : List Record). RefusedAfter (front' ++ rest) rs why) (sym h.stands.2) here);
 }
 
--- what was fed to a reader with these fields was fed to the reader that contracts see
+-- `Feeds` may be stated of a reader's fields or of the reader as contracts see it
 pub feeds_as : (f f' g g' : Option Format) (front front' : List ℕ) (c c' : classic.Reading) (n n' : reading.Reading) (old : CaptureReading) (piece : List ℕ) (result : Result ℕ Refusal) → f ≡ g → f' ≡ g' → record { format = f; front = front; classic = c; ng = n } ≡ old
     → Feeds (record { format = g; front = front; classic = c; ng = n }) piece result (record { format = g'; front = front'; classic = c'; ng = n' }) → Feeds old piece result (record { format = f'; front = front'; classic = c'; ng = n' })
 feeds_as f f' g g' front front' c c' n n' old piece result e e' is fed =
@@ -249,13 +249,13 @@ front_still Pcapng front c c' n n' unused kept = kept ∙ unused
 abbrev pub capture : Option Format → List ℕ → classic.Reading → reading.Reading → CaptureReading
 capture format front c n = record { format = format; front = front; classic = c; ng = n }
 
--- if the reader of classic captures holds a record, it is the one that the reader of captures holds
+-- if the reader of classic captures holds a record, the reader of captures holds the same record
 pub held_classic : (format : Option Format) (front : List ℕ) (c : classic.Reading) (n : reading.Reading) → IsFront format front c n → IsSome (classic.held c) → classic.held c ≡ held (capture format front c n)
 held_classic None front c n unused some = absurd (none_some (classic.held c) (ap classic.held unused.1) some)
 held_classic (Some Classic) front c n unused some = refl
 held_classic (Some Pcapng) front c n unused some = absurd (none_some (classic.held c) (ap classic.held unused) some)
 
--- if the reader of classic captures holds no record, the reader of captures holds what the reader of pcapng captures holds
+-- if the reader of classic captures holds no record, the reader of captures holds what the pcapng reader holds
 pub held_pcapng : (format : Option Format) (front : List ℕ) (c : classic.Reading) (n : reading.Reading) → IsFront format front c n → classic.held c ≡ None → reading.held n ≡ held (capture format front c n)
 held_pcapng None front c n unused none = ap reading.held unused.2
 held_pcapng (Some Classic) front c n unused none = ap reading.held unused ∙ sym none
@@ -284,11 +284,10 @@ format_releases format front c c' n n' gone = record {
   refusal = gone.refusal;
 }
 
--- a reader that holds no record is unchanged by a release
 pub still : {R : Type 0} (old new : R) (answer : Bool) (h : Option Record) → answer ≡ is_some h → (answer ≡ false → new ≡ old) → h ≡ None → new ≡ old
 still old new answer h is same none = same (is ∙ ap is_some none)
 
--- a release of both readers releases what the reader of captures holds
+-- releasing in the readers of both layouts releases the record that the reader of captures holds
 pub both_release : (format : Option Format) (front : List ℕ) (c c' : classic.Reading) (n n' : reading.Reading) → IsFront format front c n → readers.Releases (classic.progress c) (classic.progress c')
     → readers.Releases (reading.progress n) (reading.progress n') → (classic.held c ≡ None → c' ≡ c) → (reading.held n ≡ None → n' ≡ n) → Releases (capture format front c n) (capture format front c' n')
 both_release None front c c' n n' unused first second same same' =
@@ -319,15 +318,15 @@ format_ends format front c n bytes records result ends h = record {
   first = ends.refusal bytes records h.stands.0 ∙ sym (refusal_by format bytes h.stands.2);
 }
 
--- at the end, the reader that contracts see returns what a reader with these fields returns
+-- `EndsHere` may be stated of a reader's fields or of the reader as contracts see it
 pub ends_as : (f g : Option Format) (front : List ℕ) (c : classic.Reading) (n : reading.Reading) (r : CaptureReading) (bytes : List ℕ) (records : List Record) (x : Option Refusal) → f ≡ g → record { format = f; front = front; classic = c; ng = n } ≡ r
     → (HasRead (record { format = g; front = front; classic = c; ng = n }) bytes records → EndsHere (record { format = g; front = front; classic = c; ng = n }) bytes records x) → HasRead r bytes records → EndsHere r bytes records x
 ends_as f g front c n r bytes records x e is ends =
     subst (λ (s : CaptureReading). HasRead s bytes records → EndsHere s bytes records x) is (subst (λ (h : Option Format). HasRead (record { format = h; front = front; classic = c; ng = n }) bytes records → EndsHere (record { format = h; front = front; classic = c; ng = n }) bytes records x) (sym e) ends)
 
--- ---- the records that were released, and the one that is held
+-- ---- the released records and the held record
 
--- the records that were released and the one that is held are the first ones of the capture, whatever bytes follow
+-- the released records and the held record are the first records of the capture, whatever bytes follow
 classic_begun : (r : classic.Reading) (h : Option Record) (bytes more : List ℕ) (before : List Record) → classic.held r ≡ h → classic.HasRead r bytes before
     → (others : List Record) × (captures.whole_records (bytes ++ more) ≡ (before ++ option_to_list h) ++ others)
 classic_begun r None bytes more before is read =

@@ -12,18 +12,17 @@ some_of : (x : Option (List ℕ)) → IsSome x → (bytes : List ℕ) × (x ≡ 
 some_of None some = absurd cc
 some_of (Some bytes) some = (bytes, refl)
 
--- a slot that was opened is live
 pub opened_live : (files : Option Files) (slot : Option Open) (name : List ℕ) → IsOpened files slot name → IsSome slot
 opened_live None None name is = absurd is
 opened_live None (Some o) name is = refl
 opened_live (Some files) slot name is = rw is.0 refl
 
--- a slot that was opened has the name, if files are shown
+-- if the shelf shows its files, an opened slot has the name
 pub opened_named : (files : Option Files) (slot : Option Open) (name : List ℕ) → IsOpened files slot name → IsSome files → option_and_then (λ (o : Open). o.name) slot ≡ Some name
 opened_named None slot name is told = absurd cc
 opened_named (Some files) slot name is told = rw is.0 refl
 
--- a slot that was opened has all bytes of its file left, if files are shown
+-- if the shelf shows its files, all bytes of the file are left to read in an opened slot
 opened_left : (files : Option Files) (slot : Option Open) (name : List ℕ) (told : Files) → IsOpened files slot name → files ≡ Some told
     → (bytes : List ℕ) × (told name ≡ Some bytes) × (option_and_then (λ (o : Open). o.left) slot ≡ Some bytes)
 opened_left None slot name told is e = absurd cc
@@ -32,7 +31,7 @@ opened_left (Some files) slot name told is e =
     let some = some_of (files name) is.1 in
     (some.0, ap (λ (m : Files). m name) (sym same) ∙ some.1, rw is.0 some.1)
 
--- no byte was taken so far
+-- of a file that was just opened, no byte was taken
 pub nothing_taken : (limit : ℕ) (bytes : List ℕ) (remains : Option (List ℕ)) (p : Piecing) → remains ≡ Some bytes → p.waiting ≡ [] → p.left ≡ limit → p.over ≡ false → HasTaken limit bytes remains p []
 nothing_taken limit bytes remains p is none all more = record {
   rest = bytes;
@@ -54,12 +53,12 @@ consumed None b bs xs e h = absurd cc
 consumed (Some zs) None bs xs e h = absurd h
 consumed (Some zs) (Some ys) bs xs e h = let same : xs ≡ zs = cc in (ys, refl, same ∙ h)
 
--- if no read has shown more bytes than may be read, what the slot has left is what comes next
+-- until a read shows that the file exceeds the limit, what the slot has left comes next
 ahead_left : (over : Bool) (remains : Option (List ℕ)) (left : ℕ) (rest : List ℕ) → over ≡ false → IsAhead over remains left rest → remains ≡ Some rest
 ahead_left true remains left rest none ahead = absurd cc
 ahead_left false remains left rest none ahead = ahead
 
--- if no byte waits, the bytes that were taken are all that were read
+-- if no byte is buffered, the bytes taken are all bytes that were read
 pub split_bare : (limit : ℕ) (bytes : List ℕ) (remains : Option (List ℕ)) (p : Piecing) (prefix : List ℕ) (h : HasTaken limit bytes remains p prefix) → p.waiting ≡ [] → bytes ≡ prefix ++ h.rest
 split_bare limit bytes remains p prefix h none = h.split ∙ ap (λ (w : List ℕ). w ++ h.rest) (ap (λ (w : List ℕ). prefix ++ w) none ∙ append-nil prefix)
 
@@ -67,7 +66,7 @@ no_bytes : (xs : List ℕ) → length xs ≡ 0 → xs ≡ []
 no_bytes [] e = refl
 no_bytes (x ∷ xs) e = absurd cc
 
--- a read moved `count` bytes to the buffer, of which `within` may be read
+-- a read moved `count` bytes to `buf`, and the first `within` of these may be read
 pub read_more : (limit : ℕ) (bytes : List ℕ) (old new : Option (List ℕ)) (p q : Piecing) (prefix buf : List ℕ) (count within : ℕ) → HasTaken limit bytes old p prefix → p.over ≡ false → p.waiting ≡ []
     → Consumes old new (take count buf) → count ≤ length buf → within ≤ count → within ≤ p.left → (within < count → within ≡ p.left) → q.waiting ≡ take within buf → q.left ≡ p.left - within
     → (q.over ≡ true → within < count) → (q.over ≡ false → count ≤ within) → HasTaken limit bytes new q prefix
@@ -96,7 +95,7 @@ read_more limit bytes old new p q prefix buf count within h more none takes fits
           let len : length (drop within (take count buf)) ≡ 0 = length-drop within (take count buf) ∙ ap (λ (n : ℕ). n - within) (length-take-le count buf fits) ∙ omega (arith, whole is) in
           c.1 ∙ ap (λ (r : List ℕ). Some (r ++ c.0)) (sym (no_bytes (drop within (take count buf)) len))
 
--- a range without its first n items
+-- dropping n items from a range is starting the range n items later
 pub range_drop : (xs : List ℕ) (i j n : ℕ) → n ≤ j - i → slice_range xs (i + n) j ≡ drop n (slice_range xs i j)
 range_drop xs i j n fits =
     let rest : j - (i + n) ≡ (j - i) - n = omega arith in

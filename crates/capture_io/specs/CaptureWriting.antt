@@ -27,8 +27,8 @@ capture_bytes records = capture_spelling written_style records
 
 -- ---- the file that is written
 
--- Since the shelf had the files `files`, the file with this name was made, and it is open in the writer's slot. `bytes` are
--- those of the file followed by those that wait. All other files are unchanged, if they are shown.
+-- The file `name` was made when the shelf had the files `files`, and it is open in the writer's slot. `bytes` are the
+-- bytes of the file, then the buffered bytes. If the shelf shows its files, all other files are unchanged.
 pub record HoldsFile (files : Option Files) (shelf : ShelfState) (writer : Writing) (name bytes : List ℕ) : Type 0 where
   pub held : List ℕ
   pub split : bytes ≡ held ++ writer.waiting
@@ -36,22 +36,22 @@ pub record HoldsFile (files : Option Files) (shelf : ShelfState) (writer : Writi
   pub made : IsMadeIn shelf.slots writer.slot
   pub named : IsSome files → name_in shelf.slots writer.slot ≡ Some name
 
--- the bytes of the file followed by those that wait are a capture of these records
+-- the bytes of the file, then the buffered bytes, are a capture of these records
 abbrev pub HoldsCapture : Option Files → ShelfState → Writing → List ℕ → List Record → Type 0
 HoldsCapture files shelf writer name records = HoldsFile files shelf writer name (capture_bytes records)
 
 -- ---- all other slots
 
--- Every slot except slot k stays live or free and keeps its file. If files are shown, what is left to read in these slots
--- changes only if the file has this name.
+-- Every slot except slot k stays live or free and keeps its file. If the shelf shows its files, what is left to read
+-- changes only in slots of the file `name`.
 pub record KeepsBeside (files : Option Files) (old new : Slots) (k : ℕ) (name : List ℕ) : Type 0 where
   pub same : (j : ℕ) → j ≢ k → option_map file_of (new j) ≡ option_map file_of (old j)
   pub left : IsSome files → (j : ℕ) → j ≢ k → name_in old j ≢ Some name → left_in new j ≡ left_in old j
 
 -- ---- calls
 
--- The file with this name was made for a capture, which has no record so far; or it was not made, and the count of writing
--- faults rose if the shelf failed. The name was asked for.
+-- The file `name` was made for a capture, which has no record so far. Or it was not made, and if the shelf failed, the
+-- count of writing faults rose. The name was asked for.
 pub record BeginsCapture (before after : ShelfState) (name : List ℕ) (result : Result Writing OpenFault) : Type 0 where
   pub begun : IfOk result (λ writer. HoldsCapture before.files after writer name [])
   pub fresh : IfOk result (λ writer. before.slots writer.slot ≡ None)
@@ -62,15 +62,15 @@ pub record BeginsCapture (before after : ShelfState) (name : List ℕ) (result :
   pub counted : IsOpenCounted before.writing_faults after.writing_faults result
   pub asked : Asks (name ∷ []) before after
 
--- The capture has one more record, this one, or is unchanged if the shelf failed. All other slots are left as a write leaves
--- them.
+-- The record `r` was appended to the capture. If the shelf failed, the capture is unchanged. All other slots change
+-- only as a write to the file may change them.
 pub record AddsRecord (before after : ShelfState) (old new : Writing) (r : Record) (result : Result Unit Failed) : Type 0 where
   pub added : OnOk result ((files : Option Files) (name : List ℕ) (records : List Record) → HoldsCapture files before old name records → HoldsCapture files after new name (records ++ r ∷ []))
   pub kept : OnErr result ((files : Option Files) (name : List ℕ) (records : List Record) → HoldsCapture files before old name records → HoldsCapture files after new name records)
   pub writes : WritesSlot before after old new result
 
--- The file was closed, and has a prefix of the capture. Its slot is free; the count of writing faults rose if the shelf
--- failed, no reading fault was counted, and no name was asked for.
+-- The file was closed, and has a prefix of the capture. Its slot is free. If the shelf failed, the count of writing
+-- faults rose. No reading fault was counted, and no name was asked for.
 pub record ClosesCapture (before after : ShelfState) (writer : Writing) (result : Result Unit Failed) : Type 0 where
   pub prefix : (files : Option Files) (name : List ℕ) (records : List Record) → HoldsCapture files before writer name records → PutsPrefix files after.files name (capture_bytes records)
   pub free : (files : Option Files) (name : List ℕ) (records : List Record) → HoldsCapture files before writer name records → after.slots writer.slot ≡ None
@@ -79,7 +79,7 @@ pub record ClosesCapture (before after : ShelfState) (writer : Writing) (result 
   pub counted : IsCounted before.writing_faults after.writing_faults result
   pub asked : AsksNothing before after
 
--- The capture was finished: its file was closed, and if nothing failed it has the whole capture.
+-- The capture was finished: its file was closed. If nothing failed, the file has the whole capture.
 pub record FinishesCapture (before after : ShelfState) (writer : Writing) (result : Result Unit Failed) : Type 0 where
   pub put : OnOk result ((files : Option Files) (name : List ℕ) (records : List Record) → HoldsCapture files before writer name records → PutsFile files after.files name (capture_bytes records))
   pub closes : ClosesCapture before after writer result

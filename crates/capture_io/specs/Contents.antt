@@ -11,15 +11,15 @@ use Rattle.capture_io.specs.declared.end.Stop.TheVariants as stop
 use Rattle.capture_io.specs.Ends.{CountsStop}
 use Rattle.capture_io.specs.Reads.{OnlyReads}
 
--- A prefix of a file of these bytes was read: all of it; or the bytes before a fault; or as many as may be read, if there are
--- more.
+-- Which prefix of a file with these bytes was read: at the end, all of them; at a fault, any prefix within the limit;
+-- at the limit, the first `limit` bytes of a longer file.
 abbrev pub IsContents : ℕ → List ℕ → Stop → List ℕ → Type 0
 IsContents limit bytes stop.End prefix = (bytes ≡ prefix) × (length prefix ≤ limit)
 IsContents limit bytes stop.Fault prefix = (rest : List ℕ) × (bytes ≡ prefix ++ rest) × (length prefix ≤ limit)
 IsContents limit bytes stop.Limit prefix = (limit < length bytes) × (prefix ≡ take limit bytes)
 
--- The count of reading faults before and after a file is read whole, with this result: it rose if a fault of reading or of
--- opening came, otherwise it is unchanged.
+-- What happened to the count of reading faults when a file was read whole. It rose if opening or reading the file
+-- failed; otherwise it is unchanged.
 pub record IsReadCounted (before after : ℕ) (result : Result Contents OpenFault) : Type 0 where
   pub never_falls : before ≤ after
   pub stopped : IfOk result (λ contents. CountsStop (Some contents.stop) before after)
@@ -27,10 +27,10 @@ pub record IsReadCounted (before after : ℕ) (result : Result Contents OpenFaul
   pub memory : IsErrOf result open_fault.Memory → after ≡ before
   pub failed : IsErrOf result open_fault.Failed → Rose before after
 
--- The file with this name was read up to its end, a fault or the limit, and was closed again; or it was not opened, or memory
--- ran out. Nothing else was done.
+-- The file `name` was opened, read up to its end, a fault or the limit, and closed again. Or it was not opened, or
+-- memory ran out. Nothing else was done.
 pub record ReadsContents (before after : ShelfState) (limit : ℕ) (name : List ℕ) (result : Result Contents OpenFault) : Type 0 where
-  -- the bytes are those of the file, if the shelf shows it
+  -- if the shelf shows its files, the bytes are those of the file
   pub read : IfOk result (λ contents. (files : Files) → before.files ≡ Some files → (bytes : List ℕ) × (files name ≡ Some bytes) × IsContents limit bytes contents.stop contents.bytes.items)
   pub bounded : IfOk result (λ contents. length contents.bytes.items ≤ limit)
   -- the shelf shows its files, and none has the name

@@ -13,8 +13,8 @@ use Rattle.pcapng_frames.specs.Reading as ng
 use Rattle.capture_io.specs.declared.capture_reader.Format.{Format}
 use Rattle.capture_io.specs.declared.capture_reader.Format.TheVariants.{Classic, Pcapng}
 
--- The bytes begin like a pcapng capture: with the type of a section header, which is the same in either byte order
--- (draft-ietf-opsawg-pcapng, section 4.1). Fewer than four bytes count as classic.
+-- The bytes begin with the type of a section header, as each pcapng capture does. The type is the same in either byte
+-- order (draft-ietf-opsawg-pcapng, section 4.1). Fewer than four bytes count as classic pcap.
 unfoldable pub is_pcapng : List ℕ → Bool
 is_pcapng bytes = nat_le 4 (length bytes) && nat_eq (number_at Little 0 4 bytes) 0x0A0D0D0A
 
@@ -27,7 +27,7 @@ abbrev pub meaning_of : Format → Meaning
 meaning_of Classic = classic.meaning
 meaning_of Pcapng = ng.meaning
 
--- the whole records of a capture in either layout, before its first refusal
+-- the whole records of a capture in either layout, up to its first refusal
 unfoldable pub records_in : List ℕ → List Record
 records_in bytes = (meaning_of (format_in bytes)).records bytes
 
@@ -35,8 +35,8 @@ records_in bytes = (meaning_of (format_in bytes)).records bytes
 unfoldable pub refusal_in : List ℕ → Option Refusal
 refusal_in bytes = (meaning_of (format_in bytes)).refusal bytes
 
--- The first refusal of a capture in either layout, if it stays whatever bytes follow. A pcapng capture that is cut off
--- in the head of a 257th interface lacks bytes and yet shows no short field, so there `settled` decides, not `short`.
+-- The first refusal of a capture in either layout, if no later bytes can change it. A pcapng capture that is cut off in
+-- the head of a 257th interface lacks bytes, yet shows no short field. Therefore `settled` decides, not `short`.
 unfoldable pub certain_in : List ℕ → Option Refusal
 certain_in bytes = (meaning_of (format_in bytes)).certain bytes
 

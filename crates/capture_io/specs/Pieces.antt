@@ -1,21 +1,21 @@
 -- A file that is read in pieces, up to a limit.
 use Rattle.std.specs.Prelude.{◌≡◌, ◌++◌, ◌+◌, ◌<◌, ℕ, Bool, true, false, List, length, Option, Some}
 
--- A file that is read in pieces: its slot; the bytes that were read but not taken; how many more may be read; and whether a
--- read has shown that there are more.
+-- A file that is read in pieces: its slot, the buffered bytes (read but not taken), the number of bytes that may still
+-- be read, and whether a read has shown that the file exceeds the limit.
 pub record Piecing : Type 0 where
   pub slot : ℕ
   pub waiting : List ℕ
   pub left : ℕ
   pub over : Bool
 
--- the bytes of the file after the waiting ones: what the slot has left to read; or, once a read has shown that there are more
--- than may be read, at least one byte
+-- The bytes of the file after the buffered bytes. Usually they are what the slot has left to read. Once a read has
+-- shown that the file exceeds the limit, they are at least one byte.
 abbrev pub IsAhead : Bool → Option (List ℕ) → ℕ → List ℕ → Type 0
 IsAhead false remains left rest = remains ≡ Some rest
 IsAhead true remains left rest = (left ≡ 0) × (0 < length rest)
 
--- A prefix of a file of these bytes was taken, of which at most `limit` may be read.
+-- `prefix` was taken from the front of a file with these bytes. At most `limit` bytes of the file may be read.
 pub record HasTaken (limit : ℕ) (bytes : List ℕ) (remains : Option (List ℕ)) (pieces : Piecing) (prefix : List ℕ) : Type 0 where
   pub rest : List ℕ
   pub split : bytes ≡ (prefix ++ pieces.waiting) ++ rest

@@ -11,8 +11,8 @@ use Rattle.capture_io.specs.declared.capture_reader.Format.{Format}
 use Rattle.capture_io.specs.declared.capture_reader.Format.TheVariants.{Classic, Pcapng}
 use Rattle.capture_io.specs.Formats.{format_in, certain_in}
 
--- The state of a reader of captures in either layout: the layout, once it is known; the bytes that came before it was known;
--- and a reader of each layout.
+-- The state of a reader of captures in either layout: the layout, once it is known; the bytes that arrived before it
+-- was known; and a reader of each layout.
 pub record CaptureReading : Type 0 where
   pub format : Option Format
   pub front : List ℕ
@@ -24,12 +24,12 @@ abbrev pub progress_by : Format → classic.Reading → ng.Reading → Progress
 progress_by Classic c n = classic.progress c
 progress_by Pcapng c n = ng.progress n
 
--- the refusal of a reader that has found this layout, if it has one
+-- the refusal of a reader that has found this layout, if any
 abbrev pub refusal_by : Option Format → CaptureReading → Option Refusal
 refusal_by None r = None
 refusal_by (Some format) r = (progress_by format r.classic r.ng).refusal
 
--- the refusal of a reader, if it has one
+-- the refusal of a reader, if any
 abbrev pub refusal_of : CaptureReading → Option Refusal
 refusal_of r = refusal_by r.format r
 
@@ -42,20 +42,21 @@ held_by (Some format) r = (progress_by format r.classic r.ng).held
 abbrev pub held : CaptureReading → Option Record
 held r = held_by r.format r
 
--- The bytes that a reader with this layout has taken, and the records that it has released. While the layout is unknown, these
--- are fewer than four bytes and no record; after that they are what the reader of the layout has taken and released.
+-- Which bytes a reader has taken, and which records it has released. While the layout is unknown, the reader has fewer
+-- than four bytes and has released no record. Once it is known, the reader of that layout has taken these bytes and
+-- released these records.
 abbrev pub StandsFor : Option Format → CaptureReading → List ℕ → List Record → Type 0
 StandsFor None r bytes records = (bytes ≡ r.front) × (length bytes < 4) × (records ≡ [])
 StandsFor (Some format) r bytes records =
     (progress_by format r.classic r.ng).has_read bytes records × (4 ≤ length bytes) × (format_in bytes ≡ format)
 
--- The reader has taken these bytes, and has released these of their records, in order. If it is not refused, the bytes have no
--- refusal that stays whatever bytes follow.
+-- The reader has taken these bytes, and has released these records of them, in order. If the reader has refused
+-- nothing, the bytes show no refusal that later bytes cannot change.
 pub record HasRead (r : CaptureReading) (bytes : List ℕ) (records : List Record) : Type 0 where
   pub stands : StandsFor r.format r bytes records
   pub uncertain : refusal_of r ≡ None → certain_in bytes ≡ None
 
--- a view of the record that is held, whose time is one that a capture can record
+-- `view` shows the held record, and its arrival is one that a capture can record
 pub record IsView (held : Option Record) (view : RecordView) : Type 0 where
   pub exact : held ≡ Some (shown view)
   pub time : IsRecordTime view.arrival

@@ -1,4 +1,4 @@
--- What reading leaves of a shelf: its files, its open files and its counts, and which names it asks for.
+-- What reading leaves unchanged of a shelf, and which names it asks for.
 use Rattle.std.specs.Prelude.{◌≡◌, ℕ, ◌≤◌, List, [], ◌∷◌, None, Some, IfOk, IsErrOf, IsSome, OnErr, Result, option_map}
 use Rattle.avtp_base.specs.declared.failed.OpenFault.{OpenFault}
 use Rattle.avtp_base.specs.declared.failed.OpenFault.TheVariants as open_fault
@@ -6,8 +6,8 @@ use Rattle.avtp_base.specs.Faults.{IsOpenCounted}
 use Rattle.avtp_base.specs.Files.{IsMissing, KeepsFiles, KeepsOthers, KeepsSlots, file_of, name_in}
 use Rattle.avtp_base.specs.States.{Asks, AsksNothing, ShelfState}
 
--- A call that only reads: every file, every slot and the count of writing faults are unchanged; the count of reading faults did
--- not fall; and these names were asked for, in this order.
+-- A call that only reads. Every file, every slot and the count of writing faults are unchanged. The count of reading
+-- faults did not fall. The names `names` were asked for, in this order.
 pub record OnlyReads (before after : ShelfState) (names : List (List ℕ)) : Type 0 where
   pub files : KeepsFiles before.files after.files
   pub slots : KeepsSlots before.slots after.slots
@@ -17,7 +17,8 @@ pub record OnlyReads (before after : ShelfState) (names : List (List ℕ)) : Typ
 
 -- ---- while the file of one slot is open
 
--- The file in slot k was read, and is still open there: `now` is slot k, too. All else is unchanged, and no name was asked for.
+-- The file in slot k was read, and is still open there: `now` is slot k. No name was asked for. Only slot k and the
+-- count of reading faults may have changed.
 pub record ReadsSlot (before after : ShelfState) (k now : ℕ) : Type 0 where
   pub slot : now ≡ k
   pub files : KeepsFiles before.files after.files
@@ -28,8 +29,8 @@ pub record ReadsSlot (before after : ShelfState) (k now : ℕ) : Type 0 where
   pub writing : after.writing_faults ≡ before.writing_faults
   pub asked : AsksNothing before after
 
--- The file with this name was asked for and opened in slot k, which was free, and it was read or not; all else is unchanged. If
--- files are shown, the slot has the name.
+-- The name was asked for, its file was opened in the free slot k, and some of it may have been read. Only slot k and
+-- the count of reading faults may have changed. If the shelf shows its files, the slot has the name.
 pub record OpensSlot (before after : ShelfState) (name : List ℕ) (k : ℕ) : Type 0 where
   pub free : before.slots k ≡ None
   pub files : KeepsFiles before.files after.files
@@ -40,8 +41,8 @@ pub record OpensSlot (before after : ShelfState) (name : List ℕ) (k : ℕ) : T
   pub writing : after.writing_faults ≡ before.writing_faults
   pub asked : Asks (name ∷ []) before after
 
--- A file with this name was opened, in the slot of the value in the result. Or it was not opened: `Missing` means that the
--- shelf shows its files and none has the name, at `Failed` the count of reading faults rose, and nothing else was done.
+-- The file `name` was opened in the slot that `slot` finds in the result. If it was not opened, the call only read.
+-- `Missing` means that the shelf shows its files and none has the name. At `Failed` the count of reading faults rose.
 pub record TriesOpen {T : Type 0} (slot : T → ℕ) (before after : ShelfState) (name : List ℕ) (result : Result T OpenFault) : Type 0 where
   pub opened : IfOk result (λ file. OpensSlot before after name (slot file))
   pub refused : OnErr result (OnlyReads before after (name ∷ []))

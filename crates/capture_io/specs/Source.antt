@@ -12,7 +12,7 @@ use Rattle.capture_io.specs.Pieces.{Piecing, HasTaken}
 use Rattle.capture_io.specs.Reader.{CaptureReading, HasRead, held, refusal_of}
 use Rattle.capture_io.specs.Reads.{ReadsSlot, TriesOpen}
 
--- A source of records: the file and its pieces, the reader that takes them, and how the reading ended, once it has.
+-- A source of records: the pieces of its file, the reader that takes them, and how the reading ended, once it has.
 pub record Sourcing : Type 0 where
   pub pieces : Piecing
   pub reader : CaptureReading
@@ -30,47 +30,48 @@ remains_of shelf source = left_in shelf.slots (slot_of source)
 abbrev pub held_in : Sourcing → Option Record
 held_in source = held source.reader
 
--- The reader has taken a prefix of a file of these bytes, of which at most `limit` may be read. It has refused nothing, and has
--- released these records.
+-- The reader has taken a prefix of a file with these bytes, of which at most `limit` may be read. It has refused
+-- nothing, and has released the records `records`.
 pub record HasFed (limit : ℕ) (bytes : List ℕ) (remains : Option (List ℕ)) (source : Sourcing) (records : List Record) : Type 0 where
   pub prefix : List ℕ
   pub taken : HasTaken limit bytes remains source.pieces prefix
   pub accepted : refusal_of source.reader ≡ None
   pub read : HasRead source.reader prefix records
 
--- These records were given from a file of these bytes, of which at most `limit` may be read and `remains` are left to read; the
--- last record may still be held, and the reading has not ended.
+-- The source has delivered these records from a file with these bytes, of which at most `limit` may be read. `remains`
+-- is what is left to read. The source may still hold the last record. The reading has not ended.
 pub record HasGiven (limit : ℕ) (bytes : List ℕ) (remains : Option (List ℕ)) (source : Sourcing) (records : List Record) : Type 0 where
   pub going : source.ended ≡ None
   pub before : List Record
   pub fed : HasFed limit bytes remains source before
   pub given : records ≡ before ++ option_to_list (held_in source)
 
--- A source has given these records from a file of these bytes, of which at most `limit` may be read. What is left to read is
--- what the shelf shows of its slot, and the reading has not ended.
+-- The source has delivered these records from a file with these bytes, of which at most `limit` may be read. What is
+-- left to read is what the shelf shows in its slot. The reading has not ended.
 abbrev pub HasGivenOf : ℕ → List ℕ → ShelfState → Sourcing → List Record → Type 0
 HasGivenOf limit bytes shelf source records = HasGiven limit bytes (remains_of shelf source) source records
 
--- The reading of a file of these bytes ends in this way, and these are the records before its end.
+-- The reading of a file with these bytes ends at `how`, and these are the records before that end.
 pub record EndsAfter (limit : ℕ) (bytes : List ℕ) (fault : Type 0) (how : End) (records : List Record) : Type 0 where
   pub prefix : List ℕ
   pub ends : EndsAt limit (Some bytes) fault how prefix
   pub whole : records_in prefix ≡ records
 
--- how much work is left: it falls with each piece that is read, and with each byte that is taken
+-- a measure of the work left, which falls with each piece that is read and each byte that is taken
 abbrev pub to_do : Sourcing → ℕ
 to_do source = 2 * source.pieces.left + length source.pieces.waiting
 
--- A capture with this name was opened, of which at most `limit` bytes may be read, and no record was given yet; or it was not
--- opened.
+-- The capture `name` was opened, at most `limit` of its bytes may be read, and no record was delivered yet. Or it was
+-- not opened.
 pub record OpensSource (before after : ShelfState) (limit : ℕ) (name : List ℕ) (result : Result Sourcing OpenFault) : Type 0 where
-  -- nothing was given yet of the file's bytes, if the shelf shows them
+  -- if the shelf shows the file's bytes, no record of them was delivered yet
   pub begun : IfOk result (λ source. (files : Files) → before.files ≡ Some files → (bytes : List ℕ) × (files name ≡ Some bytes) × HasGivenOf limit bytes after source [])
   pub going : IfOk result (λ source. (source.ended ≡ None) × (to_do source ≤ 2 * limit))
   pub tries : TriesOpen slot_of before after name result
 
--- The next record was read, and is held now; or the reading ended, as the result says, after the records that were given, and
--- the count of reading faults rose if a fault ended it. A reading that had ended before returns that end again.
+-- The next record was read and is held now. Or the reading ended at the end in `result`, after the delivered records;
+-- if a fault ended it, the count of reading faults rose. If the reading had ended before the call, the call returns the
+-- same end again.
 pub record GivesNext (before after : ShelfState) (old new : Sourcing) (result : Option End) : Type 0 where
   pub given : result ≡ None → (limit : ℕ) (bytes : List ℕ) (records : List Record) → HasGivenOf limit bytes before old records
       → (next : Record) × (held_in new ≡ Some next) × HasGivenOf limit bytes after new (records ++ next ∷ [])
@@ -82,8 +83,8 @@ pub record GivesNext (before after : ShelfState) (old new : Sourcing) (result : 
   pub counted : CountsFault old.ended result before.reading_faults after.reading_faults
   pub reads : ReadsSlot before after (slot_of old) (slot_of new)
 
--- The record that was held was released. If the next one is complete in the bytes that were read, it is held now, and nothing
--- more was read. If not, reading the next record does from here what it does from the state before.
+-- The held record was released. If the next record is complete in the bytes that were read, it is held now, and nothing
+-- more was read. Otherwise a later `next` has the same effect as a `next` in place of this call.
 pub record Advances (old new : Sourcing) (at_hand : Bool) : Type 0 where
   pub given : at_hand ≡ true → (shelf : ShelfState) → IsSome (shelf.slots (slot_of old)) → GivesNext shelf shelf old new None
   pub further : at_hand ≡ false → (before after : ShelfState) (next : Sourcing) (result : Option End) → GivesNext before after new next result → GivesNext before after old next result

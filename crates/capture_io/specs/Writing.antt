@@ -8,14 +8,14 @@ use Rattle.avtp_files.specs.ShelfCalls.{IsMadeIn}
 use Rattle.avtp_base.specs.Files.{Files, Slots, file_of, left_in, name_in, KeepsFiles, KeepsOtherFiles, KeepsSlots, PutsFile}
 use Rattle.avtp_base.specs.States.{Asks, AsksNothing, ShelfState}
 
--- A file that is written through a buffer: its slot, and the bytes that wait to be written to it.
+-- A file that is written through a buffer: its slot, and the buffered bytes.
 pub record Writing : Type 0 where
   pub slot : ℕ
   pub waiting : List ℕ
 
--- Since the shelf was in the state `before`, the file with this name was made, and it is open in the writer's slot, which was
--- free. `bytes` are those of the file followed by those that wait. All other files are unchanged, if they are shown, and so are
--- the other slots, except for what is left there of this file.
+-- Since the state `before`, the file `name` was made and opened in the writer's slot, which was free. `bytes` are the
+-- bytes of the file, then the buffered bytes. All other files are unchanged, if the shelf shows them. All other slots
+-- are unchanged, except that slots of this file may have other bytes left to read.
 pub record IsWriting (before after : ShelfState) (writer : Writing) (name bytes : List ℕ) : Type 0 where
   pub held : List ℕ
   pub split : bytes ≡ held ++ writer.waiting
@@ -27,8 +27,8 @@ pub record IsWriting (before after : ShelfState) (writer : Writing) (name bytes 
   pub left : IsSome before.files → (j : ℕ) → j ≢ writer.slot → name_in before.slots j ≢ Some name → left_in after.slots j ≡ left_in before.slots j
   pub reading : after.reading_faults ≡ before.reading_faults
 
--- The writer's file was written, or not, and is still open. The count of writing faults rose if the shelf failed; no
--- reading fault was counted, and no name was asked for.
+-- The writer's file is still open, and some buffered bytes may have been written to it. If the shelf failed, the count
+-- of writing faults rose. No reading fault was counted, and no name was asked for.
 pub record WritesSlot (before after : ShelfState) (old new : Writing) (result : Result Unit Failed) : Type 0 where
   pub slot : new.slot ≡ old.slot
   pub made : IsMadeIn after.slots old.slot
@@ -37,22 +37,22 @@ pub record WritesSlot (before after : ShelfState) (old new : Writing) (result : 
   pub counted : IsCounted before.writing_faults after.writing_faults result
   pub asked : AsksNothing before after
 
--- These bytes were added to the writer's file, or nothing if the shelf failed.
+-- `bytes` were added to the writer's file, or nothing was added if the shelf failed.
 pub record AddsBytes (before after : ShelfState) (old new : Writing) (bytes : List ℕ) (result : Result Unit Failed) : Type 0 where
   pub added : OnOk result ((begun : ShelfState) (name all : List ℕ) → IsWriting begun before old name all → IsWriting begun after new name (all ++ bytes))
   pub kept : OnErr result ((begun : ShelfState) (name all : List ℕ) → IsWriting begun before old name all → IsWriting begun after new name all)
   pub writes : WritesSlot before after old new result
 
--- ---- what is left
+-- ---- what is left unchanged
 
--- a file was not made: all files, all slots and the count of reading faults are unchanged
+-- the file was not made: all files, all slots and the count of reading faults are unchanged
 pub record NotMade (before after : ShelfState) : Type 0 where
   pub files : KeepsFiles before.files after.files
   pub slots : KeepsSlots before.slots after.slots
   pub reading : after.reading_faults ≡ before.reading_faults
 
--- A file of this name was made, and is written through a buffer in which nothing waits; or it was not made, and the
--- count of writing faults rose if the shelf failed. The name was asked for.
+-- The file `name` was made, and is written through a buffer that is empty. Or it was not made, and if the shelf failed,
+-- the count of writing faults rose. The name was asked for.
 pub record CreatesFile (before after : ShelfState) (name : List ℕ) (result : Result Writing OpenFault) : Type 0 where
   pub begun : IfOk result (λ writer. IsWriting before after writer name [])
   pub not_made : OnErr result (NotMade before after)
@@ -60,26 +60,26 @@ pub record CreatesFile (before after : ShelfState) (name : List ℕ) (result : R
   pub counted : IsOpenCounted before.writing_faults after.writing_faults result
   pub asked : Asks (name ∷ []) before after
 
--- the file with this name has a prefix of these bytes now, and all other files are unchanged, as far as the shelf shows them
+-- The file `name` now has a prefix of `bytes`. All other files are unchanged, if the shelf shows them.
 pub record PutsPrefix (old new : Option Files) (name bytes : List ℕ) : Type 0 where
   pub prefix : List ℕ
   pub rest : List ℕ
   pub split : bytes ≡ prefix ++ rest
   pub put : PutsFile old new name prefix
 
--- the file with this name is unchanged, or has a prefix of these bytes now, and all other files are unchanged, as far as the
--- shelf shows them
+-- The file `name` is unchanged, or now has a prefix of the given bytes. All other files are unchanged, if the shelf
+-- shows them.
 abbrev pub MakesPrefix : Option Files → Option Files → List ℕ → List ℕ → Type 0
 MakesPrefix old new name bytes = KeepsFiles old new ⊎ PutsPrefix old new name bytes
 
--- Every slot stays live or free and keeps its file. If files are shown, what is left to read changes only in slots whose file
--- has this name.
+-- Every slot stays live or free and keeps its file. If the shelf shows its files, what is left to read changes only in
+-- slots of the file `name`.
 pub record KeepsSlotsBut (files : Option Files) (old new : Slots) (name : List ℕ) : Type 0 where
   pub same : (j : ℕ) → option_map file_of (new j) ≡ option_map file_of (old j)
   pub left : IsSome files → (j : ℕ) → name_in old j ≢ Some name → left_in new j ≡ left_in old j
 
--- The writer's file was closed, and has a prefix of all that was added. Every other file and slot is unchanged; the count of
--- writing faults rose if the shelf failed, no reading fault was counted, and no name was asked for.
+-- The writer's file was closed, and has a prefix of all bytes that were added. Every other file and slot is unchanged.
+-- If the shelf failed, the count of writing faults rose. No reading fault was counted, and no name was asked for.
 pub record ClosesFile (before after : ShelfState) (writer : Writing) (result : Result Unit Failed) : Type 0 where
   pub prefix : (begun : ShelfState) (name all : List ℕ) → IsWriting begun before writer name all → PutsPrefix begun.files after.files name all
   pub slots : (begun : ShelfState) (name all : List ℕ) → IsWriting begun before writer name all → KeepsSlotsBut begun.files begun.slots after.slots name
@@ -87,7 +87,7 @@ pub record ClosesFile (before after : ShelfState) (writer : Writing) (result : R
   pub counted : IsCounted before.writing_faults after.writing_faults result
   pub asked : AsksNothing before after
 
--- The writer's file was finished: it was closed, and if nothing failed it has all that was added.
+-- The writer's file was closed. If nothing failed, it has all bytes that were added.
 pub record FinishesFile (before after : ShelfState) (writer : Writing) (result : Result Unit Failed) : Type 0 where
   pub put : OnOk result ((begun : ShelfState) (name all : List ℕ) → IsWriting begun before writer name all → PutsFile begun.files after.files name all)
   pub closes : ClosesFile before after writer result

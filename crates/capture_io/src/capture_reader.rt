@@ -1,4 +1,4 @@
-//! Captures in either layout, classic pcap or pcapng, in pieces of any length.
+//! Reads captures in either layout, classic pcap or pcapng, in pieces of any length.
 
 ghost use Rattle.std.specs.Prelude.{◌≡◌, ◌+◌, ◌≤◌, ◌^◌, ℕ, List, length, None, IfOk};
 ghost use Rattle.std.specs.Result.{result_err};
@@ -25,18 +25,18 @@ pub enum Format {
     Pcapng,
 }
 
-/// The first four bytes of a pcapng capture, which are equal in either byte order.
+/// The first four bytes of a pcapng capture, which are the same in either byte order.
 const SECTION_HEADER: u32 = 0x0A0D_0D0A;
 
 /// The number of bytes that show the layout.
 const FRONT: usize = 4;
 
-/// Reads a capture in either layout, with the calls of [`Reader`]. The first four bytes are held back until all have come, because they show
-/// the layout.
+/// Reads a capture in either layout, with the calls of [`Reader`]. The first four bytes show the layout. They are held
+/// back until all four have arrived.
 #[derive(Drop)]
 pub struct CaptureReader {
     format: Option<Format>,
-    /// The bytes that came before the layout was known.
+    /// The bytes that arrived before the layout was known.
     front: Vec<u8>,
     classic: Reader,
     ng: Ng,
@@ -55,7 +55,8 @@ impl Model for CaptureReader {
 }
 
 impl CaptureReader {
-    /// A reader that has taken nothing. It allocates the memory of a reader of each layout, and no more later.
+    /// A reader that has taken nothing. It allocates the memory of a reader of each layout, and allocates no more
+    /// later.
     pub fn new(alloc: Global) -> Result<Self, NoMemory>
         ensures { IfOk result (λ reader. reader ≡ nothing_read) }
     {
@@ -72,8 +73,8 @@ impl CaptureReader {
         })
     }
 
-    /// Takes bytes of the piece, at most up to the end of one record, and returns how many; or returns the capture's first
-    /// refusal, as soon as the bytes so far show it.
+    /// Takes bytes from the front of the piece, at most up to the end of one record, and returns how many. As soon as
+    /// the bytes so far show the capture's first refusal, it returns that refusal instead.
     pub fn feed(&mut self, piece: &[u8]) -> Result<usize, Refusal>
         requires { taken self.old + length piece.now ≤ 2 ^ 62 }
         ensures { Feeds self.old piece.now result self.new }
@@ -84,7 +85,7 @@ impl CaptureReader {
         }
     }
 
-    /// Holds bytes back until there are four, and gives these to the reader of their layout.
+    /// Holds bytes back until there are four, and feeds these to the reader of their layout.
     fn feed_front(&mut self, piece: &[u8]) -> Result<usize, Refusal>
         requires front { self.old.format ≡ None }
         ensures { Feeds self.old piece.now result self.new }
@@ -107,8 +108,7 @@ impl CaptureReader {
         Ok(taken)
     }
 
-    /// The record that was taken last, if it is whole and was not released. The reader of a layout that the capture
-    /// does not have holds none.
+    /// The record that was taken last, if it is whole and was not released.
     pub fn held(&self) -> Option<RecordView<'_>>
         ensures { Views (held self.now) result }
     {
@@ -118,7 +118,7 @@ impl CaptureReader {
         }
     }
 
-    /// Drops the held record, so that the next can be taken.
+    /// Drops the held record, to make room for the next one.
     pub fn release(&mut self)
         ensures { Releases self.old self.new }
     {
@@ -126,9 +126,9 @@ impl CaptureReader {
         let _ = self.ng.release();
     }
 
-    /// The size of the next record, if it is complete at the front of the piece and nothing of it was taken yet.
+    /// The size of the next record, if the front of the piece has all of it and none of it was taken yet.
     ///
-    /// It is `None` only if there is no such record. Then the piece must be fed.
+    /// If it is `None`, there is no such record, and the piece must be fed.
     #[inline(always)]
     pub fn whole_ahead(&self, piece: &[u8]) -> Option<usize>
         ensures { FindsNext self.now piece.now result }
@@ -142,8 +142,8 @@ impl CaptureReader {
         }
     }
 
-    /// Whether the piece is known to have all of the next record. For a pcapng capture any bytes count, because writers write
-    /// whole blocks.
+    /// Whether the piece is known to have all of the next record. For a pcapng capture any bytes count as known,
+    /// because writers write whole blocks.
     pub fn is_ahead(&self, piece: &[u8]) -> bool {
         match self.format {
             None => false,
@@ -183,8 +183,8 @@ impl CaptureReader {
         }
     }
 
-    /// Whether the bytes so far are a whole capture; otherwise returns their first refusal. It changes nothing: bytes may
-    /// follow. If fewer than four bytes came, they lack the magic number of a classic capture.
+    /// Whether the bytes so far are a whole capture; if not, returns their first refusal. It changes nothing, and more
+    /// bytes may follow. Fewer than four bytes lack the magic number of a classic capture.
     pub fn finish(&self) -> Result<(), Refusal>
         ensures { (bytes : List ℕ) (records : List Record) → HasRead self.now bytes records → EndsHere self.now bytes records (result_err result) }
     {

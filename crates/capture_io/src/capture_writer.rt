@@ -1,4 +1,4 @@
-//! A capture that is written to a file.
+//! Writes a capture to a file.
 
 ghost use Rattle.std.specs.Prelude.{◌≡◌, ◌+◌, ◌*◌, ◌^◌, ◌≤◌, [], Ok, length, pos, ◌≤ℤ◌, ◌<ℤ◌};
 ghost use Rattle.avtp_files.specs.ShelfCalls.{IsMadeIn};
@@ -11,13 +11,13 @@ use avtp_files::Shelf;
 use pcap_frames::{Order, Style, Unit, record_header, write_header};
 use std::marker::Model;
 
-/// A capture is little-endian, with nanoseconds.
+/// The style of each capture that is written: little-endian, with nanoseconds.
 const STYLE: Style = Style {
     order: Order::Little,
     unit: Unit::Nano,
 };
 
-/// The length of the header of a capture's file.
+/// The length of the file header of a capture.
 const FILE_HEADER: usize = 24;
 
 /// The length of the header of a record.
@@ -25,9 +25,9 @@ const RECORD_HEADER: usize = 16;
 
 /// A classic capture, little-endian with nanoseconds (draft-ietf-opsawg-pcap), that is written to a file of a shelf.
 ///
-/// The bytes of the file followed by those that wait in the buffer are the file header and a record of each frame that was
-/// added. If the shelf fails, the file has a prefix of these bytes; nothing is lost or written twice, so the call may be
-/// repeated. Other files of the shelf may be read in between.
+/// The bytes of the file and then the buffered bytes are the file header and a record of each frame that was added. If
+/// the shelf fails, the file has a prefix of these bytes. Nothing is lost or written twice, so the call may be
+/// repeated. Between the calls, other files of the shelf may be read.
 #[derive(Drop)]
 pub struct CaptureWriter {
     file: FileWriter,
@@ -41,7 +41,7 @@ impl Model for CaptureWriter {
     ghost view = { λ w. w.file };
 }
 
-/// The header of the capture's file.
+/// The file header of the capture.
 fn file_header() -> [u8; FILE_HEADER]
     ensures { result ≡ header_spelling written_style }
 {
@@ -53,11 +53,11 @@ fn file_header() -> [u8; FILE_HEADER]
 }
 
 impl CaptureWriter {
-    /// Makes a file, or empties it, for a capture, which has no record so far. The buffer's memory was reserved before, so if
-    /// memory runs out the file is unchanged.
+    /// Makes a file, or empties it, for a capture, which has no record so far. The buffer's memory was reserved before,
+    /// so if memory runs out the file is unchanged.
     ///
-    /// At `Failed` the writing count rose; `Memory` means that the shelf had no memory. After either, the file is unchanged.
-    /// Never returns `Missing`.
+    /// At `Failed` the writing count rose. `Memory` means that the shelf had no memory. After `Failed` or `Memory` the
+    /// file is unchanged. Never returns `Missing`.
     pub fn create<F: Shelf>(buffer: Buffer, shelf: &mut F, name: &str) -> Result<Self, OpenFault>
         requires { buffer ≡ [] }
         ensures { BeginsCapture (F.state shelf.old) (F.state shelf.new) name.now result }
@@ -67,8 +67,8 @@ impl CaptureWriter {
         Ok(CaptureWriter { file })
     }
 
-    /// Adds the record of a frame of at most 65,520 bytes, which is captured whole and written in place; or nothing if the
-    /// shelf fails. `arrival` is in nanoseconds, from 0 to before 2^32 seconds.
+    /// Adds the record of a frame of at most 65,520 bytes, which is captured whole and encoded in place. If the shelf
+    /// fails, it adds nothing. `arrival` is in nanoseconds, from 0 up to but excluding 2^32 seconds.
     #[inline(always)]
     pub fn add<F: Shelf, W: Spelled>(
         &mut self,
@@ -90,7 +90,8 @@ impl CaptureWriter {
         Ok(())
     }
 
-    /// Writes the bytes that wait, and closes the file. At `Ok` the file has the whole capture, otherwise a prefix of it.
+    /// Writes the buffered bytes, and closes the file. At `Ok` the file has the whole capture, otherwise a prefix of
+    /// it.
     pub fn finish<F: Shelf>(self, shelf: &mut F) -> Result<(), Failed>
         requires { IsMadeIn (F.state shelf.old).slots self.slot }
         ensures { FinishesCapture (F.state shelf.old) (F.state shelf.new) self result }

@@ -1,4 +1,4 @@
-//! A file that is read whole.
+//! Reads a whole file.
 
 ghost use Rattle.capture_io.specs.Contents.{ReadsContents};
 ghost use Rattle.capture_io.specs.state.Pieces.{IsDrained, JoinsPieces};
@@ -12,16 +12,16 @@ use std::alloc::Global;
 /// What was read of a file.
 #[derive(Drop)]
 pub struct Contents {
-    /// The bytes from the file's first one on.
+    /// The bytes from the start of the file.
     pub bytes: Vec<u8>,
     /// Where the reading stopped.
     pub stop: Stop,
 }
 
-/// Opens a file, reads it up to its end, a fault or the limit of `limit` bytes, and closes it.
+/// Opens a file, reads it up to its end, a fault or `limit` bytes, and closes it.
 ///
-/// Returns `Missing` only if the shelf shows its files and none has the name, `Failed` only if the file could not be opened and
-/// the reading count rose, and `Memory` if memory ran out.
+/// `Missing` is returned only if the shelf shows its files and none has the name. `Failed` means that the file could
+/// not be opened; the reading count rose. `Memory` means that memory ran out.
 pub fn read_contents<F: Shelf>(
     alloc: Global,
     limit: u64,

@@ -12,9 +12,9 @@ pub enum End {
     Whole,
     /// At a field that cannot be accepted.
     Refused(Refusal),
-    /// At a fault of reading, after some bytes or before the first one.
+    /// At a fault of reading, possibly before the first byte.
     ReadFault,
-    /// At the last byte that may be read, with more after it.
+    /// After the last byte that may be read, when the file has more.
     Limit,
 }
 
@@ -25,13 +25,13 @@ pub enum Stop {
     End,
     /// At a fault of reading.
     Fault,
-    /// At the last byte that may be read, with more after it.
+    /// After the last byte that may be read, when the file has more.
     Limit,
 }
 
 impl Stop {
-    /// How a capture ends if nothing was refused in it and its reading stopped here. If the file ended, `lack` is the first
-    /// field that it lacks. A refused field that is complete before the stop ends the capture, whatever stopped the reading.
+    /// How a capture ends if nothing in it was refused and its reading stopped here. If the file ended, `lack` is the
+    /// first field that it lacks.
     pub fn end(self, lack: Option<Refusal>) -> End
         ensures { result ≡ end_at self lack }
     {

@@ -1,4 +1,4 @@
-//! A capture whose pieces are fed to its reader.
+//! Feeds the pieces of a capture to its reader.
 
 ghost use Rattle.std.specs.Prelude.{◌≡◌, ◌<◌, ◌≤◌, [], length, IsSome};
 ghost use Rattle.avtp_base.specs.States.{ShelfState};
@@ -13,8 +13,8 @@ use avtp_files::Shelf;
 use pcap_frames::RecordView;
 use std::marker::Model;
 
-/// A capture that is read from a shelf, and fed to a reader in pieces. Either the reader takes a record's bytes and holds the
-/// record, or the record is shown in the piece.
+/// A capture that is read from a shelf and fed to a reader in pieces. A record is either held by the reader, which has
+/// taken its bytes, or shown in the piece.
 #[derive(Drop)]
 pub struct Feed {
     pub pieces: Pieces,
@@ -35,8 +35,8 @@ impl Model for Feed {
 }
 
 impl Feed {
-    /// Drops the record that is held, and reads on to the next. At `None` one is held now; otherwise returns how the reading
-    /// ended. Once it has ended, each further call returns that end again and reads nothing.
+    /// Drops the held record, and reads on to the next. At `None` the next record is held now; otherwise the result is
+    /// how the reading ended. Once it has ended, each further call returns the same end and reads nothing.
     #[inline(never)]
     pub fn next<F: Shelf>(&mut self, shelf: &mut F) -> Option<End>
         requires { IsSome ((F.state shelf.old).slots (slot_of self.old)) }
@@ -65,7 +65,7 @@ impl Feed {
         }
     }
 
-    /// Feeds the reader the bytes that wait, or reads the next piece if none wait.
+    /// Feeds the reader the buffered bytes. If none are buffered, reads the next piece.
     fn step<F: Shelf>(&mut self, shelf: &mut F) -> Option<End>
         requires { IsReady (F.state shelf.old).slots self.old }
         ensures { ReadsOn (F.state shelf.old) (F.state shelf.new) self.old self.new result }
@@ -76,7 +76,7 @@ impl Feed {
         self.feed_piece()
     }
 
-    /// Reads the next piece, when no bytes wait.
+    /// Reads the next piece, if no bytes are buffered.
     fn read_piece<F: Shelf>(&mut self, shelf: &mut F) -> Option<End>
         requires ready { IsReady (F.state shelf.old).slots self.old }
         requires none_waits { self.old.pieces.waiting ≡ [] }
@@ -86,7 +86,7 @@ impl Feed {
         Some(stop.end(self.reader.finish().err()))
     }
 
-    /// Feeds the reader bytes that wait, up to the end of one record, or returns the refusal that ends the reading.
+    /// Feeds the reader buffered bytes, up to the end of one record, or returns the refusal that ends the reading.
     fn feed_piece(&mut self) -> Option<End>
         requires { 0 < length self.old.pieces.waiting }
         ensures { (shelf : ShelfState) → IsReady shelf.slots self.old → ReadsOn shelf shelf self.old self.new result }
@@ -103,7 +103,7 @@ impl Feed {
         }
     }
 
-    /// The size of the next record, if it is complete at the front of the bytes that wait and nothing of it was taken yet. It
+    /// The size of the next record, if the front of the buffered bytes has all of it and none of it was taken yet. It
     /// is `None` only if there is no such record, or the reading has ended.
     #[inline(always)]
     pub fn whole_ahead(&self) -> Option<usize>
@@ -115,15 +115,15 @@ impl Feed {
         self.reader.whole_ahead(self.pieces.waiting())
     }
 
-    /// Whether the file must be read for the next record: the bytes that wait after the first `taken` are not known to have all
-    /// of it.
+    /// Whether the file must be read for the next record, because the buffered bytes after the first `taken` are not
+    /// known to have all of it.
     pub fn must_read(&self, taken: usize) -> bool
         requires { taken ≤ length self.now.pieces.waiting }
     {
         self.ended.is_none() && !self.reader.is_ahead(&self.pieces.waiting()[taken..])
     }
 
-    /// The next record, which is the first `size` of the bytes that wait.
+    /// The next record, which is the first `size` buffered bytes.
     #[inline(always)]
     pub fn lend(&self, size: usize) -> RecordView<'_>
         requires { LiesAhead self.now size }
@@ -132,7 +132,7 @@ impl Feed {
         self.reader.lend(&self.pieces.waiting()[..size])
     }
 
-    /// Skips the next record, which is the first `size` of the bytes that wait.
+    /// Skips the next record, which is the first `size` buffered bytes.
     #[inline(always)]
     pub fn pass(&mut self, size: usize)
         requires { LiesAhead self.old size }

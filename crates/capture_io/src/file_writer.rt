@@ -1,4 +1,4 @@
-//! A file that is written through a buffer.
+//! Writes a file through a buffer.
 
 ghost use Rattle.std.specs.Prelude.{◌≡◌, ◌+◌, ◌≤◌, ◌++◌, [], Ok, length};
 ghost use Rattle.avtp_files.specs.ShelfCalls.{IsMadeIn};
@@ -11,8 +11,8 @@ use std::marker::Model;
 
 /// A file of a shelf that is made and written through a buffer.
 ///
-/// All bytes that were added are in the file, or wait in the buffer to follow them. If the shelf fails, the file has a prefix
-/// of them; nothing is lost or written twice, so the call may be repeated.
+/// Each byte that was added is in the file, or in the buffer to be written next. If the shelf fails, the file has a
+/// prefix of the bytes added. Nothing is lost or written twice, so the call may be repeated.
 #[derive(Drop)]
 pub struct FileWriter {
     slot: Slot,
@@ -29,11 +29,11 @@ impl Model for FileWriter {
 }
 
 impl FileWriter {
-    /// Makes a file, or empties it, to write it through a buffer in which nothing waits. The buffer's memory was reserved
-    /// before, so if memory runs out the file is unchanged.
+    /// Makes a file, or empties it, to write it through this buffer, which must be empty. The buffer's memory was
+    /// reserved before, so if memory runs out the file is unchanged.
     ///
-    /// At `Failed` the writing count rose; `Memory` means that the shelf had no memory. After either, the file is unchanged.
-    /// Never returns `Missing`.
+    /// At `Failed` the writing count rose. `Memory` means that the shelf had no memory. After `Failed` or `Memory` the
+    /// file is unchanged. Never returns `Missing`.
     pub fn create<F: Shelf>(buffer: Buffer, shelf: &mut F, name: &str) -> Result<Self, OpenFault>
         requires { buffer ≡ [] }
         ensures { CreatesFile (F.state shelf.old) (F.state shelf.new) name.now result }
@@ -42,7 +42,8 @@ impl FileWriter {
         Ok(FileWriter { slot, buffer })
     }
 
-    /// Adds the encoding of a value, at most [`Buffer::ROOM`] bytes, written in place; or nothing if the shelf fails.
+    /// Adds the encoding of a value, at most [`Buffer::ROOM`] bytes, written in place. If the shelf fails, it adds
+    /// nothing.
     #[inline(always)]
     pub fn add<F: Shelf, W: Spelled>(&mut self, shelf: &mut F, added: &W) -> Result<(), Failed>
         requires made { IsMadeIn (F.state shelf.old).slots self.old.slot }
@@ -54,7 +55,7 @@ impl FileWriter {
         Ok(())
     }
 
-    /// Writes the bytes that wait, if there is no room for `size` more.
+    /// Writes the buffered bytes if the buffer lacks room for `size` more.
     #[inline(always)]
     pub(crate) fn make_room<F: Shelf>(&mut self, shelf: &mut F, size: usize) -> Result<(), Failed>
         requires made { IsMadeIn (F.state shelf.old).slots self.old.slot }
@@ -67,7 +68,7 @@ impl FileWriter {
         Ok(())
     }
 
-    /// Adds the encoding of a value, for which there is room.
+    /// Adds the encoding of a value, for which there must be room.
     #[inline(always)]
     pub(crate) fn put<W: Spelled>(&mut self, added: &W)
         requires { length self.old.waiting + length (W.spelling added.now) ≤ 65536 }
@@ -76,7 +77,7 @@ impl FileWriter {
         self.buffer.add(added);
     }
 
-    /// Adds bytes, for which there is room.
+    /// Adds bytes, for which there must be room.
     #[inline(always)]
     pub(crate) fn push(&mut self, bytes: &[u8])
         requires { length self.old.waiting + length bytes.now ≤ 65536 }
@@ -85,7 +86,7 @@ impl FileWriter {
         self.buffer.push(bytes);
     }
 
-    /// Writes all bytes that wait.
+    /// Writes all buffered bytes.
     #[inline(never)]
     fn flush<F: Shelf>(&mut self, shelf: &mut F) -> Result<(), Failed>
         requires { IsMadeIn (F.state shelf.old).slots self.old.slot }
@@ -98,7 +99,8 @@ impl FileWriter {
         Ok(())
     }
 
-    /// Writes the bytes that wait, and closes the file. At `Ok` the file has all that was added, otherwise a prefix of that.
+    /// Writes the buffered bytes, and closes the file. At `Ok` the file has all bytes that were added, otherwise a
+    /// prefix of them.
     pub fn finish<F: Shelf>(self, shelf: &mut F) -> Result<(), Failed>
         requires { IsMadeIn (F.state shelf.old).slots self.slot }
         ensures { FinishesFile (F.state shelf.old) (F.state shelf.new) self result }
@@ -109,7 +111,7 @@ impl FileWriter {
         written
     }
 
-    /// Closes the file, which has a prefix of what was added.
+    /// Closes the file, which has a prefix of the bytes that were added.
     pub fn abandon<F: Shelf>(self, shelf: &mut F)
         requires { IsMadeIn (F.state shelf.old).slots self.slot }
         ensures { ClosesFile (F.state shelf.old) (F.state shelf.new) self (Ok tt) }

@@ -1,4 +1,4 @@
-//! Laws of captures in either layout, whoever reads them.
+//! Laws of captures in either layout.
 
 ghost use Rattle.std.specs.Prelude.{◌≡◌, ℕ, List, None, Option, true};
 ghost use Rattle.avtp_base.specs.Files.{Files, KeepsFiles, Slots};
@@ -8,14 +8,15 @@ ghost use Rattle.capture_io.specs.CaptureWriting.{HoldsCapture, KeepsBeside};
 ghost use Rattle.capture_io.specs.Writing.{Writing};
 ghost use Rattle.capture_io.specs.Formats.{AreBytes, as_classic, is_pcapng, records_in, refusal_in};
 
-/// The classic capture of a pcapng capture's records, in little-endian nanoseconds, has exactly these records, and nothing in
-/// it is refused.
+/// A law: the classic capture of a pcapng capture's records, in little-endian nanoseconds, has exactly these records,
+/// and nothing in it is refused.
 pub fn classic_again()
     ensures { (bytes : List ℕ) → AreBytes bytes → is_pcapng bytes ≡ true → (records_in (as_classic bytes) ≡ records_in bytes) × (refusal_in (as_classic bytes) ≡ None) }
 {}
 
-/// A capture that is being written is unchanged while other files of the shelf are opened, read and closed, because these calls
-/// keep all files and the writer's slot. If each of two calls in a row keeps the other slots, both together keep them.
+/// A law: opening, reading and closing other files of the shelf leaves a capture that is being written unchanged,
+/// because these calls keep all files and the writer's slot. If each of two successive calls keeps the other slots,
+/// both together keep them.
 pub fn captures_are_written_beside_others()
     ensures kept { (files : Option Files) (s t : ShelfState) (w : Writing) (name : List ℕ) (records : List Record) → HoldsCapture files s w name records → KeepsFiles s.files t.files → t.slots w.slot ≡ s.slots w.slot → HoldsCapture files t w name records }
     ensures beside { (files : Option Files) (a b c : Slots) (k : ℕ) (name : List ℕ) → KeepsBeside files a b k name → KeepsBeside files b c k name → KeepsBeside files a c k name }

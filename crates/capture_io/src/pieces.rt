@@ -1,4 +1,4 @@
-//! A file that is read in pieces, up to a limit.
+//! Reads a file in pieces, up to a limit.
 
 ghost use Rattle.std.specs.Prelude.{◌≡◌, ◌≤◌, [], length, drop, IsSome};
 ghost use Rattle.avtp_files.specs.ShelfCalls.{ClosesSlot};
@@ -13,18 +13,18 @@ use std::marker::Model;
 /// The greatest number of bytes in a piece.
 const PIECE: usize = 65_536;
 
-/// An open file that is read in pieces of at most 65,536 bytes, up to a limit. Bytes that were read wait until they are
-/// taken.
+/// An open file that is read in pieces of at most 65,536 bytes, up to a limit. Bytes that were read are buffered until
+/// they are taken.
 #[derive(Drop)]
 pub struct Pieces {
     slot: Slot,
     piece: Vec<u8>,
-    /// Where the waiting bytes begin and end in the piece.
+    /// Where the buffered bytes begin and end in the piece.
     start: usize,
     end: usize,
     /// How many more bytes may be read.
     left: u64,
-    /// Whether a read has shown that the file has more bytes than may be read.
+    /// Whether a read has shown that the file exceeds the limit.
     over: bool,
 }
 
@@ -40,8 +40,8 @@ impl Model for Pieces {
 }
 
 impl Pieces {
-    /// Opens a file of which at most `limit` bytes may be read. The name is asked for first, and the memory of a piece
-    /// is reserved after that; if there is none, the file is closed again.
+    /// Opens a file of which at most `limit` bytes may be read. The name is asked for first; then the memory of a piece
+    /// is reserved. If there is no memory, the file is closed again.
     pub fn open<F: Shelf>(
         alloc: Global,
         limit: u64,
@@ -65,8 +65,9 @@ impl Pieces {
         })
     }
 
-    /// Reads the next piece. No bytes may wait before; after it bytes wait, or the call returns why reading stopped. Bytes
-    /// beyond the limit are dropped: once all others were taken, the call returns `Limit`.
+    /// Reads the next piece; no bytes may be buffered before the call. At `None` bytes are buffered now; otherwise the
+    /// result is why reading stopped. Bytes beyond the limit are dropped: once all bytes up to the limit were taken,
+    /// the call returns `Limit`.
     pub fn read<F: Shelf>(&mut self, shelf: &mut F) -> Option<Stop>
         requires { IsDrained (F.state shelf.old).slots self.old }
         ensures { ReadsPiece (F.state shelf.old) (F.state shelf.new) self.old self.new result }
@@ -88,14 +89,14 @@ impl Pieces {
         }
     }
 
-    /// The bytes that wait.
+    /// The buffered bytes.
     pub fn waiting(&self) -> &[u8]
         ensures { result.now ≡ self.now.waiting }
     {
         &self.piece[self.start..self.end]
     }
 
-    /// Takes the first `count` of the bytes that wait.
+    /// Takes the first `count` buffered bytes.
     pub fn take(&mut self, count: usize)
         requires { count ≤ length self.old.waiting }
         ensures { self.new ≡ record self.old { waiting = drop count self.old.waiting } }
@@ -103,7 +104,7 @@ impl Pieces {
         self.start += count;
     }
 
-    /// Takes all bytes that wait.
+    /// Takes all buffered bytes.
     pub fn take_all(&mut self)
         ensures { self.new ≡ record self.old { waiting = [] } }
     {

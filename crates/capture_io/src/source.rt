@@ -1,4 +1,4 @@
-//! A capture that is read record by record.
+//! Reads a capture record by record.
 
 ghost use Rattle.std.specs.Prelude.{◌≤◌, ◌^◌, IsSome};
 ghost use Rattle.capture_io.specs.Reader.{IsView};
@@ -16,15 +16,15 @@ use pcap_frames::RecordView;
 use std::alloc::Global;
 use std::marker::Model;
 
-/// A capture that is read from a shelf, and gives its records one after the other. It takes at most 65,536 bytes in a call of
-/// the shelf. Its memory is reserved when it is opened, and does not grow with the capture.
+/// A capture that is read from a shelf, and delivers its records one after the other. Each call of the shelf reads at
+/// most 65,536 bytes. The memory of a source is reserved when it is opened, and does not grow with the capture.
 ///
-/// A record that is complete in the piece that was read is lent from there; only one that is cut is copied. Contracts see a
-/// lent record as held, and its bytes as taken, until the next one is asked for.
+/// If a record is complete in the piece that was read, it is lent from there. A record that is cut between pieces is
+/// copied. Contracts see a lent record as held, and its bytes as taken, until the next record is asked for.
 #[derive(Drop)]
 pub struct Source {
     feed: Feed,
-    /// The size of the record that is held, if it is lent: it is at the front of the bytes that wait.
+    /// The size of the held record, if it is lent: its bytes are the first buffered ones.
     lent: Option<usize>,
 }
 
@@ -42,9 +42,9 @@ impl Model for Source {
 impl Source {
     /// Opens a capture of which at most `limit` bytes may be read; `limit` is at most 2^62. No record is held yet.
     ///
-    /// Returns `Missing` only if the shelf shows its files and none has the name, `Failed` only if the reading count rose, and
-    /// `Memory` if memory ran out; after each of them the file is not open. The name is asked for before memory is reserved, so
-    /// exactly this name was asked for, whatever the result.
+    /// `Missing` is returned only if the shelf shows its files and none has the name. At `Failed` the reading count
+    /// rose. `Memory` means that memory ran out. After each of these errors the file is not open. The name is asked for
+    /// before memory is reserved, so exactly this name was asked for, whatever the result.
     pub fn open<F: Shelf>(
         alloc: Global,
         limit: u64,
@@ -67,8 +67,8 @@ impl Source {
         Ok(Source { feed, lent: None })
     }
 
-    /// Drops the record that is held, and reads on to the next. At `None` one is held now; otherwise returns how the reading
-    /// ended. Once it has ended, each further call returns that end again and reads nothing.
+    /// Drops the held record, and reads on to the next. At `None` the next record is held now; otherwise the result is
+    /// how the reading ended. Once it has ended, each further call returns the same end and reads nothing.
     #[inline(always)]
     pub fn next<F: Shelf>(&mut self, shelf: &mut F) -> Option<End>
         requires { IsSome ((F.state shelf.old).slots (slot_of self.old)) }
@@ -82,8 +82,9 @@ impl Source {
         self.feed.next(shelf)
     }
 
-    /// Drops the record that is held, and goes on to the next if that is complete in the bytes that were read. Returns whether
-    /// it is. If not, `next` reads from the file, and may wait for the program that writes it.
+    /// Drops the held record. If the next record is complete in the bytes that were read, goes on to it and returns
+    /// `true`. Otherwise returns `false`: `next` will then read from the file, and may wait for the program that writes
+    /// the file.
     #[inline(always)]
     pub fn advance(&mut self) -> bool
         ensures { Advances self.old self.new result }
@@ -93,14 +94,15 @@ impl Source {
         self.lent.is_some()
     }
 
-    /// Whether `next` will read from the file, judged by the bytes that were read. It may then wait for the program that writes
-    /// the file, so a caller prints first what is known so far. This is a hint: no clause says anything of it.
+    /// Whether `next` will read from the file, judging by the bytes that were read. It may then wait for the program
+    /// that writes the file, so a caller should first print what is known so far. This is a hint: no clause states
+    /// anything about it.
     #[inline(always)]
     pub fn must_read(&self) -> bool {
         self.feed.must_read(self.lent.unwrap_or(0))
     }
 
-    /// The record that is held.
+    /// The held record.
     #[inline(always)]
     pub fn record(&self) -> RecordView<'_>
         requires { IsSome (held_in self.now) }
@@ -115,7 +117,7 @@ impl Source {
         }
     }
 
-    /// Closes the file, however far it was read.
+    /// Closes the file, however much of it was read.
     pub fn close<F: Shelf>(self, shelf: &mut F)
         requires { IsSome ((F.state shelf.old).slots (slot_of self)) }
         ensures { ClosesSlot (F.state shelf.old) (F.state shelf.new) (slot_of self) }
@@ -124,7 +126,7 @@ impl Source {
     }
 }
 
-/// Releases the record that is lent, or else the one that is held, if there is one.
+/// Releases the lent record, or else the held one, if any.
 #[inline(always)]
 fn give_up(feed: &mut Feed, lent: Option<usize>)
     requires { IsLending lent feed.old }

@@ -13,22 +13,23 @@ use Rattle.capture_io.specs.Ends.{CountsStop}
 use Rattle.capture_io.specs.Reads.{ReadsSlot, TriesOpen}
 use Rattle.capture_io.specs.Pieces.{Piecing, HasTaken}
 
--- how a file that is open on a shelf is read in pieces
+-- `prefix` was taken from the front of a file that is open on the shelf
 abbrev pub HasTakenOf : ℕ → List ℕ → ShelfState → Piecing → List ℕ → Type 0
 HasTakenOf limit bytes shelf pieces prefix = HasTaken limit bytes (left_in shelf.slots pieces.slot) pieces prefix
 
--- the file is open, and nothing waits
+-- the file is open, and no byte is buffered
 abbrev pub IsDrained : Slots → Piecing → Type 0
 IsDrained slots pieces = IsSome (slots pieces.slot) × (pieces.waiting ≡ [])
 
--- A file with this name was opened, of which at most `limit` bytes may be read, and none was read so far; or it was not opened.
+-- The file `name` was opened, at most `limit` of its bytes may be read, and none was read yet. Or it was not opened.
 pub record OpensPieces (before after : ShelfState) (limit : ℕ) (name : List ℕ) (result : Result Piecing OpenFault) : Type 0 where
   pub begun : IfOk result (λ pieces. (files : Files) → before.files ≡ Some files → (bytes : List ℕ) × (files name ≡ Some bytes) × HasTakenOf limit bytes after pieces [])
   pub nothing : IfOk result (λ pieces. (pieces.waiting ≡ []) × (pieces.left ≡ limit))
   pub tries : TriesOpen (λ (pieces : Piecing). pieces.slot) before after name result
 
--- A read when nothing waited. Then some bytes wait, at most as many as might be read; or the reading stopped, and what was
--- taken is all that was read. The count of reading faults rose if a fault stopped it, and is otherwise unchanged.
+-- A read that began with an empty buffer. At `None` some bytes are buffered now, at most `old.left` of them. Otherwise
+-- the reading stopped, and the bytes taken are all bytes that were read. If a fault stopped it, the count of reading
+-- faults rose; otherwise the count is unchanged.
 pub record ReadsPiece (before after : ShelfState) (old new : Piecing) (result : Option Stop) : Type 0 where
   pub more : result ≡ None → (limit : ℕ) (bytes prefix : List ℕ) → HasTakenOf limit bytes before old prefix → HasTakenOf limit bytes after new prefix
   pub stopped : IfSome result (λ stop. (limit : ℕ) (bytes prefix : List ℕ) → HasTakenOf limit bytes before old prefix → IsContents limit bytes stop prefix)
@@ -38,7 +39,7 @@ pub record ReadsPiece (before after : ShelfState) (old new : Piecing) (result : 
   pub counted : CountsStop result before.reading_faults after.reading_faults
   pub reads : ReadsSlot before after old.slot new.slot
 
--- From a file of which nothing had been taken, all pieces were read up to its end, a fault or the limit, and joined.
+-- All pieces of a file of which nothing had been taken were read, up to its end, a fault or the limit, and were joined.
 pub record JoinsPieces (before after : ShelfState) (old new : Piecing) (result : Result Contents NoMemory) : Type 0 where
   pub read : IfOk result (λ contents. (limit : ℕ) (bytes : List ℕ) → HasTakenOf limit bytes before old [] → IsContents limit bytes contents.stop contents.bytes.items)
   pub bounded : IfOk result (λ contents. length contents.bytes.items ≤ old.left)

@@ -23,32 +23,32 @@ taken_by (Some format) r = (progress_by format r.classic r.ng).taken
 abbrev pub taken : CaptureReading → ℕ
 taken r = taken_by r.format r
 
--- how far the reader is
+-- the state of the reader, as contracts see it
 abbrev pub progress : CaptureReading → Progress
 progress r = record { has_read = HasRead r; held = held r; taken = taken r; refusal = refusal_of r }
 
--- before the layout is known, fewer than four bytes came, and they are held back; the reader of a layout that the capture does
--- not have has taken nothing
+-- Before the layout is known, the reader holds back fewer than four bytes. The reader of a layout that the capture does
+-- not have has taken nothing.
 abbrev pub IsFront : Option Format → List ℕ → classic.Reading → ng.Reading → Type 0
 IsFront None front c n = (length front < 4) × (c ≡ classic.nothing_read) × (n ≡ ng.nothing_read)
 IsFront (Some Classic) front c n = n ≡ ng.nothing_read
 IsFront (Some Pcapng) front c n = c ≡ classic.nothing_read
 
--- the reader of the other layout was not changed
+-- the reader of the layout that is not `Format` was not changed
 abbrev pub KeepsOther : Format → classic.Reading → classic.Reading → ng.Reading → ng.Reading → Type 0
 KeepsOther Classic c c' n n' = n' ≡ n
 KeepsOther Pcapng c c' n n' = c' ≡ c
 
--- after what the reader had read before, it has now read these bytes, and released no record
+-- the reader has taken the further bytes `more`, and released no record
 abbrev pub GoesOn : CaptureReading → List ℕ → CaptureReading → Type 0
 GoesOn old more new = readers.GoesOn (progress old) more (progress new)
 
--- the bytes are refused here, after these records, whatever bytes follow
+-- the bytes show this refusal, after these records, whatever bytes follow
 abbrev pub RefusedAfter : List ℕ → List Record → Refusal → Type 0
 RefusedAfter bytes records refusal = IsRefusedAfter meaning bytes records refusal
 
--- What feeding does with a piece: it takes bytes from its front, at least one if there is one and no record is held, and
--- continues; or all bytes, including the piece, are refused.
+-- What feeding a piece does. If the bytes so far show a refusal, it is returned. Otherwise the reader takes bytes from
+-- the front of the piece: at least one, unless the piece is empty or a record is held.
 pub record Feeds (old : CaptureReading) (piece : List ℕ) (result : Result ℕ Refusal) (new : CaptureReading) : Type 0 where
   pub within : IfOk result (λ n. n ≤ length piece)
   pub some : IfOk result (λ n. 0 < length piece → held old ≡ None → 0 < n)
@@ -62,14 +62,14 @@ pub record Feeds (old : CaptureReading) (piece : List ℕ) (result : Result ℕ 
 abbrev pub Releases : CaptureReading → CaptureReading → Type 0
 Releases old new = readers.Releases (progress old) (progress new)
 
--- If the capture ends with the bytes so far, these are all of its records, and this is its first refusal.
+-- If the capture ends after these bytes, it has the released records and the held one, and this first refusal.
 pub record EndsHere (r : CaptureReading) (bytes : List ℕ) (records : List Record) (refusal : Option Refusal) : Type 0 where
   pub all : records_in bytes ≡ records ++ option_to_list (held r)
   pub first : refusal ≡ refusal_in bytes
 
 -- ---- a record that is lent
 
--- the reader after it took the bytes of the next record, which it holds
+-- the reader after it took these bytes, which are the next record, and which it then holds
 abbrev pub with_by : Option Format → CaptureReading → List ℕ → CaptureReading
 with_by None r bytes = r
 with_by (Some Classic) r bytes = record r { classic = classic.with_part r.classic bytes }
@@ -78,7 +78,7 @@ with_by (Some Pcapng) r bytes = record r { ng = ng.with_block r.ng bytes }
 abbrev pub with_record : CaptureReading → List ℕ → CaptureReading
 with_record r bytes = with_by r.format r bytes
 
--- these bytes are the next whole record, or its whole block, and nothing of it was taken yet
+-- these bytes are the next whole record or its whole block, and none of them was taken yet
 abbrev pub IsNextBy : Option Format → CaptureReading → List ℕ → Type 0
 IsNextBy None r bytes = ⊥
 IsNextBy (Some Classic) r bytes = classic.IsNext r.classic bytes
@@ -87,7 +87,7 @@ IsNextBy (Some Pcapng) r bytes = ng.IsNext r.ng bytes
 abbrev pub IsNext : CaptureReading → List ℕ → Type 0
 IsNext r bytes = IsNextBy r.format r bytes
 
--- If the next record is complete at the front of the piece, this is its size.
+-- The result is the size of the next record if the front of the piece has all of it, and `None` otherwise.
 pub record FindsNext (r : CaptureReading) (piece : List ℕ) (result : Option ℕ) : Type 0 where
   pub within : IfSome result (λ size. size ≤ length piece)
   pub next : IfSome result (λ size. IsNext r (take size piece))

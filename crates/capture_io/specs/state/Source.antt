@@ -12,13 +12,13 @@ use Rattle.capture_io.specs.state.Reader.{IsNext, Releases, with_record}
 use Rattle.capture_io.specs.Reads.{ReadsSlot}
 use Rattle.capture_io.specs.Source.{Sourcing, slot_of, remains_of, held_in, HasFed, EndsAfter, to_do}
 
--- what a source has given from a file that is open on a shelf
+-- the reader has taken a prefix of a file that is open on the shelf, and has released these records
 abbrev pub HasFedOf : ℕ → List ℕ → ShelfState → Sourcing → List Record → Type 0
 HasFedOf limit bytes shelf source records = HasFed limit bytes (remains_of shelf source) source records
 
--- The state after a call that read more, or took bytes that wait. If the reading continues, no further record was given, and
--- less work is left. If the reading ended, it ended in this way after the records that were given. The count of reading faults
--- rose if a fault ended it, and is otherwise unchanged.
+-- The state after a call that read a piece or took buffered bytes. If the reading continues, no further record was
+-- released, and less work is left. If the reading ended, it ended at the end in `result`, after the released records.
+-- If a fault ended it, the count of reading faults rose; otherwise the count is unchanged.
 pub record ReadsOn (before after : ShelfState) (old new : Sourcing) (result : Option End) : Type 0 where
   pub more : result ≡ None → (limit : ℕ) (bytes : List ℕ) (records : List Record) → HasFedOf limit bytes before old records → HasFedOf limit bytes after new records
   pub ends : IfSome result (λ how. (limit : ℕ) (bytes : List ℕ) (records : List Record) → HasFedOf limit bytes before old records → EndsAfter limit bytes (Rose before.reading_faults after.reading_faults) how records)
@@ -26,7 +26,7 @@ pub record ReadsOn (before after : ShelfState) (old new : Sourcing) (result : Op
   pub counted : CountsFault None result before.reading_faults after.reading_faults
   pub reads : ReadsSlot before after (slot_of old) (slot_of new)
 
--- The source read on until a record is held, or the reading ended.
+-- The source read on until it held a record, or the reading ended.
 pub record ReadsRecord (before after : ShelfState) (old new : Sourcing) (result : Option End) : Type 0 where
   pub on : ReadsOn before after old new result
   pub held : result ≡ None → IsSome (held_in new)
@@ -37,22 +37,22 @@ IsReady slots source = IsSome (slots (slot_of source)) × (held_in source ≡ No
 
 -- ---- a record that is lent
 
--- the source after its reader took the first `count` of the bytes that wait
+-- the source after its reader took the first `size` buffered bytes
 abbrev pub holding : Sourcing → ℕ → Sourcing
 holding source size = record source { pieces = record source.pieces { waiting = drop size source.pieces.waiting }; reader = with_record source.reader (take size source.pieces.waiting) }
 
--- The reading has not ended, and the first `size` bytes that wait are the next record.
+-- The reading has not ended, and the first `size` buffered bytes are the next record.
 pub record LiesAhead (source : Sourcing) (size : ℕ) : Type 0 where
   pub going : source.ended ≡ None
   pub within : size ≤ length source.pieces.waiting
   pub next : IsNext source.reader (take size source.pieces.waiting)
 
--- If the next record is complete at the front of the bytes that wait, this is its size.
+-- The result is the size of the next record if the front of the buffered bytes has all of it, and `None` otherwise.
 pub record FindsAhead (source : Sourcing) (result : Option ℕ) : Type 0 where
   pub ahead : IfSome result (λ size. LiesAhead source size)
   pub none : result ≡ None → (size : ℕ) → LiesAhead source size → ⊥
 
--- what contracts see of a source that lends the record in the first bytes that wait, or lends none
+-- What contracts see of a source that lends the record in the first `size` buffered bytes; at `None` it lends none.
 abbrev pub lending : Option ℕ → Sourcing → Sourcing
 lending None source = source
 lending (Some size) source = holding source size
@@ -61,7 +61,7 @@ abbrev pub IsLending : Option ℕ → Sourcing → Type 0
 IsLending None source = ⊤
 IsLending (Some size) source = LiesAhead source size
 
--- The record that was held was released, and nothing else was done.
+-- The held record was released, and nothing else was done.
 pub record GivesUp (old new : Sourcing) : Type 0 where
   pub pieces : new.pieces ≡ old.pieces
   pub reader : Releases old.reader new.reader
