@@ -7,7 +7,7 @@ use Rattle.std.specs.Prelude.{bit_and}
 use Rattle.byteorder.specs.Endian.{big_from}
 use Rattle.avtp_base.specs.Octets.{AreBytes, bits, flag, is_set}
 
--- a number in a list without its first bytes is the number that much further on in the whole list
+-- the number at index `i` after dropping `at` bytes is the number at index `at + i`
 pub big_from-drop : (i n at : ℕ) (xs : List ℕ) → big_from i n (drop at xs) ≡ big_from (at + i) n xs
 big_from-drop i zero at xs = refl
 big_from-drop i (suc n) at xs =
@@ -21,7 +21,7 @@ number-rest n at xs =
     let e : at + 0 ≡ at = omega arith in
     rw (take_rest xs at, big_from-drop 0 n at xs, e) refl
 
--- the shift and the mask of the code take the bits out of a byte
+-- the code's shift and mask extract `width` bits of the byte, from bit `first` on
 pub masked : (b first width : ℕ) → width ≤ 8
     → bit_and (b / 2 ^ (8 - first - width)) (255 / 2 ^ (8 - width)) ≡ b / 2 ^ (8 - first - width) % 2 ^ width
 masked b first width h =
@@ -54,7 +54,7 @@ pub bits-below : (at first width : ℕ) (xs : List ℕ) → bits at first width 
 unfolding bits
 bits-below at first width xs = mod_below (big_from at ((first + width + 7) / 8) xs / 2 ^ (8 * ((first + width + 7) / 8) - (first + width))) (2 ^ width) (pow_pos width)
 
--- a flag is set exactly if its number is 1
+-- a flag is true exactly if its number is 1
 pub bit_of_flag : (n : ℕ) (b : Bool) → n ≡ flag b → eqb n 1 ≡ b
 bit_of_flag n true e = rw e refl
 bit_of_flag n false e = rw e refl

@@ -1,18 +1,17 @@
--- A list whose front is overwritten.
+-- A list whose first items are overwritten.
 use Rattle.std.proofs.Common.{◌≡◌, ◌+◌, ◌-◌, ◌≤◌, ◌<◌, ◌++◌, ◌⊎◌, inl, inr, length, take, drop, ℕ, List, sym, ap, subst, ◌∙◌, arith, length-append, length-drop}
 use Rattle.std.proofs.lemmas.Bool.{cases_lt}
 use Rattle.std.proofs.lemmas.List.{drop-take, length-take-le, take-take, take-append-le}
 use Rattle.std.proofs.Math.Seq.{take-append-add}
 use Rattle.std.specs.List.{refill}
 
--- if w is shorter than the front, the front keeps what is after w
+-- If w has at most n items, the first n items of a list overwritten with w depend only on the list's first n items.
 rest_stays : (k : ℕ) (xs w : List ℕ) → take (length w + k) (w ++ drop (length w) xs) ≡ take (length w + k) (w ++ drop (length w) (take (length w + k) xs))
 rest_stays k xs w =
     take-append-add w (drop (length w) xs) k
     ∙ ap (λ (x : List ℕ). w ++ x) (sym (ap (take k) (drop-take (length w) k xs) ∙ take-take k k (drop (length w) xs) (omega arith)))
     ∙ sym (take-append-add w (drop (length w) (take (length w + k) xs)) k)
 
--- if w is at least as long as the front, the front keeps nothing
 none_stays : (n : ℕ) (xs w : List ℕ) → n ≤ length w → take n (w ++ drop (length w) xs) ≡ take n (w ++ drop (length w) (take n xs))
 none_stays n xs w le = take-append-le n w (drop (length w) xs) le ∙ sym (take-append-le n w (drop (length w) (take n xs)) le)
 
@@ -22,7 +21,7 @@ front_left n xs w (inl lt) =
     let sum : length w + (n - length w) ≡ n = omega arith in
     subst (λ (m : ℕ). take m (w ++ drop (length w) xs) ≡ take m (w ++ drop (length w) (take m xs))) sum (rest_stays (n - length w) xs w)
 
--- if a list is overwritten with w, its front is the old front, overwritten with w
+-- if a list is overwritten with w, its first n items are the old first n items, overwritten with w
 pub refill_front : (n m : ℕ) (xs w : List ℕ) → n ≤ m → n ≤ length xs
     → take n (refill m xs (w ++ drop (length w) xs)) ≡ refill (length (take n xs)) (take n xs) w
 refill_front n m xs w within le =

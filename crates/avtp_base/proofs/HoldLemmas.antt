@@ -15,7 +15,7 @@ unset-split (x ∷ xs) ys bytes e =
 
 -- ---- from what a reader sees to what a writer puts
 
--- each bit is reserved, or a view shows what it holds
+-- each bit is reserved, or a view shows its value
 abbrev pub bits_told : {V : Type 0} → List (Bits V) → Bool
 bits_told [] = true
 bits_told (b ∷ bs) = cond b.free true (is_some b.shown) && bits_told bs
@@ -41,7 +41,7 @@ held_bits (b ∷ bs) v at first bytes told spells unset =
     let here = held_bit b.free b.shown v at first b.width (free_ranges at (first + b.width) bs) bytes parts.0 spells.0 unset in
     (here.0, held_bits bs v at (first + b.width) bytes parts.1 spells.1 here.1)
 
--- bytes that spell a view, and have no reserved bit set, hold what a writer puts into the header
+-- If bytes spell a view and have no reserved bit set, they hold what a writer puts into the header.
 pub spelled_holds : {V : Type 0} (layout : Layout V) (v : V) (bytes : List ℕ) → is_told layout ≡ true
     → Spells layout v bytes → any_set (reserved_ranges layout) bytes ≡ false → Holds layout v bytes
 spelled_holds [] v bytes told spells unset = tt
@@ -52,7 +52,7 @@ spelled_holds (p ∷ parts) v bytes told spells unset =
 
 -- ---- from what a writer puts to what a reader sees
 
--- reserved bits that a view shows are 0 in it
+-- each reserved bit that a view shows is 0 in this view
 abbrev pub bits_plain : {V : Type 0} → List (Bits V) → V → Bool
 bits_plain [] v = true
 bits_plain (b ∷ bs) v = cond b.free (eqb (value_of b.shown v) 0) true && bits_plain bs v
@@ -72,7 +72,7 @@ shown_bits (b ∷ bs) v at first bytes plain holds =
     let parts = and_parts (cond b.free (eqb (value_of b.shown v) 0) true) (bits_plain bs v) plain in
     (shown_bit b.free b.shown v (bits at first b.width bytes) parts.0 holds.0, shown_bits bs v at (first + b.width) bytes parts.1 holds.1)
 
--- bytes that hold what a writer puts into the header spell a view in which reserved bits are 0
+-- if bytes hold what a writer puts into the header, they spell a view in which reserved bits are 0
 pub held_spells : {V : Type 0} (layout : Layout V) (v : V) (bytes : List ℕ) → is_plain layout v ≡ true → Holds layout v bytes → Spells layout v bytes
 held_spells [] v bytes plain holds = tt
 held_spells (p ∷ parts) v bytes plain holds =

@@ -13,7 +13,7 @@ use Rattle.avtp_base.proofs.BitLemmas.{big_from-drop}
 
 -- ---- numbers of several bytes
 
--- the n items from place `at` on are bytes
+-- the n items from index `at` on are bytes
 abbrev pub AreBytesAt : ℕ → ℕ → List ℕ → Type 0
 AreBytesAt at n xs = (i : ℕ) → i < n → get_or xs (at + i) 0 < 256
 
@@ -42,7 +42,7 @@ number-split (suc s) m at xs =
     let rest = number-split s m (suc at) xs in
     rw (more, rest, place, power) (regroup (get_or xs at 0) (256 ^ s) (256 ^ m) (big_from (suc at) s xs) (big_from (suc at + s) m xs))
 
--- bits in the first s bytes have the same value there as in s + m bytes
+-- cutting bits out of the first s bytes gives the same value as cutting them out of all s + m bytes
 shifted : (s m k whole front rest : ℕ) → whole ≡ front * 256 ^ m + rest → rest < 256 ^ m → k ≤ 8 * s
     → front / 2 ^ (8 * s - k) ≡ whole / 2 ^ (8 * (s + m) - k)
 shifted s m k whole front rest e below within =
@@ -50,7 +50,7 @@ shifted s m k whole front rest e below within =
     let places : 8 * (s + m) - k ≡ 8 * m + (8 * s - k) = omega arith in
     rw (places, ← shr-shr whole (8 * m) (8 * s - k), high) refl
 
--- bits may be cut out of the number of any bytes that hold them
+-- if the n bytes from `at` on contain some bits, the bits may be cut out of the number of these bytes
 pub bits-wide : (n at first width : ℕ) (xs : List ℕ) → AreBytesAt at n xs → first + width ≤ 8 * n
     → bits at first width xs ≡ big_from at n xs / 2 ^ (8 * n - (first + width)) % 2 ^ width
 unfolding bits
@@ -65,7 +65,7 @@ bits-wide n at first width xs fits within =
 
 -- ---- numbers that adjacent fields spell
 
--- the bits before these fields hold n
+-- the highest bits of the packed number, before these fields, are n
 packed_front : {V : Type 0} (bs : List (Bits V)) (v : V) (n : ℕ) → FitsBits bs v → packed_behind n bs v / 2 ^ total_width bs ≡ n
 packed_front [] v n fits = div-one n
 packed_front (b ∷ bs) v n fits =
@@ -97,7 +97,7 @@ packed_is (b ∷ bs) v =
     let e : 0 * 2 ^ b.width + written b v ≡ written b v = omega arith in
     rw e refl
 
--- if each field fits its bits, the number that the fields give together fits their bytes
+-- if each field fits its bits, the packed number fits the bytes of the part
 packed_whole : {V : Type 0} (bs : List (Bits V)) (v : V) (size : ℕ) → total_width bs ≡ 8 * size → FitsBits bs v
     → packed bs v % 256 ^ size ≡ packed bs v
 packed_whole bs v size whole fits =
@@ -137,7 +137,7 @@ number_at front rest n x =
 
 -- ---- whole headers
 
--- the parts are one after the other from byte `at` on, in whole bytes
+-- each part fills whole bytes, and the parts follow each other from byte `at` on
 abbrev pub IsLaid : {V : Type 0} → ℕ → Layout V → Type 0
 IsLaid at [] = Unit {0}
 IsLaid at (p ∷ parts) = (p.at ≡ at) × (total_width p.bits ≡ 8 * size_of p) × IsLaid (at + size_of p) parts

@@ -14,7 +14,7 @@ use Rattle.avtp_base.specs.Layout.{Bits, Layout, FitsBits, Fits, total_width, si
 use Rattle.avtp_base.proofs.BitLemmas.{bits-below}
 use Rattle.avtp_base.proofs.LayoutLemmas.{AreBytesAt, Holds, HoldsBits, IsLaid, bits-wide, bytes-below, holds_spelled, number-below, packed_is}
 
--- ---- a number by the bits that it is made of
+-- ---- a number and its bits
 
 packed_from_bits : {V : Type 0} (bs : List (Bits V)) (v : V) (size at first : ℕ) (xs : List ℕ) → AreBytesAt at size xs
     → first + total_width bs ≡ 8 * size → HoldsBits at first bs v xs
@@ -40,14 +40,13 @@ number_of_part bs v size at xs bytes whole h =
     let none : big_from at size xs / 2 ^ (8 * size - 0) ≡ 0 = rw (places, ← pow256 size) (div-eq_of_lt below) in
     packed_is bs v ∙ sym (ap (λ (n : ℕ). packed_behind n bs v) none) ∙ packed_from_bits bs v size at 0 xs bytes (omega arith) h
 
--- if suc n items are bytes, so are the n after the first
 bytes_behind : (n at : ℕ) (xs : List ℕ) → AreBytesAt at (suc n) xs → AreBytesAt (suc at) n xs
 bytes_behind n at xs bytes i lt =
     let h = bytes (suc i) (omega arith) in
     let e : at + suc i ≡ suc at + i = omega arith in
     rw e at h
 
--- bytes that spell one number are equal
+-- if n bytes give the same number in two lists, these bytes are the same in the two lists
 same_bytes : (n at : ℕ) (xs ys : List ℕ) → AreBytesAt at n xs → AreBytesAt at n ys → big_from at n xs ≡ big_from at n ys
     → (k : ℕ) → k < n → get_or xs (at + k) 0 ≡ get_or ys (at + k) 0
 same_bytes zero at xs ys p q e k lt = absurd (omega arith)
@@ -64,7 +63,7 @@ same_bytes (suc n) at xs ys p q e (suc k) lt =
 
 -- ---- whole headers
 
--- the size in bytes of a header
+-- the size of a header in bytes
 abbrev pub layout_size : {V : Type 0} → Layout V → ℕ
 layout_size [] = 0
 layout_size (p ∷ parts) = size_of p + layout_size parts
@@ -89,7 +88,7 @@ same_parts (part ∷ parts) v at xs ys laid p q h g k low high =
       | inr behind ↦ same_parts parts v (at + n) xs ys laid.2 p q h.1 g.1 k behind (omega arith)
     ]
 
--- the value that some bits hold fits them
+-- if bits hold what a writer puts there, each value fits its bits
 holds_fit_bits : {V : Type 0} (bs : List (Bits V)) (v : V) (at first : ℕ) (bytes : List ℕ) → HoldsBits at first bs v bytes → FitsBits bs v
 holds_fit_bits [] v at first bytes h = tt
 holds_fit_bits (b ∷ bs) v at first bytes h =
@@ -122,7 +121,8 @@ length-spelling (p ∷ parts) v =
     let here : List ℕ = big_bytes (size_of p) (packed p.bits v) in
     omega (arith, length-append here (spelling parts v), length-bytes_high_first (size_of p) (packed p.bits v), length-spelling parts v)
 
--- bytes that hold what a writer puts into a header are the bytes that it writes, followed by the rest
+-- If bytes hold what a writer puts into a header, they are the bytes that it writes, followed by the bytes after the
+-- header.
 pub only_spelling : {V : Type 0} (layout : Layout V) (v : V) (bytes : List ℕ) (size : ℕ) → IsLaid 0 layout → layout_size layout ≡ size
     → AreBytes bytes → size ≤ length bytes → Holds layout v bytes → bytes ≡ spelling layout v ++ drop size bytes
 only_spelling layout v bytes size laid len fits long h =

@@ -34,7 +34,7 @@ passed_rows (r ∷ rows) none = rw (none.0) (passed_rows rows none.1)
 pub not_other : (n m : ℕ) → not (eqb n m) ≡ false → n ≡ m
 not_other n m e = eqb-true n m (not-false (eqb n m) e)
 
--- ---- what a reader's result says of the views that bytes spell
+-- ---- a reader's result and the views that the bytes spell
 
 pub spelled_once : {V : Type 0} (refusal : Option Refusal) (Spelled : V → Type 0) (view : V)
     → (refusal ≡ None → Spelled view) → ((w : V) → Spelled w → refusal ≡ None) → ((w : V) → Spelled w → w ≡ view)
@@ -52,7 +52,7 @@ pub read_only : {X V : Type 0} (shape : X → V) (refusal : Option Refusal) (vie
 read_only shape refusal view w (Ok x) reads accepted is = reads.1 ∙ sym is
 read_only shape refusal view w (Err e) reads accepted is = let refused = reads in absurd cc
 
--- a fact about a spelling holds for the bytes that were written
+-- what holds of the spelling holds of the bytes that were written
 pub written_so : (spelling old new : List ℕ) (Again : List ℕ → Type 0) (r : Result ℕ Room)
     → Writes spelling old new r → Again spelling → IfOk r (λ n. Again (take n new))
 written_so spelling old new Again (Ok n) writes again =

@@ -1,4 +1,4 @@
--- What two successive calls do to the bytes that are shown, and to a buffer before them.
+-- What two successive calls do to the bytes that an object shows, and to a buffer of bytes that follow them.
 use Rattle.std.proofs.Common.{◌≡◌, ℕ, List, [], ◌++◌, Option, None, Some, refl, sym, ap, ◌∙◌, append_assoc, append-nil}
 use Rattle.avtp_base.specs.Told.{Keeps, Appends, append_known}
 
@@ -18,7 +18,7 @@ Appends-trans (Some x) b None bs cs p q = tt
 Appends-trans (Some x) None (Some z) bs cs p q = absurd q
 Appends-trans (Some x) (Some y) (Some z) bs cs p q = q ∙ ap (λ l. l ++ cs) p ∙ append_assoc x bs cs
 
--- bytes were appended, and then all bytes were kept
+-- appending bytes and then keeping all bytes appends those bytes
 pub Appends-kept : (a b c : Option (List ℕ)) (bs : List ℕ) → Appends a b bs → Keeps b c → Appends a c bs
 Appends-kept None None None bs p q = tt
 Appends-kept None None (Some z) bs p q = absurd q
@@ -27,7 +27,7 @@ Appends-kept (Some x) b None bs p q = tt
 Appends-kept (Some x) None (Some z) bs p q = absurd q
 Appends-kept (Some x) (Some y) (Some z) bs p q = q ∙ p
 
--- all bytes were kept, and then some were appended
+-- keeping all bytes and then appending some appends those bytes
 pub Keeps-appends : (a b c : Option (List ℕ)) (bs : List ℕ) → Keeps a b → Appends b c bs → Appends a c bs
 Keeps-appends None None None bs p q = tt
 Keeps-appends None None (Some z) bs p q = absurd q
@@ -40,9 +40,9 @@ Keeps-appends (Some x) (Some y) (Some z) bs p q = q ∙ ap (λ l. l ++ bs) p
 pub Keeps-none : (a b : Option (List ℕ)) → Keeps a b → Appends a b []
 Keeps-none a b p = Keeps-appends a b b [] p (Appends-nil b)
 
--- ---- a buffer after a writer's bytes
+-- ---- a buffer of bytes to be written
 
--- the writer took a prefix of the buffer
+-- writing a prefix of the buffer does not change the written bytes followed by the buffered ones
 pub append_known-moved : (a b : Option (List ℕ)) (front rest all : List ℕ) → Appends a b front → all ≡ front ++ rest → Keeps (append_known a all) (append_known b rest)
 append_known-moved None None front rest all p e = tt
 append_known-moved None (Some y) front rest all p e = absurd p

@@ -1,4 +1,4 @@
--- Counts of faults. An object of the outside counts the calls that failed; its count stops at the largest 64-bit
+-- Counts of faults. An object outside the program counts the calls that failed. Its count stops at the largest 64-bit
 -- number.
 use Rattle.std.specs.Prelude.{◌≡◌, ℕ, ◌+◌, ◌-◌, ◌^◌, ◌≤◌, ◌<◌, min, Result, OnOk, OnErr, IsErrOf}
 use Rattle.avtp_base.specs.declared.failed.Failed.{Failed}
@@ -9,23 +9,23 @@ use Rattle.avtp_base.specs.declared.failed.OpenFault.TheVariants as open_fault
 abbrev pub last_count : ℕ
 last_count = 2 ^ 64 - 1
 
--- the count of faults rose, or is at its last value
+-- the count of faults rose, or has reached its greatest value
 abbrev pub Rose : ℕ → ℕ → Type 0
 Rose before after = min (before + 1) last_count ≤ after
 
--- the count of faults did not rise, and is not at its last value
+-- the count of faults did not rise, and has not reached its greatest value
 abbrev pub IsQuiet : ℕ → ℕ → Type 0
 IsQuiet before after = after < min (before + 1) last_count
 
--- The count of faults before and after a call to the outside with this result: it never falls, is unchanged at `Ok`, and rose
--- at a failure.
+-- How a call with this result changes the count of faults. The count never falls. At `Ok` it is unchanged; at a failure
+-- it rose.
 pub record IsCounted {T : Type 0} (before after : ℕ) (result : Result T Failed) : Type 0 where
   pub never_falls : before ≤ after
   pub ok : OnOk result (after ≡ before)
   pub failed : OnErr result (Rose before after)
 
--- The count of faults before and after a call that opens or makes a file, with this result: it never falls, is unchanged at
--- `Ok`, and rose at `Failed`. A missing file and missing memory are not counted.
+-- How a call that opens or makes a file, with this result, changes the count of faults. The count never falls. At `Ok`
+-- it is unchanged; at `Failed` it rose. A missing file and missing memory are not counted.
 pub record IsOpenCounted {T : Type 0} (before after : ℕ) (result : Result T OpenFault) : Type 0 where
   pub never_falls : before ≤ after
   pub ok : OnOk result (after ≡ before)

@@ -1,13 +1,14 @@
--- What the calls of a shelf do to its files and to its open files, if the shelf shows them. A shelf may stop showing its files,
--- and then never shows them again; a statement about files holds if they are shown before and after. A name is a list of bytes.
+-- What the calls of a shelf do to its files and to its open files, if the shelf shows them. A shelf may stop showing
+-- its files, and then never shows them again. A statement about files holds if they are shown before and after. A name
+-- is a list of bytes.
 use Rattle.std.specs.Prelude.{◌≡◌, ◌≢◌, ℕ, Bool, true, false, List, ◌++◌, Option, Some, None, option_map, option_and_then, IsSome, IsSomeAnd, ⊤}
 
 -- files by name: the bytes of the file, or `None` if no file has the name
 abbrev pub Files : Type 0
 Files = List ℕ → Option (List ℕ)
 
--- An open file: whether it was made for writing, and, if the shelf shows them, its name and the bytes that are left to
--- read.
+-- An open file: whether it was made for writing, its name, and the bytes that are left to read. The name and the bytes
+-- are there only if the shelf shows them.
 pub record Open : Type 0 where
   pub made : Bool
   pub name : Option (List ℕ)
@@ -17,15 +18,15 @@ pub record Open : Type 0 where
 abbrev pub Slots : Type 0
 Slots = ℕ → Option Open
 
--- the part of an open file that does not change while its slot is live: whether the file was made for writing, and its name
+-- the part of an open file that does not change while its slot is live: whether it was made for writing, and its name
 abbrev pub file_of : Open → Bool × Option (List ℕ)
 file_of o = (o.made, o.name)
 
--- the name of the file that is open in slot k; `None` if the slot is not live or the name is not shown
+-- the name of the file that is open in slot k; `None` if the slot is not live or the shelf does not show the name
 abbrev pub name_in : Slots → ℕ → Option (List ℕ)
 name_in slots k = option_and_then (λ o. o.name) (slots k)
 
--- the bytes that are left to read of the file in slot k; `None` if the slot is not live or they are not shown
+-- the bytes that are left to read in slot k; `None` if the slot is not live or the shelf does not show them
 abbrev pub left_in : Slots → ℕ → Option (List ℕ)
 left_in slots k = option_and_then (λ o. o.left) (slots k)
 
@@ -34,14 +35,14 @@ abbrev pub IsMissing : Option Files → List ℕ → Type 0
 IsMissing None name = ⊥
 IsMissing (Some files) name = files name ≡ None
 
--- all files are unchanged, as far as the shelf shows them
+-- all files are unchanged, if the shelf shows them
 abbrev pub KeepsFiles : Option Files → Option Files → Type 0
 KeepsFiles None None = ⊤
 KeepsFiles None (Some new) = ⊥
 KeepsFiles (Some old) None = ⊤
 KeepsFiles (Some old) (Some new) = (name : List ℕ) → new name ≡ old name
 
--- the file with this name has these bytes now, and all other files are unchanged, as far as the shelf shows them
+-- If the shelf shows its files, the file with this name now has these bytes, and all other files are unchanged.
 abbrev pub PutsFile : Option Files → Option Files → List ℕ → List ℕ → Type 0
 PutsFile None None name bytes = ⊤
 PutsFile None (Some new) name bytes = ⊥
@@ -57,28 +58,30 @@ KeepsOthers old new k = (j : ℕ) → j ≢ k → new j ≡ old j
 abbrev pub KeepsSlots : Slots → Slots → Type 0
 KeepsSlots old new = (j : ℕ) → new j ≡ old j
 
--- the slot was opened for reading: if files are shown, one has this name, and all its bytes are left to read
+-- The slot was opened for reading. If the shelf shows its files, a file has this name, and all its bytes are left to
+-- read.
 abbrev pub IsOpened : Option Files → Option Open → List ℕ → Type 0
 IsOpened None slot name = IsSomeAnd slot (λ o. o.made ≡ false)
 IsOpened (Some files) slot name =
     (slot ≡ Some (record { made = false; name = Some name; left = files name })) × IsSome (files name)
 
--- the slot was made for writing, and has this name if files are shown
+-- The slot holds a file that was made for writing. If the shelf shows its files, that file has this name.
 abbrev pub IsMade : Option Files → Option Open → List ℕ → Type 0
 IsMade files slot name = IsSomeAnd slot (λ o. (o.made ≡ true) × (IsSome files → o.name ≡ Some name))
 
--- every slot stays live or free and keeps its file; what is left to read changes only in slots whose file has this name
+-- Every slot stays live or free and keeps its file. What is left to read changes only in slots of the file `name`.
 pub record KeepsOtherFiles (old new : Slots) (name : Option (List ℕ)) : Type 0 where
   pub same : (j : ℕ) → option_map file_of (new j) ≡ option_map file_of (old j)
   pub left : (j : ℕ) → name_in old j ≢ name → left_in new j ≡ left_in old j
 
--- every slot except slot k stays live or free and keeps its file; among these slots, what is left to read changes only if the
--- file has this name
+-- Every slot except slot k stays live or free and keeps its file. Among these slots, what is left to read changes only
+-- in those of the file `name`.
 pub record KeepsOthersFiles (old new : Slots) (k : ℕ) (name : List ℕ) : Type 0 where
   pub same : (j : ℕ) → j ≢ k → option_map file_of (new j) ≡ option_map file_of (old j)
   pub left : (j : ℕ) → j ≢ k → name_in old j ≢ Some name → left_in new j ≡ left_in old j
 
--- the file with this name gained these bytes at its end, and all other files are unchanged, as far as the shelf shows them
+-- If the shelf shows its files, these bytes were appended to the file with this name, and all other files are
+-- unchanged.
 abbrev pub AppendsTo : Option Files → Option Files → Option (List ℕ) → List ℕ → Type 0
 AppendsTo None None name bytes = ⊤
 AppendsTo None (Some new) name bytes = ⊥

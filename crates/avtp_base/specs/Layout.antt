@@ -1,5 +1,5 @@
--- Headers as tables: which value each bit belongs to, part by part, as the standards print it. One table is used for reading
--- and for writing.
+-- Headers as tables, as the standards print them: part by part, which value each bit belongs to. The same table is used
+-- for reading and for writing.
 use Rattle.std.specs.Prelude.{◌≡◌, ℕ, ◌+◌, ◌*◌, ◌/◌, ◌^◌, ◌<◌, Bool, true, false, nat_lt, if◌then◌else◌, List, [], ◌∷◌, map, Option, Some, None, ⊤}
 use Rattle.std.specs.List.{flat_map}
 use Rattle.byteorder.specs.Endian.{big_bytes}
@@ -8,14 +8,15 @@ use Rattle.avtp_base.specs.declared.refusal.Refusal.{Refusal}
 use Rattle.avtp_base.specs.Octets.{bits, Range, range}
 use Rattle.avtp_base.specs.Rows.{Row, first_row}
 
--- Adjacent bits of a header: their width; the value of a view of type V that they hold, if the view shows it; and whether they
--- are free (reserved), so that a packet may hold anything there and a writer writes 0.
+-- Adjacent bits of a header: their width; the value that they hold, if a view of type `V` shows it; and whether they
+-- are free (reserved). A packet may hold anything in free bits; a writer writes 0 there.
 pub record Bits (V : Type 0) : Type 0 where
   pub width : ℕ
   pub shown : Option (V → ℕ)
   pub free : Bool
 
--- Whole bytes of a header from byte `at` on, and the field that refuses a packet that ends before their end.
+-- Whole bytes of a header from byte `at` on, and the field that refuses a packet that ends before the last of these
+-- bytes.
 pub record Part (V : Type 0) : Type 0 where
   pub field : Field
   pub at : ℕ
@@ -25,7 +26,8 @@ pub record Part (V : Type 0) : Type 0 where
 abbrev pub Layout : Type 0 → Type 0
 Layout V = List (Part V)
 
--- the part of a table that has these bits from byte `at` on; this field refuses a packet that ends before their end
+-- The part of a table with these bits from byte `at` on. If a packet ends before the last of them, it is refused by
+-- this field.
 abbrev pub part : {V : Type 0} → Field → ℕ → List (Bits V) → Part V
 part field at bits = record { field = field; at = at; bits = bits }
 
@@ -37,29 +39,29 @@ holds width value = record { width = width; shown = Some value; free = false }
 abbrev pub reserved : {V : Type 0} → ℕ → Bits V
 reserved width = record { width = width; shown = None; free = true }
 
--- reserved bits of a header that a view shows nevertheless
+-- reserved bits of a header that a view nevertheless shows
 abbrev pub reserved_shown : {V : Type 0} → ℕ → (V → ℕ) → Bits V
 reserved_shown width value = record { width = width; shown = Some value; free = true }
 
 -- ---- what a table says of bytes
 
--- the number is the value that the view shows of these bits; if the view shows none, any number will do
+-- the number is the value that the view shows for these bits; if the view shows none, it is any number
 abbrev pub Shows : {V : Type 0} → Option (V → ℕ) → V → ℕ → Type 0
 Shows None v n = ⊤
 Shows (Some value) v n = n ≡ value v
 
--- in the bytes, these bits, from bit `first` of byte `at` on, hold what the view shows of them
+-- these bits, which begin at bit `first` of byte `at`, hold what the view shows for them
 abbrev pub SpellsBits : {V : Type 0} → ℕ → ℕ → List (Bits V) → V → List ℕ → Type 0
 SpellsBits at first [] v bytes = ⊤
 SpellsBits at first (b ∷ bs) v bytes =
     Shows b.shown v (bits at first b.width bytes) × SpellsBits at (first + b.width) bs v bytes
 
--- the bytes hold each value of the view in the bits that the table gives it
+-- each value that the view shows is in the bits to which the table assigns it
 abbrev pub Spells : {V : Type 0} → Layout V → V → List ℕ → Type 0
 Spells [] v bytes = ⊤
 Spells (p ∷ parts) v bytes = SpellsBits p.at 0 p.bits v bytes × Spells parts v bytes
 
--- the ranges of the reserved bits among these bits, which begin at bit `first` of byte `at`
+-- the ranges of the reserved bits in a list of bits that begins at bit `first` of byte `at`
 abbrev pub free_ranges : {V : Type 0} → ℕ → ℕ → List (Bits V) → List Range
 free_ranges at first [] = []
 free_ranges at first (b ∷ bs) =
@@ -80,42 +82,42 @@ total_width (b ∷ bs) = b.width + total_width bs
 abbrev pub size_of : {V : Type 0} → Part V → ℕ
 size_of p = total_width p.bits / 8
 
--- the row that refuses n bytes if this part of the header is cut off in them
+-- the row of the refusal table that holds if n bytes cut off this part of the header
 abbrev pub short_row : {V : Type 0} → ℕ → Part V → Row
 short_row n p =
     record { refusal = record { field = p.field; at = p.at; short = true }; holds = nat_lt n (p.at + size_of p) }
 
--- the refusal of n bytes by the first part of the header that is cut off in them, if there is one
+-- the refusal at the first part of the header that n bytes cut off, if any
 abbrev pub first_short : {V : Type 0} → Layout V → ℕ → Option Refusal
 first_short layout n = first_row (map (short_row n) layout)
 
 -- ---- what is written
 
--- the value that a view shows of some bits, and 0 if it shows none
+-- the value that a view shows for some bits; if it shows none, 0
 abbrev pub value_of : {V : Type 0} → Option (V → ℕ) → V → ℕ
 value_of None v = 0
 value_of (Some value) v = value v
 
--- what a writer puts into these bits: 0 if they are reserved, otherwise what the view shows
+-- what a writer puts into these bits: 0 if they are reserved, otherwise the value that the view shows
 abbrev pub written : {V : Type 0} → Bits V → V → ℕ
 written b v = if b.free then 0 else value_of b.shown v
 
--- each value that a writer puts into these bits fits their width
+-- each value that a writer puts into these bits fits its width
 abbrev pub FitsBits : {V : Type 0} → List (Bits V) → V → Type 0
 FitsBits [] v = ⊤
 FitsBits (b ∷ bs) v = (written b v < 2 ^ b.width) × FitsBits bs v
 
--- each value that a writer puts into the header fits the width of its bits
+-- each value that a writer puts into the header fits its width
 abbrev pub Fits : {V : Type 0} → Layout V → V → Type 0
 Fits [] v = ⊤
 Fits (p ∷ parts) v = FitsBits p.bits v × Fits parts v
 
--- the number whose highest bits are n, followed by the values that a writer puts into these bits
+-- the number whose highest bits are n, and whose other bits are the values that a writer puts into these bits
 abbrev pub packed_behind : {V : Type 0} → ℕ → List (Bits V) → V → ℕ
 packed_behind n [] v = n
 packed_behind n (b ∷ bs) v = packed_behind (n * 2 ^ b.width + written b v) bs v
 
--- the number that the values written to these bits give together, the first in the highest bits
+-- the number made of the values that a writer puts into these bits, with the first value highest
 abbrev pub packed : {V : Type 0} → List (Bits V) → V → ℕ
 packed [] v = 0
 packed (b ∷ bs) v = packed_behind (written b v) bs v

@@ -1,10 +1,10 @@
--- The bits of a packet. Bytes are counted from 0, and the bits of a byte from its highest, which is bit 0 and is
--- sent first.
+-- The bits of a packet. Bytes are numbered from 0. The bits of a byte are numbered from its highest bit, which is bit 0
+-- and is sent first.
 use Rattle.std.specs.Prelude.{ℕ, ◌+◌, ◌-◌, ◌*◌, ◌/◌, ◌%◌, ◌^◌, ◌<◌, ◌==◌, Bool, true, false, List, [], ◌∷◌, slice_index, if◌then◌else◌}
 use Rattle.byteorder.specs.Endian.{big_from}
 
--- The number in `width` bits from bit `first` of byte `at` on, the highest first: the bytes that hold any of the bits are read
--- as one big-endian number, and the bits are cut out of it.
+-- The number in `width` bits from bit `first` of byte `at` on, highest bit first. The bytes that contain these bits are
+-- read as one big-endian number, and the bits are cut out of it.
 unfoldable pub bits : ℕ → ℕ → ℕ → List ℕ → ℕ
 bits at first width bytes =
     let size = (first + width + 7) / 8 in
@@ -19,7 +19,7 @@ abbrev pub flag : Bool → ℕ
 flag true = 1
 flag false = 0
 
--- a range of bits: `width` of them from bit `first` of byte `at` on
+-- a range of `width` bits from bit `first` of byte `at` on
 pub record Range : Type 0 where
   pub at : ℕ
   pub first : ℕ
@@ -29,7 +29,7 @@ pub record Range : Type 0 where
 abbrev pub range : ℕ → ℕ → ℕ → Range
 range at first width = record { at = at; first = first; width = width }
 
--- a bit of one of the ranges is set in the bytes
+-- some bit of these ranges is set in the bytes
 abbrev pub any_set : List Range → List ℕ → Bool
 any_set [] bytes = false
 any_set (r ∷ ranges) bytes = if bits r.at r.first r.width bytes == 0 then any_set ranges bytes else true

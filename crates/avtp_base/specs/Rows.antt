@@ -1,4 +1,4 @@
--- How a format refuses bytes: by the first row of its table that holds.
+-- How a format refuses bytes: the first row of its table that holds gives the refusal.
 use Rattle.std.specs.Prelude.{◌≡◌, ℕ, ◌<◌, ◌≤◌, Bool, false, if◌then◌else◌, List, [], ◌∷◌, ◌++◌, length, drop, Option, Some, None, Result, Ok, Err}
 use Rattle.avtp_base.specs.declared.field.Field.{Field}
 use Rattle.avtp_base.specs.declared.refusal.Refusal.{Refusal}
@@ -9,11 +9,11 @@ pub record Row : Type 0 where
   pub refusal : Refusal
   pub holds : Bool
 
--- the row that refuses the field at byte `at` for its value, if `holds` is true
+-- if `holds` is true, this row refuses the field at byte `at` because of its value
 abbrev pub row : Field → ℕ → Bool → Row
 row field at holds = record { refusal = record { field = field; at = at; short = false }; holds = holds }
 
--- the refusal of the first row of a table that holds, if one does
+-- the refusal of the first row whose `holds` is true, if any
 abbrev pub first_row : List Row → Option Refusal
 first_row [] = None
 first_row (r ∷ rows) = if r.holds then Some r.refusal else first_row rows
@@ -23,20 +23,22 @@ abbrev pub or_else : Option Refusal → Option Refusal → Option Refusal
 or_else None second = second
 or_else (Some refusal) second = Some refusal
 
--- A reader's result: `Ok` with the view that the bytes spell if nothing refuses them, otherwise the refusal.
+-- A reader's result. If nothing refuses the bytes, it is `Ok` with the view that the bytes spell; otherwise it is the
+-- refusal.
 abbrev pub Reads : {X V : Type 0} → (X → V) → Option Refusal → V → Result X Refusal → Type 0
 Reads shape refusal view (Ok x) = (refusal ≡ None) × (shape x ≡ view)
 Reads shape refusal view (Err r) = refusal ≡ Some r
 
--- A writer's result. `Ok`: it put the spelling at the front of the slice, left the rest unchanged, and returned the spelling's
--- length. `Err`: the slice is too short and unchanged, and the result has the length that is needed and the slice's length.
+-- A writer's result. At `Ok` the writer put the spelling at the front of the slice, left all other bytes unchanged, and
+-- returned the spelling's length. At `Err` the slice is too short and is unchanged; the result has the length needed
+-- and the length of the slice.
 abbrev pub Writes : List ℕ → List ℕ → List ℕ → Result ℕ Room → Type 0
 Writes spelling old new (Ok n) =
     (n ≡ length spelling) × (length spelling ≤ length old) × (new ≡ spelling ++ drop (length spelling) old)
 Writes spelling old new (Err room) =
     (room ≡ record { need = length spelling; found = length old }) × (length old < length spelling) × (new ≡ old)
 
--- If nothing refuses the bytes, they spell one view and no other; if there is a refusal, they spell none.
+-- If nothing refuses the bytes, they spell exactly one view. If something refuses them, they spell none.
 abbrev pub IsSpelledOnce : {V : Type 0} → Option Refusal → (V → Type 0) → Type 0
 IsSpelledOnce {V} None Spelled = (v : V) × Spelled v × ((w : V) → Spelled w → w ≡ v)
 IsSpelledOnce {V} (Some refusal) Spelled = (w : V) → ¬ Spelled w

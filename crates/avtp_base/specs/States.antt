@@ -1,22 +1,22 @@
--- What contracts see of a shelf and of a sink at a moment.
+-- The states of shelves and sinks, as contracts see them.
 use Rattle.std.specs.Prelude.{◌≡◌, ℕ, ⊤, Bool, true, false, List, ◌++◌, Option, None, Some}
 use Rattle.avtp_base.specs.Files.{Files, Slots}
 
--- the names that a shelf was asked for, as far as it keeps them, and whether it keeps all of them
+-- the names that a shelf was asked for: those that it kept, and whether it kept all of them
 pub record Account : Type 0 where
   pub kept : List (List ℕ)
   pub all : Bool
 
 -- what contracts see of a shelf: its files, its open files, its counts of faults, and the names that it was asked for
 pub record ShelfState : Type 0 where
-  -- the files, if the shelf shows them: a shelf in memory does, a shelf of real files does not
+  -- the files, if the shelf shows them; a shelf in memory shows them, a shelf of real files does not
   pub files : Option Files
-  -- the live slots, and what is open there
+  -- the open file of each live slot
   pub slots : Slots
-  -- the counts of faults so far, of reading and of writing
+  -- the numbers of reading faults and of writing faults so far
   pub reading_faults : ℕ
   pub writing_faults : ℕ
-  -- the names that it was asked for so far, if it keeps an account of them
+  -- the names that the shelf was asked for so far, if it keeps an account of them
   pub asked : Option Account
 
 -- what contracts see of a sink: the bytes that it holds, and its count of faults
@@ -26,14 +26,14 @@ pub record SinkState : Type 0 where
   -- the number of faults so far
   pub faults : ℕ
 
--- These names may be those that were asked for: exactly the kept ones if all were kept, otherwise any list that begins
--- with the kept ones.
+-- A list of names that may be those asked for. If all were kept, it is the kept names. Otherwise it begins with the
+-- kept names.
 abbrev pub AreNames : Bool → List (List ℕ) → List (List ℕ) → Type 0
 AreNames true kept names = names ≡ kept
 AreNames false kept names = (rest : List (List ℕ)) × (names ≡ kept ++ rest)
 
--- By its account, a shelf may have been asked for these names so far, in this order. A shelf without an account may have been
--- asked for any.
+-- According to its account, the shelf may have been asked for these names so far, in this order. A shelf without an
+-- account may have been asked for any names.
 abbrev pub WasAsked : Option Account → List (List ℕ) → Type 0
 WasAsked None names = ⊤
 WasAsked (Some account) names = AreNames account.all account.kept names

@@ -1,25 +1,25 @@
--- What an object of the outside shows of the bytes that it holds. It may show them, or not, or stop showing them, and then it
--- never shows them again. A statement about the bytes holds if they are shown before and after.
+-- What an object outside the program shows of the bytes that it holds. It may show them, not show them, or stop showing
+-- them; then it never shows them again. A statement about the bytes holds if they are shown before and after.
 use Rattle.std.specs.Prelude.{◌≡◌, ℕ, List, ◌++◌, take, ⊤, Option, None, Some, Result, MatchResult, option_map}
 
--- the bytes that are shown are unchanged
+-- the bytes are unchanged, if they are shown
 abbrev pub Keeps : Option (List ℕ) → Option (List ℕ) → Type 0
 Keeps None None = ⊤
 Keeps None (Some ys) = ⊥
 Keeps (Some xs) None = ⊤
 Keeps (Some xs) (Some ys) = ys ≡ xs
 
--- the bytes that are shown grow by bs at their end
+-- `bs` was appended to the bytes, if they are shown
 abbrev pub Appends : Option (List ℕ) → Option (List ℕ) → List ℕ → Type 0
 Appends None None bs = ⊤
 Appends None (Some ys) bs = ⊥
 Appends (Some xs) None bs = ⊤
 Appends (Some xs) (Some ys) bs = ys ≡ xs ++ bs
 
--- at `Ok(n)` a write appended the first n bytes of the piece, and at `Err` nothing
+-- At `Ok(n)` the write appended the first n bytes of the piece. At `Err` it appended nothing.
 abbrev pub WriteAppends : {E : Type 0} → Option (List ℕ) → Option (List ℕ) → Result ℕ E → List ℕ → Type 0
 WriteAppends old new r piece = MatchResult r (λ n. Appends old new (take n piece)) (λ _. Keeps old new)
 
--- the bytes that are shown, followed by bs
+-- if the bytes are shown, these bytes followed by `bs`
 abbrev pub append_known : Option (List ℕ) → List ℕ → Option (List ℕ)
 append_known told bs = option_map (λ xs. xs ++ bs) told

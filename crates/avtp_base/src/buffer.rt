@@ -1,4 +1,4 @@
-//! Bytes that wait to be written.
+//! A buffer of bytes to be written.
 
 ghost use Rattle.std.specs.Prelude.{◌≡◌, ◌+◌, ◌≤◌, ◌++◌, [], length, take, drop, IfOk};
 
@@ -7,12 +7,13 @@ use crate::spelled::Spelled;
 use std::alloc::Global;
 use std::marker::Model;
 
-/// Bytes that wait to be written, at most 65,536. Contracts see them as a list. Their memory is reserved once.
+/// A buffer of at most 65,536 bytes to be written. Contracts see the buffered bytes as a list. The memory is reserved
+/// once.
 #[derive(Drop)]
 pub struct Buffer {
-    /// The bytes that wait, followed by bytes that will be overwritten.
+    /// The buffered bytes, followed by bytes that will be overwritten.
     bytes: Vec<u8>,
-    /// How many bytes wait.
+    /// The number of buffered bytes.
     len: usize,
 }
 
@@ -30,10 +31,10 @@ impl Buffer {
     ghost use Rattle.std.specs.Borrow.{sem};
     ghost use Rattle.avtp_base.specs.Waiting.{LendsWaiting};
 
-    /// The greatest number of bytes that wait.
+    /// The greatest number of buffered bytes.
     pub const ROOM: usize = 65_536;
 
-    /// A buffer in which nothing waits. Reserves all the memory that its bytes will need.
+    /// An empty buffer. Reserves all the memory that it will need.
     pub fn new(alloc: Global) -> Result<Self, NoMemory>
         ensures { IfOk result (λ buffer. buffer ≡ []) }
     {
@@ -62,8 +63,8 @@ impl Buffer {
         self.len = end;
     }
 
-    /// Adds the first `len` of these bytes at the end. There must be room for all of `bytes`, because all of them are copied: a
-    /// copy whose length the compiler knows needs no call.
+    /// Adds the first `len` of these bytes at the end. There must be room for all of `bytes`, because all are copied:
+    /// if the compiler knows the length of a copy, the copy needs no call.
     #[inline(always)]
     pub fn push_first(&mut self, bytes: &[u8], len: usize)
         requires some { len ≤ length bytes.now }
@@ -75,7 +76,7 @@ impl Buffer {
         self.len = end;
     }
 
-    /// Adds the encoding of a value at the end, written in place. There must be room for it.
+    /// Adds the encoding of a value at the end, written in place. There must be room for the encoding.
     #[inline(always)]
     pub fn add<W: Spelled>(&mut self, added: &W)
         requires { length self.old + length (W.spelling added.now) ≤ Self.ROOM }
@@ -86,14 +87,14 @@ impl Buffer {
         self.len = end;
     }
 
-    /// The bytes that wait.
+    /// The buffered bytes.
     pub fn waiting(&self) -> &[u8]
         ensures { result.now ≡ self.now }
     {
         &self.bytes[..self.len]
     }
 
-    /// The bytes that wait, to be changed in place.
+    /// The buffered bytes, to be changed in place.
     #[inline(always)]
     pub fn waiting_mut(&mut self) -> &mut [u8]
         ensures* writes_back { sem 𝓛 (LendsWaiting self.entry result) }
@@ -102,7 +103,7 @@ impl Buffer {
         self.bytes.slice_mut(0..self.len)
     }
 
-    /// Drops the first `count` bytes, which were written.
+    /// Drops the first `count` bytes after they were written.
     pub fn drop_front(&mut self, count: usize)
         requires { count ≤ length self.old }
         ensures { self.new ≡ drop count self.old }

@@ -1,10 +1,10 @@
-//! A list of bytes that a value of another type owns.
+//! A list of bytes in an owned vector.
 
 ghost use Rattle.std.specs.Prelude.{◌≡◌};
 
 use std::marker::Model;
 
-/// Bytes. Contracts see them as a list.
+/// A vector of bytes. Contracts see it as a list.
 #[derive(Debug, Drop)]
 pub struct Bytes {
     items: Vec<u8>,
@@ -19,14 +19,14 @@ impl Model for Bytes {
 }
 
 impl Bytes {
-    /// The bytes of the vector. Allocates nothing.
+    /// Takes over the vector. Allocates nothing.
     pub fn over(items: Vec<u8>) -> Self
         ensures { result ≡ items.items }
     {
         Bytes { items }
     }
 
-    /// The vector of the bytes. Allocates nothing.
+    /// Returns the vector. Allocates nothing.
     pub fn into_vec(self) -> Vec<u8>
         ensures { result.items ≡ self }
     {

@@ -1,9 +1,9 @@
-//! Failed calls to the outside, and missing memory.
+//! Failed calls to objects outside the program, and missing memory.
 
 use std::alloc::{AllocError, AllocFailed};
 use thiserror::Error;
 
-/// A call to the outside failed. The object that was called counts it.
+/// A call to an object outside the program failed. The object counts it.
 #[derive(Clone, Copy, Debug, PartialEq, Eq, Error)]
 #[error("a call of the outside failed")]
 pub struct Failed;
@@ -13,13 +13,13 @@ pub struct Failed;
 #[error("out of memory")]
 pub struct NoMemory;
 
-/// Why a file was not opened or not made.
+/// Why a file could not be opened or made.
 #[derive(Clone, Copy, Debug, PartialEq, Eq, Error)]
 pub enum OpenFault {
     /// The shelf shows its files, and none has the name.
     #[error("no such file")]
     Missing,
-    /// A call to the outside failed, and the shelf counts it.
+    /// A call of the shelf failed, and the shelf counted it.
     #[error("the file could not be opened")]
     Failed,
     /// Memory ran out.

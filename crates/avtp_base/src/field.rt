@@ -6,7 +6,7 @@ ghost use Rattle.avtp_base.specs.Field.{name_of};
 /// A field that can be refused, named as its standard names it.
 #[derive(Clone, Copy, Debug, PartialEq, Eq, Hash)]
 pub enum Field {
-    // The file header of a pcap capture.
+    // Fields of the file header of a pcap capture.
     Magic,
     VersionMajor,
     VersionMinor,
@@ -15,20 +15,20 @@ pub enum Field {
     Snaplen,
     Network,
 
-    // The header and the bytes of a pcap record.
+    // Fields of the header of a pcap record, and the record's bytes.
     TsSec,
     TsFraction,
     InclLen,
     OrigLen,
     PacketBytes,
 
-    // An Ethernet frame (IEEE 802.3, and IEEE 802.1Q for the tag).
+    // Fields of an Ethernet frame (IEEE 802.3, and IEEE 802.1Q for the tag).
     Destination,
     Source,
     Ethertype,
     TagControl,
 
-    // The common stream header of AVTP (IEEE 1722-2016, 4.4.4).
+    // Fields of the common stream header of AVTP (IEEE 1722-2016, 4.4.4).
     Subtype,
     Version,
     SequenceNum,
@@ -39,13 +39,13 @@ pub enum Field {
     StreamDataLength,
     FormatFlags,
 
-    // AAF PCM (IEEE 1722-2016, 7).
+    // Fields of AAF PCM (IEEE 1722-2016, 7).
     Format,
     Nsr,
     ChannelsPerFrame,
     BitDepth,
 
-    // IEC 61883 encapsulation (IEEE 1722-2016, 5) and its CIP header (IEC 61883-1).
+    // Fields of IEC 61883 encapsulation (IEEE 1722-2016, 5) and of its CIP header (IEC 61883-1).
     Tag,
     Qi1,
     FnBits,
@@ -55,20 +55,20 @@ pub enum Field {
     Fmt,
     Fdf,
 
-    // CVF H.264 (IEEE 1722-2016, 8, and RFC 6184).
+    // Fields of CVF H.264 (IEEE 1722-2016, 8, and RFC 6184).
     CvfFormat,
     FormatSubtype,
     NalType,
     FuHeader,
 
-    // CRF (IEEE 1722-2016, 10).
+    // Fields of CRF (IEEE 1722-2016, 10).
     CrfType,
     Pull,
     BaseFrequency,
     CrfDataLength,
     TimestampInterval,
 
-    // The blocks of a pcapng file.
+    // Fields of the blocks of a pcapng file.
     BlockType,
     BlockLength,
     BlockTrailer,
@@ -86,7 +86,7 @@ pub enum Field {
 }
 
 impl Field {
-    /// The field's name as it is printed: the standard's, in lower case.
+    /// The name of the field as it is printed: the standard's name in lower case.
     pub fn name(self) -> &'static str
         ensures { result.now ≡ name_of self }
     {

@@ -1,4 +1,4 @@
-//! The base of every crate: what contracts see of the outside, why something is refused, and numbers in bytes.
+//! The base of every crate: the state of files and devices as contracts see it, refusals, and numbers in bytes.
 #![tactic(auto)]
 
 mod buffer;

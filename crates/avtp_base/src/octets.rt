@@ -1,4 +1,4 @@
-//! Numbers and bits of a packet, the most significant first.
+//! Reads numbers and bits of a packet, highest first.
 
 ghost use Rattle.std.specs.Prelude.{◌≡◌, ◌+◌, ◌-◌, ◌≤◌, ◌<◌, ◌++◌, length};
 ghost use Rattle.avtp_base.specs.Octets.{bits, is_set};
@@ -68,8 +68,8 @@ pub fn u64_at(bytes: &[u8], at: usize) -> u64
     BigEndian::read_u64(&bytes[at..])
 }
 
-/// Writes a header and the payload after it to the front of the slice, and returns their total length. If the slice is shorter,
-/// it returns `Room` and leaves the slice unchanged.
+/// Writes a header and then the payload to the front of the slice, and returns their total length. If the slice is too
+/// short, returns `Room` and leaves the slice unchanged.
 pub fn write_front(out: &mut [u8], header: &[u8], payload: &[u8]) -> Result<usize, Room>
     ensures { Writes (header.now ++ payload.now) out.old out.new result }
 {

@@ -1,8 +1,8 @@
-//! Why bytes were not read, and why they were not written.
+//! Why bytes could not be read or written.
 
 use crate::field::Field;
 
-/// The first field that cannot be accepted, in the order in which a format judges its fields.
+/// The first field that cannot be accepted, in the order in which the format checks its fields.
 #[derive(Clone, Copy, Debug, PartialEq, Eq)]
 pub struct Refusal {
     pub field: Field,

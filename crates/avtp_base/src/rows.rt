@@ -1,11 +1,11 @@
-//! Refusals of a field, for its value or because it is cut off.
+//! Refusals of a field because of its value or because it is cut off.
 
 ghost use Rattle.std.specs.Prelude.{◌≡◌, true, false};
 
 use crate::field::Field;
 use crate::refusal::Refusal;
 
-/// The refusal of a field for its value.
+/// Refuses a field because of its value.
 pub fn refused(field: Field, at: u64) -> Refusal
     ensures { result ≡ record { field = field; at = at; short = false } }
 {
@@ -16,7 +16,7 @@ pub fn refused(field: Field, at: u64) -> Refusal
     }
 }
 
-/// The refusal of a field that is cut off in the part that should hold it.
+/// Refuses a field because it is cut off.
 pub fn cut_off(field: Field, at: u64) -> Refusal
     ensures { result ≡ record { field = field; at = at; short = true } }
 {

@@ -1,20 +1,20 @@
-//! Values that are written in place.
+//! Values that write themselves in place.
 
 ghost use Rattle.std.specs.Prelude.{◌≡◌, length};
 
-/// A value with a known encoded length that writes itself into a slice of that length. A frame that was built first and then
-/// copied after its record's header would take longer, because the copy waits for the bytes that were just written.
+/// A value with a known encoded length that writes itself into a slice of that length. Writing in place is faster than
+/// building a frame and copying it after its record header: the copy would stall on the bytes just written.
 pub trait Spelled {
     ghost use Rattle.std.specs.Prelude.{List, ℕ};
 
-    /// Its encoded bytes.
+    /// The encoded bytes.
     ghost spelling: { Self → List ℕ };
 
-    /// The number of its bytes.
+    /// The number of encoded bytes.
     fn size(&self) -> usize
         ensures { result ≡ length (Self.spelling self.now) };
 
-    /// Writes its bytes.
+    /// Writes the encoded bytes into the slice.
     fn write(&self, out: &mut [u8])
         requires { length out.old ≡ length (Self.spelling self.now) }
         ensures { out.new ≡ Self.spelling self.now };
