@@ -5,10 +5,11 @@ use Rattle.avtp_files.specs.declared.slots.Slots.{Slots}
 use Rattle.avtp_files.specs.Entries.{entry_at}
 use Rattle.avtp_base.specs.Files as files
 
--- the open files of a shelf of real files, by slot; neither their names nor their contents are shown
+-- the open files of a shelf of real files, by slot; their names and contents are not shown
 abbrev pub real_slots : {F : Type 0} → Slots (RealFile F) → files.Slots
 real_slots live k = option_map (λ open_file. record { made = open_file.made; name = None; left = None }) (entry_at live.entries.items k)
 
--- if a file is open in slot k, what `known` gives for it: the bytes that it holds, or those that are left to read
+-- what `known` tells of the file in slot k: the bytes that it holds, or the bytes left to read; `None` if no file is
+-- open there
 abbrev pub known_at : {F : Type 0} → (F → Option (List ℕ)) → Slots (RealFile F) → ℕ → Option (List ℕ)
 known_at known live k = option_and_then (λ open_file. known open_file.file) (entry_at live.entries.items k)

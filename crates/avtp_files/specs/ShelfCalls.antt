@@ -1,5 +1,5 @@
--- What each call of a shelf does, with its result. Statements about names, files and what is left to read hold if the shelf
--- shows them.
+-- What each call of a shelf does, depending on its result. Statements about names, files and what is left to read hold
+-- if the shelf shows them.
 use Rattle.std.specs.Prelude.{◌≡◌, ℕ, ◌≤◌, ◌<◌, true, List, [], ◌∷◌, length, take, None, Some, IfOk, IsErrOf, OnErr, OnOk, Result, option_map}
 use Rattle.std.specs.Io.KnownBytes.{ReadConsumes}
 use Rattle.avtp_base.specs.declared.failed.Failed.{Failed}
@@ -14,9 +14,9 @@ use Rattle.avtp_base.specs.States.{Asks, AsksNothing, ShelfState}
 abbrev pub IsMadeIn : Slots → ℕ → Type 0
 IsMadeIn slots k = option_map (λ o. o.made) (slots k) ≡ Some true
 
--- The file with this name was opened for reading in a slot that was free, and every other slot is unchanged; or it was not
--- opened, and every slot is unchanged. `Missing` means that the shelf shows its files and none has the name. At `Failed` the
--- count of reading faults rose. The files are unchanged, and the name was asked for.
+-- The file with this name was opened for reading in a slot that was free, and every other slot is unchanged. Or it was
+-- not opened, and every slot is unchanged. `Missing` means that the shelf shows its files and none has the name. At
+-- `Failed` the count of reading faults rose. All files are unchanged, and the name was asked for.
 pub record OpensInSlot (before after : ShelfState) (name : List ℕ) (result : Result Slot OpenFault) : Type 0 where
   pub opened : IfOk result (λ slot. IsOpened before.files (after.slots slot.0) name)
   pub fresh : IfOk result (λ slot. before.slots slot.0 ≡ None)
@@ -28,9 +28,9 @@ pub record OpensInSlot (before after : ShelfState) (name : List ℕ) (result : R
   pub writing : after.writing_faults ≡ before.writing_faults
   pub asked : Asks (name ∷ []) before after
 
--- The file with this name is empty now, and open for writing in a slot that was free. Every other slot keeps its file; what is
--- left to read of a file with another name is unchanged. Or the file was not made, and every file and slot is unchanged; at
--- `Failed` the count of writing faults rose. `Missing` is never returned. The name was asked for.
+-- The file with this name is now empty, and open for writing in a slot that was free. Every other slot keeps its file.
+-- What is left to read changes only in slots of this file. Or the file was not made, and every file and slot is
+-- unchanged. At `Failed` the count of writing faults rose. `Missing` is never returned. The name was asked for.
 pub record MakesInSlot (before after : ShelfState) (name : List ℕ) (result : Result Slot OpenFault) : Type 0 where
   pub made : IfOk result (λ slot. IsMade before.files (after.slots slot.0) name)
   pub fresh : IfOk result (λ slot. before.slots slot.0 ≡ None)
@@ -43,8 +43,8 @@ pub record MakesInSlot (before after : ShelfState) (name : List ℕ) (result : R
   pub reading : after.reading_faults ≡ before.reading_faults
   pub asked : Asks (name ∷ []) before after
 
--- Bytes were moved from the front of what is left in slot k to the front of the buffer, as many as the result says; or none
--- were moved, and a fault was counted. The slot keeps its file, and all else is unchanged.
+-- At `Ok(n)` the first n bytes left to read in slot k were moved to the front of the buffer. At `Err` none were moved,
+-- and a reading fault was counted. The slot keeps its file, and nothing else changed.
 pub record ReadsBytes (before after : ShelfState) (k : ℕ) (result : Result ℕ Failed) (buffer : List ℕ) : Type 0 where
   pub within : IfOk result (λ n. n ≤ length buffer)
   pub moved : ReadConsumes (left_in before.slots k) (left_in after.slots k) result buffer
@@ -55,9 +55,9 @@ pub record ReadsBytes (before after : ShelfState) (k : ℕ) (result : Result ℕ
   pub writing : after.writing_faults ≡ before.writing_faults
   pub asked : AsksNothing before after
 
--- A prefix of the piece, of at least one byte and as long as the result says, was appended to the file that is open for writing
--- in slot k, which stays open. Every slot keeps its file; what is left to read of a file with another name is unchanged. Or
--- nothing changed, except that a fault of writing was counted.
+-- At `Ok(n)` the first n bytes of the piece, at least one, were appended to the file in slot k, which was made for
+-- writing. The slot stays open, and every slot keeps its file. What is left to read changes only in slots of this file.
+-- At `Err` nothing changed, except that a writing fault was counted.
 pub record WritesBytes (before after : ShelfState) (k : ℕ) (piece : List ℕ) (result : Result ℕ Failed) : Type 0 where
   pub some : IfOk result (λ n. 0 < n)
   pub within : IfOk result (λ n. n ≤ length piece)
@@ -70,7 +70,7 @@ pub record WritesBytes (before after : ShelfState) (k : ℕ) (piece : List ℕ) 
   pub reading : after.reading_faults ≡ before.reading_faults
   pub asked : AsksNothing before after
 
--- Slot k was closed; all else is unchanged.
+-- Slot k was closed, and nothing else changed.
 pub record ClosesSlot (before after : ShelfState) (k : ℕ) : Type 0 where
   pub ended : after.slots k ≡ None
   pub others : KeepsOthers before.slots after.slots k

@@ -1,12 +1,12 @@
--- What a write to a sink does, with its result.
+-- What a write to a sink does, depending on its result.
 use Rattle.std.specs.Prelude.{ℕ, ◌≤◌, ◌<◌, List, length, IfOk, Result}
 use Rattle.avtp_base.specs.declared.failed.Failed.{Failed}
 use Rattle.avtp_base.specs.Faults.{IsCounted}
 use Rattle.avtp_base.specs.States.{SinkState}
 use Rattle.avtp_base.specs.Told.{WriteAppends}
 
--- A prefix of the piece, of at least one byte and as long as the result says, was appended to what the sink holds, if the sink
--- shows that; or nothing was appended, and a fault was counted.
+-- At `Ok(n)` the first n bytes of the piece, at least one, were appended to the bytes that the sink holds, if it shows
+-- them. At `Err` nothing was appended, and a fault was counted.
 pub record WritesPiece (before after : SinkState) (piece : List ℕ) (result : Result ℕ Failed) : Type 0 where
   pub some : IfOk result (λ n. 0 < n)
   pub within : IfOk result (λ n. n ≤ length piece)

@@ -1,10 +1,10 @@
-//! System faults, reported on standard error.
+//! Reports system faults on standard error.
 
 use std::alloc::Alloc;
 use std::io::{self, Eprint};
 
-/// Writes to standard error the name of the program, the file on which a system call failed, and the reason. Writes nothing if it
-/// was given no program name.
+/// Writes to standard error the name of the program, the file on which a system call failed, and the reason. Without a
+/// program name it writes nothing.
 #[derive(Clone, Copy, Drop)]
 pub struct FaultTeller<R> {
     rt: R,
@@ -16,7 +16,7 @@ impl<R: Eprint + Alloc> FaultTeller<R> {
         FaultTeller { rt, program }
     }
 
-    /// Tells why a call failed on the file with this name.
+    /// Reports why a call failed on the file with this name.
     pub fn tell(&self, name: &str, error: &io::Error) {
         let Some(program) = self.program else {
             return;
@@ -32,7 +32,7 @@ impl<R: Eprint + Alloc> FaultTeller<R> {
     }
 }
 
-/// The system's reason without its number, as the system's own commands print it.
+/// The system's reason without its number, as system commands print it.
 fn without_number(reason: &str) -> &str {
     match reason.split_once(" (os error ") {
         Some((words, _)) => words,

@@ -7,14 +7,15 @@ use std::{fs, io};
 /// The path of standard output.
 pub const STANDARD_OUTPUT: &str = "/dev/stdout";
 
-/// The identity of a regular file, whatever its path: its device, and its inode number there.
+/// The identity of a regular file, which is the same under each of its paths: its device, and its inode number there.
 #[derive(Clone, Copy, Debug, PartialEq, Eq)]
 pub struct FileIdentity {
     device: u64,
     number: u64,
 }
 
-/// The regular file that a path leads to, links followed. `None` if it leads to no file or to one that is not regular.
+/// The identity of the regular file that a path leads to; links are followed. `None` if the path leads to no regular
+/// file.
 pub fn identity_of<R: Files>(files: &R, path: &str) -> Option<FileIdentity> {
     let metadata = fs::metadata(files, path).ok()?;
     if !metadata.is_file() {
@@ -26,7 +27,7 @@ pub fn identity_of<R: Files>(files: &R, path: &str) -> Option<FileIdentity> {
     })
 }
 
-/// The error for a file that is not made or emptied because the run already uses it.
+/// The error for a file that must not be made or emptied, because the run already uses it.
 pub fn already_used() -> io::Error {
     io::Error::other("the run reads or writes this file already")
 }

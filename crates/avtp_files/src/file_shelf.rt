@@ -1,4 +1,4 @@
-//! Real files.
+//! A shelf of real files.
 
 ghost use Rattle.std.specs.Prelude.{◌≡◌, ◌<◌, ◌≤◌, ℕ, None, length, IsSome, IfOk};
 ghost use Rattle.std.specs.Io.KnownBytes.{ReadConsumes, WriteAppends};
@@ -26,11 +26,11 @@ pub struct RealFile<F> {
     made: bool,
 }
 
-/// Real files, named by their paths. The shelf does not show their contents. If the system shows what its files hold, a read or a
-/// write moves exactly the bytes that it reports. A missing file counts as a fault.
+/// Real files, named by their paths. The shelf does not show their contents. If the system shows what its files hold, a
+/// read or a write moves exactly the bytes that it reports. A missing file counts as a fault.
 ///
-/// A file that was opened for reading is never made or emptied, under any path, and neither is standard output if it is a file:
-/// `create_file` returns `Failed`, and the file is unchanged.
+/// A file that was opened for reading is never made or emptied, under any of its paths. Standard output is not made or
+/// emptied either, if it is a file. In these cases `create_file` returns `Failed`, and the file is unchanged.
 #[derive(Drop)]
 pub struct FileShelf<'a, R: Files> {
     rt: &'a R,
@@ -59,7 +59,7 @@ impl<'a, R: Files + Eprint + Alloc> FileShelf<'a, R> {
         }
     }
 
-    /// Makes this shelf also report each fault on standard error, after the name of the program.
+    /// Makes this shelf also report each fault on standard error, with the name of the program.
     pub fn telling(self, program: &'static str) -> Self
         ensures live { result.live ≡ self.entry.live }
         ensures reading { result.reading_faults ≡ self.entry.reading_faults }
@@ -71,14 +71,14 @@ impl<'a, R: Files + Eprint + Alloc> FileShelf<'a, R> {
         }
     }
 
-    /// Tells why a call failed on the file in a slot.
+    /// Reports why a call failed on the file in a slot.
     fn tell(&self, slot: Slot, error: &io::Error) {
         if let Some(open) = self.live.get(slot) {
             self.teller.tell(open.path.as_str(), error);
         }
     }
 
-    /// Remembers that the file at a path was opened for reading, so that it is not written.
+    /// Remembers that the file at a path was opened for reading, to prevent writing to it.
     fn keep_input(&mut self, name: &str) -> Result<(), NoMemory>
         ensures live { self.new.live ≡ self.old.live }
         ensures reading { self.new.reading_faults ≡ self.old.reading_faults }
@@ -92,7 +92,7 @@ impl<'a, R: Files + Eprint + Alloc> FileShelf<'a, R> {
         Ok(())
     }
 
-    /// Makes the file at a path, or empties it, unless the path leads to a file that must not be written.
+    /// Makes the file at a path, or empties it. Fails if the path leads to a file that must not be written.
     fn make(&self, name: &str) -> io::Result<R::File> {
         if self.is_taken(name) {
             return Err(already_used());
@@ -213,7 +213,7 @@ fn read_open<F: Read + Drop>(
     moved
 }
 
-// Writes to the file in a live slot, at least one byte.
+// Writes at least one byte to the file in a live slot.
 fn write_open<F: Write + Drop>(
     live: &mut Slots<RealFile<F>>,
     slot: Slot,

@@ -1,4 +1,4 @@
-//! A real file that is written from its start.
+//! A sink over a real file that is written from its start.
 
 ghost use Rattle.std.specs.Prelude.{◌≡◌, ◌≤◌, ◌<◌, None, length, IfOk, option_and_then};
 ghost use Rattle.std.specs.Io.KnownBytes.{WriteAppends};
@@ -13,10 +13,11 @@ use std::fs;
 use std::io::{self, Eprint};
 use std::rt::Files;
 
-/// A real file. Contracts do not see what it holds. If the system shows that, a write adds exactly the bytes that it reports.
+/// A real file. Contracts do not see what it holds. If the system shows what the file holds, a write adds exactly the
+/// bytes that it reports.
 ///
-/// A file at one of the paths in `apart` is never made or emptied, under any path, and neither is standard output if it is a
-/// file: `write` returns `Failed`, and the file is unchanged.
+/// A file at one of the paths in `apart` is never made or emptied, under any of its paths. Standard output is not made
+/// or emptied either, if it is a file. In these cases `write` returns `Failed`, and the file is unchanged.
 #[derive(Drop)]
 pub struct FileSink<R: Files> {
     rt: R,
@@ -28,8 +29,8 @@ pub struct FileSink<R: Files> {
 }
 
 impl<R: Files + Eprint + Alloc> FileSink<R> {
-    /// The file at the path `name`, which must not be one of the files at the paths in `apart`. It is not made yet: the first
-    /// `write` makes or empties it.
+    /// A sink over the file at the path `name`, which must not be a file at one of the paths in `apart`. The file is
+    /// not made yet: the first `write` makes or empties it.
     pub fn named(rt: R, name: String, apart: Vec<String>) -> Self
         ensures { result.faults ≡ 0 }
     {
@@ -43,7 +44,7 @@ impl<R: Files + Eprint + Alloc> FileSink<R> {
         }
     }
 
-    /// Makes this sink also report each fault on standard error, after the name of the program.
+    /// Makes this sink also report each fault on standard error, with the name of the program.
     pub fn telling(self, program: &'static str) -> Self
         ensures { result.faults ≡ self.faults }
     {
@@ -66,7 +67,7 @@ impl<R: Files + Eprint + Alloc> FileSink<R> {
         identity_of(&self.rt, STANDARD_OUTPUT) == Some(identity)
     }
 
-    /// Makes the file or empties it, unless it must not be written.
+    /// Makes the file or empties it. Fails if it must not be written.
     fn make(&self) -> io::Result<R::File> {
         if self.is_taken() {
             return Err(already_used());
@@ -74,8 +75,8 @@ impl<R: Files + Eprint + Alloc> FileSink<R> {
         fs::create(&self.rt, self.name.as_str())
     }
 
-    // Makes or empties the file if that was not done yet, and writes to it, at least one byte. If the file could not be made,
-    // the next write tries again.
+    // Makes or empties the file if that was not done yet, and then writes at least one byte to it. If the file could
+    // not be made, the next write tries again.
     fn write_some(&mut self, piece: &[u8]) -> io::Result<usize>
         ensures some { IfOk result (λ n. 0 < n) }
         ensures within { IfOk result (λ n. n ≤ length piece.now) }

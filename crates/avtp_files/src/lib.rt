@@ -1,4 +1,4 @@
-//! Files by name, and text that is written: the outside as two traits, over real files and standard output.
+//! A trait for files and a trait for text output, and their implementations over real files and standard output.
 #![tactic(auto)]
 
 mod fault_teller;

@@ -1,11 +1,11 @@
-//! Writes that may take a part of a piece.
+//! Writes that may take only a part of a piece.
 
 ghost use Rattle.std.specs.Prelude.{◌≤◌, ◌<◌, length, IfOk};
 ghost use Rattle.std.specs.Io.KnownBytes.{WriteAppends};
 
 use std::io::{Error, ErrorKind, Result, Write};
 
-/// Writes the piece, or a part of it, and returns how many bytes were taken. It is an error if none were.
+/// Writes a prefix of the piece, and returns how many bytes were written. It is an error if none were.
 pub fn write_part<W: Write>(file: &mut W, piece: &[u8]) -> Result<usize>
     ensures some { IfOk result (λ n. 0 < n) }
     ensures within { IfOk result (λ n. n ≤ length piece.now) }

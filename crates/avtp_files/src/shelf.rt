@@ -9,11 +9,11 @@ use avtp_base::{Failed, OpenFault};
 #[derive(Clone, Copy, Debug, PartialEq, Eq, Hash)]
 pub struct Slot(pub u32);
 
-/// Files by name, read and written in pieces through slots. A shelf counts the faults of reading (`open_file` and `read`) and
-/// of writing (`create_file` and `write`) separately; a call raises only its own count.
+/// Files by name, read and written in pieces through slots. A shelf counts faults of reading (`open_file` and `read`)
+/// and of writing (`create_file` and `write`) separately. A call raises only its own count.
 ///
-/// What each call does to every shelf is one relation. A ghost member (`opens` to `closes`) adds what the call does to one kind
-/// of shelf; it says nothing if the kind does not define it.
+/// One relation says what each call does to every shelf. A ghost member (`opens` to `closes`) adds what the call does
+/// to one kind of shelf. If the kind does not define the member, it adds nothing.
 pub trait Shelf {
     ghost use Rattle.std.specs.Prelude.{ℕ, List, Result};
     ghost use Rattle.avtp_base.specs.declared.failed.Failed.{Failed};
@@ -22,8 +22,8 @@ pub trait Shelf {
     ghost use Rattle.avtp_base.specs.Files.{left_in, name_in};
     ghost use Rattle.avtp_base.specs.States.{ShelfState};
 
-    /// Its files, if it shows them, its open files, its counts of faults and the names that it was asked for. A shelf
-    /// may stop showing its files, and then never shows them again.
+    /// The files of the shelf, if it shows them, its open files, its counts of faults and the names that it was asked
+    /// for. A shelf may stop showing its files, and then never shows them again.
     ghost state: { Self → ShelfState };
 
     ghost opens: { Self → Self → List ℕ → Result Slot OpenFault → Type 0 } = { λ _ _ _ _. Unit {0} };
@@ -38,21 +38,21 @@ pub trait Shelf {
 
     /// Opens a file for reading, in a slot that was not live.
     ///
-    /// Returns `Missing` only if the shelf shows its files and none has the name. A shelf that does not show its files returns
-    /// `Failed` for a missing name. At `Failed` the reading count rose.
+    /// Returns `Missing` only if the shelf shows its files and none has the name. If a shelf does not show its files,
+    /// it returns `Failed` for a missing name. At `Failed` the reading count rose.
     fn open_file(&mut self, name: &str) -> Result<Slot, OpenFault>
         ensures does { OpensInSlot (state self.old) (state self.new) name.now result }
         ensures own { opens self.old self.new name.now result };
 
-    /// Makes a file or empties it, for writing in a slot that was not live.
+    /// Makes a file, or empties it, and opens it for writing in a slot that was not live.
     ///
     /// At `Failed` the writing count rose. Never returns `Missing`.
     fn create_file(&mut self, name: &str) -> Result<Slot, OpenFault>
         ensures does { MakesInSlot (state self.old) (state self.new) name.now result }
         ensures own { makes self.old self.new name.now result };
 
-    /// Moves at least one byte from the front of what is left into the buffer, and returns how many bytes it moved; 0 means
-    /// that nothing is left.
+    /// Moves at least one byte from the front of what is left to read into the buffer, and returns how many bytes it
+    /// moved. At 0 nothing is left to read.
     ///
     /// At `Failed` the reading count rose, and nothing was moved.
     fn read(&mut self, slot: Slot, buf: &mut [u8]) -> Result<usize, Failed>
@@ -61,7 +61,7 @@ pub trait Shelf {
         ensures does { ReadsBytes (state self.old) (state self.new) slot.0 result buf.new }
         ensures own { reads self.old self.new slot.0 buf.new result };
 
-    /// Appends a prefix of the piece, at least one byte, to the file of the slot, and returns its length.
+    /// Appends a prefix of the piece, at least one byte, to the file of the slot, and returns the length of the prefix.
     ///
     /// At `Failed` the writing count rose, and nothing was appended.
     fn write(&mut self, slot: Slot, piece: &[u8]) -> Result<usize, Failed>
@@ -76,6 +76,6 @@ pub trait Shelf {
         ensures does { ClosesSlot (state self.old) (state self.new) slot.0 }
         ensures own { closes self.old self.new slot.0 };
 
-    /// If files are shown, so are the name of each live slot and what is left there.
+    /// If the shelf shows its files, it shows the name of each live slot and what is left to read there.
     ghost told: { (shelf : Self) (k : ℕ) → IsSome (state shelf).files → IsSome ((state shelf).slots k) → IsSome (name_in (state shelf).slots k) × IsSome (left_in (state shelf).slots k) };
 }

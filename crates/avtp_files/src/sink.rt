@@ -11,14 +11,14 @@ pub trait Sink {
     ghost use Rattle.avtp_base.specs.declared.failed.Failed.{Failed};
     ghost use Rattle.avtp_base.specs.States.{SinkState};
 
-    /// The bytes that it holds, if it shows them, and its count of faults, which stops at the largest 64-bit number. A
-    /// sink may stop showing its bytes, and then never shows them again.
+    /// The bytes that the sink holds, if it shows them, and its count of faults, which stops at the largest 64-bit
+    /// number. A sink may stop showing its bytes, and then never shows them again.
     ghost state: { Self → SinkState };
 
-    /// What a write to this kind of sink does beyond what it does to every sink.
+    /// What a write to this kind of sink does in addition to what it does to every sink.
     ghost writes: { Self → Self → List ℕ → Result ℕ Failed → Type 0 } = { λ _ _ _ _. Unit {0} };
 
-    /// Appends a prefix of the piece, at least one byte, and returns its length.
+    /// Appends a prefix of the piece, at least one byte, and returns the length of the prefix.
     ///
     /// At `Failed` the count rose, and nothing was appended.
     fn write(&mut self, piece: &[u8]) -> Result<usize, Failed>

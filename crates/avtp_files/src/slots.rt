@@ -1,4 +1,4 @@
-//! Open files, by the numbers of their slots.
+//! Open files by slot number.
 
 ghost use Rattle.std.specs.Prelude.{◌≡◌, ◌^◌, ◌<◌, ◌≤◌, ℕ, None, [], vec_len, IfOk, option_copied};
 ghost use Rattle.avtp_files.specs.Entries.{entry_at, SetsEntry};
@@ -7,7 +7,7 @@ use crate::shelf::Slot;
 use avtp_base::NoMemory;
 use std::alloc::Global;
 
-/// Entries by slot. A slot that was freed is used again.
+/// Entries by slot number. A freed slot is used again.
 #[derive(Debug, Drop)]
 pub struct Slots<T> {
     pub entries: Vec<Option<T>>,
@@ -49,7 +49,7 @@ impl<T: Drop> Slots<T> {
         }
     }
 
-    /// Takes the entry out of a slot, which `set` fills again.
+    /// Takes the entry out of a slot, and leaves the slot free.
     pub fn take(&mut self, slot: Slot) -> Option<T>
         requires { slot.0 < vec_len self.old.entries }
         ensures entry { result ≡ entry_at self.old.entries.items slot.0 }
