@@ -1,4 +1,4 @@
--- The one header that bytes spell.
+-- Bytes begin with at most one stream header.
 use Rattle.std.proofs.Common.{◌≡◌, ℕ, ◌≤◌, Bool, false, List, [], ◌∷◌, ◌++◌, length, drop, None, refl, sym, arith}
 use Rattle.std.proofs.lemmas.Bool.{le-ltb}
 use Rattle.std.proofs.lemmas.List.{length-append}
@@ -65,7 +65,6 @@ header subtype sv mr format_bits tv seq tu stream_id timestamp data_length = rec
   data_length = data_length;
 }
 
--- headers with equal fields are equal
 same_header : (a a' : ℕ) (b b' c c' : Bool) (d d' : ℕ) (e e' : Bool) (f f' : ℕ) (g g' : Bool) (h h' i i' j j' : ℕ)
     → a ≡ a' → b ≡ b' → c ≡ c' → d ≡ d' → e ≡ e' → f ≡ f' → g ≡ g' → h ≡ h' → i ≡ i' → j ≡ j'
     → header a b c d e f g h i j ≡ header a' b' c' d' e' f' g' h' i' j'
@@ -108,7 +107,7 @@ header_laid = (refl, refl, (refl, refl, (refl, refl, (refl, refl, (refl, refl, (
 spelled_version : (bytes : List ℕ) (h : StreamHeader) → Spells header_layout h bytes → bits 1 1 3 bytes ≡ 0
 spelled_version bytes h (_, ((_, (version, _)), _)) = version
 
--- a header that was written is read back, whatever follows it
+-- a written header is read back, whatever bytes follow it
 pub header_again : (h : StreamHeader) (rest : List ℕ) → Fits header_layout h → SpellsHeader (spelling header_layout h ++ rest) h
 header_again h rest fits =
     let bytes : List ℕ = spelling header_layout h ++ rest in
@@ -117,7 +116,8 @@ header_again h rest fits =
     let spells : Spells header_layout h bytes = held_spells header_layout h bytes refl f in
     record { accepted = rw (whole, spelled_version bytes h spells) refl; fields = spells }
 
--- bytes with zeros in the bits of the format are those that are written for the header
+-- If bytes begin with a header and have zeros in the bits that it does not show, they begin with the bytes written for
+-- it.
 pub header_only : (bytes : List ℕ) (h : StreamHeader) → AreBytes bytes → SpellsHeader bytes h → 24 ≤ length bytes
     → any_set (reserved_ranges header_layout) bytes ≡ false → bytes ≡ spelling header_layout h ++ drop 24 bytes
 header_only bytes h fits s long plain =

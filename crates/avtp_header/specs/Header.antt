@@ -8,8 +8,8 @@ use Rattle.avtp_base.specs.Layout.{Bits, Layout, part, holds, reserved, Spells, 
 use Rattle.avtp_header.specs.declared.header.StreamHeader.{StreamHeader}
 use Rattle.avtp_header.specs.declared.header.Peeked.{Peeked}
 
--- The table of the stream header, for a view that has one. Each format gives its own meaning to two bits of byte 1, to
--- bytes 16 to 19 and to bytes 22 and 23.
+-- The table of the stream header, for a view that contains a header. Each format defines for itself two bits of byte 1,
+-- bytes 16 to 19 and bytes 22 and 23.
 abbrev pub stream_layout : {V : Type 0} → (V → StreamHeader) → List (Bits V) → Layout V → Layout V → Layout V
 stream_layout header format_bits format_data format_flags =
     part Subtype 0 (holds 8 (λ v. (header v).subtype) ∷ []) ∷
@@ -35,7 +35,7 @@ header_layout = stream_layout (λ h. h)
     (part FormatData 16 (reserved 32 ∷ []) ∷ [])
     (part FormatFlags 22 (reserved 16 ∷ []) ∷ [])
 
--- the row that refuses a packet whose subtype is not this one
+-- the row that refuses a packet whose subtype is not `subtype`
 abbrev pub subtype_row : ℕ → List ℕ → Row
 subtype_row subtype bytes = row Subtype 0 (not (bits 0 0 8 bytes == subtype))
 
@@ -43,19 +43,19 @@ subtype_row subtype bytes = row Subtype 0 (not (bits 0 0 8 bytes == subtype))
 abbrev pub version_row : List ℕ → Row
 version_row bytes = row Version 1 (not (bits 1 1 3 bytes == 0))
 
--- why bytes do not begin with a stream header: a field is cut off, or the version is not 0
+-- why bytes are refused as a stream header: a field is cut off, or the version is not 0
 abbrev pub header_refusal : List ℕ → Option Refusal
 header_refusal bytes =
     or_else (first_short header_layout (length bytes)) (first_row (version_row bytes ∷ []))
 
--- why bytes do not begin with a stream header of this subtype: a field is cut off, the subtype is not this one, or the version is
--- not 0
+-- Why bytes are refused as a stream header of this subtype. A field is cut off, the subtype is another one, or the
+-- version is not 0.
 abbrev pub kind_refusal : ℕ → List ℕ → Option Refusal
 kind_refusal subtype bytes =
     or_else (first_short header_layout (length bytes))
     (first_row (subtype_row subtype bytes ∷ version_row bytes ∷ []))
 
--- a stated length exceeds the bytes that follow the first `header` of n bytes
+-- the stated length exceeds the number of bytes after the header, in a packet of n bytes
 abbrev pub exceeds : ℕ → ℕ → ℕ → Bool
 exceeds header stated n = nat_lt n (header + stated)
 
@@ -64,7 +64,7 @@ pub record SpellsHeader (bytes : List ℕ) (h : StreamHeader) : Type 0 where
   pub accepted : header_refusal bytes ≡ None
   pub fields : Spells header_layout h bytes
 
--- the one stream header that bytes begin with, if nothing refuses them
+-- the stream header that the bytes begin with, if nothing refuses them
 abbrev pub header_of : List ℕ → StreamHeader
 header_of bytes = record {
   subtype = bits 0 0 8 bytes;
@@ -79,7 +79,7 @@ header_of bytes = record {
   data_length = bits 20 0 16 bytes;
 }
 
--- the first fields of a packet, which have the same places in packets with a stream header and in CRF packets
+-- the first fields of a packet, which have the same offsets in packets with a stream header and in CRF packets
 abbrev pub peeked_of : List ℕ → Peeked
 peeked_of bytes = record {
   subtype = bits 0 0 8 bytes;

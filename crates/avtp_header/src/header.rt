@@ -1,13 +1,13 @@
-//! The 24 bytes that IEC 61883, AAF and CVF packets begin with.
+//! The 24-byte header of IEC 61883, AAF and CVF packets.
 
 /// The EtherType of AVTP (IEEE 1722-2016, 4.2).
 pub const ETHERTYPE: u16 = 0x22F0;
 
-/// The first fields of any AVTP packet of a stream.
+/// The fields that each AVTP packet of a stream begins with.
 #[derive(Clone, Copy, Debug, PartialEq, Eq)]
 pub struct Peeked {
     pub subtype: u8,
-    /// The stream id is valid.
+    /// Whether the stream ID is valid.
     pub sv: bool,
     /// The sequence number.
     pub seq: u8,
@@ -18,17 +18,17 @@ pub struct Peeked {
 #[derive(Clone, Copy, Debug, PartialEq, Eq)]
 pub struct StreamHeader {
     pub subtype: u8,
-    /// The stream id is valid.
+    /// Whether the stream ID is valid.
     pub sv: bool,
-    /// The media clock restart: it toggles when the source of the media clock changes.
+    /// The media clock restart bit, which toggles when the source of the media clock changes.
     pub mr: bool,
-    /// The two bits whose meaning each format defines, 0 to 3.
+    /// Two bits whose meaning each format defines, as a number from 0 to 3.
     pub format_bits: u8,
-    /// The timestamp is valid.
+    /// Whether the timestamp is valid.
     pub tv: bool,
     /// The sequence number.
     pub seq: u8,
-    /// The timestamp is uncertain.
+    /// Whether the timestamp is uncertain.
     pub tu: bool,
     pub stream_id: u64,
     /// The presentation time, in nanoseconds of gPTP modulo 2^32.

@@ -7,18 +7,18 @@ ghost use Rattle.avtp_base.specs.Rows.{IsSpelledOnce};
 ghost use Rattle.avtp_header.specs.declared.header.StreamHeader.{StreamHeader};
 ghost use Rattle.avtp_header.specs.Header.{SpellsHeader, header_layout, header_refusal};
 
-/// Bytes begin with exactly one header, or are refused and begin with none.
+/// If nothing refuses the bytes, they begin with exactly one header. If they are refused, they begin with none.
 pub fn one_header()
     ensures { (bytes : List ℕ) → IsSpelledOnce (header_refusal bytes) (λ (h : StreamHeader). SpellsHeader bytes h) }
 {}
 
-/// The bytes written for a header spell that header, whatever follows them.
+/// The bytes written for a header spell that header, whatever bytes follow.
 pub fn header_again()
     ensures { (h : StreamHeader) (trail : List ℕ) → Fits header_layout h → SpellsHeader (spelling header_layout h ++ trail) h }
 {}
 
-/// Bytes that begin with a header, with zeros in the bits that each format defines, begin with the bytes written for
-/// that header.
+/// If bytes begin with a header and have zeros in the reserved bits and in bytes 16 to 19, 22 and 23, they begin with
+/// the bytes written for that header.
 pub fn one_spelling()
     ensures { (bytes : List ℕ) (h : StreamHeader) → AreBytes bytes → SpellsHeader bytes h → 24 ≤ length bytes
         → any_set (reserved_ranges header_layout) bytes ≡ false → bytes ≡ spelling header_layout h ++ drop 24 bytes }

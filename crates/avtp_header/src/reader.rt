@@ -13,7 +13,7 @@ use avtp_base::octets::{bit_at, bits_at, u16_at, u32_at, u64_at};
 use avtp_base::rows::{cut_off, refused};
 use avtp_base::{Field, Refusal};
 
-/// The refusal of a packet of `len` bytes by the first field of the header that is cut off.
+/// Refuses a packet of `len` bytes at the first header field that is cut off, if any.
 fn short_field(len: usize) -> Option<Refusal>
     ensures { result ≡ first_short header_layout len }
 {
@@ -60,7 +60,7 @@ fn fields(pdu: &[u8]) -> StreamHeader
     }
 }
 
-/// Whether a stated length exceeds the bytes that a packet of `len` bytes has after its header.
+/// Whether a stated length exceeds the number of bytes after the header of a packet of `len` bytes.
 pub fn exceeds(header: usize, stated: u16, len: usize) -> bool
     requires { header ≤ len }
     ensures { result ≡ is_exceeded header stated len }
@@ -68,8 +68,7 @@ pub fn exceeds(header: usize, stated: u16, len: usize) -> bool
     usize::from(stated) > len - header
 }
 
-/// Reads a stream header of any subtype. Refuses the first field that the slice cuts off, and otherwise a version other
-/// than 0.
+/// Reads a stream header of any subtype. Refuses the first field that is cut off, or else a version other than 0.
 #[inline(always)]
 pub fn read_stream_header(pdu: &[u8]) -> Result<StreamHeader, Refusal>
     ensures exact { Reads (λ h. h) (header_refusal pdu.now) (header_of pdu.now) result }
@@ -92,8 +91,8 @@ fn read_any(pdu: &[u8]) -> Result<StreamHeader, Refusal>
     Ok(fields(pdu))
 }
 
-/// Like `read_stream_header`, for packets of one format: a packet of any other subtype is refused, too, before its version is
-/// judged.
+/// Reads a stream header of this subtype. Refuses the first field that is cut off, or else another subtype, or else a
+/// version other than 0.
 #[inline(always)]
 pub fn read_header_of(subtype: u8, pdu: &[u8]) -> Result<StreamHeader, Refusal>
     ensures { Reads (λ h. h) (kind_refusal subtype pdu.now) (header_of pdu.now) result }
@@ -110,7 +109,7 @@ pub fn read_header_of(subtype: u8, pdu: &[u8]) -> Result<StreamHeader, Refusal>
     Ok(fields(pdu))
 }
 
-/// The first fields of a packet, or `None` if it has fewer than the 12 bytes that hold them.
+/// The first fields of a packet, or `None` if the packet has fewer than the 12 bytes that hold them.
 pub fn peek(pdu: &[u8]) -> Option<Peeked>
     ensures none { IsNone result ↔ (length pdu.now < 12) }
     ensures fields { IfSome result (λ peeked. peeked ≡ peeked_of pdu.now) }
@@ -126,7 +125,7 @@ pub fn peek(pdu: &[u8]) -> Option<Peeked>
     })
 }
 
-/// The subtype of a packet. An empty slice is refused by this field.
+/// The subtype of a packet. An empty slice is refused, because it cuts off the subtype.
 #[inline(always)]
 pub fn peek_subtype(pdu: &[u8]) -> Result<u8, Refusal>
     ensures { Reads (λ s. s) (first_short (part Subtype 0 (holds 8 (λ s. s) ∷ []) ∷ []) (length pdu.now)) (bits 0 0 8 pdu.now) result }

@@ -1,4 +1,4 @@
-//! The subtypes of AVTP packets that are read (IEEE 1722-2016, table 6).
+//! The subtypes of the AVTP packets that are read (IEEE 1722-2016, table 6).
 
 /// An IEC 61883 stream.
 pub const IEC_61883: u8 = 0x00;

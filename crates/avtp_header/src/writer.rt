@@ -10,7 +10,7 @@ use crate::header::StreamHeader;
 use avtp_base::Room;
 use avtp_base::octets::write_front;
 
-/// The 24 bytes of a header, with a format's own bits filled in.
+/// The 24 bytes of a header, with these numbers in the bits that each format defines.
 pub fn header_bytes(
     header: &StreamHeader,
     format_bits: u8,
@@ -58,8 +58,8 @@ pub fn header_bytes(
     ]
 }
 
-/// Writes a stream header, with zeros in the bits that each format defines, and returns its length, 24. If the slice is
-/// shorter, it returns `Room` and leaves the slice unchanged. The format bits are 0 to 3.
+/// Writes a stream header, with zeros in bytes 16 to 19, 22 and 23, and returns its length, 24. If the slice is too
+/// short, returns `Room` and leaves the slice unchanged. The format bits must be at most 3.
 pub fn write_stream_header(out: &mut [u8], header: &StreamHeader) -> Result<usize, Room>
     requires { header.now.format_bits ≤ 3 }
     ensures written { Writes (spelling header_layout header.now) out.old out.new result }

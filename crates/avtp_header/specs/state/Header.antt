@@ -6,7 +6,7 @@ use Rattle.avtp_base.specs.Layout.{Layout, part, holds}
 use Rattle.avtp_header.specs.declared.header.StreamHeader.{StreamHeader}
 use Rattle.avtp_header.specs.Header.{stream_layout}
 
--- the table of the stream header that holds these numbers in the bits that are left to each format
+-- the table of a stream header whose format-specific bits hold these numbers
 abbrev pub filled_layout : ℕ → ℕ → ℕ → Layout StreamHeader
 filled_layout format_bits format_data format_flags = stream_layout (λ h. h)
     (holds 2 (λ h. format_bits) ∷ [])
