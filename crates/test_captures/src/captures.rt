@@ -1,4 +1,4 @@
-//! Captures, pcap and pcapng: their records and how they end.
+//! Tests of captures, pcap and pcapng: their records, and how reading them ends.
 
 use crate::reading::{Way, told};
 use avtp_base::Field;
@@ -8,14 +8,14 @@ use std::alloc::Global;
 use std::test::Fail;
 use vectors_avtp::{bytes_of, row_of};
 
-/// Reads without a failing call, and with a limit that is never reached.
+/// No call fails, and the limit is never reached.
 const FREE: Way = Way {
     most: 65_536,
     limit: u32::MAX,
     fails: 0,
 };
 
-/// Captures, and what is read of them.
+/// Captures, and what is read from each.
 const CAPTURES: &str = "\
 pcap => 1000000000 66 66, Some(Whole)
 pcapng => 1000000000 66 66, Some(Whole)
@@ -24,7 +24,7 @@ d4c3b2a1 0200 0400 00000000 00000000 00000400 01000000 01000000 f4010000 0300000
 4d3cb2a1 0200 0400 00000000 00000000 00000400 01000000 01000000 f4010000 03000000 42000000 070809 => 1000000500 66 3, Some(Whole)
 a1b2c3d4 0002 0004 00000000 00000000 00040000 00000001 00000001 000001f4 00000003 00000042 070809 => 1000500000 66 3, Some(Whole)
 a1b23c4d 0002 0004 00000000 00000000 00040000 00000001 00000001 000001f4 00000003 00000042 070809 => 1000000500 66 3, Some(Whole)
-// A fraction of a second or more.
+// A fraction of at least one second, and refused fields.
 pcap 28=00ca9a3b => 2000000000 66 66, Some(Whole)
 pcap 0=00 len=4 => magic at 0
 pcap 4=03 len=6 => version_major at 4
@@ -48,7 +48,7 @@ pcapng 44=0e => if_tsoffset at 44
 pcapng 68=01 => interface_id at 68
 pcapng 80=45 => captured_length at 80
 pcapng 156=60 => block_trailer at 156
-// Units of an interface, and a timestamp in them.
+// Units of an interface, each with a timestamp in that unit.
 pcapng 48=00 72=0000000001000000 => 1000000000 66 66, Some(Whole)
 pcapng 48=00 72=0100000000000000 => timestamp_range at 72
 pcapng 48=00 72=00000000ffffffff => 4294967295000000000 66 66, Some(Whole)
@@ -61,25 +61,26 @@ pcapng 48=80 72=0000000007000000 => 7000000000 66 66, Some(Whole)
 pcapng 48=81 72=0000000003000000 => 1500000000 66 66, Some(Whole)
 pcapng 48=a0 72=0500000000000080 => 5500000000 66 66, Some(Whole)
 pcapng 48=bf 72=ffffffffffffffff => 1999999999 66 66, Some(Whole)
-// Big-endian, with an offset of -1 s, and a name.
+// A big-endian section, whose interface has a name and an offset of -1 s.
 0a0d0d0a0000001c1a2b3c4d00010000ffffffffffffffff0000001c 00000001000000300001000000000000000200056574683078000000000e0008ffffffffffffffff0000000000000030 000000060000002800000000000000000016e3600000000500000005616263646500000000000028 => 500000000 5 5, Some(Whole)
-// Interfaces and byte order begin anew in a second section.
+// A second section starts without interfaces, and may have another byte order.
 pcapng len=28 010000001c000000010000000000000009000100090000001c000000 060000002400000000000000000000000700000003000000030000006162630024000000 0a0d0d0a0000001c1a2b3c4d00010002ffffffffffffffff0000001c 0000000100000014000100000000000000000014 000000060000002400000000000000000000000900000004000000046162636400000024 => 7 3 3, 9000 4 4, Some(Whole)
 pcapng len=28 0100000014000000010000000000000014000000 060000002400000000000000000000000700000003000000030000006162630024000000 0a0d0d0a0000001c1a2b3c4d00010000ffffffffffffffff0000001c 000000060000002400000000000000000000000900000004000000046162636400000024 => 7000 3 3, interface_id at 120
-// Blocks that are passed, and options of a packet.
+// Blocks that are skipped, and options of a packet.
 pcapng len=28 010000802c000000000102030405060708090a0b0c0d0e0f101112131415161718191a1b1c1d1e1f2c000000 0100000014000000010000000000000014000000 0500000014000000000102030405060714000000 010000001c000000010000000000000009000100030000001c000000 060000003400000001000000000000000200000007000000070000006162636465666700010004006e6f74650000000034000000 040000000c0000000c000000 => 2000000 7 7, Some(Whole)
-// If an option comes twice, the last one counts. Nothing is read after the end of the options.
+// If an option occurs twice, the last one counts. Nothing is read after the end of the options.
 pcapng len=28 010000003c000000010000000000000009000100090000000e000800050000000000000009000100000000000e00080001000000000000003c000000 060000002400000000000000000000000200000001000000010000006100000024000000 => 3000000000 1 1, Some(Whole)
 pcapng len=28 01000000280000000100000000000000090001000900000000000000090001000000000028000000 060000002400000000000000000000000200000001000000010000006100000024000000 => 2 1 1, Some(Whole)
-// Before the epoch, the last microsecond, and one more.
+// A packet before the epoch, a packet in the last microsecond that can be recorded, and a packet in the next
+// microsecond.
 pcapng len=28 010000002000000001000000000000000e000800ffffffffffffffff20000000 060000002400000000000000000000003f420f0001000000010000006100000024000000 => timestamp_range at 72
 pcapng len=28 010000002000000001000000000000000e000800ffffffff0000000020000000 060000002400000000000000000000003f420f0001000000010000006100000024000000 => 4294967295999999000 1 1, Some(Whole)
 pcapng len=28 010000002000000001000000000000000e000800ffffffff0000000020000000 0600000024000000000000000000000040420f0001000000010000006100000024000000 => timestamp_range at 72
-// A trailer after a whole packet, and an option's value that passes the trailer.
+// A wrong trailer after a whole packet, and an option whose value runs into the trailer.
 pcapng len=28 0100000014000000010000000000000014000000 060000002400000000000000000000000100000002000000020000006162000024000000 060000002400000000000000000000000200000002000000020000006364000020000000 => 1000 2 2, block_trailer at 116
 pcapng len=28 0100000020000000010000000000000009000100090000000300010020000000 => option_length at 52";
 
-/// A capture is read alike in pieces of any size.
+/// The result is the same in pieces of one byte and of 65,536 bytes.
 #[test]
 fn a_capture_is_read_up_to_what_refuses_it(rt: HostRuntime) -> Result<(), Fail> {
     for line in CAPTURES.lines().filter(|line| !line.starts_with("//")) {
@@ -96,12 +97,12 @@ fn a_capture_is_read_up_to_what_refuses_it(rt: HostRuntime) -> Result<(), Fail> 
     Ok(())
 }
 
-/// Captures that are cut off: each answer, with the first length at which it comes.
+/// Captures that are cut off: each length at which the answer changes, and the new answer.
 const CUT: &str = "\
 pcap => 0: magic at 0 short; 4: version_major at 4 short; 6: version_minor at 6 short; 8: thiszone at 8 short; 12: sigfigs at 12 short; 16: snaplen at 16 short; 20: network at 20 short; 24: Some(Whole); 25: ts_sec at 24 short; 28: ts_fraction at 28 short; 32: incl_len at 32 short; 36: orig_len at 36 short; 40: packet_bytes at 40 short; 106: 1000000000 66 66, Some(Whole);
 pcapng => 0: magic at 0 short; 4: block_length at 4 short; 8: block_body at 8 short; 28: Some(Whole); 29: block_type at 28 short; 32: block_length at 32 short; 36: block_body at 36 short; 60: Some(Whole); 61: block_type at 60 short; 64: block_length at 64 short; 68: block_body at 68 short; 160: 1000000000 66 66, Some(Whole);";
 
-/// The answer to a capture that is cut off, for each length at which the answer changes.
+/// The answers to a capture that is cut off: each length at which the answer changes, and the new answer.
 fn answers_when_cut(alloc: Global, capture: &[u8]) -> Result<String, Fail> {
     let mut all = String::new(alloc);
     let mut last = String::new(alloc);
@@ -125,7 +126,7 @@ fn a_short_capture_is_refused_by_the_field_that_is_cut_off(rt: HostRuntime) -> R
     Ok(())
 }
 
-/// A capture of two records, of 66 bytes and of one byte.
+/// A capture of two records, the first of 66 bytes, the second of one byte.
 const TWO: &str = "pcap 02000000 f4010000 01000000 01000000 05";
 
 #[test]
@@ -167,7 +168,7 @@ fn one_interface_too_many_is_refused(rt: HostRuntime) -> Result<(), Fail> {
     Ok(())
 }
 
-/// A first block other than a section header is not pcapng.
+/// If the first block is not a section header, the pcapng reader refuses it.
 #[test]
 fn a_reader_of_pcapng_wants_a_section_first(rt: HostRuntime) -> Result<(), Fail> {
     let mut reader = Ng::new(rt.alloc())?;

@@ -1,4 +1,4 @@
-//! Files and sinks, in memory and on disk.
+//! Tests of files and sinks, in memory and on disk.
 
 ghost use Rattle.std.specs.Prelude.{◌≤◌, length};
 
@@ -27,7 +27,7 @@ impl Spelled for Piece<'_> {
     }
 }
 
-/// Makes a file of two such values, and tells whether all of it was written.
+/// Makes a file, writes the piece to it twice, and returns whether all of it was written.
 fn write_twice<F: Shelf>(
     alloc: Global,
     shelf: &mut F,
@@ -50,7 +50,7 @@ fn write_twice<F: Shelf>(
     Ok(writer.finish(shelf).is_ok())
 }
 
-/// The shelf takes 30,000 bytes per call.
+/// The shelf takes at most 30,000 bytes per call.
 #[test]
 fn a_file_has_what_was_written_before_a_call_fails(rt: HostRuntime) -> Result<(), Fail> {
     let piece = vec![in rt.alloc(); 7u8; 40_000]?;
@@ -100,7 +100,7 @@ fn a_sink_in_memory_keeps_what_its_calls_took(rt: HostRuntime) -> Result<(), Fai
     Ok(())
 }
 
-/// Once something could not be kept, no name is reported as missing.
+/// After a write that did not fit, the shelf returns `Memory`, not `Missing`, for a name it does not hold.
 #[test]
 fn a_quiet_end_takes_all_and_keeps_what_fits(rt: HostRuntime) -> Result<(), Fail> {
     let mut sink = QuietSink::over(rt.alloc(), 5)?;
@@ -115,7 +115,7 @@ fn a_quiet_end_takes_all_and_keeps_what_fits(rt: HostRuntime) -> Result<(), Fail
     Ok(())
 }
 
-/// The path of a file with this name in the temporary directory.
+/// The path of the file `name` in the temporary directory.
 fn temporary(rt: &HostRuntime, name: &str) -> Result<String, Fail> {
     let path = env::temp_dir(rt)?.join(rt.alloc(), name)?;
     let path = path.to_str().ok_or("a path that is no text")?;
@@ -136,7 +136,7 @@ fn a_real_file_is_made_and_read_back(rt: HostRuntime) -> Result<(), Fail> {
     Ok(())
 }
 
-/// A sink over the file at a path, unless it is one of the files in `apart`.
+/// A sink over the file at `path` that never writes to a file at one of the paths in `apart`.
 fn named(rt: HostRuntime, path: &str, apart: &[&str]) -> Result<FileSink<HostRuntime>, Fail> {
     let mut others = Vec::new(rt.alloc());
     for other in apart {
@@ -145,7 +145,7 @@ fn named(rt: HostRuntime, path: &str, apart: &[&str]) -> Result<FileSink<HostRun
     Ok(FileSink::named(rt, String::from_str(rt.alloc(), path)?, others))
 }
 
-/// Neither a shelf nor a sink writes over a file that is read, whatever its name.
+/// A file that was read is not overwritten by a shelf or by a sink, under any of its paths.
 #[test]
 fn a_file_that_is_read_is_not_written_over(rt: HostRuntime) -> Result<(), Fail> {
     let path = temporary(&rt, "test_captures_kept")?;
@@ -165,7 +165,7 @@ fn a_file_that_is_read_is_not_written_over(rt: HostRuntime) -> Result<(), Fail> 
     Ok(())
 }
 
-/// The first write makes the file, or empties it.
+/// The first write to a sink makes its file, or empties it if it exists.
 #[test]
 fn a_sink_makes_its_file_when_it_is_written_to(rt: HostRuntime) -> Result<(), Fail> {
     let path = temporary(&rt, "test_captures_sink")?;

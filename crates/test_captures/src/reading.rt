@@ -1,4 +1,4 @@
-//! Captures as rows of a table describe them.
+//! Reads a capture, and tells what was read as text.
 
 use avtp_memory::MemoryShelf;
 use capture_io::{End, Source};
@@ -7,7 +7,8 @@ use std::alloc::{AllocError, Global};
 use std::test::Fail;
 use vectors_avtp::refusal_text;
 
-/// How a capture is read: in calls of at most `most` bytes, up to a limit, and with a failing call, counted from 1.
+/// How a capture is read: at most `most` bytes per call, and at most `limit` bytes in all. Call number `fails` fails,
+/// counted from 1; at 0 no call fails.
 #[derive(Clone, Copy, Debug)]
 pub struct Way {
     pub most: usize,
@@ -23,7 +24,7 @@ pub fn shelf_over(alloc: Global, bytes: &[u8], way: Way) -> Result<MemoryShelf, 
     Ok(MemoryShelf::over(alloc, files, fails).at_most(way.most.max(1)))
 }
 
-/// The arrival, the length on the wire and the number of captured bytes.
+/// The arrival, the length on the wire and the number of captured bytes of a record.
 fn record_text(alloc: Global, record: &RecordView<'_>) -> Result<String, AllocError> {
     let bytes = record.bytes.len();
     format!(in alloc; "{} {} {bytes}, ", record.arrival, record.orig_len)
