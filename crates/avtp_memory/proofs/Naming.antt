@@ -1,4 +1,4 @@
--- Names in a list of files: what a change of the first entry with a name does to every look-up.
+-- Names in a list of files: how changing the first entry with a name affects every look-up.
 use Rattle.std.proofs.Common.{◌≡◌, ◌≢◌, ℕ, ◌<◌, ◌≤◌, inl, inr, Bool, true, false, cond, ltb, List, [], ◌∷◌, ◌++◌, length, get_or, set, Option, Some, None, Result, Ok, Err, refl, sym, ap, subst, ◌∙◌, arith}
 use Rattle.std.specs.Prelude.{OnErr, find, position, option_map, unwrap_or, bytes_eq, string_bytes, String, vec_capacity}
 use Rattle.std.specs.List.{position_or_len, slice_get}
@@ -19,7 +19,7 @@ find_passes p (y ∷ ys) x e =
       | false ↦ λ f h. find_passes p ys x h
     ] refl e
 
--- A place that was found is the first one that passes the test, is inside the list, and holds this item.
+-- `i` is the index of the first item of `xs` that passes the test, and `x` is that item.
 pub record IsFound {X : Type 0} (p : X → Bool) (xs : List X) (i : ℕ) (x : X) : Type 0 where
   pub first : i ≡ position_or_len p xs
   pub inside : i < length xs
@@ -35,7 +35,6 @@ is_found p xs i x e there =
     let found : find p xs ≡ Some x = at ∙ slice_get-get_or xs i x inside ∙ ap (λ y. Some y) (sym there) in
     record { first = first; inside = inside; found = found; passes = find_passes p xs x found }
 
--- an entry with one name does not have a different name
 other_name : (other name : List ℕ) (entry : String Global × Vec ℕ) → other ≢ name → has_name name entry ≡ true → has_name other entry ≡ false
 other_name other name entry differ same =
     let is : string_bytes entry.0 ≡ name = (bytes_eq-Decides (string_bytes entry.0) name).0 same in
@@ -49,7 +48,7 @@ pub bytes_before : (entries : List (String Global × Vec ℕ)) (i : ℕ) (name :
 bytes_before entries i name old e there =
     ap (λ f. option_map (λ (entry : String Global × Vec ℕ). entry.1.items) f) (is_found (has_name name) entries i old e there).found
 
--- The first entry with the name is this one now, and under every other name the entry that was found before is found.
+-- The first entry with the name is now `entry`. Looking up any other name finds the same entry as before.
 pub record SetsNamed (old new : List (String Global × Vec ℕ)) (name : List ℕ) (entry : String Global × Vec ℕ) : Type 0 where
   pub here : find (has_name name) new ≡ Some entry
   pub others : (other : List ℕ) → other ≢ name → find (has_name other) new ≡ find (has_name other) old
@@ -67,7 +66,7 @@ set_named entries i name old v e there =
           find_past (has_name other) entries i entry old at here;
     }
 
--- ---- what is said of the files by their names
+-- ---- what follows for the files
 
 pub sets_file : (old new : List (String Global × Vec ℕ)) (name : List ℕ) (entry : String Global × Vec ℕ) (bytes : List ℕ) → SetsNamed old new name entry → entry.1.items ≡ bytes → SetsFile old new name bytes
 sets_file old new name entry bytes sets is =
@@ -96,7 +95,7 @@ keeps_capacity old new name entry sets more other =
       | false ↦ λ f. let same : capacity_under new other ≡ capacity_under old other = ap size_of_found (sets.others other (λ same. let t = told.1 same in cc)) in omega arith
     ] refl
 
--- The first file with the name has other bytes now.
+-- The first file with the name had the bytes `before`, and now has the bytes `after`.
 pub record Replaces (old new : List (String Global × Vec ℕ)) (name : List ℕ) (before after : Vec ℕ) : Type 0 where
   pub had : bytes_under old name ≡ Some before.items
   pub capacity : capacity_under old name ≡ vec_capacity before
@@ -117,7 +116,6 @@ replaced entries i name old v e there =
       keeps = λ more. keeps_capacity _ _ name (old.0, v) sets (omega arith);
     }
 
--- if a file is set to the bytes that it has, every file is unchanged
 pub set_same : (old new : List (String Global × Vec ℕ)) (name bytes : List ℕ) → SetsFile old new name bytes → bytes_under old name ≡ Some bytes → KeepsNamed old new
 set_same old new name bytes sets has other =
     let told = bytes_eq-Decides other name in
@@ -142,7 +140,7 @@ or_none : {X : Type 0} (x : Option X) → option_or x None ≡ x
 or_none None = refl
 or_none (Some x) = refl
 
--- an entry is added at the end, under a name that no entry had
+-- appending an entry whose name no entry had sets the entry with that name
 pub add_named : (entries : List (String Global × Vec ℕ)) (name : List ℕ) (entry : String Global × Vec ℕ)
     → position (has_name name) entries ≡ None → string_bytes entry.0 ≡ name → SetsNamed entries (entries ++ entry ∷ []) name entry
 add_named entries name entry e named =
@@ -154,7 +152,6 @@ add_named entries name entry e named =
           find-append (has_name other) entries (entry ∷ []) ∙ rw here (or_none (find (has_name other) entries));
     }
 
--- if no entry has the name, there are no bytes under it
 pub no_bytes : (entries : List (String Global × Vec ℕ)) (name : List ℕ) → position (has_name name) entries ≡ None → bytes_under entries name ≡ None
 no_bytes entries name e = ap (λ f. option_map (λ (entry : String Global × Vec ℕ). entry.1.items) f) (find_none (has_name name) entries e)
 
@@ -162,7 +159,6 @@ pub capacity_none : (entries : List (String Global × Vec ℕ)) (name : List ℕ
 unfolding size_of_found
 capacity_none entries name e = ap size_of_found (find_none (has_name name) entries e)
 
--- what always holds also holds at an error
 pub on_err : {T E : Type 0} (r : Result T E) (P : Type 0) → P → OnErr r P
 on_err (Ok x) P h = tt
 on_err (Err e) P h = h

@@ -1,13 +1,13 @@
--- The names that a shelf was asked for, in order. A shelf in memory keeps those that it has memory for.
+-- The names that a shelf was asked for, in order. A shelf in memory keeps the names for which it has memory.
 use Rattle.std.specs.Prelude.{ℕ, List, map, string_bytes, String}
 use Rattle.std.specs.Global.{Global}
 use Rattle.avtp_memory.specs.declared.asked_names.AskedNames.{AskedNames}
 use Rattle.avtp_base.specs.States.{AreNames}
 
--- the names that are kept
+-- the names that were kept
 abbrev pub names_kept : AskedNames → List (List ℕ)
 names_kept asked = map (λ (name : String Global). string_bytes name) asked.names.items
 
--- given the names that it keeps, a shelf may have been asked for these names, in this order
+-- the names that were kept allow that the shelf was asked for these names, in this order
 abbrev pub StandsForNames : AskedNames → List (List ℕ) → Type 0
 StandsForNames asked names = AreNames asked.all (names_kept asked) names

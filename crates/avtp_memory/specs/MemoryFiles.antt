@@ -1,4 +1,4 @@
--- What files in memory show.
+-- What contracts see of files in memory.
 use Rattle.std.specs.Prelude.{◌≡◌, ◌≢◌, ◌↔◌, ℕ, Bool, IsTrue, List, [], Option, Some, drop, option_map, unwrap_or, string_bytes, String}
 use Rattle.std.specs.Global.{Vec, Global}
 use Rattle.avtp_memory.specs.declared.memory_files.MemoryFiles.{MemoryFiles}
@@ -8,11 +8,11 @@ use Rattle.avtp_base.specs.Files.{Files, Open, Slots}
 use Rattle.avtp_memory.specs.NamedFiles.{bytes_under}
 use Rattle.avtp_memory.specs.Room.{kept_within, FitsRoom}
 
--- the bytes that are kept under a name
+-- the bytes of each file, by name
 abbrev pub files_in : MemoryFiles → Files
 files_in held = bytes_under held.files.entries.items
 
--- an open file as contracts see it, with what is left to read of it
+-- an open file as contracts see it, with the bytes that are left to read
 abbrev pub open_in : List (String Global × Vec ℕ) → OpenFile → Open
 open_in entries file =
     record { made = file.made; name = Some (string_bytes file.name); left = Some (drop file.place (unwrap_or (bytes_under entries (string_bytes file.name)) [])) }
@@ -21,11 +21,11 @@ open_in entries file =
 abbrev pub slots_in : MemoryFiles → Slots
 slots_in held k = option_map (open_in held.files.entries.items) (entry_at held.live.entries.items k)
 
--- the room of each file that is made, in bytes
+-- the number of bytes for which each file has room when it is made
 abbrev pub room_in : MemoryFiles → ℕ
 room_in held = held.room
 
--- The named file keeps as much of a piece as fits its room, `fits` says whether that is all of the piece, and every other file
+-- Of `piece`, the named file keeps as much as fits its room. `fits` is whether all of the piece fits. Every other file
 -- is unchanged.
 pub record KeepsPart (old new : Files) (named : Option (List ℕ)) (room : ℕ) (piece : List ℕ) (fits : Bool) : Type 0 where
   pub name : List ℕ

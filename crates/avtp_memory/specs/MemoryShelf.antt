@@ -1,4 +1,4 @@
--- What a shelf in memory shows.
+-- What contracts see of a shelf in memory.
 use Rattle.std.specs.Prelude.{◌≡◌, ◌↔◌, ℕ, List, Contains, Result, IfOk, IfSome, IsErr, IsErrOf, length, min}
 use Rattle.avtp_base.specs.declared.failed.Failed.{Failed}
 use Rattle.avtp_base.specs.declared.failed.OpenFault.{OpenFault}
@@ -10,7 +10,7 @@ use Rattle.avtp_memory.specs.Asked.{StandsForNames}
 use Rattle.avtp_base.specs.Files.{Files, Slots, left_in}
 use Rattle.avtp_memory.specs.MemoryFiles.{files_in, slots_in}
 
--- the bytes that are kept under a name
+-- the bytes of each file, by name
 abbrev pub files_of : MemoryShelf → Files
 files_of shelf = files_in shelf.held
 
@@ -18,15 +18,15 @@ files_of shelf = files_in shelf.held
 abbrev pub slots_of : MemoryShelf → Slots
 slots_of shelf = slots_in shelf.held
 
--- the names that it was asked for
+-- the shelf may have been asked for these names
 abbrev pub asked_of : MemoryShelf → List (List ℕ) → Type 0
 asked_of shelf = StandsForNames shelf.asked
 
--- the number of the last call
+-- the number of the last call, counted from 1
 abbrev pub calls : MemoryShelf → ℕ
 calls shelf = shelf.calls.count
 
--- the numbers of the calls that fail, from 1
+-- the numbers of the calls that fail, counted from 1
 abbrev pub failing_calls : MemoryShelf → List ℕ
 failing_calls shelf = shelf.calls.fails.items
 
@@ -42,39 +42,40 @@ reading_count shelf = shelf.reading_faults
 abbrev pub writing_count : MemoryShelf → ℕ
 writing_count shelf = shelf.writing_faults
 
--- the next call fails, because its number is among those that do
+-- the number of the next call is among the failing ones
 abbrev pub IsToFail : MemoryShelf → Type 0
 IsToFail shelf = Contains (failing_calls shelf) (next_number (calls shelf))
 
--- one more call was counted; which calls fail, and the greatest number of bytes that a call moves, are unchanged
+-- One more call was counted. Which calls fail is unchanged, and so is the greatest number of bytes that a call moves.
 pub record CountsCall (old new : MemoryShelf) : Type 0 where
   pub next : calls new ≡ next_number (calls old)
   pub fails : failing_calls new ≡ failing_calls old
   pub most : most new ≡ most old
 
--- ---- what a call does beyond what it does on every shelf
+-- ---- what a call adds to what it does on every shelf
 
--- A call opened or made a file, or did not: it returned `Failed` exactly if its number is among those that fail. It was
+-- A call to open or make a file. It returned `Failed` exactly if its number is among the failing ones. The call was
 -- counted.
 pub record OpensByNumber (old new : MemoryShelf) (result : Result Slot OpenFault) : Type 0 where
   pub failed : IsErrOf result open_fault.Failed ↔ IsToFail old
   pub call : CountsCall old new
 
--- A read of slot k into a buffer of `room` bytes: it moved as many bytes as are left, as fit the buffer, and as a call may
--- move, whichever is least; or it failed, exactly if its number is among those that fail. The call was counted.
+-- A read of slot k into a buffer of `room` bytes. It failed exactly if its number is among the failing ones. Otherwise
+-- it moved the least of three numbers of bytes: those left to read, `room`, and the greatest number that a call moves.
+-- The call was counted.
 pub record ReadsByNumber (old new : MemoryShelf) (k room : ℕ) (result : Result ℕ Failed) : Type 0 where
   pub whole : IfOk result (λ n. IfSome (left_in (slots_of old) k) (λ left. n ≡ min (length left) (min room (most old))))
   pub failed : IsErr result ↔ IsToFail old
   pub call : CountsCall old new
 
--- A write of a piece: it took the whole piece, or as many bytes as a call may move if the piece is longer; or it failed, as it
--- always does if its number is among those that fail. The call was counted.
+-- A write of `piece`. It took the whole piece, or its first bytes if it is longer than a call may move; or it failed.
+-- If its number is among the failing ones, it failed. The call was counted.
 pub record WritesByNumber (old new : MemoryShelf) (piece : List ℕ) (result : Result ℕ Failed) : Type 0 where
   pub whole : IfOk result (λ n. n ≡ min (length piece) (most old))
   pub failed : IsToFail old → IsErr result
   pub call : CountsCall old new
 
--- no call was counted, and the greatest number of bytes that a call moves is unchanged
+-- No call was counted. The greatest number of bytes that a call moves is unchanged.
 pub record KeepsNumber (old new : MemoryShelf) : Type 0 where
   pub calls : calls new ≡ calls old
   pub most : most new ≡ most old

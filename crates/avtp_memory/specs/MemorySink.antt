@@ -1,4 +1,4 @@
--- What a sink in memory shows.
+-- What contracts see of a sink in memory.
 use Rattle.std.specs.Prelude.{◌≡◌, ℕ, List, Contains, Result, IfOk, IsErr, length, min}
 use Rattle.avtp_base.specs.declared.failed.Failed.{Failed}
 use Rattle.avtp_memory.specs.declared.memory_sink.MemorySink.{MemorySink}
@@ -8,11 +8,11 @@ use Rattle.avtp_memory.specs.Calls.{next_number}
 abbrev pub kept : MemorySink → List ℕ
 kept sink = sink.bytes.items
 
--- the number of the last call
+-- the number of the last call, counted from 1
 abbrev pub calls : MemorySink → ℕ
 calls sink = sink.calls.count
 
--- the numbers of the calls that fail, from 1
+-- the numbers of the calls that fail, counted from 1
 abbrev pub failing_calls : MemorySink → List ℕ
 failing_calls sink = sink.calls.fails.items
 
@@ -24,9 +24,9 @@ most sink = sink.most
 abbrev pub fault_count : MemorySink → ℕ
 fault_count sink = sink.faults
 
--- What a write does beyond what it does on every sink: it took the whole piece, or as many bytes as a call may take if the
--- piece is longer; or it failed, as it always does if its number is among those that fail. The call was counted; which calls
--- fail, and the greatest number of bytes that a call takes, are unchanged.
+-- What a write adds to what it does on every sink. It took the whole piece, or its first bytes if it is longer than a
+-- call may take; or it failed. If its number is among the failing ones, it failed. The call was counted. Which calls
+-- fail is unchanged, and so is the greatest number of bytes that a call takes.
 pub record TakesByNumber (old new : MemorySink) (piece : List ℕ) (result : Result ℕ Failed) : Type 0 where
   pub told : Contains (failing_calls old) (next_number (calls old)) → IsErr result
   pub whole : IfOk result (λ n. n ≡ min (length piece) (most old))

@@ -1,4 +1,4 @@
--- What a quiet shelf shows.
+-- What contracts see of a quiet shelf.
 use Rattle.std.specs.Prelude.{◌≡◌, ◌&&◌, ℕ, Bool, List, [], Option, Some, Result, Ok, IfOk, IfSome, OnErr, OnOk, length, min}
 use Rattle.avtp_base.specs.declared.failed.Failed.{Failed}
 use Rattle.avtp_base.specs.declared.failed.OpenFault.{OpenFault}
@@ -9,19 +9,19 @@ use Rattle.avtp_base.specs.Files.{Files, Slots, left_in, name_in, IsOpened, Keep
 use Rattle.avtp_memory.specs.MemoryFiles.{files_in, slots_in, room_in, KeepsPart}
 use Rattle.avtp_memory.specs.Room.{told_while}
 
--- the bytes that are kept under a name
+-- the kept bytes of each file, by name
 abbrev pub kept_files : QuietShelf → Files
 kept_files shelf = files_in shelf.held
 
--- how many bytes the shelf keeps of a file that is made
+-- how many bytes the shelf keeps of each file that is made
 abbrev pub room_of : QuietShelf → ℕ
 room_of shelf = room_in shelf.held
 
--- all that was written is kept
+-- all written bytes were kept
 abbrev pub keeps_all : QuietShelf → Bool
 keeps_all shelf = shelf.all
 
--- the files that are kept, or `None` once some bytes that were written are not
+-- the kept files; `None` once some written bytes were not kept
 abbrev pub files_of : QuietShelf → Option Files
 files_of shelf = told_while (keeps_all shelf) (kept_files shelf)
 
@@ -29,42 +29,43 @@ files_of shelf = told_while (keeps_all shelf) (kept_files shelf)
 abbrev pub slots_of : QuietShelf → Slots
 slots_of shelf = slots_in shelf.held
 
--- the names that it was asked for
+-- the shelf may have been asked for these names
 abbrev pub asked_of : QuietShelf → List (List ℕ) → Type 0
 asked_of shelf = StandsForNames shelf.asked
 
--- The named file keeps as much of a piece as fits its room, and every other file is unchanged. All that was written is kept if
--- it was before and the piece fits.
+-- Of a piece, the named file keeps as much as fits its room. Every other file is unchanged. `keeps_all` stays true if
+-- the whole piece fits, and becomes false otherwise.
 abbrev pub KeepsPiece : QuietShelf → QuietShelf → Option (List ℕ) → List ℕ → Type 0
 KeepsPiece old new name piece =
     (fits : Bool) × KeepsPart (kept_files old) (kept_files new) name (room_of old) piece fits × (keeps_all new ≡ (keeps_all old && fits))
 
--- ---- what a call does beyond what it does on every shelf
+-- ---- what a call adds to what it does on every shelf
 
--- the kept bytes, whether they are all that was written, and the room of files that are made are unchanged
+-- The kept bytes are unchanged. So are `keeps_all` and the room of files that are made.
 pub record KeepsKept (old new : QuietShelf) : Type 0 where
   pub kept : KeepsFiles (Some (kept_files old)) (Some (kept_files new))
   pub all : keeps_all new ≡ keeps_all old
   pub room : room_of new ≡ room_of old
 
--- at `Ok` a kept file with this name was opened, and all that is kept of it is left to read; what is kept is unchanged
+-- At `Ok` a kept file with this name was opened, and all its kept bytes are left to read. Nothing that is kept changed.
 pub record OpensQuietly (old new : QuietShelf) (name : List ℕ) (result : Result Slot OpenFault) : Type 0 where
   pub found : IfOk result (λ slot. IsOpened (Some (kept_files old)) (slots_of new slot.0) name)
   pub keeps : KeepsKept old new
 
--- the file with this name was made, and nothing is kept of it yet; or what is kept of every file is unchanged
+-- At `Ok` the file with this name was made, and nothing of it is kept yet. At `Err` the kept bytes of every file are
+-- unchanged.
 pub record MakesQuietly (old new : QuietShelf) (name : List ℕ) (result : Result Slot OpenFault) : Type 0 where
   pub kept : OnOk result (PutsFile (Some (kept_files old)) (Some (kept_files new)) name [])
   pub as_before : OnErr result (KeepsFiles (Some (kept_files old)) (Some (kept_files new)))
   pub all : keeps_all new ≡ keeps_all old
   pub room : room_of new ≡ room_of old
 
--- a read of slot k into a buffer of `room` bytes moved as many as are left and fit
+-- A read of slot k into a buffer of `room` bytes moved all bytes that are left to read, but at most `room`.
 pub record ReadsQuietly (old new : QuietShelf) (k room : ℕ) (result : Result ℕ Failed) : Type 0 where
   pub whole : IfSome (left_in (slots_of old) k) (λ left. result ≡ Ok (min (length left) room))
   pub keeps : KeepsKept old new
 
--- a write to slot k took the whole piece, and as much of it as fits the room of the file is kept
+-- A write to slot k took the whole piece. As much of it as fits the room of the file is kept.
 pub record WritesQuietly (old new : QuietShelf) (k : ℕ) (piece : List ℕ) (result : Result ℕ Failed) : Type 0 where
   pub whole : result ≡ Ok (length piece)
   pub kept : KeepsPiece old new (name_in (slots_of old) k) piece

@@ -7,7 +7,8 @@ ghost use Rattle.avtp_memory.specs.state.Asked.{NamePushed};
 
 use std::alloc::Global;
 
-/// Names in the order in which they were asked for. If there is no memory for one, neither it nor any later one is kept.
+/// Names in the order in which they were asked for. If there is no memory for a name, that name and all later ones are
+/// not kept.
 #[derive(Debug, Drop)]
 pub struct AskedNames {
     alloc: Global,
@@ -16,7 +17,7 @@ pub struct AskedNames {
 }
 
 impl AskedNames {
-    /// No names.
+    /// A list without names.
     pub fn new(alloc: Global) -> Self
         ensures { StandsForNames result [] }
     {
@@ -27,7 +28,7 @@ impl AskedNames {
         }
     }
 
-    /// Notes that a name was asked for.
+    /// Records that a name was asked for.
     pub fn note(&mut self, name: &str)
         ensures { (names : List (List ℕ)) → StandsForNames self.old names → StandsForNames self.new (names ++ name.now ∷ []) }
     {

@@ -1,4 +1,4 @@
-//! The outside in memory: shelves and sinks for tests, and for programs that need no files.
+//! Files and text output in memory: shelves and sinks for tests, and for programs that need no files.
 #![tactic(auto)]
 
 mod asked_names;

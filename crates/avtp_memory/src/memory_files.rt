@@ -1,4 +1,4 @@
-//! Files in memory, and which of them are open. Both shelves in memory are built on it.
+//! Files in memory, and which of them are open. Each shelf in memory is built on this.
 
 ghost use Rattle.std.specs.Prelude.{◌≤◌};
 ghost use Rattle.avtp_memory.specs.state.OpenFile.{AreNamed, HaveRoom};
@@ -10,7 +10,7 @@ use avtp_files::Slot;
 use avtp_files::slots::Slots;
 use std::alloc::Global;
 
-/// Files by name, and the open ones by slot. A file that is made has memory for `room` bytes from its start.
+/// Files by name, and open files by slot. When a file is made, it gets memory for `room` bytes.
 #[derive(Debug, Drop)]
 pub struct MemoryFiles {
     alloc: Global,
@@ -28,8 +28,8 @@ impl MemoryFiles {
     ghost use Rattle.avtp_memory.specs.MemoryFiles.{files_in, slots_in, room_in, KeepsPart};
     ghost use Rattle.avtp_memory.specs.NamedFiles.{bytes_under};
 
-    /// These files, each under its name, none of them open; a file that is made gets memory for `room` bytes. If two files have
-    /// the same name, the first counts.
+    /// Holds these files, each under its name; none is open. A file that is made gets memory for `room` bytes. If two
+    /// files have the same name, the first counts.
     pub fn over(alloc: Global, files: Vec<(String, Vec<u8>)>, room: usize) -> Self
         ensures files { files_in result ≡ bytes_under files.items }
         ensures closed { (k : ℕ) → slots_in result k ≡ None }
@@ -74,7 +74,7 @@ impl MemoryFiles {
         Ok(slot)
     }
 
-    /// Makes a file or empties it, with memory for its room.
+    /// Makes a file, or empties it. The file gets memory for its room.
     pub fn create(&mut self, name: &str) -> Result<Slot, NoMemory>
         ensures made { IfOk result (λ slot. IsMade (Some (files_in self.old)) (slots_in self.new slot.0) name.now) }
         ensures fresh { IfOk result (λ slot. slots_in self.old slot.0 ≡ None) }
@@ -91,7 +91,8 @@ impl MemoryFiles {
         Ok(slot)
     }
 
-    /// Moves bytes from the front of what is left into the buffer: as many as are left and fit, but at most `most`.
+    /// Moves bytes from the front of what is left to read into the buffer. It moves as many as are left and fit, but at
+    /// most `most`.
     pub fn read(&mut self, slot: Slot, most: usize, buf: &mut [u8]) -> usize
         requires live { IsSome (slots_in self.old slot.0) }
         requires some { 0 < most }
@@ -114,7 +115,7 @@ impl MemoryFiles {
         moved
     }
 
-    /// Appends the whole piece to the file of a slot, or nothing if there is no memory.
+    /// Appends the whole piece to the file of a slot. If there is no memory, it appends nothing.
     pub fn append(&mut self, slot: Slot, piece: &[u8]) -> Result<(), NoMemory>
         requires live { option_map (λ o. o.made) (slots_in self.old slot.0) ≡ Some true }
         ensures appended { OnOk result (AppendsTo (Some (files_in self.old)) (Some (files_in self.new)) (name_in (slots_in self.old) slot.0) piece.now) }
@@ -130,7 +131,7 @@ impl MemoryFiles {
         self.files.append(file.name.as_str(), piece)
     }
 
-    /// Keeps as much of a piece as fits the room of the slot's file, and returns whether that is all of it.
+    /// Keeps as much of a piece as fits the room of the slot's file, and returns whether it kept all of the piece.
     pub fn keep(&mut self, slot: Slot, piece: &[u8]) -> bool
         requires live { option_map (λ o. o.made) (slots_in self.old slot.0) ≡ Some true }
         ensures kept { KeepsPart (files_in self.old) (files_in self.new) (name_in (slots_in self.old) slot.0) (room_in self.old) piece.now result }

@@ -1,4 +1,4 @@
-//! A shelf in memory, which fails at chosen calls.
+//! A shelf in memory whose calls fail at chosen numbers.
 
 ghost use Rattle.std.specs.Prelude.{◌<◌};
 
@@ -9,8 +9,8 @@ use avtp_base::{Failed, NoMemory, OpenFault};
 use avtp_files::{Shelf, Slot};
 use std::alloc::Global;
 
-/// Keeps files by name. Its calls, except those of `close_file`, are numbered from 1, and the calls with the given numbers
-/// fail.
+/// A shelf that keeps its files in memory. All calls except `close_file` are numbered from 1, and the calls with the
+/// given numbers fail.
 #[derive(Debug, Drop)]
 pub struct MemoryShelf {
     held: MemoryFiles,
@@ -27,8 +27,8 @@ impl MemoryShelf {
     ghost use Rattle.avtp_memory.specs.NamedFiles.{bytes_under};
     ghost use Rattle.avtp_memory.specs.MemoryShelf.{files_of, slots_of, asked_of, calls, failing_calls, most, reading_count, writing_count};
 
-    /// A shelf of these files, each under its name, whose calls with these numbers fail. If two files have the same name, the
-    /// first counts.
+    /// A shelf of these files, each under its name. The calls with the numbers `fails` fail. If two files have the same
+    /// name, the first counts.
     pub fn over(alloc: Global, files: Vec<(String, Vec<u8>)>, fails: Vec<u64>) -> Self
         ensures files { files_of result ≡ bytes_under files.items }
         ensures closed { (k : ℕ) → slots_of result k ≡ None }
@@ -49,7 +49,7 @@ impl MemoryShelf {
         }
     }
 
-    /// From now on, a read or a write moves at most `n` bytes, and `n` is at least 1.
+    /// Sets the greatest number of bytes that a read or a write moves, which is at least 1.
     pub fn at_most(self, n: usize) -> Self
         requires { 0 < n }
         ensures files { files_of result ≡ files_of self }
@@ -86,7 +86,8 @@ impl MemoryShelf {
         self.held.file(name)
     }
 
-    /// The names that `open_file` and `create_file` were called with, in order, up to the first for which there was no memory.
+    /// The names that `open_file` and `create_file` were called with, in order, up to the first name for which there
+    /// was no memory.
     pub fn asked(&self) -> &[String]
         ensures { result.now ≡ self.now.asked.names.items }
     {
@@ -114,7 +115,7 @@ impl Shelf for MemoryShelf {
 
     ghost told = { λ shelf k told live. told_of_live shelf.held k live };
 
-    /// Returns `Failed` exactly if the number of the call is among those that fail.
+    /// Returns `Failed` exactly if the number of the call is among the failing ones.
     fn open_file(&mut self, name: &str) -> Result<Slot, OpenFault> {
         self.asked.note(name);
         if self.calls.next_fails() {
@@ -124,7 +125,7 @@ impl Shelf for MemoryShelf {
         self.held.open(name)
     }
 
-    /// Returns `Failed` exactly if the number of the call is among those that fail.
+    /// Returns `Failed` exactly if the number of the call is among the failing ones.
     fn create_file(&mut self, name: &str) -> Result<Slot, OpenFault> {
         self.asked.note(name);
         if self.calls.next_fails() {
@@ -137,8 +138,8 @@ impl Shelf for MemoryShelf {
         Ok(slot)
     }
 
-    /// Fails exactly if the number of the call is among those that fail. Otherwise it moves as many bytes as are left and fit,
-    /// at most the limit of a call.
+    /// Fails exactly if the number of the call is among the failing ones. Otherwise it moves as many bytes as are left
+    /// and fit, but at most the limit of a call.
     fn read(&mut self, slot: Slot, buf: &mut [u8]) -> Result<usize, Failed> {
         if self.calls.next_fails() {
             self.reading_faults = self.reading_faults.saturating_add(1);
@@ -147,8 +148,8 @@ impl Shelf for MemoryShelf {
         Ok(self.held.read(slot, self.most, buf))
     }
 
-    /// Fails if the number of the call is among those that fail, or if there is no memory to keep the piece. Otherwise it takes
-    /// the whole piece, or as much of it as the limit of a call allows.
+    /// Fails if the number of the call is among the failing ones, or if there is no memory to keep the piece. Otherwise
+    /// it takes the whole piece, or as much of it as the limit of a call allows.
     fn write(&mut self, slot: Slot, piece: &[u8]) -> Result<usize, Failed> {
         if self.calls.next_fails() {
             self.writing_faults = self.writing_faults.saturating_add(1);
@@ -164,7 +165,7 @@ impl Shelf for MemoryShelf {
         }
     }
 
-    /// Frees the slot. The call has no number.
+    /// Frees the slot. This call is not numbered.
     fn close_file(&mut self, slot: Slot) {
         self.held.close(slot);
     }

@@ -1,4 +1,4 @@
-//! A sink in memory, which fails at chosen calls.
+//! A sink in memory whose calls fail at chosen numbers.
 
 ghost use Rattle.std.specs.Prelude.{◌<◌};
 
@@ -7,7 +7,7 @@ use avtp_base::Failed;
 use avtp_files::Sink;
 use std::alloc::Global;
 
-/// Keeps what is written. Its calls are numbered from 1, and the calls with the given numbers fail.
+/// A sink that keeps all written bytes. Its calls are numbered from 1, and the calls with the given numbers fail.
 #[derive(Debug, Drop)]
 pub struct MemorySink {
     bytes: Vec<u8>,
@@ -21,7 +21,7 @@ impl MemorySink {
     ghost use Rattle.std.specs.Prelude.{◌≡◌, ◌^◌, ◌-◌, []};
     ghost use Rattle.avtp_memory.specs.MemorySink.{kept, calls, failing_calls, most, fault_count};
 
-    /// An empty sink whose calls with these numbers fail.
+    /// An empty sink. The calls with the numbers `fails` fail.
     pub fn over(alloc: Global, fails: Vec<u64>) -> Self
         ensures empty { kept result ≡ [] }
         ensures fails { failing_calls result ≡ fails.items }
@@ -37,7 +37,7 @@ impl MemorySink {
         }
     }
 
-    /// From now on, a write takes at most `n` bytes, and `n` is at least 1.
+    /// Sets the greatest number of bytes that a write takes, which is at least 1.
     pub fn at_most(self, n: usize) -> Self
         requires { 0 < n }
         ensures kept { kept result ≡ kept self }
@@ -60,7 +60,7 @@ impl MemorySink {
         }
     }
 
-    /// What was written.
+    /// The written bytes.
     pub fn bytes(&self) -> &[u8]
         ensures { result.now ≡ kept self.now }
     {
@@ -76,7 +76,7 @@ impl Sink for MemorySink {
 
     ghost writes = { λ old new piece result. TakesByNumber old new piece result };
 
-    /// Fails if the number of the call is among those that fail, or if there is no memory to keep the piece.
+    /// Fails if the number of the call is among the failing ones, or if there is no memory to keep the piece.
     fn write(&mut self, piece: &[u8]) -> Result<usize, Failed> {
         if self.calls.next_fails() {
             self.faults = self.faults.saturating_add(1);

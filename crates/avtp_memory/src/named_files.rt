@@ -25,7 +25,7 @@ impl NamedFiles {
         }
     }
 
-    /// The bytes of the file with the name, which must be there.
+    /// The bytes of the file with the name. There must be such a file.
     pub fn bytes_of(&self, name: &str) -> &[u8]
         requires { IsSome (bytes_under self.now.entries.items name.now) }
         ensures { bytes_under self.now.entries.items name.now ≡ Some result.now }
@@ -36,7 +36,7 @@ impl NamedFiles {
         }
     }
 
-    /// Appends to the file with the name.
+    /// Appends the piece to the file with the name.
     pub fn append(&mut self, name: &str, piece: &[u8]) -> Result<(), NoMemory>
         requires { IsSome (bytes_under self.old.entries.items name.now) }
         ensures ok { OnOk result (GrowsFile self.old.entries.items self.new.entries.items name.now piece.now) }
@@ -51,7 +51,8 @@ impl NamedFiles {
         Ok(())
     }
 
-    /// Appends as much of a piece as fits the room to the file with the name, and returns whether that is all of it.
+    /// Appends as much of a piece as fits the room to the file with the name, and returns whether it appended all of
+    /// the piece.
     pub fn keep(&mut self, name: &str, room: usize, piece: &[u8]) -> bool
         requires named { IsSome (bytes_under self.old.entries.items name.now) }
         requires roomy { room ≤ capacity_under self.old.entries.items name.now }
@@ -65,7 +66,7 @@ impl NamedFiles {
         keep_within(&mut file.1, room, piece)
     }
 
-    /// Empties the file with the name, or adds an empty one, with memory for `room` bytes.
+    /// Empties the file with the name, or adds an empty file. The file has memory for `room` bytes.
     pub fn empty(&mut self, alloc: Global, name: &str, room: usize) -> Result<(), NoMemory>
         ensures ok { OnOk result (SetsFile self.old.entries.items self.new.entries.items name.now []) }
         ensures roomy { OnOk result (room ≤ capacity_under self.new.entries.items name.now) }
@@ -88,7 +89,7 @@ impl NamedFiles {
     }
 }
 
-// The place of the first file with the name.
+// The index of the first file with the name.
 fn place_of(entries: &[(String, Vec<u8>)], name: &str) -> Option<usize>
     ensures { result ≡ position (has_name name.now) entries.now }
 {

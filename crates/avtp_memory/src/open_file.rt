@@ -18,7 +18,7 @@ pub struct OpenFile {
 }
 
 impl OpenFile {
-    /// The file with the name, none of it read.
+    /// The file with the name, of which nothing was read yet.
     pub fn start(alloc: Global, name: &str, made: bool) -> Result<Self, NoMemory>
         ensures name { IfOk result (λ file. string_bytes file.name ≡ name.now) }
         ensures place { IfOk result (λ file. file.place ≡ 0) }
@@ -44,7 +44,8 @@ pub fn advance(live: &mut Slots<OpenFile>, slot: Slot, by: usize)
     }
 }
 
-/// Copies a file's bytes from `place` on to the front of the buffer, at most `most` of them, and returns how many.
+/// Copies the bytes of a file from index `place` on to the front of the buffer, but at most `most` bytes, and returns
+/// how many it copied.
 pub fn copy_from(bytes: &[u8], place: usize, most: usize, buf: &mut [u8]) -> usize
     requires some { 0 < most }
     requires room { 0 < length buf.old }
@@ -59,7 +60,7 @@ pub fn copy_from(bytes: &[u8], place: usize, most: usize, buf: &mut [u8]) -> usi
     moved
 }
 
-// The bytes from a place on, which may be past the end.
+// The bytes from index `place` on; `place` may be past the end.
 fn rest_of(bytes: &[u8], place: usize) -> &[u8]
     ensures { result.now ≡ drop place bytes.now }
 {

@@ -1,4 +1,4 @@
-//! A shelf that never fails. It allocates for a written file only when the file is made.
+//! A shelf whose calls never return `Failed`. It allocates for a written file only when the file is made.
 
 use crate::asked_names::AskedNames;
 use crate::memory_files::MemoryFiles;
@@ -6,8 +6,8 @@ use avtp_base::{Failed, OpenFault};
 use avtp_files::{Shelf, Slot};
 use std::alloc::Global;
 
-/// Keeps as much of each written file as fits its room, and takes the rest without keeping it. It shows its files only while
-/// everything that was written fits; after that it never shows them again.
+/// A shelf that keeps as much of each written file as fits its room, and takes all further bytes without keeping them.
+/// It shows its files while everything that was written fits, and never again after that.
 #[derive(Debug, Drop)]
 pub struct QuietShelf {
     held: MemoryFiles,
@@ -20,8 +20,8 @@ impl QuietShelf {
     ghost use Rattle.avtp_memory.specs.NamedFiles.{bytes_under};
     ghost use Rattle.avtp_memory.specs.QuietShelf.{kept_files, keeps_all, room_of, slots_of, asked_of};
 
-    /// A shelf of these files, each under its name, with room for `room` bytes in each file that is made. If two files have the
-    /// same name, the first counts.
+    /// A shelf of these files, each under its name. A file that is made has room for `room` bytes. If two files have
+    /// the same name, the first counts.
     pub fn over(alloc: Global, files: Vec<(String, Vec<u8>)>, room: usize) -> Self
         ensures files { kept_files result ≡ bytes_under files.items }
         ensures all { IsTrue (keeps_all result) }
@@ -36,7 +36,7 @@ impl QuietShelf {
         }
     }
 
-    /// The bytes that are kept of the file with the name.
+    /// The kept bytes of the file with the name.
     pub fn file(&self, name: &str) -> Option<&[u8]>
         ensures { option_copied result ≡ kept_files self.now name.now }
     {
@@ -64,7 +64,8 @@ impl Shelf for QuietShelf {
 
     ghost told = { λ shelf k told live. told_of_live shelf.held k live };
 
-    /// Never fails. A shelf that no longer shows its files cannot say that one is missing, and returns `Memory`.
+    /// Never returns `Failed`. A shelf that no longer shows its files cannot tell that a file is missing. It returns
+    /// `Memory` instead.
     fn open_file(&mut self, name: &str) -> Result<Slot, OpenFault> {
         self.asked.note(name);
         match self.held.open(name) {
@@ -74,7 +75,7 @@ impl Shelf for QuietShelf {
         }
     }
 
-    /// Never fails. Reserves the room of the file.
+    /// Never returns `Failed`. Reserves the room of the file.
     fn create_file(&mut self, name: &str) -> Result<Slot, OpenFault> {
         self.asked.note(name);
         match self.held.create(name) {

@@ -1,4 +1,4 @@
-//! A sink that never fails and allocates nothing.
+//! A sink that never fails and allocates nothing after it was made.
 
 ghost use Rattle.std.specs.Prelude.{◌≤◌, vec_capacity};
 
@@ -7,7 +7,8 @@ use avtp_base::{Failed, NoMemory};
 use avtp_files::Sink;
 use std::alloc::Global;
 
-/// Keeps as much as fits its room, and takes the rest without keeping it. It shows what it holds only while all of it fits.
+/// A sink that keeps as many bytes as fit its room, and takes all further bytes without keeping them. It shows its
+/// bytes while all written bytes fit, and never again after that.
 #[derive(Debug, Drop)]
 pub struct QuietSink {
     bytes: Vec<u8>,
@@ -20,7 +21,7 @@ impl QuietSink {
     ghost use Rattle.std.specs.Prelude.{◌≡◌, [], IfOk, IsTrue};
     ghost use Rattle.avtp_memory.specs.QuietSink.{kept, keeps_all, room_of};
 
-    /// An empty sink that keeps `room` bytes, for which memory is reserved.
+    /// An empty sink that keeps at most `room` bytes, for which memory is reserved.
     pub fn over(alloc: Global, room: usize) -> Result<Self, NoMemory>
         ensures empty { IfOk result (λ sink. kept sink ≡ []) }
         ensures all { IfOk result (λ sink. IsTrue (keeps_all sink)) }
@@ -34,7 +35,7 @@ impl QuietSink {
         })
     }
 
-    /// The bytes that are kept.
+    /// The kept bytes.
     pub fn bytes(&self) -> &[u8]
         ensures { result.now ≡ kept self.now }
     {
@@ -49,7 +50,7 @@ impl Sink for QuietSink {
 
     ghost writes = { λ old new piece result. TakesQuietly old new piece result };
 
-    /// Takes the whole piece, and keeps as much of it as fits.
+    /// Never fails. It takes the whole piece, and keeps as much of it as fits.
     fn write(&mut self, piece: &[u8]) -> Result<usize, Failed> {
         let fits = keep_within(&mut self.bytes, self.room, piece);
         self.all = self.all && fits;

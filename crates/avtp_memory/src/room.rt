@@ -5,7 +5,8 @@ ghost use Rattle.avtp_memory.specs.Room.{kept_within, FitsRoom};
 
 use avtp_base::NoMemory;
 
-/// Appends as much of a piece as fits the room, and returns whether that is all of it. The memory was reserved before.
+/// Appends as much of a piece as fits the room, and returns whether it appended all of the piece. The memory was
+/// reserved before.
 pub fn keep_within(bytes: &mut Vec<u8>, room: usize, piece: &[u8]) -> bool
     requires { room ≤ vec_capacity bytes.old }
     ensures kept { bytes.new.items ≡ kept_within room bytes.old.items piece.now }
@@ -21,7 +22,7 @@ pub fn keep_within(bytes: &mut Vec<u8>, room: usize, piece: &[u8]) -> bool
     false
 }
 
-/// Empties the bytes, and reserves memory for `room` of them.
+/// Empties the vector, and reserves memory for `room` bytes.
 pub fn empty_with_room(bytes: &mut Vec<u8>, room: usize) -> Result<(), NoMemory>
     ensures empty { OnOk result (bytes.new.items ≡ []) }
     ensures roomy { OnOk result (room ≤ vec_capacity bytes.new) }

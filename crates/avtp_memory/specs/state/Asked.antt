@@ -5,11 +5,11 @@ use Rattle.avtp_memory.specs.declared.asked_names.AskedNames.{AskedNames}
 use Rattle.avtp_base.specs.States.{Account}
 use Rattle.avtp_memory.specs.Asked.{names_kept}
 
--- the account of the names that are kept
+-- the account of the names that were kept
 abbrev pub account_of : AskedNames → Account
 account_of asked = record { kept = names_kept asked; all = asked.all }
 
--- a name was appended, or there was no memory for it
+-- the name was appended, or there was no memory for it
 abbrev pub NamePushed : Bool → List (List ℕ) → List (List ℕ) → List ℕ → Type 0
 NamePushed true old new name = new ≡ old ++ name ∷ []
 NamePushed false old new name = new ≡ old

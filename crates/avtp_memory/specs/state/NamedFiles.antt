@@ -5,12 +5,12 @@ use Rattle.std.specs.Global.{Vec, Global}
 use Rattle.avtp_memory.specs.Room.{kept_within, FitsRoom}
 use Rattle.avtp_memory.specs.NamedFiles.{has_name, bytes_under}
 
--- the file has these bytes now, and every other file is unchanged
+-- The file now has these bytes, and every other file is unchanged.
 pub record SetsFile (old new : List (String Global × Vec ℕ)) (name bytes : List ℕ) : Type 0 where
   pub set : bytes_under new name ≡ Some bytes
   pub others : (other : List ℕ) → other ≢ name → bytes_under new other ≡ bytes_under old other
 
--- the file gained these bytes at its end, and every other file is unchanged
+-- `piece` was appended to the file, and every other file is unchanged
 abbrev pub GrowsFile : List (String Global × Vec ℕ) → List (String Global × Vec ℕ) → List ℕ → List ℕ → Type 0
 GrowsFile old new name piece =
     (before : List ℕ) × (bytes_under old name ≡ Some before) × SetsFile old new name (before ++ piece)
@@ -19,16 +19,16 @@ GrowsFile old new name piece =
 abbrev pub KeepsNamed : List (String Global × Vec ℕ) → List (String Global × Vec ℕ) → Type 0
 KeepsNamed old new = (name : List ℕ) → bytes_under new name ≡ bytes_under old name
 
--- how many bytes the first entry with the name has memory for
+-- the number of bytes for which the first entry with the name has memory
 abbrev pub capacity_under : List (String Global × Vec ℕ) → List ℕ → ℕ
 capacity_under entries name = unwrap_or (option_map (λ entry. vec_capacity entry.1) (find (has_name name) entries)) 0
 
--- no file has less memory than it had
+-- no file lost memory
 abbrev pub KeepsCapacity : List (String Global × Vec ℕ) → List (String Global × Vec ℕ) → Type 0
 KeepsCapacity old new = (name : List ℕ) → capacity_under old name ≤ capacity_under new name
 
--- the file keeps as much of a piece as fits its room, `fits` says whether that is all of the piece, and every other file is
--- unchanged
+-- Of `piece`, the file keeps as much as fits its room. `fits` is whether all of the piece fits. Every other file is
+-- unchanged.
 pub record KeepsWithin (old new : List (String Global × Vec ℕ)) (name : List ℕ) (room : ℕ) (piece : List ℕ) (fits : Bool) : Type 0 where
   pub before : List ℕ
   pub was : bytes_under old name ≡ Some before

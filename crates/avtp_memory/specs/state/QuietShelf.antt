@@ -6,6 +6,6 @@ use Rattle.avtp_memory.specs.state.Asked.{account_of}
 use Rattle.avtp_base.specs.States.{ShelfState}
 use Rattle.avtp_memory.specs.QuietShelf.{files_of, slots_of}
 
--- the whole state of a quiet shelf, as contracts see it
+-- the state of a quiet shelf, as contracts see it
 abbrev pub state_of : QuietShelf → ShelfState
 state_of shelf = record { files = files_of shelf; slots = slots_of shelf; reading_faults = 0; writing_faults = 0; asked = Some (account_of shelf.asked) }
