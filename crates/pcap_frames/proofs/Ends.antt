@@ -1,4 +1,4 @@
--- What the bytes that a reader took hold if the capture ends with them.
+-- What a capture holds if it ends with the bytes that a reader has taken.
 use Rattle.std.proofs.Common.{◌≡◌, ℕ, ◌+◌, ◌-◌, ◌<◌, ◌≤◌, true, cond, List, [], ◌∷◌, ◌++◌, length, drop, Option, Some, None, refl, sym, ap, subst, ◌∙◌, arith, is_none, is_some, inl, inr, append_assoc, length-append, length-drop}
 use Rattle.std.proofs.lemmas.Bool.Decides.{nat_tests}
 use Rattle.std.proofs.lemmas.List.{append-nil}
@@ -13,7 +13,7 @@ use Rattle.pcap_frames.specs.state.Reading.{ending, ending_by}
 use Rattle.pcap_frames.proofs.Fields.{file_whole, record_whole, nothing_held, record_begins}
 use Rattle.pcap_frames.proofs.Steps.{reading}
 
--- one more record is spelled at the end
+-- appending the bytes of a record to the bytes of a list of records appends the record to the list
 spells_more : (style : Style) (records : List Record) (r : Record) (bytes last : List ℕ) → SpellsAll style records bytes → Spells style r last → SpellsAll style (records ++ r ∷ []) (bytes ++ last)
 spells_more style [] r bytes last all one = (last, [], rw all (sym (append-nil last)), one, refl)
 spells_more style (x ∷ records) r bytes last all one =
@@ -32,7 +32,7 @@ pub record_limited : (order : Order) (start : ℕ) (bytes : List ℕ) → record
 unfolding record_refusal
 record_limited order start bytes h = grind (arith, nat_tests)
 
--- a part of a record that is whole spells that record
+-- if nothing in the part is refused, the part spells a record
 spells_part : (style : Style) (start : ℕ) (part : List ℕ) → IsPart style.order start part → record_refusal style.order start part ≡ None → Spells style (record_of style part) part
 spells_part style start part p none =
     let whole = record_whole style.order start part none in
@@ -69,7 +69,7 @@ record_partial style start b part bytes records (Some r) e p f = inr (record {
   refused = rw f.begins e;
 })
 
--- if the capture ends with the bytes that were taken, they hold the released and the held records
+-- if the capture ends with the bytes taken, it holds the released records and then the held one
 pub ends_by : (refusal : Option Refusal) (style : Option Style) (start : ℕ) (part bytes : List ℕ) (records : List Record) → StandsFor refusal style start part bytes records → IsReading refusal style start part
     → Holds bytes (records ++ option_to_list (held_by refusal style start part)) (ending_by refusal style start part)
 ends_by (Some r) style start part bytes records stands keeps = rw append-nil stands
@@ -96,14 +96,14 @@ given_up style start part next bytes records None e some none h = record {
   reading = record_begins style.order (start + length part) next none;
 }
 
--- the held record is released
+-- releasing the held record appends it to the released records
 pub gives_up : (refusal : Option Refusal) (style : Option Style) (start : ℕ) (part next bytes : List ℕ) (records : List Record) → is_some (held_by refusal style start part) ≡ true → next ≡ []
     → HasRead (reading refusal style start part) bytes records → HasRead (reading refusal style (start + length part) next) bytes (records ++ option_to_list (held_by refusal style start part))
 gives_up (Some r) style start part next bytes records some none h = absurd (cc)
 gives_up None None start part next bytes records some none h = absurd (cc)
 gives_up None (Some style) start part next bytes records some none h = given_up style start part next bytes records (record_refusal style.order start part) refl some none h
 
--- no record is held if nothing has come of the next one
+-- if no byte of the next record was taken, no record is held
 pub free_held : (refusal : Option Refusal) (style : Option Style) (start : ℕ) (part : List ℕ) → part ≡ [] → held_by refusal style start part ≡ None
 free_held (Some r) style start part none = refl
 free_held None None start part none = refl

@@ -1,4 +1,4 @@
--- What follows of the bytes if a field is refused, or none is.
+-- What is known of the bytes if a field is refused, or if none is.
 use Rattle.std.proofs.Common.{◌≡◌, ℕ, ◌+◌, ◌-◌, ◌<◌, ◌≤◌, Bool, true, false, cond, List, [], ◌++◌, length, Option, Some, None, is_some, inl, inr, refl, arith, length-append}
 use Rattle.std.proofs.lemmas.Bool.{cases_lt}
 use Rattle.pcap_frames.proofs.Append.{number_stays}
@@ -10,17 +10,18 @@ use Rattle.pcap_frames.specs.Reading.{IsHeaderPart, IsPart, IsReading, held_by, 
 use Rattle.pcap_frames.specs.Capture.{IsFileHeader}
 use Rattle.pcap_frames.specs.Layout.{number_at, style_at, certain, file_refusal, record_refusal}
 
--- a record in which nothing is refused is whole
+-- if nothing in a record is refused, the record is whole
 pub record_whole : (order : Order) (start : ℕ) (bytes : List ℕ) → record_refusal order start bytes ≡ None → 16 + number_at order 8 4 bytes ≤ length bytes
 unfolding record_refusal
 record_whole order start bytes h = grind (arith, nat_tests)
 
--- a captured length above the limit is refused as soon as its four bytes have come
+-- once the captured length of a record was taken and not refused, it is within the limit
 pub record_limit : (order : Order) (start : ℕ) (bytes : List ℕ) → 12 ≤ length bytes → certain (record_refusal order start bytes) ≡ None → number_at order 8 4 bytes ≤ 262144
 unfolding record_refusal
 record_limit order start bytes long h = grind (arith, nat_tests)
 
--- nothing is refused in a record whose header has come and whose captured length is within the limit
+-- if the header of a record is whole and its captured length is within the limit, no later bytes can make a complete
+-- field refused
 record_accepted : (order : Order) (start : ℕ) (bytes : List ℕ) → 16 ≤ length bytes → number_at order 8 4 bytes ≤ 262144 → certain (record_refusal order start bytes) ≡ None
 unfolding record_refusal
 record_accepted order start bytes long h = grind (arith, nat_tests)
@@ -41,37 +42,35 @@ record_empty : (order : Order) (start : ℕ) → certain (record_refusal order s
 unfolding record_refusal
 record_empty order start = refl
 
--- no record is held if no byte of it has come
+-- if no byte of a record was taken, no record is held
 pub nothing_held : (style : Style) (start : ℕ) → whole_record style start [] ≡ None
 unfolding record_refusal
 nothing_held style start = refl
 
--- a reader that has taken nothing is before a file header
 pub header_begins : (part : List ℕ) → part ≡ [] → IsHeaderPart 0 part
 header_begins part e = rw e (record { begins = refl; accepted = file_empty; partial = omega arith })
 
--- no byte of the next record has come
 pub record_begins : (order : Order) (start : ℕ) (part : List ℕ) → part ≡ [] → IsPart order start part
 record_begins order start part e = rw e (record { accepted = record_empty order start; within = inl (omega arith) })
 
--- the held record was dropped, and the reader's invariant holds
+-- after the held record is dropped, the reader's invariant holds
 pub released : (refusal : Option Refusal) (style : Option Style) (start next_start : ℕ) (part next : List ℕ) → is_some (held_by refusal style start part) ≡ true → next ≡ [] → IsReading refusal style next_start next
 released (Some refusal) style start next_start part next h e = absurd (cc)
 released None None start next_start part next h e = absurd (cc)
 released None (Some style) start next_start part next h e = record_begins style.order next_start next e
 
--- a file header in which nothing is refused has a style
+-- if nothing in a file header is refused, it has a style
 pub file_style : (bytes : List ℕ) → file_refusal bytes ≡ None → is_some (style_at bytes) ≡ true
 unfolding file_refusal style_at
 file_style bytes h = grind (arith, nat_tests)
 
--- the reader's invariant holds after the file header, when no byte of a record has come
+-- after the file header, before any byte of a record, the reader's invariant holds
 pub opened : (refusal : Option Refusal) (style : Option Style) (start : ℕ) (next : List ℕ) → refusal ≡ None → is_some style ≡ true → next ≡ [] → IsReading refusal style start next
 opened (Some refusal) style start next r s e = absurd (cc)
 opened None None start next r s e = absurd (cc)
 opened None (Some style) start next r s e = record_begins style.order start next e
 
--- before the end of the file header, the reader's invariant is that of a part of the header
+-- before the end of the file header, the part is part of the header
 pub in_header : (refusal : Option Refusal) (style : Option Style) (start : ℕ) (part : List ℕ) → refusal ≡ None → style ≡ None → IsReading refusal style start part → IsHeaderPart start part
 in_header refusal style start part r s h = rw (r, s) at h
 
@@ -81,14 +80,14 @@ still_in_header refusal style start part r s h = rw (r, s) h
 pub short_only : (x : Option Refusal) (refusal : Refusal) → x ≡ Some refusal → refusal.short ≡ true → certain x ≡ None
 short_only x refusal e h = rw (e, h) refl
 
--- after the file header, the reader's invariant is that of a part of a record
+-- after the file header, the part is part of a record
 pub in_record : (refusal : Option Refusal) (style : Option Style) (s : Style) (start : ℕ) (part : List ℕ) → refusal ≡ None → style ≡ Some s → IsReading refusal style start part → IsPart s.order start part
 in_record refusal style s start part r e h = rw (r, e) at h
 
 pub still_in_record : (refusal : Option Refusal) (style : Option Style) (s : Style) (start : ℕ) (part : List ℕ) → refusal ≡ None → style ≡ Some s → IsPart s.order start part → IsReading refusal style start part
 still_in_record refusal style s start part r e h = rw (r, e) h
 
--- more bytes of a record's header have come
+-- appending bytes of the record's header to the part gives a part
 pub part_headed : (order : Order) (start : ℕ) (part more : List ℕ) → IsPart order start part → length more ≤ 16 - length part → certain (record_refusal order start (part ++ more)) ≡ None → IsPart order start (part ++ more)
 part_headed order start part more p room accepted = record {
   accepted = accepted;
@@ -101,7 +100,7 @@ part_headed order start part more p room accepted = record {
   ];
 }
 
--- more captured bytes of a record have come
+-- appending captured bytes of the record to the part gives a part
 pub part_filled : (order : Order) (start : ℕ) (part more : List ℕ) → IsPart order start part → 16 ≤ length part → length more ≤ 16 + number_at order 8 4 part - length part → IsPart order start (part ++ more)
 part_filled order start part more p long room =
     let limit : number_at order 8 4 part ≤ 262144 = record_limit order start part (omega arith) p.accepted in
@@ -129,7 +128,7 @@ certain_by : (r why : Refusal) (b : Bool) → r.short ≡ b → cond b None (Som
 certain_by r why true s e = absurd (cc)
 certain_by r why false s e = let same : r ≡ why = cc in (e, rw (← same) s)
 
--- a refusal that stays is the first one, by a field that is whole
+-- if a refusal cannot be changed by later bytes, it is the first refusal, and its field is complete
 pub certain_is : (x : Option Refusal) (why : Refusal) → certain x ≡ Some why → (x ≡ Some why) × (why.short ≡ false)
 certain_is None why e = absurd (cc)
 certain_is (Some r) why e = certain_by r why r.short refl e

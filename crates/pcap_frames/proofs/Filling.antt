@@ -1,4 +1,4 @@
--- What happens if bytes are added to a record.
+-- What happens when bytes are added to the part of a record.
 use Rattle.std.proofs.Common.{◌≡◌, ℕ, ◌+◌, ◌-◌, ◌<◌, ◌≤◌, List, ◌++◌, length, take, drop, Option, Some, None, Ok, Err, IsSome, refl, sym, ap, subst, ◌∙◌, arith, inl, inr, length-append}
 use Rattle.std.proofs.lemmas.Bool.{cases_lt}
 use Rattle.std.proofs.lemmas.List.{append-nil, length-take-le, take-append-drop}
@@ -17,7 +17,7 @@ use Rattle.pcap_frames.proofs.Held.{held_ends, held_is, is_held_by}
 use Rattle.pcap_frames.proofs.One.{record_fits}
 use Rattle.pcap_frames.proofs.Steps.{none_some, record_goes_on, record_refuses, rest_long, steps_on}
 
--- the captured length of a record does not depend on the bytes after it
+-- the captured length of a record does not depend on the bytes after the record
 number_front : (order : Order) (bytes : List ℕ) (size : ℕ) → 16 ≤ size → size ≤ length bytes → number_at order 8 4 (take size bytes) ≡ number_at order 8 4 bytes
 number_front order bytes size some fits =
     let long : length (take size bytes) ≡ size = length-take-le size bytes fits in
@@ -29,7 +29,7 @@ whole_front order start bytes size is limit fits =
     let same = number_front order bytes size (omega arith) fits in
     record_fits order start (take size bytes) (omega arith) (omega arith)
 
--- a record that is whole at the front of the bytes is a part that a reader accepts
+-- if the bytes begin with a whole record within the limit, this record is a valid part
 pub whole_part : (order : Order) (start : ℕ) (bytes : List ℕ) (size : ℕ) → size ≡ 16 + number_at order 8 4 bytes → size ≤ 262160 → size ≤ length bytes → IsPart order start (take size bytes)
 whole_part order start bytes size is limit fits =
     let long : length (take size bytes) ≡ size = length-take-le size bytes fits in
@@ -39,7 +39,7 @@ whole_part order start bytes size is limit fits =
       within = inr (omega arith);
     }
 
--- no bytes can be added to a whole record
+-- no byte can be added to a whole record
 full : (order : Order) (start : ℕ) (part more : List ℕ) → IsPart order start part → record_refusal order start part ≡ None → IsPart order start (part ++ more) → length more ≡ 0
 full order start part more p whole q =
     let size = held_ends order start part p whole in
@@ -49,7 +49,7 @@ full order start part more p whole q =
       | inr within ↦ omega (arith, length-append part more)
     ]
 
--- if bytes are added to a record, the reader advances by them
+-- adding n bytes to the record advances the reader by n bytes
 pub fill_advances : (r : Reading) (s : Style) (piece : List ℕ) (n : ℕ) (next : List ℕ) → r.refusal ≡ None → r.style ≡ Some s → IsPart s.order r.start r.part → Fills s.order r.start r.part piece (Ok n) next
     → Advances (progress r) piece (Ok n) (progress (with_part r next))
 fill_advances r s piece n next none styled part fills =
@@ -82,7 +82,7 @@ fill_advances r s piece n next none styled part fills =
       end = λ less. is_held_by r.refusal r.style s r.start next none styled (fills.whole less);
     }
 
--- if bytes that are added to a record show a refusal, the reader is refused
+-- if the added bytes show a refusal, the reader keeps this refusal
 pub fill_refused : (r : Reading) (s : Style) (piece : List ℕ) (why : Refusal) (next : List ℕ) → r.refusal ≡ None → r.style ≡ Some s → Fills s.order r.start r.part piece (Err why) next
     → Advances (progress r) piece (Err why) (progress (record r { part = next; refusal = Some why }))
 fill_refused r s piece why next none styled fills =
@@ -110,7 +110,7 @@ pub styleless : (refusal : Option Refusal) (style : Option Style) (start : ℕ) 
 styleless (Some why) style start part e = refl
 styleless None style start part e = rw e refl
 
--- if the file header is not whole after a piece, all of the piece belongs to the header
+-- if the file header is still incomplete after the piece, the whole piece belongs to the header
 pub header_only : (old new : Reading) (piece : List ℕ) (n : ℕ) → old.style ≡ None → new.style ≡ None → (n < length piece → IsSome new.style) → Steps (progress old) piece (Ok n) (progress new)
     → Advances (progress old) piece (Ok n) (progress new)
 header_only old new piece n unopened still end steps =

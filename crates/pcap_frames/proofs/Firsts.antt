@@ -1,4 +1,4 @@
--- The records that were released are the first ones of the capture, whatever follows.
+-- The released records are the first records of the capture, whatever bytes follow.
 use Rattle.std.proofs.Common.{◌≡◌, ℕ, zero, suc, ◌≤◌, List, [], ◌∷◌, ◌++◌, length, take, drop, Option, Some, None, refl, sym, ap, ◌∙◌, arith, append_assoc, length-append}
 use Rattle.std.proofs.lemmas.List.{append-nil, take_at, drop_at}
 use Rattle.avtp_base.specs.declared.refusal.Refusal.{Refusal}
@@ -15,7 +15,7 @@ from_step : (n : ℕ) (style : Style) (bytes : List ℕ) → record_refusal styl
     → records_from (suc n) style bytes ≡ record_of style (take (record_size style bytes) bytes) ∷ records_from n style (drop (record_size style bytes) bytes)
 from_step n style bytes none = rw none refl
 
--- bytes that begin with the encodings of records have these records first
+-- if bytes begin with the encodings of some records, these records are the first ones that are read
 from_spelled : (n : ℕ) (style : Style) (records : List Record) (body rest : List ℕ) → SpellsAll style records body → length (body ++ rest) ≤ n
     → (others : List Record) × (records_from n style (body ++ rest) ≡ records ++ others)
 from_spelled n style [] body rest s fits = (records_from n style (body ++ rest), refl)
@@ -63,6 +63,6 @@ first_by (Some r) style start part bytes more records is stands reading =
 first_by None None start part bytes more records is stands reading = (whole_records (bytes ++ more), sym (ap (λ (rs : List Record). rs ++ whole_records (bytes ++ more)) stands.0))
 first_by None (Some style) start part bytes more records is stands reading = follows_first style start part bytes more records (style_stays bytes more style (sym is)) stands
 
--- the records that a reader released are the first whole records of its bytes, and of any longer bytes that begin with them
+-- the released records are the first whole records of the bytes taken, whatever bytes follow
 pub records_first : (r : Reading) (bytes more : List ℕ) (records : List Record) → HasRead r bytes records → (others : List Record) × (whole_records (bytes ++ more) ≡ records ++ others)
 records_first r bytes more records h = first_by r.refusal r.style r.start r.part bytes more records h.style h.stands h.reading

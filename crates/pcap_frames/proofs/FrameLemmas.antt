@@ -1,4 +1,4 @@
--- The one frame that bytes spell.
+-- Bytes spell at most one frame.
 use Rattle.std.proofs.Common.{◌≡◌, ℕ, ◌≤◌, Bool, true, false, List, [], ◌++◌, length, map, drop, Option, Some, None, refl, sym, ap, eq-eqb, ◌∙◌, arith}
 use Rattle.std.specs.Prelude.{is_some}
 use Rattle.std.proofs.lemmas.Bool.{eqb-true, le-ltb, ltb-false}
@@ -12,7 +12,7 @@ use Rattle.avtp_base.proofs.LayoutLemmas.{Holds, IsLaid, holds_spelled}
 use Rattle.pcap_frames.specs.declared.frame.Tag.{Tag}
 use Rattle.pcap_frames.specs.Frame.{Frame, SpellsFrame, IsWritableFrame, frame_layout, frame_of, frame_refusal, frame_spelling, header_len, is_tagged, plain_frame, tag_ethertype, tag_in}
 
--- ---- what is read is spelled
+-- ---- the frame that is read is spelled by the bytes
 
 spelled_by : (tagged : Bool) (bytes : List ℕ) → is_tagged bytes ≡ tagged → frame_refusal bytes ≡ None → SpellsFrame bytes (frame_of bytes)
 spelled_by false bytes e accepted = record {
@@ -35,7 +35,7 @@ spelled_by true bytes e accepted = record {
 pub frame_spelled : (bytes : List ℕ) → frame_refusal bytes ≡ None → SpellsFrame bytes (frame_of bytes)
 frame_spelled bytes accepted = spelled_by (is_tagged bytes) bytes refl accepted
 
--- ---- nothing else is spelled
+-- ---- the bytes spell no other frame
 
 abbrev frame : ℕ → ℕ → Option Tag → ℕ → ℕ → List ℕ → Frame
 frame dst src tag ethertype start payload =
@@ -48,7 +48,7 @@ same_frame a a' b b' c c' d d' e e' f f' p q r s t u = rw (p, q, r, s, t, u) ref
 same_tag : (t : Tag) (a : ℕ) (b : Bool) (c : ℕ) → t.pcp ≡ a → t.dei ≡ b → t.vid ≡ c → t ≡ record { pcp = a; dei = b; vid = c }
 same_tag t a b c p q r = rw (← p, ← q, ← r) refl
 
--- What the bits of a tagged frame are.
+-- The bits of a tagged frame hold the fields of the frame.
 record Tagged (bytes : List ℕ) (v : Frame) (t : Tag) : Type 0 where
   dst : bits 0 0 48 bytes ≡ v.dst
   src : bits 6 0 48 bytes ≡ v.src
@@ -83,7 +83,7 @@ one_by bytes dst src (Some t) ethertype start payload s =
 pub one_frame : (bytes : List ℕ) (v : Frame) → SpellsFrame bytes v → v ≡ frame_of bytes
 one_frame bytes v s = one_by bytes v.dst v.src v.tag v.ethertype v.start v.payload s
 
--- ---- what was written is read again
+-- ---- a written frame is read back
 
 long_by : (tagged : Bool) (n : ℕ) → header_len tagged ≤ n → first_short (frame_layout tagged) n ≡ None
 long_by false n long = rw (le-ltb n 6 (omega arith), le-ltb n 12 (omega arith), le-ltb n 14 (omega arith)) refl
@@ -138,7 +138,7 @@ again_by dst src (Some t) ethertype start payload whole =
 pub frame_again : (v : Frame) → IsWritableFrame v → SpellsFrame (frame_spelling v) (plain_frame v)
 frame_again v whole = again_by v.dst v.src v.tag v.ethertype v.start v.payload whole
 
--- ---- bytes that spell a frame are its spelling
+-- ---- bytes that spell a frame are those that are written for it
 
 only_by : (bytes : List ℕ) (dst src : ℕ) (tag : Option Tag) (ethertype start : ℕ) (payload : List ℕ) → AreBytes bytes
     → header_len (is_some tag) ≤ length bytes → SpellsFrame bytes (frame dst src tag ethertype start payload)
@@ -154,7 +154,7 @@ only_by bytes dst src (Some t) ethertype start payload fits long s =
     only_spelling (frame_layout true) v bytes 18 (laid_by true) refl fits long s.fields
     ∙ ap (λ (xs : List ℕ). spelling (frame_layout true) v ++ xs) (sym rest)
 
--- a header of which no part is cut off is whole
+-- if no part of a header is cut off, the header is whole
 whole_by : (tagged : Bool) (n : ℕ) → first_short (frame_layout tagged) n ≡ None → header_len tagged ≤ n
 whole_by false n e = ltb-false n 14 (rows_passed (map (short_row n) (frame_layout false)) e).1.1.0
 whole_by true n e = ltb-false n 18 (rows_passed (map (short_row n) (frame_layout true)) e).1.1.1.1.0

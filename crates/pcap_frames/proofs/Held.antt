@@ -1,4 +1,4 @@
--- What follows if a reader holds a record, or is refused.
+-- What is known of a reader that holds a record or has a refusal.
 use Rattle.std.proofs.Common.{◌≡◌, ℕ, ◌+◌, ◌≤◌, false, cond, List, [], ◌∷◌, ◌++◌, length, Option, Some, None, IsSome, refl, sym, ap, subst, ◌∙◌, arith, is_none, inl, inr, append_assoc, length-append}
 use Rattle.std.specs.Prelude.{IfSome, Result, Ok, Err, option_to_list}
 use Rattle.std.specs.Result.{result_err}
@@ -22,15 +22,15 @@ held_none : (x : Option Refusal) (r : Record) → IsSome (cond (is_none x) (Some
 held_none None r h = refl
 held_none (Some why) r h = absurd (cc)
 
--- a held record is whole, and nothing in it is refused
+-- in a held record, nothing is refused
 pub held_is : (refusal : Option Refusal) (style : Option Style) (s : Style) (start : ℕ) (part : List ℕ) → refusal ≡ None → style ≡ Some s → IsSome (held_by refusal style start part) → record_refusal s.order start part ≡ None
 held_is refusal style s start part none is h = held_none (record_refusal s.order start part) (record_of s part) (rw (none, is) at h)
 
--- a part that is exactly a whole record is held
+-- if nothing in the part is refused, the part is a held record
 pub is_held_by : (refusal : Option Refusal) (style : Option Style) (s : Style) (start : ℕ) (part : List ℕ) → refusal ≡ None → style ≡ Some s → record_refusal s.order start part ≡ None → IsSome (held_by refusal style start part)
 is_held_by refusal style s start part none is e = rw (none, is, e) refl
 
--- a held record ends with the last byte that came
+-- the part ends with the last byte of the held record
 pub held_ends : (order : Order) (start : ℕ) (part : List ℕ) → IsPart order start part → record_refusal order start part ≡ None → length part ≡ 16 + number_at order 8 4 part
 held_ends order start part p e =
     let whole = record_whole order start part e in
@@ -39,14 +39,14 @@ held_ends order start part p e =
       | inr within ↦ omega arith
     ]
 
--- a record is whole once its last byte has come
+-- when the last byte of a record is added to the part, nothing in the record is refused
 pub filled : (order : Order) (start : ℕ) (part more : List ℕ) → IsPart order start part → 16 ≤ length part → length (part ++ more) ≡ 16 + number_at order 8 4 part → record_refusal order start (part ++ more) ≡ None
 filled order start part more p long size =
     let limit = record_limit order start part (omega arith) p.accepted in
     let stays : number_at order 8 4 (part ++ more) ≡ number_at order 8 4 part = number_stays order 8 4 part more (omega arith) in
     record_fits order start (part ++ more) (omega arith) (omega arith)
 
--- a refusal stays true, whatever bytes follow
+-- a refusal of a complete field still holds after more bytes
 pub refused_stays : (bytes more : List ℕ) (records : List Record) (r : Refusal) → r.short ≡ false → IsRefused bytes records r → IsRefused (bytes ++ more) records r
 refused_stays bytes more records r long (inl h) = inl (h.0, file_stays bytes more (Some r) h.1 long)
 refused_stays bytes more records r long (inr h) = inr (record {
@@ -66,7 +66,7 @@ style_after bytes more records r long (inr h) =
     let whole = file_whole bytes none in
     rw (none, file_stays bytes more None none refl) (style_at_stays bytes more (omega arith))
 
--- a refused reader counts all later bytes as read
+-- a reader with a refusal counts all later bytes as taken
 pub refused_goes_on : (refusal : Option Refusal) (style : Option Style) (start : ℕ) (part : List ℕ) (r : Refusal) (more : List ℕ) → refusal ≡ Some r → GoesOn (reading refusal style start part) more (reading refusal style start part)
 refused_goes_on refusal style start part r more e bytes records h =
     let long = rw e at h.reading in
@@ -83,14 +83,14 @@ uncertain_by None None start part none keeps = keeps.accepted
 uncertain_by None (Some style) start [] none keeps = refl
 uncertain_by None (Some style) start (b ∷ part) none keeps = keeps.accepted
 
--- the verdict of the reader is that on its bytes
+-- `ending` is the first refusal of the bytes taken
 pub ending_is : (r : Reading) (bytes : List ℕ) (records : List Record) → HasRead r bytes records → ending r ≡ first_refusal bytes
 ending_is r bytes records h = (holds_one bytes _ _ _ _ (ends r bytes records h) (holds_whole bytes)).1
 
 pub records_are : (r : Reading) (bytes : List ℕ) (records : List Record) → HasRead r bytes records → records ++ option_to_list (held r) ≡ whole_records bytes
 records_are r bytes records h = (holds_one bytes _ _ _ _ (ends r bytes records h) (holds_whole bytes)).0
 
--- if a reader is not refused, nothing in its bytes is certain to be refused
+-- if a reader has no refusal, the bytes taken show no refusal that later bytes cannot change
 pub uncertain : (r : Reading) (bytes : List ℕ) (records : List Record) → r.refusal ≡ None → HasRead r bytes records → certain (first_refusal bytes) ≡ None
 uncertain r bytes records none h = ap certain (sym (ending_is r bytes records h)) ∙ uncertain_by r.refusal r.style r.start r.part none h.reading
 
@@ -114,7 +114,7 @@ ending_again None style start part result e = tt
 ending_again (Some why) style start part (Ok unit) e = absurd cc
 ending_again (Some why) style start part (Err r) e = let same : r ≡ why = cc in rw same refl
 
--- at the end of a capture a reader returns the first refusal of its bytes
+-- if the result is `ending`, it is right at the end of the capture
 pub ends_now : (r : Reading) (result : Result Unit Refusal) → result_err result ≡ ending r → Ends meaning (progress r) result
 ends_now r result e = record {
   records = λ bytes records h. records_are r bytes records h;

@@ -14,18 +14,18 @@ use Rattle.pcap_frames.proofs.Filling.{whole_front, whole_part}
 use Rattle.pcap_frames.proofs.Held.{held_is, is_held_by, is_sure}
 use Rattle.pcap_frames.proofs.Steps.{feeds, none_some, reading, record_goes_on}
 
--- a reader that holds a record is not refused
+-- if a reader holds a record, it has no refusal
 pub holds_accepted : (refusal : Option Refusal) (style : Option Style) (start : ℕ) (part : List ℕ) → IsSome (held_by refusal style start part) → refusal ≡ None
 holds_accepted (Some r) style start part some = absurd cc
 holds_accepted None style start part some = refl
 
--- a reader that holds a record knows the style
+-- if a reader holds a record, its style is known
 pub holds_styled : (refusal : Option Refusal) (style : Option Style) (start : ℕ) (part : List ℕ) → IsSome (held_by refusal style start part) → (s : Style) × (style ≡ Some s)
 holds_styled (Some r) style start part some = absurd cc
 holds_styled None None start part some = absurd cc
 holds_styled None (Some s) start part some = (s, refl)
 
--- a record that is whole at the front of the piece is the next one
+-- if no byte of the next record was taken and the piece begins with a whole record, that is the next record
 pub is_next : (refusal : Option Refusal) (style : Option Style) (s : Style) (start : ℕ) (part piece : List ℕ) (size : ℕ) → refusal ≡ None → style ≡ Some s → part ≡ []
     → size ≡ 16 + number_at s.order 8 4 piece → size ≤ 262160 → size ≤ length piece → IsNext (reading refusal style start part) (take size piece)
 is_next refusal style s start part piece size accepted styled untaken is limit fits = record {
@@ -46,7 +46,7 @@ next_long r bytes next =
     let whole = record_whole styled.0.order r.start bytes (held_is r.refusal r.style styled.0 r.start bytes (holds_accepted r.refusal r.style r.start bytes next.whole) styled.1 next.whole) in
     omega arith
 
--- if a record is whole at the front of the piece, no record refusal is found in the piece
+-- if the piece begins with a whole record, no field of this record is refused in the piece
 pub next_accepted : (refusal : Option Refusal) (style : Option Style) (s : Style) (start : ℕ) (piece : List ℕ) (size : ℕ) → style ≡ Some s → IsSome (held_by refusal style start (take size piece)) → record_refusal s.order start piece ≡ None
 next_accepted refusal style s start piece size styled some =
     let none = held_is refusal style s start (take size piece) (holds_accepted refusal style start (take size piece) some) styled some in
@@ -55,7 +55,7 @@ next_accepted refusal style s start piece size styled some =
 pub none_next : (r : Reading) (s : Style) (piece : List ℕ) (size : ℕ) → r.style ≡ Some s → IsSome (record_refusal s.order r.start piece) → IsNext r (take size piece) → ⊥
 none_next r s piece size styled some next = none_some (record_refusal s.order r.start piece) (next_accepted r.refusal r.style s r.start piece size styled next.whole) some
 
--- a reader that takes the next record has read its bytes
+-- taking the next record reads its bytes
 pub next_goes_on : (r : Reading) (bytes : List ℕ) → IsNext r bytes → GoesOn r bytes (with_part r bytes)
 next_goes_on r bytes next before records h =
     let accepted = holds_accepted r.refusal r.style r.start bytes next.whole in
@@ -64,7 +64,7 @@ next_goes_on r bytes next before records h =
     subst (λ (p : List ℕ). HasRead (with_part r p) (before ++ bytes) records) all
     (record_goes_on r.refusal r.style styled.0 r.start r.part bytes before records accepted styled.1 (subst (IsReading r.refusal r.style r.start) (sym all) next.reading) h)
 
--- a reader that takes the next record from a piece was fed as much of the piece
+-- taking the next record from a piece is a feed of the record's bytes
 pub next_feeds : (r : Reading) (piece : List ℕ) (size : ℕ) → size ≤ length piece → IsNext r (take size piece)
     → Feeds meaning (progress r) piece (Ok size) (progress (with_part r (take size piece)))
 next_feeds r piece size within next =
@@ -94,7 +94,7 @@ next_feeds r piece size within next =
       end = λ less. next.whole;
     }) (is_sure new)
 
--- a reader that skips the next record releases it
+-- skipping the next record has the effect of taking it and then releasing it
 pub next_releases : (r : Reading) (bytes : List ℕ) → IsNext r bytes → Releases (progress (with_part r bytes)) (progress (record r { start = r.start + length bytes }))
 next_releases r bytes next = record {
   given_up = λ before records h. gives_up r.refusal r.style r.start bytes r.part before records next.whole next.untaken h;
@@ -114,7 +114,7 @@ passes r bytes next =
       refusal = refl;
     }
 
--- the reader's invariant holds after a record that it skipped
+-- after the next record was skipped, the reader's invariant holds
 pub passed : (refusal : Option Refusal) (style : Option Style) (start next : ℕ) (part bytes : List ℕ) → IsNext (reading refusal style start part) bytes → IsReading refusal style next part
 passed refusal style start next part bytes is =
     let styled = holds_styled refusal style start bytes is.whole in

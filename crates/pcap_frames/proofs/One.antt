@@ -10,7 +10,7 @@ use Rattle.pcap_frames.specs.Layout.{number_at, style_at, file_refusal, record_r
 use Rattle.pcap_frames.specs.Capture.{Record, IsFileHeader, Spells, SpellsAll, IsCapture, IsRefusedInRecord, Holds, record_of, record_size}
 use Rattle.pcap_frames.proofs.Append.{number_stays, file_stays, record_stays}
 
--- a record that is whole and within the limit is accepted
+-- a record that is whole and within the limit is not refused
 pub record_fits : (order : Order) (start : ℕ) (bytes : List ℕ) → 16 + number_at order 8 4 bytes ≤ length bytes → number_at order 8 4 bytes ≤ 262144 → record_refusal order start bytes ≡ None
 unfolding record_refusal
 record_fits order start bytes whole limit = grind (arith, nat_tests)
@@ -19,19 +19,19 @@ file_fits : (style : Style) (bytes : List ℕ) → length bytes ≡ 24 → style
 unfolding file_refusal style_at
 file_fits style bytes size magic version network = grind (arith, nat_tests)
 
--- two ways to split the same list, with fronts of the same length, have equal parts
+-- if a list is split twice, with prefixes of the same length, the prefixes are equal
 same_front : (p q p' q' : List ℕ) → p ++ q ≡ p' ++ q' → length p ≡ length p' → p ≡ p'
 same_front p q p' q' e l = sym (take_at p q (length p) refl) ∙ (ap (take (length p)) e ∙ take_at p' q' (length p) (sym l))
 
 same_back : (p q p' q' : List ℕ) → p ++ q ≡ p' ++ q' → length p ≡ length p' → q ≡ q'
 same_back p q p' q' e l = sym (drop_at p q (length p) refl) ∙ (ap (drop (length p)) e ∙ drop_at p' q' (length p) (sym l))
 
--- a spelling is not refused, whatever follows
+-- the bytes of a record are not refused, whatever bytes follow
 pub spells_accepted : (style : Style) (r : Record) (start : ℕ) (first more : List ℕ) → Spells style r first → record_refusal style.order start (first ++ more) ≡ None
 spells_accepted style r start first more s =
     record_stays style.order start first more None (record_fits style.order start first (omega (arith, s.size, s.incl_len)) (omega (arith, s.limit, s.incl_len))) refl
 
--- the length of a record's spelling follows from its bytes
+-- the header of a record gives the number of its bytes
 pub spells_size : (style : Style) (r : Record) (first more : List ℕ) → Spells style r first → length first ≡ record_size style (first ++ more)
 spells_size style r first more s =
     let stays : number_at style.order 8 4 (first ++ more) ≡ number_at style.order 8 4 first = number_stays style.order 8 4 first more (omega (arith, s.size)) in
@@ -40,20 +40,20 @@ spells_size style r first more s =
 abbrev make : ℤ → ℕ → List ℕ → Record
 make arrival orig_len bytes = record { arrival = arrival; orig_len = orig_len; bytes = bytes }
 
--- the bytes spell exactly one record
+-- the bytes of a record spell only that record
 pub spells_one : (style : Style) (r : Record) (first : List ℕ) → Spells style r first → r ≡ record_of style first
 spells_one style r first s =
     ap (λ (a : ℤ). make a r.orig_len r.bytes) s.arrival
     ∙ (ap (λ (n : ℕ). make (record_of style first).arrival n r.bytes) (sym s.orig_len)
     ∙ ap (λ (b : List ℕ). make (record_of style first).arrival (record_of style first).orig_len b) (sym s.packet_bytes))
 
--- what follows whole records: nothing, or bytes that are refused, as a record, by x
+-- after the whole records there is nothing, or there are bytes whose first refusal as a record is x
 abbrev pub Ends : Style → ℕ → List ℕ → Option Refusal → Type 0
 Ends style start rest x =
     ((rest ≡ []) × (x ≡ None))
     ⊎ ((r : Refusal) × (x ≡ Some r) × (0 < length rest) × (record_refusal style.order start rest ≡ Some r))
 
--- no record is spelled after the last one
+-- the bytes after the whole records do not begin with a record
 no_more : (style : Style) (r : Record) (start : ℕ) (first more rest : List ℕ) (x : Option Refusal) → Spells style r first → rest ≡ first ++ more → Ends style start rest x → ⊥
 no_more style r start first more rest x s e (inl none) = omega (arith, s.size, length-append first more, ap length (sym none.0 ∙ e))
 no_more style r start first more rest x s e (inr some) =
@@ -76,7 +76,7 @@ one_list style (r ∷ records) (o ∷ others) b b' rest rest' start start' x y s
     let tail = one_list style records others s.1 t.1 rest rest' start start' x y s.4 t.4 (same_back s.0 (s.1 ++ rest) t.0 (t.1 ++ rest') whole long) p q in
     (cc (same, tail.0), tail.1)
 
--- Bytes whose file header is accepted.
+-- The bytes begin with an accepted file header, and then the given records.
 record Split (bytes : List ℕ) (records : List Record) (x : Option Refusal) : Type 0 where
   style : Style
   front : List ℕ
@@ -119,7 +119,7 @@ split_one bytes records others x y p q =
     subst (λ (n : ℕ). Ends p.style n p.rest y) (sym fronts) (subst (λ (z : List ℕ). Ends p.style (length q.front) z y) (sym lists.1) ends) in
     (lists.0, ends_one p.style (length p.front) p.rest x y p.ends moved, style)
 
--- a capture is split into its records and nothing after them
+-- a capture is split into its file header, its records and nothing after them
 split_capture : (style : Style) (records : List Record) (bytes : List ℕ) → IsCapture style records bytes → Split bytes records None
 split_capture style records bytes c = record {
   style = style;
@@ -140,7 +140,7 @@ split_refused bytes records r h = record {
   ends = inr (r, refl, h.some, h.refused);
 }
 
--- bytes either have an accepted file header, or are refused in it
+-- bytes have an accepted file header, or their file header is refused
 holds_by : (bytes : List ℕ) (records : List Record) (x : Option Refusal) → Holds bytes records x
     → Split bytes records x ⊎ ((r : Refusal) × (records ≡ []) × (x ≡ Some r) × (file_refusal bytes ≡ Some r))
 holds_by bytes records None h = inl (split_capture h.0 records bytes h.1)
@@ -163,6 +163,6 @@ pub style_one : (bytes : List ℕ) (records others : List Record) (style other :
 unfolding split_capture
 style_one bytes records others style other c d = (split_one bytes records others None None (split_capture style records bytes c) (split_capture other others bytes d)).2
 
--- bytes that are refused in a record have an accepted file header
+-- if bytes are refused in a record, their file header is accepted
 pub refused_header : (bytes : List ℕ) (records : List Record) (r : Refusal) → IsRefusedInRecord bytes records r → file_refusal bytes ≡ None
 refused_header bytes records r h = header_accepted bytes records (Some r) (split_refused bytes records r h)

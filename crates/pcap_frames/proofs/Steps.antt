@@ -1,4 +1,4 @@
--- How a reader goes on, step by step.
+-- How a reader takes bytes, step by step.
 use Rattle.std.proofs.Common.{◌≡◌, ℕ, ◌+◌, ◌-◌, ◌<◌, false, cond, List, [], ◌++◌, length, take, drop, Option, Some, None, IsSome, Result, Ok, Err, refl, sym, ap, subst, ◌∙◌, arith, is_none, inl, inr, append_assoc, length-append}
 use Rattle.std.specs.Prelude.{◌≤◌, IfSome, option_to_list}
 use Rattle.std.proofs.lemmas.List.{append-nil, take_all, take-append-drop, length-drop}
@@ -16,7 +16,7 @@ use Rattle.pcap_frames.proofs.Fields.{file_whole, file_style, file_header_is, re
 abbrev pub reading : Option Refusal → Option Style → ℕ → List ℕ → Reading
 reading refusal style start part = record { style = style; start = start; part = part; refusal = refusal }
 
--- bytes have a style only if nothing in their file header is refused
+-- if bytes have a style, nothing in their file header is refused
 style_by : (x : Option Refusal) (style : Option Style) (s : Style) → cond (is_none x) style None ≡ Some s → (x ≡ None) × (style ≡ Some s)
 style_by None style s e = (refl, e)
 style_by (Some r) style s e = absurd (cc)
@@ -27,7 +27,7 @@ style_stays bytes more s e =
     let long = file_whole bytes both.0 in
     rw (file_stays bytes more None both.0 refl, style_at_stays bytes more (omega arith)) both.1
 
--- more of a file header came, but not all of it
+-- the reader took more of the file header, but not all of it
 pub header_goes_on : (refusal : Option Refusal) (style : Option Style) (start : ℕ) (part more bytes : List ℕ) (records : List Record) (why : Refusal)
     → refusal ≡ None → style ≡ None → file_refusal (part ++ more) ≡ Some why → IsReading refusal style start (part ++ more)
     → HasRead (reading refusal style start part) bytes records → HasRead (reading refusal style start (part ++ more)) (bytes ++ more) records
@@ -35,7 +35,7 @@ header_goes_on refusal style start part more bytes records why ref sty e keeps h
     let s = rw (ref, sty) at h.stands in
     record { style = rw (sty, s.1, e) refl; stands = rw (ref, sty) (s.0, ap (λ (b : List ℕ). b ++ more) s.1); reading = keeps }
 
--- the whole file header came
+-- the reader took the rest of the file header
 pub header_ends : (refusal : Option Refusal) (old style : Option Style) (start : ℕ) (part more next bytes : List ℕ) (records : List Record)
     → refusal ≡ None → old ≡ None → file_refusal (part ++ more) ≡ None → length (part ++ more) ≡ 24 → style ≡ style_at (part ++ more) → next ≡ []
     → HasRead (reading refusal old start part) bytes records → HasRead (reading refusal style 24 next) (bytes ++ more) records
@@ -63,7 +63,7 @@ header_ends None None (Some s) start part more next bytes records ref sty e size
       reading = record_begins s.order 24 next none;
     }
 
--- a field of the file header is refused
+-- a complete field of the file header is refused
 pub header_refuses : (refusal : Option Refusal) (style : Option Style) (start : ℕ) (part more rest bytes : List ℕ) (records : List Record) (why : Refusal) (left : List ℕ)
     → refusal ≡ None → style ≡ None → file_refusal (part ++ more) ≡ Some why → why.short ≡ false
     → HasRead (reading refusal style start part) bytes records → HasRead (reading (Some why) style start left) (bytes ++ (more ++ rest)) records
@@ -73,7 +73,7 @@ header_refuses refusal style start part more rest bytes records why left ref sty
     let stays : file_refusal (bytes ++ (more ++ rest)) ≡ Some why = rw whole (file_stays (part ++ more) rest (Some why) e long) in
     record { style = rw (sty, stays) refl; stands = inl (s.0, stays); reading = long }
 
--- more of a record came
+-- the reader took more bytes of a record
 pub record_goes_on : (refusal : Option Refusal) (style : Option Style) (s : Style) (start : ℕ) (part more bytes : List ℕ) (records : List Record)
     → refusal ≡ None → style ≡ Some s → IsReading refusal style start (part ++ more)
     → HasRead (reading refusal style start part) bytes records → HasRead (reading refusal style start (part ++ more)) (bytes ++ more) records
@@ -85,7 +85,7 @@ record_goes_on refusal style s start part more bytes records ref sty keeps h =
       reading = keeps;
     }
 
--- a field of a record is refused
+-- a complete field of a record is refused
 pub record_refuses : (refusal : Option Refusal) (style : Option Style) (s : Style) (start : ℕ) (part more rest bytes : List ℕ) (records : List Record) (why : Refusal) (left : List ℕ)
     → refusal ≡ None → style ≡ Some s → record_refusal s.order start (part ++ more) ≡ Some why → why.short ≡ false → 0 < length (part ++ more)
     → HasRead (reading refusal style start part) bytes records → HasRead (reading (Some why) style start left) (bytes ++ (more ++ rest)) records
@@ -106,26 +106,26 @@ record_refuses refusal style s start part more rest bytes records why left ref s
       reading = long;
     }
 
--- the rest of a piece, as the code cuts it, is the piece without its first n bytes
+-- what the code leaves of a piece after its first n bytes is the piece without these bytes
 rest_is : (n : ℕ) (piece : List ℕ) → take (length piece - n) (drop n piece) ≡ drop n piece
 rest_is n piece = take_all (length piece - n) (drop n piece) (omega (arith, length-drop n piece))
 
 pub rest_long : (n : ℕ) (piece : List ℕ) → length (take (length piece - n) (drop n piece)) ≡ length piece - n
 rest_long n piece = ap length (rest_is n piece) ∙ length-drop n piece
 
--- a piece taken in two steps
+-- taking n bytes of a piece and then m further bytes takes its first n + m bytes
 pub two_steps : (bytes : List ℕ) (n m : ℕ) (piece : List ℕ) → (bytes ++ take n piece) ++ take m (take (length piece - n) (drop n piece)) ≡ bytes ++ take (n + m) piece
 two_steps bytes n m piece =
     ap (λ (p : List ℕ). (bytes ++ take n piece) ++ take m p) (rest_is n piece)
     ∙ (append_assoc bytes (take n piece) (take m (drop n piece)) ∙ ap (λ (p : List ℕ). bytes ++ p) (sym (take-add n m piece)))
 
--- the first n bytes of a piece, and then all the rest of it, are the piece
+-- taking n bytes of a piece and then all other bytes takes the whole piece
 pub all_steps : (bytes : List ℕ) (n : ℕ) (piece : List ℕ) → (bytes ++ take n piece) ++ take (length piece - n) (drop n piece) ≡ bytes ++ piece
 all_steps bytes n piece =
     ap (λ (p : List ℕ). (bytes ++ take n piece) ++ p) (rest_is n piece)
     ∙ (append_assoc bytes (take n piece) (drop n piece) ∙ ap (λ (p : List ℕ). bytes ++ p) (take-append-drop n piece))
 
--- ---- steps, whatever the layout
+-- ---- steps in either layout
 
 pub goes_on_twice : (a b c : Progress) (n m : ℕ) (piece : List ℕ) → GoesOn a (take n piece) b → GoesOn b (take m (take (length piece - n) (drop n piece))) c
     → GoesOn a (take (n + m) piece) c
@@ -136,7 +136,6 @@ pub goes_on_whole : (a b c : Progress) (n : ℕ) (piece : List ℕ) → GoesOn a
 goes_on_whole a b c n piece first then bytes records h =
     subst (λ (p : List ℕ). c.has_read p records) (all_steps bytes n piece) (then _ _ (first bytes records h))
 
--- no step is taken
 pub steps_none : (r : Progress) (piece : List ℕ) → r.refusal ≡ None → Steps r piece (Ok 0) r
 steps_none r piece none = record {
   within = omega arith;
@@ -148,7 +147,7 @@ steps_none r piece none = record {
   stopped = tt;
 }
 
--- a step is followed by others in the rest of the piece
+-- a step followed by steps in the rest of the piece is one step
 pub steps_on : (a b c : Progress) (n m : ℕ) (piece : List ℕ) → Steps a piece (Ok n) b → Steps b (take (length piece - n) (drop n piece)) (Ok m) c
     → Steps a piece (Ok (n + m)) c
 steps_on a b c n m piece first then = record {
@@ -173,7 +172,7 @@ steps_refused a b c n piece why first then = record {
   stopped = goes_on_whole a b c n piece first.read then.stopped;
 }
 
--- a reader that is refused, by this piece or before, returns its refusal
+-- if the reader has a refusal after the piece, it returns this refusal
 feeds_refused : (meaning : Meaning) (old new : Progress) (piece : List ℕ) (why : Refusal) → IfSome old.refusal (λ r. ◌≡◌ {A = Result ℕ Refusal} (Err why) (Err r)) → new.refusal ≡ Some why
     → GoesOn old piece new → new.taken ≤ old.taken + length piece → IsSure meaning new → Feeds meaning old piece (Err why) new
 feeds_refused meaning old new piece why lasting is goes bounded sure = record {
@@ -191,7 +190,7 @@ feeds_refused meaning old new piece why lasting is goes bounded sure = record {
   bounded = bounded;
 }
 
--- a reader that was not refused is fed
+-- if a reader without a refusal advances, it was fed
 pub feeds : (meaning : Meaning) (old new : Progress) (piece : List ℕ) (result : Result ℕ Refusal) → old.refusal ≡ None → Advances old piece result new → IsSure meaning new
     → Feeds meaning old piece result new
 feeds meaning old new piece (Ok n) none fed sure = record {
@@ -210,7 +209,7 @@ feeds meaning old new piece (Ok n) none fed sure = record {
 }
 feeds meaning old new piece (Err why) none fed sure = feeds_refused meaning old new piece why (rw none tt) fed.steps.refused fed.steps.stopped fed.steps.bounded sure
 
--- a reader that was refused returns the refusal again
+-- a reader with a refusal returns the refusal again
 pub feeds_again : (meaning : Meaning) (r : Progress) (piece : List ℕ) (why : Refusal) → r.refusal ≡ Some why → GoesOn r piece r → IsSure meaning r
     → Feeds meaning r piece (Err why) r
 feeds_again meaning r piece why is goes sure = feeds_refused meaning r r piece why (rw is refl) is goes (omega arith) sure
@@ -219,7 +218,7 @@ pub none_some : {X : Type 0} (o : Option X) → o ≡ None → IsSome o → ⊥
 none_some None none some = absurd cc
 none_some (Some x) none some = absurd cc
 
--- a release changes nothing if no record is held
+-- if no record is held, releasing changes nothing
 pub releases_none : (r : Progress) → r.held ≡ None → Releases r r
 releases_none r none = record {
   given_up = λ bytes records h. subst (r.has_read bytes) (sym (ap (λ (x : Option Record). records ++ option_to_list x) none ∙ append-nil records)) h;

@@ -11,7 +11,7 @@ use Rattle.pcap_frames.proofs.Fields.{file_whole, file_short, file_style, file_h
 use Rattle.pcap_frames.proofs.Ends.{record_limited}
 use Rattle.pcap_frames.proofs.One.{Ends, record_fits}
 
--- where a record begins does not change whether it is refused
+-- whether a record is refused does not depend on its offset
 none_anywhere : (order : Order) (start other : ℕ) (bytes : List ℕ) → record_refusal order start bytes ≡ None → record_refusal order other bytes ≡ None
 none_anywhere order start other bytes e = record_fits order other bytes (record_whole order start bytes e) (record_limited order start bytes e)
 
@@ -28,7 +28,7 @@ empty_refused : (order : Order) (start : ℕ) → is_none (record_refusal order 
 unfolding record_refusal
 empty_refused order start = refl
 
--- bytes in which nothing is refused begin with the spelling of a record
+-- if nothing in a record at the front of the bytes is refused, the bytes begin with the bytes of a record
 spells_front : (style : Style) (start : ℕ) (bytes : List ℕ) → record_refusal style.order start bytes ≡ None → Spells style (record_of style (take (record_size style bytes) bytes)) (take (record_size style bytes) bytes)
 spells_front style start bytes e =
     let z : ℕ = record_size style bytes in
@@ -48,7 +48,7 @@ spells_front style start bytes e =
       packet_bytes = refl;
     }
 
--- bytes after the file header are cut into whole records and what follows these
+-- the bytes after the file header are the bytes of these records, and then the end x
 abbrev Cut : Style → ℕ → List ℕ → List Record → Option Refusal → Type 0
 Cut style start bytes records x =
     (front : List ℕ) × (rest : List ℕ) × (bytes ≡ front ++ rest) × SpellsAll style records front × Ends style (start + length front) rest x
@@ -95,7 +95,7 @@ cut (suc n) style start (b ∷ bytes) h =
     rw (is_none_anywhere style.order 0 start (b ∷ bytes))
     (cut_by n style start (b ∷ bytes) (record_refusal style.order start (b ∷ bytes)) refl (omega arith) (cut n style (start + z) (drop z (b ∷ bytes)) less))
 
--- bytes that have an accepted header, and are cut into records after it, hold these records
+-- if the file header is accepted and the bytes after it are cut into records, the whole bytes hold these records
 holds_cut : (style : Style) (bytes front rest : List ℕ) (records : List Record) (x : Option Refusal) → IsFileHeader style (take 24 bytes) → drop 24 bytes ≡ front ++ rest → SpellsAll style records front
     → Ends style (24 + length front) rest x → Holds bytes records x
 holds_cut style bytes front rest records x h e spelled ends =
@@ -125,7 +125,7 @@ front_by bytes (Some r) false e size f is =
     let stays : file_refusal bytes ≡ Some r = ap file_refusal (sym (take-append-drop 24 bytes)) ∙ file_stays (take 24 bytes) (drop 24 bytes) (Some r) f is in
     absurd (cc (stays, e))
 
--- bytes in which no field of the file header is refused begin with a file header
+-- if nothing in the file header is refused, the bytes begin with a file header
 header_front : (style : Style) (bytes : List ℕ) → file_refusal bytes ≡ None → style_at bytes ≡ Some style → IsFileHeader style (take 24 bytes)
 header_front style bytes e s =
     let size : length (take 24 bytes) ≡ 24 = length-take-le 24 bytes (file_whole bytes e) in

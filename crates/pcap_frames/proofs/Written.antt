@@ -29,7 +29,7 @@ unfolding number_bytes
 number_size Little size n = length-bytes_low_first 0 size n
 number_size Big size n = length-bytes_high_first size n
 
--- a number that was written is read back
+-- a written number is read back
 number_back : (order : Order) (offset size n : ℕ) (front rest : List ℕ) → length front ≡ offset → n < 256 ^ size → number_at order offset size (front ++ (number_bytes order size n ++ rest)) ≡ n
 unfolding number_at number_bytes
 number_back Little offset size n front rest h fits = rw (drop_at front (number_bytes Little size n ++ rest) offset h) (little_number-reads_back size n rest fits)
@@ -43,7 +43,7 @@ below : (z : ℤ) (n : ℕ) → pos 0 ≤ℤ z → z <ℤ pos n → nat_abs z < 
 below (pos m) n h k = omega (arith, ints)
 below (negsuc m) n h k = absurd (omega (arith, ints))
 
--- whole seconds and a fraction below a second are the instant together
+-- adding the whole seconds and the fraction gives the instant back
 instant_by : (unit : units.Unit) (n : ℕ) → n % scale unit ≡ 0 → instant unit (n / 1000000000) (n % 1000000000 / scale unit) ≡ n
 instant_by Micro n h = omega arith
 instant_by Nano n h = omega arith

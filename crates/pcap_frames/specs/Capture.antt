@@ -27,7 +27,7 @@ pub record Spells (style : Style) (r : Record) (bytes : List ℕ) : Type 0 where
   pub orig_len : number_at style.order 12 4 bytes ≡ r.orig_len
   pub packet_bytes : drop 16 bytes ≡ r.bytes
 
--- the bytes are one spelling of each record, in order, and nothing else
+-- the bytes are the bytes of each record, in order, and nothing else
 abbrev pub SpellsAll : Style → List Record → List ℕ → Type 0
 SpellsAll style [] bytes = bytes ≡ []
 SpellsAll style (r ∷ records) bytes =
@@ -41,8 +41,8 @@ pub record IsCapture (style : Style) (records : List Record) (bytes : List ℕ) 
   pub is_header : IsFileHeader style header
   pub spelled : SpellsAll style records body
 
--- The bytes are a capture of these records, followed by at least one byte. The refusal is by the first field after the capture
--- that is cut off or refused, if the bytes there are taken as a record.
+-- The bytes are a capture of these records, followed by at least one byte. If the bytes after the capture are read as a
+-- record, the refusal is at its first field that is cut off or refused.
 pub record IsRefusedInRecord (bytes : List ℕ) (records : List Record) (refusal : Refusal) : Type 0 where
   pub style : Style
   pub front : List ℕ
@@ -52,22 +52,23 @@ pub record IsRefusedInRecord (bytes : List ℕ) (records : List Record) (refusal
   pub some : 0 < length rest
   pub refused : record_refusal style.order (length front) rest ≡ Some refusal
 
--- the refusal is by the first field of the bytes that is cut off or refused, and these are the whole records before it
+-- `IsRefused bytes records refusal`: the refusal is at the first field that is cut off or refused, and `records` are
+-- the whole records before it
 abbrev pub IsRefused : List ℕ → List Record → Refusal → Type 0
 IsRefused bytes records refusal =
     ((records ≡ []) × (file_refusal bytes ≡ Some refusal)) ⊎ IsRefusedInRecord bytes records refusal
 
--- without a refusal, the bytes are a capture of these records; a refusal is the first one of the bytes, and these are the whole
--- records before it
+-- Without a refusal, the bytes are a capture of these records. With a refusal, it is the first one of the bytes, and
+-- these are the whole records before it.
 abbrev pub Holds : List ℕ → List Record → Option Refusal → Type 0
 Holds bytes records None = (style : Style) × IsCapture style records bytes
 Holds bytes records (Some refusal) = IsRefused bytes records refusal
 
--- the style of a capture, if its file header is whole and none of its fields is refused
+-- the style of a capture, if nothing in its file header is refused or cut off
 abbrev pub style_of : List ℕ → Option Style
 style_of bytes = cond (is_none (file_refusal bytes)) (style_at bytes) None
 
--- the record that the bytes spell, if they spell one
+-- the record that the bytes spell, if they spell any
 abbrev pub record_of : Style → List ℕ → Record
 record_of style bytes = record {
   arrival = pos (instant style.unit (number_at style.order 0 4 bytes) (number_at style.order 4 4 bytes));
@@ -75,11 +76,11 @@ record_of style bytes = record {
   bytes = drop 16 bytes;
 }
 
--- the size in bytes of the record at the front of the bytes, with its header, as the header gives it
+-- the size in bytes of the record at the front of the bytes, including its header, according to this header
 abbrev pub record_size : Style → List ℕ → ℕ
 record_size style bytes = 16 + number_at style.order 8 4 bytes
 
--- the whole records at the front of the bytes, at most n
+-- the first n whole records at the front of the bytes, or all of them if there are fewer
 abbrev pub records_from : ℕ → Style → List ℕ → List Record
 records_from zero style bytes = []
 records_from (suc n) style bytes =
@@ -87,7 +88,7 @@ records_from (suc n) style bytes =
     then record_of style (take (record_size style bytes) bytes) ∷ records_from n style (drop (record_size style bytes) bytes)
     else []
 
--- the first refusal among at most n records; the bytes begin at offset `start` of the capture
+-- The first refusal within the first n records. The bytes begin at offset `start` of the capture.
 abbrev pub refusal_from : ℕ → Style → ℕ → List ℕ → Option Refusal
 refusal_from zero style start bytes = None
 refusal_from (suc n) style start [] = None
@@ -96,26 +97,25 @@ refusal_from (suc n) style start (b ∷ bytes) =
     then refusal_from n style (start + record_size style (b ∷ bytes)) (drop (record_size style (b ∷ bytes)) (b ∷ bytes))
     else record_refusal style.order start (b ∷ bytes)
 
--- the whole records after a file header of this style, and none if there is no style
+-- the whole records after a file header of this style; none if there is no style
 abbrev pub records_behind : Option Style → List ℕ → List Record
 records_behind None bytes = []
 records_behind (Some style) bytes = records_from (length bytes) style (drop 24 bytes)
 
--- the whole records of a capture, before its first refusal
+-- the whole records of a capture, up to its first refusal
 unfoldable pub whole_records : List ℕ → List Record
 whole_records bytes = records_behind (style_of bytes) bytes
 
--- the first refusal after a file header of this style, or that of the file header if there is no style
+-- the first refusal after a file header of this style; if there is no style, the refusal of the file header
 abbrev pub refusal_behind : Option Style → List ℕ → Option Refusal
 refusal_behind None bytes = file_refusal bytes
 refusal_behind (Some style) bytes = refusal_from (length bytes) style 24 (drop 24 bytes)
 
--- the first refusal of a capture, by a field that is cut off or whose value is refused
+-- the first refusal of a capture, at a field that is cut off or whose value is refused
 unfoldable pub first_refusal : List ℕ → Option Refusal
 first_refusal bytes = refusal_behind (style_of bytes) bytes
 
--- the canonical spelling of a file header: version 2.4, a zone and an accuracy of 0, a snapshot length of 262,144,
--- and link type 1
+-- the canonical spelling of a file header: version 2.4, zone and accuracy 0, snapshot length 262,144, and link type 1
 abbrev pub header_spelling : Style → List ℕ
 header_spelling style =
     number_bytes style.order 4 (magic_of style.unit)
@@ -126,7 +126,7 @@ header_spelling style =
     ++ number_bytes style.order 4 262144
     ++ number_bytes style.order 4 1
 
--- the canonical spelling of a record, with a fraction below a second
+-- the canonical spelling of a record, with a fraction below one second
 abbrev pub record_spelling : Style → Record → List ℕ
 record_spelling style r =
     number_bytes style.order 4 (nat_abs r.arrival / 1000000000)
@@ -135,8 +135,8 @@ record_spelling style r =
     ++ number_bytes style.order 4 r.orig_len
     ++ r.bytes
 
--- A record that the canonical spelling can hold: its instant has 32 bits of seconds and is a whole number of units of the
--- fraction, its length on the wire has 32 bits, and it has at most 262,144 captured bytes.
+-- A record that can be written in the canonical spelling. Its instant has 32 bits of seconds, and its fraction is a
+-- whole number of the style's units. Its length on the wire has 32 bits. It has at most 262,144 captured bytes.
 pub record HasSpelling (style : Style) (r : Record) : Type 0 where
   pub begun : pos 0 ≤ℤ r.arrival
   pub ended : r.arrival <ℤ pos (2 ^ 32 * 1000000000)

@@ -27,15 +27,15 @@ frame_shape v = record {
   payload = v.payload.now;
 }
 
--- the EtherType that says that a VLAN tag follows (IEEE 802.1Q)
+-- the EtherType that announces a VLAN tag (IEEE 802.1Q)
 abbrev pub tag_ethertype : ℕ
 tag_ethertype = 0x8100
 
--- the tag of a frame, and zeros if it has none
+-- the tag of a frame; all zeros if it has none
 abbrev pub tag_of : Frame → Tag
 tag_of v = unwrap_or v.tag (record { pcp = 0; dei = false; vid = 0 })
 
--- the table of the header of a frame, without a tag and with one
+-- the table of the header of a frame; `true` is for a frame with a tag
 abbrev pub frame_layout : Bool → Layout Frame
 frame_layout false =
     part Destination 0 (holds 48 (λ v. v.dst) ∷ []) ∷
@@ -51,7 +51,7 @@ frame_layout true =
     holds 12 (λ v. (tag_of v).vid) ∷ []) ∷
     part Ethertype 16 (holds 16 (λ v. v.ethertype) ∷ []) ∷ []
 
--- the length in bytes of a frame's header, without a tag and with one
+-- the length of a frame's header in bytes; `true` is for a frame with a tag
 abbrev pub header_len : Bool → ℕ
 header_len false = 14
 header_len true = 18
@@ -60,7 +60,7 @@ header_len true = 18
 abbrev pub is_tagged : List ℕ → Bool
 is_tagged bytes = bits 12 0 16 bytes == tag_ethertype
 
--- why bytes are not a frame: a field of the header is cut off
+-- why the bytes are not a frame: a field of the header is cut off
 abbrev pub frame_refusal : List ℕ → Option Refusal
 frame_refusal bytes = first_short (frame_layout (is_tagged bytes)) (length bytes)
 
@@ -76,7 +76,7 @@ pub record SpellsFrame (bytes : List ℕ) (v : Frame) : Type 0 where
 abbrev pub tag_in : List ℕ → Tag
 tag_in bytes = record { pcp = bits 14 0 3 bytes; dei = is_set 14 3 bytes; vid = bits 14 4 12 bytes }
 
--- the one frame that bytes spell, if nothing refuses them
+-- the frame that the bytes spell, if nothing refuses them
 abbrev pub frame_of : List ℕ → Frame
 frame_of bytes =
     let tagged = is_tagged bytes in
@@ -89,7 +89,8 @@ frame_of bytes =
       payload = drop (header_len tagged) bytes;
     }
 
--- a frame that can be written: its fields fit their bits, and the EtherType of an untagged frame is not that of a tag
+-- A frame that can be written. Its fields fit their bits. If it is untagged, its EtherType is not the one that
+-- announces a tag.
 pub record IsWritableFrame (v : Frame) : Type 0 where
   pub dst : v.dst < 2 ^ 48
   pub src : v.src < 2 ^ 48
@@ -97,7 +98,7 @@ pub record IsWritableFrame (v : Frame) : Type 0 where
   pub tag : IfSome v.tag (λ t. (t.pcp < 2 ^ 3) × (t.vid < 2 ^ 12))
   pub untagged : IfNone v.tag (v.ethertype ≢ tag_ethertype)
 
--- a frame whose `start` is the length of its header
+-- the frame, with `start` set to the length of its header
 abbrev pub plain_frame : Frame → Frame
 plain_frame v = record v { start = header_len (is_some v.tag) }
 

@@ -12,7 +12,7 @@ use Rattle.pcap_frames.specs.declared.style.Unit as units
 use Rattle.pcap_frames.specs.declared.style.Unit.TheVariants.{Micro, Nano}
 use Rattle.pcap_frames.specs.declared.style.Style.{Style}
 
--- the number that `size` bytes at an offset spell in this byte order
+-- the number in the `size` bytes at this offset, in this byte order
 unfoldable pub number_at : Order → ℕ → ℕ → List ℕ → ℕ
 number_at Little offset size bytes = little_number size (drop offset bytes)
 number_at Big offset size bytes = big_number size (drop offset bytes)
@@ -27,7 +27,7 @@ abbrev pub magic_of : units.Unit → ℕ
 magic_of Micro = 0xA1B2C3D4
 magic_of Nano = 0xA1B23C4D
 
--- the style that a magic number gives, read as little-endian, if it is one of the four
+-- the style of this magic number, read as little-endian, if it is one of the four
 abbrev pub style_of_magic : ℕ → Option Style
 style_of_magic n =
     if nat_eq n 0xA1B2C3D4 then Some (record { order = Little; unit = Micro })
@@ -36,23 +36,23 @@ style_of_magic n =
     else if nat_eq n 0x4D3CB2A1 then Some (record { order = Big; unit = Nano })
     else None
 
--- the style that the magic number at the front of the bytes gives, if it is one
+-- the style of the magic number at the front of the bytes, if it is one of the four
 unfoldable pub style_at : List ℕ → Option Style
 style_at bytes = style_of_magic (number_at Little 0 4 bytes)
 
--- the byte order of a style, and little-endian if there is none
+-- the byte order of a style; if there is no style, little-endian
 abbrev pub order_of : Option Style → Order
 order_of None = Little
 order_of (Some style) = style.order
 
--- A field of a header: its offset and its size in bytes, and which numbers are refused.
+-- A field of a header: its offset, its size in bytes, and which numbers are refused.
 pub record Row : Type 0 where
   pub field : Field
   pub offset : ℕ
   pub size : ℕ
   pub refuses : ℕ → Bool
 
--- the row of a field at this offset, with this size, which refuses these numbers
+-- the row of a field with this offset, this size and these refused numbers
 abbrev pub row : Field → ℕ → ℕ → (ℕ → Bool) → Row
 row field offset size refuses = record { field = field; offset = offset; size = size; refuses = refuses }
 
@@ -60,11 +60,11 @@ row field offset size refuses = record { field = field; offset = offset; size = 
 abbrev pub never : ℕ → Bool
 never n = false
 
--- The magic number, which is read as little-endian and gives the byte order of all other fields.
+-- The magic number. It is read as little-endian, and gives the byte order of all other fields.
 abbrev pub magic_number : List Row
 magic_number = row Magic 0 4 (λ n. is_none (style_of_magic n)) ∷ []
 
--- the fields of the file header after its magic number, up to its 24 bytes
+-- the fields of the 24-byte file header after its magic number
 abbrev pub file_header : List Row
 file_header =
     row VersionMajor 4 2 (λ n. not (nat_eq n 2))
@@ -75,7 +75,7 @@ file_header =
     ∷ row Network 20 4 (λ n. not (nat_eq (n % 65536) 1))
     ∷ []
 
--- the fields of a record's header, which has 16 bytes
+-- the fields of the 16-byte header of a record
 abbrev pub record_header : List Row
 record_header =
     row TsSec 0 4 never
@@ -84,12 +84,12 @@ record_header =
     ∷ row OrigLen 12 4 never
     ∷ []
 
--- the n bytes of a record that follow its header
+-- the n bytes of a record after its header
 abbrev pub packet_bytes : ℕ → List Row
 packet_bytes n = row PacketBytes 16 n never ∷ []
 
--- The refusal by the first field of a table that the bytes do not hold completely, or whose number is refused. The bytes begin
--- at offset `start` of the capture.
+-- The refusal at the first field of a table that is cut off or whose number is refused. The bytes begin at offset
+-- `start` of the capture.
 abbrev pub first_refused : Order → ℕ → List Row → List ℕ → Option Refusal
 first_refused order start [] bytes = None
 first_refused order start (r ∷ rows) bytes =
@@ -97,31 +97,31 @@ first_refused order start (r ∷ rows) bytes =
     else if r.refuses (number_at order r.offset r.size bytes) then Some (record { field = r.field; at = start + r.offset; short = false })
     else first_refused order start rows bytes
 
--- the first field of a file header that is cut off or whose number is refused
+-- the refusal at the first field of a file header that is cut off or whose number is refused
 unfoldable pub file_refusal : List ℕ → Option Refusal
 file_refusal bytes =
     option_or (first_refused Little 0 magic_number bytes) (first_refused (order_of (style_at bytes)) 0 file_header bytes)
 
--- the first field of a record that is cut off or whose number is refused; the record begins at offset `start` of the
--- capture
+-- The refusal at the first field of a record that is cut off or whose number is refused. The record begins at offset
+-- `start` of the capture.
 unfoldable pub record_refusal : Order → ℕ → List ℕ → Option Refusal
 record_refusal order start bytes =
     option_or (first_refused order start record_header bytes) (first_refused order start (packet_bytes (number_at order 8 4 bytes)) bytes)
 
--- a refusal that stays whatever bytes follow, because its field is complete
+-- the refusal, if no later bytes can change it because its field is complete
 abbrev pub certain : Option Refusal → Option Refusal
 certain None = None
 certain (Some refusal) = cond refusal.short None (Some refusal)
 
--- how many nanoseconds one unit of the fraction has
+-- the number of nanoseconds in one unit of the fraction
 abbrev pub scale : units.Unit → ℕ
 scale Micro = 1000
 scale Nano = 1
 
--- the instant of a record in nanoseconds; a fraction of a second or more is added as it is
+-- the instant of a record in nanoseconds; a fraction of one second or more is added as it is
 abbrev pub instant : units.Unit → ℕ → ℕ → ℕ
 instant unit seconds fraction = seconds * 1000000000 + fraction * scale unit
 
--- the times that a record can have
+-- the times that a record can have, in nanoseconds
 abbrev pub IsRecordTime : ℤ → Type 0
 IsRecordTime t = (pos 0 ≤ℤ t) × (t ≤ℤ pos (2 ^ 62))

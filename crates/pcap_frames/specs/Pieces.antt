@@ -8,6 +8,6 @@ use Rattle.pcap_frames.specs.Capture.{Record}
 abbrev pub kept : KeptRecord → Record
 kept r = record { arrival = r.arrival; orig_len = r.orig_len; bytes = r.bytes }
 
--- the bytes of all pieces, one piece after another
+-- the bytes of all pieces, one piece after the other
 abbrev pub joined : List (List ℕ) → List ℕ
 joined pieces = flat_map (λ piece. piece) pieces

@@ -1,4 +1,4 @@
--- What the readers of captures have in common, whatever the layout: what the bytes mean, how far a reader is between two
+-- What the readers of captures in each layout have in common: what the bytes mean, the state of a reader between two
 -- calls, and what its calls do.
 use Rattle.std.specs.Prelude.{◌≡◌, ◌↔◌, ◌⊎◌, ℕ, ◌+◌, ◌<◌, ◌≤◌, List, ◌++◌, length, take, Option, None, Some, IfSome, IsSome, Result, Err, IfOk, IfErr, OnOk, OnErr, option_map, option_to_list}
 use Rattle.std.specs.Result.{result_err}
@@ -7,33 +7,33 @@ use Rattle.pcap_frames.specs.declared.style.RecordView.{RecordView}
 use Rattle.pcap_frames.specs.Capture.{Record}
 use Rattle.pcap_frames.specs.Layout.{IsRecordTime}
 
--- What the bytes of a capture mean in one layout: the whole records before the first refusal; the first refusal of the bytes as
--- they are; and the first refusal that no later bytes can change.
+-- What the bytes of a capture mean in one layout: the whole records before the first refusal; the first refusal of the
+-- bytes as they are; and the first refusal that no later bytes can change.
 pub record Meaning : Type 0 where
   pub records : List ℕ → List Record
   pub refusal : List ℕ → Option Refusal
   pub certain : List ℕ → Option Refusal
 
--- How far a reader is between two calls: which bytes it has taken, which of their records it has released, in order; the record
--- that it holds; how many bytes it has taken; and the refusal that it keeps returning.
+-- The state of a reader between two calls: which bytes it has taken and which of their records it has released, in
+-- order; the record that it holds; how many bytes it has taken; and the refusal that it keeps returning.
 pub record Progress : Type 1 where
   pub has_read : List ℕ → List Record → Type 0
   pub held : Option Record
   pub taken : ℕ
   pub refusal : Option Refusal
 
--- after what was read before, these bytes have been read, and no record was released
+-- the reader has taken the further bytes `more`, and released no record
 abbrev pub GoesOn : Progress → List ℕ → Progress → Type 0
 GoesOn old more new = (bytes : List ℕ) (records : List Record) → old.has_read bytes records → new.has_read (bytes ++ more) records
 
--- The bytes hold exactly these records and are refused after them, whatever bytes follow.
+-- The bytes hold exactly these records, and are refused after them, whatever bytes follow.
 pub record IsRefusedAfter (meaning : Meaning) (bytes : List ℕ) (records : List Record) (refusal : Refusal) : Type 0 where
   pub all : meaning.records bytes ≡ records
   pub certain : meaning.certain bytes ≡ Some refusal
 
--- What feeding a piece does. It takes bytes from the piece's front, up to the end of one record or of the piece, and none
--- exactly if the piece is empty or a record is held. Or it returns the first refusal, as soon as the bytes so far show it, and
--- again from then on.
+-- What feeding a piece does. The reader takes bytes from the front of the piece, up to the end of one record or of the
+-- piece. It takes none exactly if the piece is empty or a record is held. As soon as the bytes so far show the first
+-- refusal, it returns this refusal instead, and every later call returns it again.
 pub record Feeds (meaning : Meaning) (old : Progress) (piece : List ℕ) (result : Result ℕ Refusal) (new : Progress) : Type 0 where
   pub within : IfOk result (λ n. n ≤ length piece)
   pub nothing : IfOk result (λ n. (n ≡ 0) ↔ ((length piece ≡ 0) ⊎ IsSome old.held))
@@ -48,15 +48,15 @@ pub record Feeds (meaning : Meaning) (old : Progress) (piece : List ℕ) (result
   pub taken : IfOk result (λ n. new.taken ≡ old.taken + n)
   pub bounded : new.taken ≤ old.taken + length piece
 
--- The record that was held, if any, is released, and none is held.
+-- The held record, if any, is released. No record is held now.
 pub record Releases (old new : Progress) : Type 0 where
   pub given_up : (bytes : List ℕ) (records : List Record) → old.has_read bytes records → new.has_read bytes (records ++ option_to_list old.held)
   pub free : new.held ≡ None
   pub counted : new.taken ≡ old.taken
   pub refusal : new.refusal ≡ old.refusal
 
--- What is returned if the capture ends with the bytes so far: the released records and the one that is held are all of its
--- records, and the result is its first refusal.
+-- The result if the capture ends with the bytes so far. The released records and the held one are all records of the
+-- capture, and the result is its first refusal.
 pub record Ends (meaning : Meaning) (reader : Progress) (result : Result Unit Refusal) : Type 0 where
   pub records : (bytes : List ℕ) (records : List Record) → reader.has_read bytes records → records ++ option_to_list reader.held ≡ meaning.records bytes
   pub refusal : (bytes : List ℕ) (records : List Record) → reader.has_read bytes records → result_err result ≡ meaning.refusal bytes
@@ -66,7 +66,7 @@ pub record Ends (meaning : Meaning) (reader : Progress) (result : Result Unit Re
 abbrev pub shown : RecordView → Record
 shown view = record { arrival = view.arrival; orig_len = view.orig_len; bytes = view.bytes.now }
 
--- A view of the record that is held, if there is one; its time is one that a record can have.
+-- A view of the held record, if any. The time in the view is one that a record can have.
 pub record Views (held : Option Record) (view : Option RecordView) : Type 0 where
   pub exact : option_map shown view ≡ held
   pub time : IfSome view (λ v. IsRecordTime v.arrival)

@@ -1,4 +1,4 @@
--- What the state of a reader means: the bytes that it has taken, and the records that it has released.
+-- What the state of a reader means: which bytes it has taken, and which records it has released.
 use Rattle.std.specs.Prelude.{◌≡◌, ℕ, ◌+◌, ◌<◌, ◌≤◌, false, cond, ◌⊎◌, List, [], ◌++◌, length, IsSome, Option, Some, None, is_none, option_to_list}
 use Rattle.avtp_base.specs.declared.refusal.Refusal.{Refusal}
 use Rattle.pcap_frames.specs.declared.style.Order.{Order}
@@ -9,15 +9,15 @@ use Rattle.pcap_frames.specs.Readers as readers
 use Rattle.pcap_frames.specs.Readers.{Meaning, Progress}
 pub use Rattle.pcap_frames.specs.Readers.{shown}
 
--- The state of a reader: the style, once the file header was accepted; the offset of the file header or record that is being
--- read, and the bytes of it that have come; and the refusal.
+-- The state of a reader: the style, once the file header was accepted; the offset of the file header or record that is
+-- being read; the bytes of it that were taken; and the refusal.
 pub record Reading : Type 0 where
   pub style : Option Style
   pub start : ℕ
   pub part : List ℕ
   pub refusal : Option Refusal
 
--- a reader that has taken nothing yet
+-- a reader that has taken nothing
 abbrev pub nothing_read : Reading
 nothing_read = record { style = None; start = 0; part = []; refusal = None }
 
@@ -25,11 +25,11 @@ nothing_read = record { style = None; start = 0; part = []; refusal = None }
 abbrev pub taken : Reading → ℕ
 taken r = r.start + length r.part
 
--- the record that the bytes spell, if they are a whole one and nothing in it is refused
+-- the record that the bytes spell, if they are a whole record in which nothing is refused
 abbrev pub whole_record : Style → ℕ → List ℕ → Option Record
 whole_record style start bytes = cond (is_none (record_refusal style.order start bytes)) (Some (record_of style bytes)) None
 
--- the record that a reader in this state holds: what has come, if it is a whole record and nothing is refused
+-- the record that a reader in this state holds, if the part is a whole record and nothing is refused
 abbrev pub held_by : Option Refusal → Option Style → ℕ → List ℕ → Option Record
 held_by (Some refusal) style start part = None
 held_by None None start part = None
@@ -39,41 +39,41 @@ held_by None (Some style) start part = whole_record style start part
 abbrev pub held : Reading → Option Record
 held r = held_by r.refusal r.style r.start r.part
 
--- The bytes that have come of a record: nothing in them is refused, and they do not go past the record's end.
+-- The part of a record that was taken: nothing in it is refused, and it does not extend past the end of the record.
 pub record IsPart (order : Order) (start : ℕ) (part : List ℕ) : Type 0 where
   pub accepted : certain (record_refusal order start part) ≡ None
   pub within : (length part ≤ 16) ⊎ (length part ≤ 16 + number_at order 8 4 part)
 
--- The bytes that have come of a file header: they are the front of the capture, nothing in them is refused, and they are not
--- the whole header yet.
+-- The part of a file header that was taken: it is the start of the capture, nothing in it is refused, and it is not the
+-- whole header.
 pub record IsHeaderPart (start : ℕ) (part : List ℕ) : Type 0 where
   pub begins : start ≡ 0
   pub accepted : certain (file_refusal part) ≡ None
   pub partial : length part < 24
 
--- the invariant of a reader: a refusal is by a field that is complete; otherwise what has come is part of a file header, or
--- part of a record once there is a style
+-- The invariant of a reader. A refusal is at a complete field. Without a refusal, the part is part of the file header,
+-- or of a record once there is a style.
 abbrev pub IsReading : Option Refusal → Option Style → ℕ → List ℕ → Type 0
 IsReading (Some refusal) style start part = refusal.short ≡ false
 IsReading None None start part = IsHeaderPart start part
 IsReading None (Some style) start part = IsPart style.order start part
 
--- The bytes are a capture of these records and then this part, which begins at offset `start`.
+-- The bytes are a capture of these records, followed by this part, which begins at offset `start`.
 pub record Follows (style : Style) (start : ℕ) (part bytes : List ℕ) (records : List Record) : Type 0 where
   pub front : List ℕ
   pub whole : bytes ≡ front ++ part
   pub capture : IsCapture style records front
   pub begins : length front ≡ start
 
--- The bytes that a reader in this state has taken, and the records that it has released. If it is refused, this is the first
--- refusal of the bytes; without a style, the bytes are what has come of the file header; otherwise they are a capture of the
--- records and then what has come of the next.
+-- Which bytes a reader in this state has taken, and which records it has released. If it has a refusal, that is the
+-- first refusal of the bytes. Without a refusal and without a style, the bytes are the part of the file header.
+-- Otherwise the bytes are a capture of the released records, followed by the part of the next record.
 abbrev pub StandsFor : Option Refusal → Option Style → ℕ → List ℕ → List ℕ → List Record → Type 0
 StandsFor (Some refusal) style start part bytes records = IsRefused bytes records refusal
 StandsFor None None start part bytes records = (records ≡ []) × (bytes ≡ part)
 StandsFor None (Some style) start part bytes records = Follows style start part bytes records
 
--- The reader has taken these bytes, and has released these of their records, in order.
+-- The reader has taken these bytes, and has released these records of them, in order.
 pub record HasRead (r : Reading) (bytes : List ℕ) (records : List Record) : Type 0 where
   pub style : r.style ≡ style_of bytes
   pub stands : StandsFor r.refusal r.style r.start r.part bytes records
@@ -83,28 +83,28 @@ pub record HasRead (r : Reading) (bytes : List ℕ) (records : List Record) : Ty
 abbrev pub meaning : Meaning
 meaning = record { records = whole_records; refusal = first_refusal; certain = λ bytes. certain (first_refusal bytes) }
 
--- how far the reader is
+-- the state of the reader, as contracts see it
 abbrev pub progress : Reading → Progress
 progress r = record { has_read = HasRead r; held = held r; taken = taken r; refusal = r.refusal }
 
--- after what the reader had read before, it has now read these bytes, and released no record
+-- the reader has taken the further bytes `more`, and released no record
 abbrev pub GoesOn : Reading → List ℕ → Reading → Type 0
 GoesOn old more new = readers.GoesOn (progress old) more (progress new)
 
 -- ---- a record that is borrowed
 
--- the reader with these bytes of the header or record that it is reading
+-- the reader, with these bytes as the part that was taken of the header or record
 abbrev pub with_part : Reading → List ℕ → Reading
 with_part r bytes = record r { part = bytes }
 
--- These bytes are the next whole record, and the reader has taken nothing of it yet: if it takes them, it holds the record.
+-- These bytes are the next whole record, and none of them was taken yet. If the reader takes them, it holds the record.
 pub record IsNext (r : Reading) (bytes : List ℕ) : Type 0 where
   pub untaken : r.part ≡ []
   pub reading : IsReading r.refusal r.style r.start bytes
   pub whole : IsSome (held (with_part r bytes))
 
--- The reader skipped a borrowed record of these bytes: after what it had read before, it has now read these bytes, and released
--- their record, and it holds none.
+-- The reader skipped a borrowed record with these bytes. It has now taken these bytes and released their record, and
+-- holds none.
 pub record Passes (old : Reading) (bytes : List ℕ) (new : Reading) : Type 0 where
   pub read : (before : List ℕ) (records : List Record) → HasRead old before records → HasRead new (before ++ bytes) (records ++ option_to_list (held (with_part old bytes)))
   pub counted : taken new ≡ taken old + length bytes

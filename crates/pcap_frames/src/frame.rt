@@ -29,7 +29,7 @@ pub struct FrameView<'a> {
     /// The source address, 48 bits.
     pub src: u64,
     pub tag: Option<Tag>,
-    /// The EtherType: after the tag if there is one.
+    /// The EtherType, which is after the tag if there is one.
     pub ethertype: u16,
     /// The payload's offset in the frame, 14 or 18.
     pub start: usize,
@@ -37,7 +37,7 @@ pub struct FrameView<'a> {
     pub payload: &'a [u8],
 }
 
-/// The EtherType that says that a VLAN tag follows.
+/// The EtherType that announces a VLAN tag.
 const TAGGED: u16 = 0x8100;
 
 fn short_untagged(len: usize) -> Option<Refusal>
@@ -121,7 +121,7 @@ fn read_either(frame: &[u8]) -> Result<FrameView<'_>, Refusal>
     Ok(read_tagged(frame))
 }
 
-/// Reads an Ethernet frame: at most one tag, and everything after the header as payload. It is refused only by the first field
+/// Reads an Ethernet frame with at most one tag; everything after the header is payload. Refuses only the first field
 /// of the header that is cut off.
 #[inline(always)]
 pub fn read_frame(frame: &[u8]) -> Result<FrameView<'_>, Refusal>
@@ -156,7 +156,7 @@ fn untagged_header(frame: &FrameView<'_>) -> [u8; 14]
     ]
 }
 
-/// The tag control information, as a number of two bytes.
+/// The tag control information as a 16-bit number.
 fn control_of(tag: Tag) -> u16
     requires pcp { tag.pcp < 2 ^ 3 }
     requires vid { tag.vid < 2 ^ 12 }
@@ -198,10 +198,11 @@ fn tagged_header(frame: &FrameView<'_>, tag: Tag) -> [u8; 18]
     ]
 }
 
-/// Writes an Ethernet frame, and returns its length. If the slice is shorter it returns `Room` and leaves the slice unchanged.
+/// Writes an Ethernet frame, and returns its length. If the slice is too short, returns `Room` and leaves the slice
+/// unchanged.
 ///
-/// The addresses are below 2^48, the tag's priority is at most 7 and its VLAN identifier at most 4095, and the EtherType of an
-/// untagged frame is not 0x8100, which would announce a tag. The view's `start` is not read.
+/// The addresses must be below 2^48, the tag's priority at most 7, and its VLAN identifier at most 4095. The EtherType
+/// of an untagged frame must not be 0x8100, which would announce a tag. The view's `start` is not read.
 pub fn write_frame(out: &mut [u8], frame: &FrameView<'_>) -> Result<usize, Room>
     requires { IsWritableFrame (frame_shape frame.now) }
     ensures written { Writes (frame_spelling (frame_shape frame.now)) out.old out.new result }
@@ -213,18 +214,18 @@ pub fn write_frame(out: &mut [u8], frame: &FrameView<'_>) -> Result<usize, Room>
     }
 }
 
-/// A law: bytes encode exactly one frame, or are refused and encode none. The call does nothing.
+/// A law: bytes encode exactly one frame; or they are refused, and encode none. The call does nothing.
 pub fn one_frame()
     ensures { (bytes : List ℕ) → IsSpelledOnce (frame_refusal bytes) (λ (v : Frame). SpellsFrame bytes v) }
 {}
 
-/// A law: the bytes that are written for a frame encode that frame, with the length of its header as `start`. The call does
+/// A law: the bytes written for a frame encode that frame, with the length of its header as `start`. The call does
 /// nothing.
 pub fn frame_again()
     ensures { (v : Frame) → IsWritableFrame v → SpellsFrame (frame_spelling v) (plain_frame v) }
 {}
 
-/// A law: bytes that encode a frame are the bytes that are written for it. The call does nothing.
+/// A law: if bytes encode a frame, they are the bytes that are written for it. The call does nothing.
 pub fn one_frame_spelling()
     ensures { (bytes : List ℕ) (v : Frame) → AreBytes bytes → SpellsFrame bytes v → bytes ≡ frame_spelling v }
 {}

@@ -26,18 +26,19 @@ pub const MAGIC_MICRO: u32 = 0xA1B2_C3D4;
 /// The magic number of a capture that counts nanoseconds.
 pub const MAGIC_NANO: u32 = 0xA1B2_3C4D;
 
-/// The two magic numbers as they are read in the other byte order.
+/// The two magic numbers with their bytes swapped, as a capture in the other byte order shows them.
 const SWAPPED_MICRO: u32 = 0xD4C3_B2A1;
 
 const SWAPPED_NANO: u32 = 0x4D3C_B2A1;
 
-/// The style that the magic number at the front gives.
+/// The style of the magic number at the front.
 #[tactic(auto, unfolding(crate::specs::Layout::style_at))]
 pub fn style_at(header: &[u8]) -> Option<Style>
     requires { 4 ≤ length header.now }
     ensures { result ≡ style_of_bytes header.now }
 {
-    // One little-endian reading is compared with all four numbers, which amounts to reading it in either byte order.
+    // The number is read as little-endian and compared with all four magic numbers. This has the same effect as reading
+    // it in each byte order.
     let (order, unit) = match u32_at(Order::Little, header, 0) {
         MAGIC_MICRO => (Order::Little, Unit::Micro),
         MAGIC_NANO => (Order::Little, Unit::Nano),
@@ -48,7 +49,7 @@ pub fn style_at(header: &[u8]) -> Option<Style>
     Some(Style { order, unit })
 }
 
-/// The first field of the file header that the end of these bytes cuts off, or whose value is refused.
+/// The first field of the file header that is cut off at the end of these bytes, or whose value is refused.
 #[tactic(auto, unfolding(crate::specs::Layout::file_refusal, crate::specs::Layout::style_at))]
 pub fn file_refusal(header: &[u8]) -> Option<Refusal>
     ensures { result ≡ refusal_of_file header.now }
@@ -62,8 +63,8 @@ pub fn file_refusal(header: &[u8]) -> Option<Refusal>
     }
 }
 
-/// The first field of the file header after the magic number that the end of these bytes cuts off, or whose value is
-/// refused.
+/// The first field of the file header after the magic number that is cut off at the end of these bytes, or whose value
+/// is refused.
 fn rest_refusal(order: Order, header: &[u8]) -> Option<Refusal>
     ensures { result ≡ first_refused order 0 file_header header.now }
 {
@@ -89,8 +90,8 @@ fn rest_refusal(order: Order, header: &[u8]) -> Option<Refusal>
     }
 }
 
-/// The first field of a record that the end of these bytes cuts off, or whose value is refused. The record begins at offset
-/// `start` of the capture.
+/// The first field of a record that is cut off at the end of these bytes, or whose value is refused. The record begins
+/// at offset `start` of the capture.
 #[tactic(auto, unfolding(crate::specs::Layout::record_refusal))]
 pub fn record_refusal(order: Order, start: u64, bytes: &[u8]) -> Option<Refusal>
     requires { start < 2 ^ 63 }
@@ -119,7 +120,7 @@ pub fn record_refusal(order: Order, start: u64, bytes: &[u8]) -> Option<Refusal>
     None
 }
 
-/// The size of the record that the bytes begin with, if it is complete in them and nothing in it is refused.
+/// The size of the record at the front of the bytes, if it is complete in them and nothing in it is refused.
 #[tactic(auto, unfolding(crate::specs::Layout::record_refusal))]
 pub fn whole_size(order: Order, bytes: &[u8]) -> Option<usize>
     ensures size { IfSome result (λ size. size ≡ 16 + number_at order 8 4 bytes.now) }
@@ -138,7 +139,7 @@ pub fn whole_size(order: Order, bytes: &[u8]) -> Option<usize>
     Some(size)
 }
 
-/// A refusal that stays whatever bytes follow, because its field is complete.
+/// The refusal, if no later bytes can change it because its field is complete.
 pub fn certain(refusal: Option<Refusal>) -> Option<Refusal>
     ensures { result ≡ certain_of refusal }
 {
@@ -148,7 +149,7 @@ pub fn certain(refusal: Option<Refusal>) -> Option<Refusal>
     }
 }
 
-/// The instant of a record, in nanoseconds: the seconds and then the fraction, which may be a second or more.
+/// The instant of a record in nanoseconds: the seconds plus the fraction, which may be one second or more.
 pub fn arrival_of(unit: Unit, seconds: u32, fraction: u32) -> i64
     ensures instant { result ≡ pos (instant unit seconds fraction) }
     ensures time { IsRecordTime result }
@@ -161,7 +162,7 @@ pub fn arrival_of(unit: Unit, seconds: u32, fraction: u32) -> i64
     nanoseconds as i64
 }
 
-/// The record that its bytes, including the header, encode.
+/// The record that these bytes encode, including its header.
 pub fn view(style: Style, bytes: &[u8]) -> RecordView<'_>
     requires { 16 ≤ length bytes.now }
     ensures exact { shown result ≡ record_of style bytes.now }

@@ -1,4 +1,4 @@
-//! Whole captures, in memory.
+//! Reads whole captures in memory.
 
 ghost use Rattle.std.specs.Prelude.{◌≡◌, ◌+◌, ◌≤◌, ◌^◌, ◌++◌, ℕ, List, None, length, map, IfOk, OnOk};
 ghost use Rattle.pcap_frames.specs.Capture.{Record, first_refusal, style_of, whole_records};
@@ -32,8 +32,8 @@ pub struct Contents {
     pub refusal: Option<Refusal>,
 }
 
-/// Reads a capture that comes in these pieces, at most 2^62 bytes. Wherever it was cut, the style, the records and the refusal
-/// are those of all its bytes.
+/// Reads a capture that is cut into these pieces, at most 2^62 bytes in all. Wherever it is cut, the style, the records
+/// and the refusal are those of all its bytes.
 pub fn read_pieces(alloc: Global, pieces: &[Bytes]) -> Result<Contents, NoMemory>
     requires { length (joined pieces.now) ≤ 2 ^ 62 }
     ensures style { IfOk result (λ all. all.style ≡ style_of (joined pieces.now)) }
@@ -53,7 +53,7 @@ pub fn read_pieces(alloc: Global, pieces: &[Bytes]) -> Result<Contents, NoMemory
     })
 }
 
-/// Feeds the whole piece, and keeps each record that is whole.
+/// Feeds the whole piece, and keeps each record that becomes whole.
 fn read_piece(
     alloc: Global,
     reader: &mut Reader,
@@ -79,7 +79,7 @@ fn read_piece(
     Ok(())
 }
 
-/// Keeps the held record, if there is one.
+/// Keeps the held record, if any.
 fn keep_held(
     alloc: Global,
     reader: &mut Reader,

@@ -1,4 +1,4 @@
-//! Records from the bytes of a capture, in pieces of any length.
+//! Reads the records of a capture, in pieces of any length.
 
 ghost use Rattle.std.specs.Option.{option_to_list};
 ghost use Rattle.std.specs.Result.{result_err};
@@ -18,18 +18,18 @@ use avtp_base::{NoMemory, Refusal};
 use std::alloc::Global;
 use std::marker::Model;
 
-/// Reads a capture in the classic pcap layout (draft-ietf-opsawg-pcap). It takes the capture's bytes in pieces of any length,
-/// and holds one record at a time: feed a piece until all of it is taken, and after each call look at the held record and
-/// release it.
+/// Reads a capture in the classic pcap layout (draft-ietf-opsawg-pcap). It takes the capture's bytes in pieces of any
+/// length, and holds one record at a time. Feed a piece until all of it is taken; after each call, look at the held
+/// record and release it.
 ///
-/// A record that is complete in a piece need not be copied: if `whole_ahead` finds one, `lend` shows it in the piece, and
-/// `pass` skips it, instead of `feed`, `held` and `release`.
+/// A record that is complete in a piece need not be copied. If `whole_ahead` finds such a record, use `lend` to see it
+/// in the piece and `pass` to skip it, instead of `feed`, `held` and `release`.
 #[derive(Debug, Drop)]
 pub struct Reader {
     style: Option<Style>,
     /// The offset in the capture of the file header or the record that is being read.
     start: u64,
-    /// The bytes of it that have come: a record's header and its captured bytes share this buffer.
+    /// The bytes taken of the file header, or of the record: its header and its captured bytes share this buffer.
     part: Vec<u8>,
     refusal: Option<Refusal>,
 }
@@ -47,7 +47,7 @@ impl Model for Reader {
 }
 
 impl Reader {
-    /// A reader that has taken nothing. It allocates the memory of one record, and no more later.
+    /// A reader that has taken nothing. It allocates the memory of one record, and allocates no more later.
     #[tactic(auto, using(crate::proofs::Fields::header_begins, crate::proofs::Steps::read_nothing))]
     pub fn new(alloc: Global) -> Result<Self, NoMemory>
         ensures empty { IfOk result (λ reader. reader ≡ nothing_read) }
@@ -67,9 +67,9 @@ impl Reader {
 
     /// Takes bytes up to the end of one record or of the piece, and returns how many.
     ///
-    /// A reader that is not refused returns `Ok(0)` exactly if the piece is empty or a whole record is held. The refusal is the
-    /// capture's first, and comes as soon as the bytes so far show it. From then on every `feed` and every `finish` returns it,
-    /// no more bytes are taken, and the whole piece counts as taken.
+    /// While nothing is refused, it returns `Ok(0)` exactly if the piece is empty or a whole record is held. As soon as
+    /// the bytes so far show the first refusal of the capture, it returns that refusal. From then on every `feed` and
+    /// every `finish` returns it, no more bytes are taken, and the whole piece counts as taken.
     ///
     /// At most 2^62 bytes may be taken in all, including the piece.
     pub fn feed(&mut self, piece: &[u8]) -> Result<usize, Refusal>
@@ -93,7 +93,7 @@ impl Reader {
         }
     }
 
-    /// Takes bytes up to the end of the file header, and from there up to the end of the first record.
+    /// Takes bytes up to the end of the file header, and then up to the end of the first record.
     fn feed_first(&mut self, piece: &[u8]) -> Result<usize, Refusal>
         requires { IsBefore None self.old piece.now }
         ensures { Advances (progress self.old) piece.now result (progress self.new) }
@@ -154,7 +154,7 @@ impl Reader {
         self.style
     }
 
-    /// Whether a record is held: what has come is a whole record.
+    /// Whether the bytes taken are a whole record, which is then held.
     fn is_whole(&self) -> bool
         ensures { result ≡ is_some (held self.now) }
     {
@@ -178,7 +178,7 @@ impl Reader {
         Some(layout::view(style, self.part.as_slice()))
     }
 
-    /// Drops the held record, so that the next can be taken. Returns whether there was one.
+    /// Drops the held record, to make room for the next one. Returns whether a record was held.
     pub fn release(&mut self) -> bool
         ensures answer { result ≡ is_some (held self.old) }
         ensures releases { Releases (progress self.old) (progress self.new) }
@@ -193,10 +193,10 @@ impl Reader {
         true
     }
 
-    /// The size of the next record, if it is complete at the front of the piece and nothing of it was taken yet.
+    /// The size of the next record, if the front of the piece has all of it and none of it was taken yet.
     ///
-    /// It is `None` only if there is no such record: the file header has not come yet, some bytes of the record were taken, a
-    /// field is refused, or the record continues after the piece. Then the piece must be fed.
+    /// It is `None` if the file header was not taken yet, some bytes of the record were taken, a field is refused, or
+    /// the record continues after the piece. Then the piece must be fed.
     pub fn whole_ahead(&self, piece: &[u8]) -> Option<usize>
         ensures within { IfSome result (λ size. size ≤ length piece.now) }
         ensures limit { IfSome result (λ size. size ≤ 262160) }
@@ -236,8 +236,8 @@ impl Reader {
 
     /// Whether the bytes so far are a whole capture: a file header and whole records.
     ///
-    /// Otherwise it returns the earlier refusal, or the field that holds the first missing byte, with `short`. A record that is
-    /// held counts as whole. It changes nothing: bytes may follow.
+    /// If not, it returns the earlier refusal, or else the first field with a missing byte, with `short`. A held record
+    /// counts as whole. The call changes nothing, and more bytes may follow.
     pub fn finish(&self) -> Result<(), Refusal>
         ensures exact { (bytes : List ℕ) (records : List Record) → HasRead self.now bytes records → Holds bytes (records ++ option_to_list (held self.now)) (result_err result) }
         ensures ends { Ends meaning (progress self.now) result }
@@ -248,7 +248,7 @@ impl Reader {
         }
     }
 
-    /// The first refusal of the capture, if it ends with the bytes so far.
+    /// The first refusal of the capture, if the capture ends with the bytes so far.
     fn missing(&self) -> Option<Refusal>
         ensures { result ≡ ending self.now }
     {
@@ -264,7 +264,7 @@ impl Reader {
     }
 }
 
-/// Adds bytes from the front of the piece to what has come of a record, up to the record's end, and returns how many.
+/// Adds bytes from the front of the piece to the part of a record, up to the end of the record, and returns how many.
 fn fill_record(order: Order, start: u64, part: &mut Vec<u8>, piece: &[u8]) -> Result<usize, Refusal>
     requires part { IsPart order start part.old.items }
     requires room { 262160 ≤ vec_capacity part.old }

@@ -14,7 +14,7 @@ pub enum Unit {
     Nano,
 }
 
-/// How a capture is encoded, as its magic number says: its byte order, and the unit of the fraction.
+/// How a capture is encoded, according to its magic number: its byte order, and the unit of the fraction.
 #[derive(Clone, Copy, Debug, PartialEq, Eq)]
 pub struct Style {
     pub order: Order,
@@ -24,7 +24,7 @@ pub struct Style {
 /// A record of a capture.
 #[derive(Clone, Copy, Debug)]
 pub struct RecordView<'a> {
-    /// When the frame was captured, in nanoseconds: the seconds and then the fraction, which may be a second or more.
+    /// When the frame was captured, in nanoseconds: the seconds plus the fraction, which may be one second or more.
     pub arrival: i64,
     /// The length in bytes of the frame on the wire.
     pub orig_len: u32,

@@ -1,4 +1,4 @@
-//! Captures in their canonical spelling.
+//! Writes captures in their canonical spelling.
 
 ghost use Rattle.std.specs.Prelude.{◌≡◌, ◌+◌, ◌≤◌, ◌<◌, ◌≤ℤ◌, ◌<ℤ◌, ◌*◌, ◌/◌, ◌%◌, ◌^◌, ◌++◌, ◌↔◌, List, ℕ, pos, nat_abs, length, take, drop, IsOk, IfOk, IfErr, OnOk, OnErr};
 ghost use Rattle.pcap_frames.specs.Layout.{scale};
@@ -10,10 +10,10 @@ use crate::style::{Style, Unit};
 use avtp_base::Room;
 use avtp_base::octets::write_front;
 
-/// Writes the file header of a capture of Ethernet frames (draft-ietf-opsawg-pcap, section 4): version 2.4, zone and accuracy
-/// 0, a snapshot length of 262,144 bytes, and link type 1. Returns its length.
+/// Writes the file header of a capture of Ethernet frames (draft-ietf-opsawg-pcap, section 4): version 2.4, zone and
+/// accuracy 0, a snapshot length of 262,144 bytes, and link type 1. Returns its length.
 ///
-/// It returns `Room` exactly if `out` has fewer than 24 bytes, and then nothing is written.
+/// It returns `Room` exactly if `out` has fewer than 24 bytes; then nothing is written.
 pub fn write_header(out: &mut [u8], style: Style) -> Result<usize, Room>
     ensures fits { IsOk result ↔ (24 ≤ length out.old) }
     ensures size { IfOk result (λ n. n ≡ 24) }
@@ -43,12 +43,12 @@ pub fn write_header(out: &mut [u8], style: Style) -> Result<usize, Room>
     Ok(FILE_HEADER)
 }
 
-/// Writes a record (draft-ietf-opsawg-pcap, section 5): its header, with a fraction below one second, and its bytes. Returns
-/// its length.
+/// Writes a record (draft-ietf-opsawg-pcap, section 5): its header, with a fraction below one second, and its bytes.
+/// Returns the record's length.
 ///
-/// `arrival` is in nanoseconds, with at most 32 bits of seconds, and a multiple of 1000 in a capture that counts microseconds.
-/// `orig_len` is the frame's length on the wire, and there are at most 262,144 `bytes`. It returns `Room` exactly if `out` is
-/// shorter than the header's 16 bytes and `bytes` together, and then nothing is written.
+/// `arrival` is in nanoseconds, with at most 32 bits of seconds. In a capture that counts microseconds, it is a
+/// multiple of 1000. `orig_len` is the frame's length on the wire, and there are at most 262,144 `bytes`. The call
+/// returns `Room` exactly if `out` is shorter than the 16-byte header and `bytes` together; then nothing is written.
 pub fn write_record(
     out: &mut [u8],
     style: Style,
@@ -71,11 +71,11 @@ pub fn write_record(
     write_front(out, &header, bytes)
 }
 
-/// The header of a record (draft-ietf-opsawg-pcap, section 5), with a fraction below one second. The whole record is these 16
-/// bytes followed by its `incl_len` captured bytes.
+/// The header of a record (draft-ietf-opsawg-pcap, section 5), with a fraction below one second. The whole record is
+/// these 16 bytes followed by its `incl_len` captured bytes.
 ///
-/// `arrival` is in nanoseconds, with at most 32 bits of seconds, and a multiple of 1000 in a capture that counts microseconds.
-/// `orig_len` is the frame's length on the wire.
+/// `arrival` is in nanoseconds, with at most 32 bits of seconds. In a capture that counts microseconds, it is a
+/// multiple of 1000. `orig_len` is the frame's length on the wire.
 #[inline(always)]
 pub fn record_header(style: Style, arrival: i64, incl_len: u32, orig_len: u32) -> [u8; 16]
     requires begun { pos 0 ≤ℤ arrival }

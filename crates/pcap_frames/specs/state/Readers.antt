@@ -5,13 +5,13 @@ use Rattle.avtp_base.specs.declared.refusal.Refusal.{Refusal}
 use Rattle.pcap_frames.specs.Capture.{Record}
 use Rattle.pcap_frames.specs.Readers.{Meaning, Progress, GoesOn, IsRefusedAfter}
 
--- A reader takes bytes of a piece: it is not refused, and it has taken at most 2^62 bytes, including the piece.
+-- A reader can take the bytes of a piece: it has no refusal, and with the piece it has taken at most 2^62 bytes.
 pub record Accepts (reader : Progress) (piece : List ℕ) : Type 0 where
   pub accepted : reader.refusal ≡ None
   pub bounded : reader.taken + length piece ≤ 2 ^ 62
 
--- What a step does with a piece: it takes bytes from its front and continues, or it is refused, and then has taken the whole
--- piece.
+-- What a step does with a piece. The reader takes bytes from the front of the piece. If it is refused, it has taken the
+-- whole piece.
 pub record Steps (old : Progress) (piece : List ℕ) (result : Result ℕ Refusal) (new : Progress) : Type 0 where
   pub within : IfOk result (λ n. n ≤ length piece)
   pub counted : IfOk result (λ n. new.taken ≡ old.taken + n)
@@ -21,14 +21,14 @@ pub record Steps (old : Progress) (piece : List ℕ) (result : Result ℕ Refusa
   pub refused : IfErr result (λ refusal. new.refusal ≡ Some refusal)
   pub stopped : OnErr result (GoesOn old piece new)
 
--- Steps up to the end of one record or of the piece. No step is taken if a record is held.
+-- Takes steps up to the end of one record or of the piece. If a record is held, no step is taken.
 pub record Advances (old : Progress) (piece : List ℕ) (result : Result ℕ Refusal) (new : Progress) : Type 0 where
   pub steps : Steps old piece result new
   pub nothing : IfOk result (λ n. (n ≡ 0) ↔ ((length piece ≡ 0) ⊎ IsSome old.held))
   pub end : IfOk result (λ n. n < length piece → IsSome new.held)
 
--- A reader without a refusal has taken no bytes that are certain to be refused. The refusal of a reader is the first one,
--- whatever bytes follow.
+-- If a reader has no refusal, the bytes taken show no refusal that later bytes cannot change. If it has a refusal, that
+-- is the first one, whatever bytes follow.
 pub record IsSure (meaning : Meaning) (reader : Progress) : Type 0 where
   pub uncertain : reader.refusal ≡ None → (bytes : List ℕ) (records : List Record) → reader.has_read bytes records → meaning.certain bytes ≡ None
   pub refused : (why : Refusal) → reader.refusal ≡ Some why → (bytes more : List ℕ) (records : List Record) → reader.has_read bytes records

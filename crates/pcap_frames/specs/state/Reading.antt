@@ -7,19 +7,19 @@ use Rattle.pcap_frames.specs.declared.style.Style.{Style}
 use Rattle.pcap_frames.specs.Layout.{file_refusal, record_refusal}
 use Rattle.pcap_frames.specs.Reading.{Reading, IsPart, IsReading, taken}
 
--- The invariant of a reader that can hold this many bytes of a record.
+-- The invariant of a reader whose buffer can hold `capacity` bytes of a record.
 pub record IsReader (r : Reading) (capacity : ℕ) : Type 0 where
   pub room : 262160 ≤ capacity
   pub bounded : taken r ≤ 2 ^ 62
   pub reading : IsReading r.refusal r.style r.start r.part
 
--- A reader takes bytes of a piece: it is not refused, and knows this style; before the end of the file header, it knows none.
+-- A reader of this style can take the bytes of a piece; before the end of the file header the style is `None`.
 pub record IsBefore (style : Option Style) (r : Reading) (piece : List ℕ) : Type 0 where
   pub accepted : r.refusal ≡ None
   pub styled : r.style ≡ style
   pub bounded : taken r + length piece ≤ 2 ^ 62
 
--- Bytes from the front of a piece were added to the bytes that have come of a record, up to the record's end; or they showed a
+-- Bytes from the front of a piece were added to the part of a record, up to the end of the record; or they showed a
 -- refusal.
 pub record Fills (order : Order) (start : ℕ) (old piece : List ℕ) (result : Result ℕ Refusal) (new : List ℕ) : Type 0 where
   pub within : IfOk result (λ n. n ≤ length piece)
@@ -35,6 +35,6 @@ ending_by None None start part = file_refusal part
 ending_by None (Some style) start [] = None
 ending_by None (Some style) start (b ∷ part) = record_refusal style.order start (b ∷ part)
 
--- the first refusal, if the capture ends with the bytes that were taken
+-- the first refusal if the capture ends with the bytes taken
 abbrev pub ending : Reading → Option Refusal
 ending r = ending_by r.refusal r.style r.start r.part
