@@ -32,7 +32,7 @@ pub record_limited : (order : Order) (start : ℕ) (bytes : List ℕ) → record
 unfolding record_refusal
 record_limited order start bytes h = grind (arith, nat_tests)
 
--- if nothing in the part is refused, the part spells a record
+-- if nothing in `part` is refused, `part` spells a record
 spells_part : (style : Style) (start : ℕ) (part : List ℕ) → IsPart style.order start part → record_refusal style.order start part ≡ None → Spells style (record_of style part) part
 spells_part style start part p none =
     let whole = record_whole style.order start part none in

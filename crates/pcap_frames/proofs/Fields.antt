@@ -20,8 +20,8 @@ pub record_limit : (order : Order) (start : ℕ) (bytes : List ℕ) → 12 ≤ l
 unfolding record_refusal
 record_limit order start bytes long h = grind (arith, nat_tests)
 
--- if the header of a record is whole and its captured length is within the limit, no later bytes can make a complete
--- field refused
+-- if the header of a record is whole and its captured length is within the limit, no complete field of the record is
+-- refused
 record_accepted : (order : Order) (start : ℕ) (bytes : List ℕ) → 16 ≤ length bytes → number_at order 8 4 bytes ≤ 262144 → certain (record_refusal order start bytes) ≡ None
 unfolding record_refusal
 record_accepted order start bytes long h = grind (arith, nat_tests)
@@ -70,7 +70,7 @@ opened (Some refusal) style start next r s e = absurd (cc)
 opened None None start next r s e = absurd (cc)
 opened None (Some style) start next r s e = record_begins style.order start next e
 
--- before the end of the file header, the part is part of the header
+-- before the end of the file header, `part` is a valid part of the header
 pub in_header : (refusal : Option Refusal) (style : Option Style) (start : ℕ) (part : List ℕ) → refusal ≡ None → style ≡ None → IsReading refusal style start part → IsHeaderPart start part
 in_header refusal style start part r s h = rw (r, s) at h
 
@@ -80,14 +80,14 @@ still_in_header refusal style start part r s h = rw (r, s) h
 pub short_only : (x : Option Refusal) (refusal : Refusal) → x ≡ Some refusal → refusal.short ≡ true → certain x ≡ None
 short_only x refusal e h = rw (e, h) refl
 
--- after the file header, the part is part of a record
+-- after the file header, `part` is a valid part of a record
 pub in_record : (refusal : Option Refusal) (style : Option Style) (s : Style) (start : ℕ) (part : List ℕ) → refusal ≡ None → style ≡ Some s → IsReading refusal style start part → IsPart s.order start part
 in_record refusal style s start part r e h = rw (r, e) at h
 
 pub still_in_record : (refusal : Option Refusal) (style : Option Style) (s : Style) (start : ℕ) (part : List ℕ) → refusal ≡ None → style ≡ Some s → IsPart s.order start part → IsReading refusal style start part
 still_in_record refusal style s start part r e h = rw (r, e) h
 
--- appending bytes of the record's header to the part gives a part
+-- appending bytes of the record's header to `part` gives a valid part
 pub part_headed : (order : Order) (start : ℕ) (part more : List ℕ) → IsPart order start part → length more ≤ 16 - length part → certain (record_refusal order start (part ++ more)) ≡ None → IsPart order start (part ++ more)
 part_headed order start part more p room accepted = record {
   accepted = accepted;
@@ -100,7 +100,7 @@ part_headed order start part more p room accepted = record {
   ];
 }
 
--- appending captured bytes of the record to the part gives a part
+-- appending captured bytes of the record to `part` gives a valid part
 pub part_filled : (order : Order) (start : ℕ) (part more : List ℕ) → IsPart order start part → 16 ≤ length part → length more ≤ 16 + number_at order 8 4 part - length part → IsPart order start (part ++ more)
 part_filled order start part more p long room =
     let limit : number_at order 8 4 part ≤ 262144 = record_limit order start part (omega arith) p.accepted in

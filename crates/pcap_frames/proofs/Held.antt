@@ -22,15 +22,15 @@ held_none : (x : Option Refusal) (r : Record) → IsSome (cond (is_none x) (Some
 held_none None r h = refl
 held_none (Some why) r h = absurd (cc)
 
--- in a held record, nothing is refused
+-- if a record is held, nothing in it is refused
 pub held_is : (refusal : Option Refusal) (style : Option Style) (s : Style) (start : ℕ) (part : List ℕ) → refusal ≡ None → style ≡ Some s → IsSome (held_by refusal style start part) → record_refusal s.order start part ≡ None
 held_is refusal style s start part none is h = held_none (record_refusal s.order start part) (record_of s part) (rw (none, is) at h)
 
--- if nothing in the part is refused, the part is a held record
+-- if nothing in `part` is refused, the reader holds `part` as a record
 pub is_held_by : (refusal : Option Refusal) (style : Option Style) (s : Style) (start : ℕ) (part : List ℕ) → refusal ≡ None → style ≡ Some s → record_refusal s.order start part ≡ None → IsSome (held_by refusal style start part)
 is_held_by refusal style s start part none is e = rw (none, is, e) refl
 
--- the part ends with the last byte of the held record
+-- if `part` is a whole record, it ends with the last byte of the record
 pub held_ends : (order : Order) (start : ℕ) (part : List ℕ) → IsPart order start part → record_refusal order start part ≡ None → length part ≡ 16 + number_at order 8 4 part
 held_ends order start part p e =
     let whole = record_whole order start part e in
@@ -39,7 +39,7 @@ held_ends order start part p e =
       | inr within ↦ omega arith
     ]
 
--- when the last byte of a record is added to the part, nothing in the record is refused
+-- if `more` completes the record, nothing in the record is refused
 pub filled : (order : Order) (start : ℕ) (part more : List ℕ) → IsPart order start part → 16 ≤ length part → length (part ++ more) ≡ 16 + number_at order 8 4 part → record_refusal order start (part ++ more) ≡ None
 filled order start part more p long size =
     let limit = record_limit order start part (omega arith) p.accepted in
@@ -90,7 +90,7 @@ ending_is r bytes records h = (holds_one bytes _ _ _ _ (ends r bytes records h) 
 pub records_are : (r : Reading) (bytes : List ℕ) (records : List Record) → HasRead r bytes records → records ++ option_to_list (held r) ≡ whole_records bytes
 records_are r bytes records h = (holds_one bytes _ _ _ _ (ends r bytes records h) (holds_whole bytes)).0
 
--- if a reader has no refusal, the bytes taken show no refusal that later bytes cannot change
+-- if a reader has no refusal, the bytes taken are not certain to be refused
 pub uncertain : (r : Reading) (bytes : List ℕ) (records : List Record) → r.refusal ≡ None → HasRead r bytes records → certain (first_refusal bytes) ≡ None
 uncertain r bytes records none h = ap certain (sym (ending_is r bytes records h)) ∙ uncertain_by r.refusal r.style r.start r.part none h.reading
 
@@ -114,7 +114,7 @@ ending_again None style start part result e = tt
 ending_again (Some why) style start part (Ok unit) e = absurd cc
 ending_again (Some why) style start part (Err r) e = let same : r ≡ why = cc in rw same refl
 
--- if the result is `ending`, it is right at the end of the capture
+-- if a reader returns `ending` at the end of the capture, it returns the capture's first refusal
 pub ends_now : (r : Reading) (result : Result Unit Refusal) → result_err result ≡ ending r → Ends meaning (progress r) result
 ends_now r result e = record {
   records = λ bytes records h. records_are r bytes records h;

@@ -46,7 +46,7 @@ next_long r bytes next =
     let whole = record_whole styled.0.order r.start bytes (held_is r.refusal r.style styled.0 r.start bytes (holds_accepted r.refusal r.style r.start bytes next.whole) styled.1 next.whole) in
     omega arith
 
--- if the piece begins with a whole record, no field of this record is refused in the piece
+-- if the piece begins with a whole record, reading the piece as a record refuses nothing
 pub next_accepted : (refusal : Option Refusal) (style : Option Style) (s : Style) (start : ℕ) (piece : List ℕ) (size : ℕ) → style ≡ Some s → IsSome (held_by refusal style start (take size piece)) → record_refusal s.order start piece ≡ None
 next_accepted refusal style s start piece size styled some =
     let none = held_is refusal style s start (take size piece) (holds_accepted refusal style start (take size piece) some) styled some in

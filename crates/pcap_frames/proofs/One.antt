@@ -47,7 +47,7 @@ spells_one style r first s =
     ∙ (ap (λ (n : ℕ). make (record_of style first).arrival n r.bytes) (sym s.orig_len)
     ∙ ap (λ (b : List ℕ). make (record_of style first).arrival (record_of style first).orig_len b) (sym s.packet_bytes))
 
--- after the whole records there is nothing, or there are bytes whose first refusal as a record is x
+-- what comes after the whole records: nothing if x is `None`; otherwise bytes whose first refusal as a record is x
 abbrev pub Ends : Style → ℕ → List ℕ → Option Refusal → Type 0
 Ends style start rest x =
     ((rest ≡ []) × (x ≡ None))
@@ -76,7 +76,7 @@ one_list style (r ∷ records) (o ∷ others) b b' rest rest' start start' x y s
     let tail = one_list style records others s.1 t.1 rest rest' start start' x y s.4 t.4 (same_back s.0 (s.1 ++ rest) t.0 (t.1 ++ rest') whole long) p q in
     (cc (same, tail.0), tail.1)
 
--- The bytes begin with an accepted file header, and then the given records.
+-- The bytes are a capture of these records, and then end as `x` says.
 record Split (bytes : List ℕ) (records : List Record) (x : Option Refusal) : Type 0 where
   style : Style
   front : List ℕ

@@ -190,7 +190,7 @@ feeds_refused meaning old new piece why lasting is goes bounded sure = record {
   bounded = bounded;
 }
 
--- if a reader without a refusal advances, it was fed
+-- if a reader without a refusal advances in the piece, `Feeds` holds
 pub feeds : (meaning : Meaning) (old new : Progress) (piece : List ℕ) (result : Result ℕ Refusal) → old.refusal ≡ None → Advances old piece result new → IsSure meaning new
     → Feeds meaning old piece result new
 feeds meaning old new piece (Ok n) none fed sure = record {

@@ -28,7 +28,7 @@ empty_refused : (order : Order) (start : ℕ) → is_none (record_refusal order 
 unfolding record_refusal
 empty_refused order start = refl
 
--- if nothing in a record at the front of the bytes is refused, the bytes begin with the bytes of a record
+-- if reading the bytes as a record refuses nothing, they begin with the bytes of a record
 spells_front : (style : Style) (start : ℕ) (bytes : List ℕ) → record_refusal style.order start bytes ≡ None → Spells style (record_of style (take (record_size style bytes) bytes)) (take (record_size style bytes) bytes)
 spells_front style start bytes e =
     let z : ℕ = record_size style bytes in
@@ -48,7 +48,7 @@ spells_front style start bytes e =
       packet_bytes = refl;
     }
 
--- the bytes after the file header are the bytes of these records, and then the end x
+-- after the file header there are the bytes of these records, and then the bytes end as `x` says
 abbrev Cut : Style → ℕ → List ℕ → List Record → Option Refusal → Type 0
 Cut style start bytes records x =
     (front : List ℕ) × (rest : List ℕ) × (bytes ≡ front ++ rest) × SpellsAll style records front × Ends style (start + length front) rest x

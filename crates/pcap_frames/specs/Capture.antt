@@ -52,8 +52,7 @@ pub record IsRefusedInRecord (bytes : List ℕ) (records : List Record) (refusal
   pub some : 0 < length rest
   pub refused : record_refusal style.order (length front) rest ≡ Some refusal
 
--- `IsRefused bytes records refusal`: the refusal is at the first field that is cut off or refused, and `records` are
--- the whole records before it
+-- the refusal is at the first field that is cut off or refused, and `records` are the whole records before it
 abbrev pub IsRefused : List ℕ → List Record → Refusal → Type 0
 IsRefused bytes records refusal =
     ((records ≡ []) × (file_refusal bytes ≡ Some refusal)) ⊎ IsRefusedInRecord bytes records refusal

@@ -29,7 +29,7 @@ taken r = r.start + length r.part
 abbrev pub whole_record : Style → ℕ → List ℕ → Option Record
 whole_record style start bytes = cond (is_none (record_refusal style.order start bytes)) (Some (record_of style bytes)) None
 
--- the record that a reader in this state holds, if the part is a whole record and nothing is refused
+-- the record that a reader in this state holds: `part`, if that is a whole record and nothing is refused
 abbrev pub held_by : Option Refusal → Option Style → ℕ → List ℕ → Option Record
 held_by (Some refusal) style start part = None
 held_by None None start part = None
@@ -51,8 +51,8 @@ pub record IsHeaderPart (start : ℕ) (part : List ℕ) : Type 0 where
   pub accepted : certain (file_refusal part) ≡ None
   pub partial : length part < 24
 
--- The invariant of a reader. A refusal is at a complete field. Without a refusal, the part is part of the file header,
--- or of a record once there is a style.
+-- The invariant of a reader. A refusal is at a complete field. Without a refusal, `part` belongs to the file header, or
+-- to a record once there is a style.
 abbrev pub IsReading : Option Refusal → Option Style → ℕ → List ℕ → Type 0
 IsReading (Some refusal) style start part = refusal.short ≡ false
 IsReading None None start part = IsHeaderPart start part
@@ -66,8 +66,8 @@ pub record Follows (style : Style) (start : ℕ) (part bytes : List ℕ) (record
   pub begins : length front ≡ start
 
 -- Which bytes a reader in this state has taken, and which records it has released. If it has a refusal, that is the
--- first refusal of the bytes. Without a refusal and without a style, the bytes are the part of the file header.
--- Otherwise the bytes are a capture of the released records, followed by the part of the next record.
+-- first refusal of the bytes. Without a refusal and without a style, the bytes are `part`. Otherwise they are a capture
+-- of the released records, followed by `part`.
 abbrev pub StandsFor : Option Refusal → Option Style → ℕ → List ℕ → List ℕ → List Record → Type 0
 StandsFor (Some refusal) style start part bytes records = IsRefused bytes records refusal
 StandsFor None None start part bytes records = (records ≡ []) × (bytes ≡ part)

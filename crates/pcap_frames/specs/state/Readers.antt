@@ -27,8 +27,8 @@ pub record Advances (old : Progress) (piece : List ℕ) (result : Result ℕ Ref
   pub nothing : IfOk result (λ n. (n ≡ 0) ↔ ((length piece ≡ 0) ⊎ IsSome old.held))
   pub end : IfOk result (λ n. n < length piece → IsSome new.held)
 
--- If a reader has no refusal, the bytes taken show no refusal that later bytes cannot change. If it has a refusal, that
--- is the first one, whatever bytes follow.
+-- If a reader has no refusal, the bytes taken are not certain to be refused. If it has a refusal, that is the first
+-- one, whatever bytes follow.
 pub record IsSure (meaning : Meaning) (reader : Progress) : Type 0 where
   pub uncertain : reader.refusal ≡ None → (bytes : List ℕ) (records : List Record) → reader.has_read bytes records → meaning.certain bytes ≡ None
   pub refused : (why : Refusal) → reader.refusal ≡ Some why → (bytes more : List ℕ) (records : List Record) → reader.has_read bytes records
