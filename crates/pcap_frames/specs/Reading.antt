@@ -73,7 +73,7 @@ StandsFor (Some refusal) style start part bytes records = IsRefused bytes record
 StandsFor None None start part bytes records = (records ≡ []) × (bytes ≡ part)
 StandsFor None (Some style) start part bytes records = Follows style start part bytes records
 
--- The reader has taken these bytes, and has released these records of them, in order.
+-- The reader has taken these bytes and released these records, in order.
 pub record HasRead (r : Reading) (bytes : List ℕ) (records : List Record) : Type 0 where
   pub style : r.style ≡ style_of bytes
   pub stands : StandsFor r.refusal r.style r.start r.part bytes records

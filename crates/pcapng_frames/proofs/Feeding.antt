@@ -1,4 +1,4 @@
--- What each step of feeding does with a reader.
+-- What each step of feeding does to a reader.
 use Rattle.std.proofs.Common.{◌≡◌, ℕ, ◌+◌, ◌-◌, ◌%◌, ◌≤◌, ◌<◌, Bool, true, false, List, [], ◌++◌, length, drop, take, Option, Some, None, is_some, IfSome, refl, ap, sym, ◌∙◌, arith, append_assoc}
 use Rattle.std.proofs.lemmas.List.{take-append-drop}
 use Rattle.std.proofs.lemmas.Bool.Decides.{nat_tests}
@@ -24,7 +24,7 @@ is_part refusal whole p skip part none partial h = rw (none, partial) at h
 pub is_reading : (refusal : Option Refusal) (whole : Bool) (p : Place) (skip : ℕ) (part : List ℕ) → refusal ≡ None → whole ≡ false → IsPart p skip part → IsReading refusal whole p skip part
 is_reading refusal whole p skip part none partial h = rw (none, partial) h
 
--- The bytes that have come of a block.
+-- `part` are the bytes taken of a block: nothing in them is refused, and more bytes are needed.
 pub record IsBlockPart (c : Cursor) (interfaces : List Interface) (part : List ℕ) : Type 0 where
   pub accepted : block_refused c.order interfaces c.start part ≡ None
   pub partial : length part < block_need c.order part
@@ -88,7 +88,7 @@ part_block c interfaces part tail is b =
 pub head_none : (order : Option Order) (packet : Option PacketHead) (part : List ℕ) → packet ≡ None → HasHead order packet part
 head_none order packet part e = rw e tt
 
--- what is still to come from a reader within the front of a block
+-- within the head of a block, the capture still holds the contents from the block's place on
 block_rest : (c : Cursor) (interfaces : List Interface) (part tail : List ℕ) (whole : Bool) (refusal : Option Refusal) (more : List ℕ) → refusal ≡ None → whole ≡ false → c.stage ≡ stage.Block → c.skip ≡ 0
     → rest_of (reading (place_of c interfaces part) c.skip (part_at c.stage part tail) whole refusal) more ≡ contents_past 0 (place_of c interfaces part) part more
 block_rest c interfaces part tail whole refusal more none partial is zero =
@@ -99,7 +99,7 @@ block_rest c interfaces part tail whole refusal more none partial is zero =
 same_place : (c : Cursor) (interfaces : List Interface) (a b : List ℕ) → c.packet ≡ None → place_of c interfaces a ≡ place_of c interfaces b
 same_place c interfaces a b e = ap (λ (r : Option Record). record (place_of c interfaces a) { packet = r }) (packet_none c.packet a e ∙ sym (packet_none c.packet b e))
 
--- more bytes of a block's front have come
+-- the reader takes more bytes of the head of a block
 block_more : (c : Cursor) (interfaces : List Interface) (part tail front : List ℕ) (whole : Bool) (refusal : Option Refusal) (more : List ℕ) → refusal ≡ None → whole ≡ false → c.stage ≡ stage.Block → c.skip ≡ 0 → c.packet ≡ None
     → rest_of (reading (place_of c interfaces part) c.skip (part_at c.stage part tail) whole refusal) (front ++ more) ≡ contents_past 0 (place_of c interfaces (part ++ front)) (part ++ front) more
 block_more c interfaces part tail front whole refusal more none partial is zero packet =
@@ -119,7 +119,7 @@ block_takes c interfaces part tail front next whole refusal none partial is zero
 refused_by : (refusal : Option Refusal) (r : Reading) (why : Refusal) (more : List ℕ) → refusal ≡ Some why → rest_by refusal r.whole r more ≡ ends (Some (record { refusal = why; cut = false }))
 refused_by refusal r why more e = rw e refl
 
--- nothing but its refusal is still to come from a refused reader
+-- after a reader with a refusal, the capture still holds only this refusal
 pub refused_rest : (r : Reading) (why : Refusal) (more : List ℕ) → r.refusal ≡ Some why → rest_of r more ≡ ends (Some (record { refusal = why; cut = false }))
 refused_rest r why more e = refused_by r.refusal r why more e
 
@@ -160,7 +160,7 @@ inside_free stage.Block packet part interface e h = absurd (cc)
 inside_free stage.Option packet part interface e h = packet_none packet part h
 inside_free stage.Trailer packet part interface e h = tt
 
--- a field of a block is refused by the bytes that have come
+-- the bytes taken of a block show a refusal
 pub block_refuses : (c : Cursor) (interfaces : List Interface) (part tail piece next : List ℕ) (n : ℕ) (whole : Bool) (refusal : Option Refusal) (why : Refusal) (new : Reading) → refusal ≡ None → whole ≡ false → c.stage ≡ stage.Block → c.skip ≡ 0 → c.packet ≡ None → next ≡ part ++ take n piece
     → block_refused c.order interfaces c.start next ≡ Some why → new.refusal ≡ Some why
     → Takes (reading (place_of c interfaces part) c.skip (part_at c.stage part tail) whole refusal) piece new
@@ -174,7 +174,7 @@ block_refuses c interfaces part tail piece next n whole refusal why new none par
       ∙ sym (refused_rest new why more after))));
 }
 
--- all bytes of a block's front have come
+-- the reader takes the last bytes of the head of a block
 pub block_ends : (c d : Cursor) (interfaces others : List Interface) (part tail front next clear : List ℕ) (whole : Bool) (refusal : Option Refusal) → refusal ≡ None → whole ≡ false → c.stage ≡ stage.Block → c.skip ≡ 0 → c.packet ≡ None → next ≡ part ++ front
     → 8 ≤ length next → length next ≡ block_need c.order next → block_refused c.order interfaces c.start next ≡ None
     → place_of d others next ≡ after_any (place_of c interfaces next) next → size_of_any c.order next ≡ length next + d.skip → is_inside d.stage ≡ true → clear ≡ []
@@ -188,7 +188,7 @@ block_ends c d interfaces others part tail front next clear whole refusal none p
       ∙ sym (going (place_of d others next) d.skip (part_at d.stage next clear) whole refusal more none partial))));
 }
 
--- after a block's front the reader is before an option or a trailer, of which no byte has come
+-- after the head of a block, the reader is before an option or a trailer of which no byte was taken
 pub inside_part : (d : Cursor) (others : List Interface) (next clear front : List ℕ) (passed : ℕ) → HasEntered d front passed → IfSome d.interface (λ i. length others < 256) → clear ≡ []
     → IsPart (place_of d others next) d.skip (part_at d.stage next clear)
 inside_part d others next clear front passed entered room empty =
@@ -214,7 +214,7 @@ more_rest p skip part front whole refusal more none partial zero =
     going p skip part whole refusal (front ++ more) none partial
     ∙ (ap (λ (n : ℕ). contents_past n p part (front ++ more)) zero ∙ gathered p part front more)
 
--- more bytes of a place have come
+-- the reader takes more bytes at a place
 pub takes_more : (p : Place) (skip : ℕ) (part front next : List ℕ) (whole : Bool) (refusal : Option Refusal) → refusal ≡ None → whole ≡ false → skip ≡ 0 → next ≡ part ++ front → Takes (reading p skip part whole refusal) front (reading p skip next whole refusal)
 takes_more p skip part front next whole refusal none partial zero e = record {
   same = λ more.
@@ -223,7 +223,7 @@ takes_more p skip part front next whole refusal none partial zero e = record {
       ∙ (ap (λ (n : ℕ). contents_past n p next more) (sym zero) ∙ sym (going p skip next whole refusal more none partial)));
 }
 
--- the bytes that have come of a place are refused
+-- the bytes taken at a place show a refusal
 pub refuses_more : (p : Place) (skip : ℕ) (part piece next : List ℕ) (n : ℕ) (whole : Bool) (refusal : Option Refusal) (why : Refusal) (new : Reading) → refusal ≡ None → whole ≡ false → skip ≡ 0 → next ≡ part ++ take n piece
     → ((more : List ℕ) → contents_past 0 p next more ≡ ends (Some (record { refusal = why; cut = false }))) → new.refusal ≡ Some why → Takes (reading p skip part whole refusal) piece new
 refuses_more p skip part piece next n whole refusal why new none partial zero e stop after = record {
@@ -235,7 +235,7 @@ refuses_more p skip part piece next n whole refusal why new none partial zero e 
       ∙ (stop (drop n piece ++ more) ∙ sym (refused_rest new why more after))));
 }
 
--- a place is read to its end, and the reader is at the next place
+-- the reader takes the last bytes at a place, and moves to the next place
 pub ends_more : (p q : Place) (skip skip' : ℕ) (part front next clear : List ℕ) (whole : Bool) (refusal : Option Refusal) → refusal ≡ None → whole ≡ false → skip ≡ 0 → next ≡ part ++ front
     → ((more : List ℕ) → contents_past 0 p next more ≡ contents_past skip' q [] more) → clear ≡ [] → Takes (reading p skip part whole refusal) front (reading q skip' clear whole refusal)
 ends_more p q skip skip' part front next clear whole refusal none partial zero e moved empty = record {
@@ -249,7 +249,7 @@ ends_more p q skip skip' part front next clear whole refusal none partial zero e
 pub holding : (p : Place) (skip : ℕ) (part : List ℕ) (held : Bool) (refusal : Option Refusal) (more : List ℕ) → refusal ≡ None → held ≡ true → rest_of (reading p skip part held refusal) more ≡ and_then p.packet (contents_at (after_trailer p) more)
 holding p skip part held refusal more none is = rw (none, is) refl
 
--- the trailer of a packet's block has come, and the reader holds the packet
+-- the reader takes the last bytes of the trailer of a packet's block, and holds the packet
 pub holds_more : (p : Place) (skip : ℕ) (part front next : List ℕ) (whole held : Bool) (refusal : Option Refusal) → refusal ≡ None → whole ≡ false → held ≡ true → skip ≡ 0 → next ≡ part ++ front
     → ((more : List ℕ) → contents_past 0 p next more ≡ and_then p.packet (contents_at (after_trailer p) more)) → Takes (reading p skip part whole refusal) front (reading p skip next held refusal)
 holds_more p skip part front next whole held refusal none partial is zero e moved = record {
@@ -258,7 +258,7 @@ holds_more p skip part front next whole held refusal none partial is zero e move
       ∙ (ap (λ (b : List ℕ). contents_past 0 p b more) (sym e) ∙ (moved more ∙ sym (holding p skip next held refusal more none is)));
 }
 
--- The bytes that have come of an option.
+-- `tail` are the bytes taken of an option: nothing in them is refused, and more bytes are needed.
 pub record IsOptionPart (c : Cursor) (interfaces : List Interface) (tail : List ℕ) : Type 0 where
   pub accepted : option_refused (order_or_little c.order) (c.start + (c.total - 4 - c.left)) c.left tail ≡ None
   pub partial : length tail < option_need (order_or_little c.order) tail
@@ -318,7 +318,7 @@ room_same None b n e h = tt
 room_same (Some i) None n e h = absurd (cc)
 room_same (Some i) (Some j) n e h = omega arith
 
--- The bytes that have come of a trailer.
+-- `tail` are the bytes taken of a trailer, which has more bytes.
 pub record IsTrailerPart (c : Cursor) (interfaces : List Interface) (tail : List ℕ) : Type 0 where
   pub partial : length tail < 4
   pub within : c.skip + 4 ≤ c.total
@@ -371,7 +371,7 @@ packet_absent (Some head) part e = absurd (cc)
 pub whole_by : (refusal : Option Refusal) (whole : Bool) (p : Place) (skip : ℕ) (part : List ℕ) → refusal ≡ None → whole ≡ true → IsWhole p skip part → IsReading refusal whole p skip part
 whole_by refusal whole p skip part none is h = rw (none, is) h
 
--- the reader's invariant holds when the trailer of a packet's block is whole
+-- if the trailer of a packet's block is whole, the reader's invariant holds
 pub trailer_whole : (c : Cursor) (interfaces : List Interface) (part tail : List ℕ) (refusal : Option Refusal) (whole : Bool) → refusal ≡ None → whole ≡ true → c.stage ≡ stage.Trailer → c.skip ≡ 0 → 4 ≤ c.total → length tail ≡ 4 → is_some c.packet ≡ true → IfSome c.interface (λ i. length interfaces < 256)
     → IsReading refusal whole (place_of c interfaces part) c.skip (part_at c.stage part tail)
 trailer_whole c interfaces part tail refusal whole none held is zero total size some room =
@@ -387,7 +387,7 @@ trailer_whole c interfaces part tail refusal whole none held is zero total size 
 and_nothing : (packet : Option Record) (rest : Contents) → packet ≡ None → and_then packet rest ≡ rest
 and_nothing packet rest e = rw e refl
 
--- the trailer of a block without a packet has come
+-- after the trailer of a block without a packet, the reader moves to the next place
 pub trailer_ends : (c : Cursor) (interfaces : List Interface) (part tail more : List ℕ) (q : Place) → c.stage ≡ stage.Trailer → length tail ≡ 4 → trailer_refused (order_or_little c.order) (c.start + (c.total - 4)) c.total tail ≡ None → is_some c.packet ≡ false → q ≡ after_trailer (place_of c interfaces part)
     → contents_past 0 (place_of c interfaces part) tail more ≡ contents_past 0 q [] more
 trailer_ends c interfaces part tail more q is size accepted free next =
@@ -408,7 +408,7 @@ held_whole refusal whole packet none is = rw (none, is) refl
 after_both : (records : List Record) (packet : Option Record) (rest : Contents) → after_all records (and_then packet rest) ≡ after_all (records ++ option_to_list packet) rest
 after_both records packet rest = ap (λ (rs : List Record). record rest { records = rs }) (sym (append_assoc records (option_to_list packet) rest.records))
 
--- the held packet is released
+-- releasing the held packet appends it to the released packets
 pub gives_up : (p q : Place) (skip after : ℕ) (part clear bytes : List ℕ) (whole gone : Bool) (refusal : Option Refusal) (records : List Record) → refusal ≡ None → whole ≡ true → gone ≡ false → q ≡ after_trailer p → after ≡ 0 → clear ≡ []
     → HasRead (reading p skip part whole refusal) bytes records → HasRead (reading q after clear gone refusal) bytes (records ++ option_to_list (held_by refusal whole p.packet))
 gives_up p q skip after part clear bytes whole gone refusal records none is free next zero empty h = record {
@@ -441,7 +441,7 @@ pub trailer_begun : {c : Cursor} {interfaces : List Interface} {part tail piece 
 trailer_begun {c} {interfaces} {part} {tail} {piece} {whole} {refusal} {n} {m} {k} reader at =
     trailer_part c interfaces part tail at.stage (is_part refusal whole (place_of c interfaces part) c.skip (part_at c.stage part tail) at.going.accepted at.going.partial reader.reading)
 
--- a reader that holds a packet is not refused
+-- if a reader holds a packet, it has no refusal
 pub held_going : (refusal : Option Refusal) (whole : Bool) (packet : Option Record) → is_some (held_by refusal whole packet) ≡ true → (refusal ≡ None) × (whole ≡ true)
 held_going (Some why) whole packet some = absurd cc
 held_going None false packet some = absurd cc

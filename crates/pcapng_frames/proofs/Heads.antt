@@ -1,4 +1,4 @@
--- What follows if the front of a block is whole and nothing in it is refused.
+-- What is known if the head of a block is whole and nothing in it is refused.
 use Rattle.std.proofs.Common.{◌≡◌, ℕ, ◌+◌, ◌≤◌, true, nat_lt, if◌then◌else◌, List, length, Option, Some, None, is_some, subst, refl, arith}
 use Rattle.std.proofs.lemmas.Bool.Decides.{nat_tests}
 use Rattle.pcap_frames.specs.declared.style.Order.{Order}
@@ -10,12 +10,12 @@ use Rattle.pcapng_frames.specs.Fields.{first_refused}
 use Rattle.pcapng_frames.specs.Blocks.{kind_at, order_at, kind_rows, block_rows, block_refused, order_or_little}
 use Rattle.pcapng_frames.specs.state.Reading.{block_need, head_need}
 
--- if no row of a block refuses it, none of its kind's rows does
+-- if no row of a block refuses it, no row of the block's kind does
 kind_rows_accepted : (k : Kind) (order : Option Order) (interfaces : List Interface) (start : ℕ) (bytes : List ℕ) → 4 ≤ length bytes → first_refused start (length bytes) (block_rows k order interfaces bytes) ≡ None
     → first_refused start (length bytes) (kind_rows k (order_at k order bytes) interfaces bytes) ≡ None
 kind_rows_accepted k order interfaces start bytes long h = grind (arith, nat_tests)
 
--- the front of a block has as many bytes as its kind needs
+-- the head of a block has as many bytes as its kind needs
 pub head_known : (k : Kind) (order : Option Order) (bytes : List ℕ) → 8 ≤ length bytes → length bytes ≡ block_need order bytes → kind_at order bytes ≡ k → length bytes ≡ head_need k (order_or_little order) bytes
 unfolding block_need
 head_known k order bytes long need is = rw (← is) (grind (arith, nat_tests))
@@ -23,7 +23,7 @@ head_known k order bytes long need is = rw (← is) (grind (arith, nat_tests))
 not_below : (n m : ℕ) → n ≡ (if nat_lt n 28 then 28 else 28 + m) → n ≡ 28 + m
 not_below n m h = grind (arith, nat_tests)
 
--- the front of a packet's block has its fixed fields and all its captured bytes
+-- the head of a packet's block has its fixed fields and all its captured bytes
 pub packet_known : (order : Option Order) (bytes : List ℕ) → 8 ≤ length bytes → length bytes ≡ block_need order bytes → kind_at order bytes ≡ kind.Packet → length bytes ≡ 28 + number_at (order_or_little order) 20 4 bytes
 packet_known order bytes long need is = not_below _ _ (head_known kind.Packet order bytes long need is)
 
@@ -39,7 +39,7 @@ opened_by : (k : Kind) (order : Option Order) (interfaces : List Interface) (sta
 opened_by k (Some order) interfaces start bytes is long h = refl
 opened_by k None interfaces start bytes is long h = absurd (misplaced_by interfaces start bytes long (subst (λ (x : Kind). first_refused start (length bytes) (block_rows x None interfaces bytes) ≡ None) is h))
 
--- a packet that is accepted is in a section
+-- if a packet's block is not refused, it is in a section
 pub packet_opened : (order : Option Order) (interfaces : List Interface) (start : ℕ) (bytes : List ℕ) → kind_at order bytes ≡ kind.Packet → 4 ≤ length bytes → block_refused order interfaces start bytes ≡ None → is_some order ≡ true
 unfolding block_refused
 packet_opened order interfaces start bytes is long h = opened_by (kind_at order bytes) order interfaces start bytes is long h

@@ -49,7 +49,7 @@ none_or (Some x) e = refl
 pub accepted_time : (order : Order) (interfaces : List Interface) (bytes : List ℕ) → 24 ≤ length bytes → first_refused 0 (length bytes) (packet_rows order interfaces bytes) ≡ None → is_some (packet_arrival order interfaces bytes) ≡ true
 accepted_time order interfaces bytes long e = grind (arith, nat_tests, none_or (packet_arrival order interfaces bytes))
 
--- ---- a block that is complete at the front of some bytes
+-- ---- a block that is complete at the start of some bytes
 
 front_number : (order : Order) (at size : ℕ) (front rest bytes : List ℕ) → front ++ rest ≡ bytes → at + size ≤ length front → number_at order at size bytes ≡ number_at order at size front
 front_number order at size front rest bytes split long = ap (number_at order at size) (sym split) ∙ number_stays order at size front rest long
@@ -101,7 +101,7 @@ block_begins order interfaces bytes size b =
 
 -- ---- the next packet
 
--- the place before the trailer of a packet's block
+-- after the packet of a block, the place is the one before the block's trailer
 block_place : (p : Place) (block : List ℕ) → IsPacketBlock (order_or_little p.order) p.interfaces block → after_any p block ≡ after_block kind.Packet p (length block) block
 block_place p block b =
     ap (λ (k : Kind). after_block k p (number_at (order_at k p.order block) 4 4 block) block) b.kind
@@ -117,7 +117,7 @@ opened_rows : (order : Option Order) (interfaces : List Interface) (start : ℕ)
 opened_rows None interfaces start bytes long opened h = absurd cc
 opened_rows (Some order) interfaces start bytes long opened h = grind (arith, nat_tests)
 
--- no field of the block is refused
+-- no field of the packet's block is refused
 block_accepted : (p : Place) (block : List ℕ) → is_some p.order ≡ true → IsPacketBlock (order_or_little p.order) p.interfaces block → first_refused p.start (length block) (block_rows (kind_at p.order block) p.order p.interfaces block) ≡ None
 block_accepted p block opened b =
     ap (λ (k : Kind). first_refused p.start (length block) (block_rows k p.order p.interfaces block)) b.kind
@@ -130,7 +130,7 @@ trailer_accepted : (order : Order) (at total : ℕ) (bytes : List ℕ) → numbe
 unfolding trailer_refused
 trailer_accepted order at total bytes is = rw is (grind (arith, nat_tests))
 
--- what is still to come from a reader after the block of the next packet is still to come from one that holds the packet
+-- after the reader took the block of the next packet, the capture still holds what it held before
 next_takes : (r : Reading) (block : List ℕ) → IsNext r block → Takes r block (with_block r block)
 next_takes r block next = record {
   same = λ more.
@@ -169,14 +169,14 @@ block_record r block next =
     let order : Order = order_or_little r.place.order in
     record_some (packet_arrival order r.place.interfaces block) order block (accepted_time order r.place.interfaces block (omega (arith, next.packet.long)) next.packet.accepted)
 
--- a reader that takes the block of the next packet holds the packet
+-- after the reader took the block of the next packet, it holds this packet
 pub holds_block : (r : Reading) (block : List ℕ) → IsNext r block → held (with_block r block) ≡ (with_block r block).place.packet
 holds_block r block next = held_whole r.refusal true (with_block r block).place.packet next.accepted refl
 
 pub next_held : (r : Reading) (block : List ℕ) → IsNext r block → IsSome (held (with_block r block))
 next_held r block next = ap is_some (holds_block r block next) ∙ block_record r block next
 
--- the reader's invariant holds if it takes the block of the next packet
+-- after the reader took the block of the next packet, its invariant holds
 next_reading : (r : Reading) (block : List ℕ) → IsNext r block → IsReading r.refusal true (with_block r block).place 0 (drop (length block - 4) block)
 next_reading r block next =
     whole_by r.refusal true (with_block r block).place 0 (drop (length block - 4) block) next.accepted refl (record {
@@ -195,14 +195,14 @@ free_held : (refusal : Option Refusal) (whole : Bool) (packet : Option Record) �
 free_held (Some why) whole packet free = refl
 free_held None whole packet free = rw free refl
 
--- how many bytes a reader has taken before the next block, and after it
+-- before the next block, the reader has taken exactly the bytes before that block
 pub before_block : (r : Reading) (block : List ℕ) → IsNext r block → taken r ≡ r.place.start
 before_block r block next = omega (arith, passed_none r.place.stage r.skip r.place.left r.place.total next.before, ap length next.untaken)
 
 after_the_block : (r : Reading) (block : List ℕ) → IsNext r block → taken (with_block r block) ≡ r.place.start + length block
 after_the_block r block next = omega (arith, length-drop (length block - 4) block, next.packet.long)
 
--- a reader that takes the block of the next packet is fed
+-- taking the block of the next packet from a piece is a feed of the block's bytes
 pub next_feeds : (r : Reading) (piece : List ℕ) (size : ℕ) → size ≤ length piece → IsNext r (take size piece) → Feeds meaning (progress r) piece (Ok size) (progress (with_block r (take size piece)))
 next_feeds r piece size within next =
     let block : List ℕ = take size piece in
@@ -230,7 +230,7 @@ next_feeds r piece size within next =
       end = λ less. next_held r block next;
     }) (sure new next.accepted (next_reading r block next))
 
--- ---- before a block, only the section and the block's offset count
+-- ---- before a block, only the section and the block's offset matter
 
 abbrev plain : Place → Place
 plain p = record {
@@ -268,7 +268,7 @@ plain_same p bytes is =
     ∙ (rw (refusal_same p bytes is, size_same p bytes is, next_same p bytes is, cut_same p bytes is, none_in_block p.stage p.packet is) refl
     ∙ sym (unroll (plain p) bytes))
 
--- the place after the block of the next packet
+-- after the block of the next packet, the bytes that follow hold the same whether the block was taken or skipped
 place_after : (r : Reading) (block more : List ℕ) → IsNext r block → contents_at (after_trailer (with_block r block).place) more ≡ contents_at (passing r block).place more
 place_after r block more next =
     ap (λ (xs : List Interface). contents_at (record (after_trailer (with_block r block).place) { interfaces = xs }) more) (append-nil r.place.interfaces)
@@ -280,7 +280,7 @@ rest_before r p more accepted free ready untaken =
     ∙ (ap (λ (n : ℕ). contents_past n p r.part more) ready
     ∙ (ap (λ (b : List ℕ). contents_past 0 p b more) untaken ∙ past_none p [] more))
 
--- a reader that skips the block of the next packet releases the packet
+-- skipping the block of the next packet has the effect of taking it and then releasing the packet
 pub next_releases : (r : Reading) (block : List ℕ) → IsNext r block → Releases (progress (with_block r block)) (progress (passing r block))
 next_releases r block next =
     let q : Place = (with_block r block).place in
@@ -302,7 +302,7 @@ next_releases r block next =
 
 -- ---- the reader's invariant
 
--- a reader before a block holds no packet and skips nothing, unless it is refused
+-- if a reader before a block has no refusal, it holds no packet and has nothing to skip
 pub free_before : (refusal : Option Refusal) (whole : Bool) (p : Place) (skip : ℕ) (part : List ℕ) → refusal ≡ None → p.stage ≡ stage.Block → IsReading refusal whole p skip part → (whole ≡ false) × (skip ≡ 0)
 free_before (Some r) whole p skip part none is h = absurd cc
 free_before None true p skip part none is h = absurd (let no : stage.Block ≡ stage.Trailer = sym is ∙ h.at_trailer in cc)
@@ -321,7 +321,7 @@ ahead_next r order piece (Some size) accepted free before untaken is ahead = rec
   packet = subst (λ (x : Order). IsPacketBlock x r.place.interfaces (take size piece)) (sym (ap order_or_little is)) ahead;
 }
 
--- the reader's invariant holds after a packet that it skipped
+-- after the block of the next packet was skipped, the reader's invariant holds
 pub still_before : (r : Reading) (block : List ℕ) → IsNext r block → IsReading r.refusal r.whole r.place r.skip r.part → IsReading r.refusal r.whole (passing r block).place r.skip r.part
 still_before r block next h =
     let p = is_part r.refusal r.whole r.place r.skip r.part next.accepted next.free h in
@@ -336,7 +336,7 @@ still_before r block next h =
 kind_six : (n : ℕ) → kind_of n ≡ kind.Packet → n ≡ 6
 kind_six n is = grind (arith, nat_tests)
 
--- a packet's block begins with its type
+-- a packet's block begins with the type 6
 pub begins_six : (order : Order) (interfaces : List Interface) (bytes : List ℕ) → BeginsPacket order interfaces bytes → number_at order 0 4 bytes ≡ 6
 begins_six order interfaces bytes b = kind_six (number_at order 0 4 bytes) b.kind
 

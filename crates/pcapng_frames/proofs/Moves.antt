@@ -1,4 +1,4 @@
--- How a reader goes from place to place.
+-- How a reader moves from place to place.
 use Rattle.std.proofs.Common.{◌≡◌, ℕ, ◌+◌, ◌-◌, ◌≤◌, Bool, false, nat_lt, if◌then◌else◌, List, [], ◌++◌, length, drop, Option, Some, None, refl, sym, ap, ◌∙◌, arith, length-append, append_assoc}
 use Rattle.std.proofs.lemmas.Bool.Decides.{nat_tests}
 use Rattle.std.proofs.Math.Seq.{drop-append-add}
@@ -15,7 +15,6 @@ use Rattle.pcapng_frames.specs.declared.interface.Interface.{Interface}
 use Rattle.pcapng_frames.specs.state.Reading.{IsPart, place_of, block_need}
 use Rattle.pcapng_frames.proofs.Places.{unroll}
 
--- dropping a front and n more bytes drops n bytes of the rest
 drop_past : (n : ℕ) (front bytes : List ℕ) → drop (length front + n) (front ++ bytes) ≡ drop n bytes
 drop_past n front bytes = drop-append-add front bytes n
 
@@ -25,7 +24,7 @@ less_past n front bytes = grind (arith, nat_tests, length-append front bytes)
 both_ways : {X : Type 0} (b c : Bool) (x y z w : X) → b ≡ c → x ≡ y → z ≡ w → (if b then x else z) ≡ (if c then y else w)
 both_ways b c x y z w e f g = rw (e, f, g) refl
 
--- skipped bytes lower the number of bytes that are still to be skipped, and change nothing else
+-- taking bytes that are to be skipped lowers the number of bytes still to be skipped, and changes nothing else
 pub passed : (skip : ℕ) (p : Place) (part front more : List ℕ) → length front ≤ skip → contents_past skip p part (front ++ more) ≡ contents_past (skip - length front) p part more
 passed skip p part front more h =
     let all : length front + (skip - length front) ≡ skip = omega arith in
@@ -36,15 +35,15 @@ passed skip p part front more h =
 no_less : (n : ℕ) → nat_lt n 0 ≡ false
 no_less n = grind (arith, nat_tests)
 
--- if no bytes are skipped, all bytes belong to the place
+-- if no bytes are to be skipped, all bytes that follow belong to the place
 pub past_none : (p : Place) (part more : List ℕ) → contents_past 0 p part more ≡ contents_at p (part ++ more)
 past_none p part more = rw no_less refl
 
--- it makes no difference whether bytes of a place have come or follow
+-- it makes no difference whether bytes of a place were taken or follow
 pub gathered : (p : Place) (part front more : List ℕ) → contents_past 0 p part (front ++ more) ≡ contents_past 0 p (part ++ front) more
 gathered p part front more = past_none p part (front ++ more) ∙ (ap (contents_at p) (sym (append_assoc part front more)) ∙ sym (past_none p (part ++ front) more))
 
--- if all that is read of a place has come and is accepted, the reader moves to the next place
+-- if all that is read at a place was taken and nothing in it is refused, the reader moves to the next place
 pub moves : (p q : Place) (part more : List ℕ) (skip : ℕ) → refusal_here p (part ++ more) ≡ None → size_here p (part ++ more) ≡ length part + skip → next_place p (part ++ more) ≡ q
     → packet_by p.stage p.packet ≡ None → cut_short p (part ++ more) ≡ ends (Some (short_at BlockBody (q.start + 8)))
     → contents_past 0 p part more ≡ contents_past skip q [] more
@@ -58,16 +57,16 @@ moves p q part more skip accepted size next none short =
     (ap (λ (x : Option Record). and_then x (contents_at (next_place p (part ++ more)) (drop (size_here p (part ++ more)) (part ++ more)))) none
     ∙ (ap (λ (x : Place). contents_at x (drop (size_here p (part ++ more)) (part ++ more))) next ∙ ap (contents_at q) rest))))
 
--- if a place is refused, the capture ends there
+-- if a field at a place is refused, the capture ends there
 pub stops : (p : Place) (part more : List ℕ) (r : Refusal) → refusal_here p (part ++ more) ≡ Some r → contents_past 0 p part more ≡ ends (Some (record { refusal = r; cut = false }))
 stops p part more r e = past_none p part more ∙ (unroll p (part ++ more)
     ∙ ap (λ (x : Option Refusal). refused_or x (if nat_lt (length (part ++ more)) (size_here p (part ++ more)) then cut_short p (part ++ more) else and_then (packet_by p.stage p.packet) (contents_at (next_place p (part ++ more)) (drop (size_here p (part ++ more)) (part ++ more))))) e)
 
--- two steps, one after the other, take the bytes of both
+-- two successive steps take the bytes of the first and then those of the second
 pub takes_twice : (a b c : Reading) (x y : List ℕ) → Takes a x b → Takes b y c → Takes a (x ++ y) c
 takes_twice a b c x y first second = record { same = λ more. ap (rest_of a) (append_assoc x y more) ∙ (first.same (y ++ more) ∙ second.same more) }
 
--- a reader that takes bytes has read them, and has released no record
+-- a reader that takes bytes has read them, and has released no packet
 pub goes_on : (a b : Reading) (x : List ℕ) → Takes a x b → GoesOn (progress a) x (progress b)
 goes_on a b x t bytes records h = record { read = λ more. ap contents (append_assoc bytes x more) ∙ (h.read (x ++ more) ∙ ap (after_all records) (t.same more)) }
 
@@ -76,7 +75,7 @@ pub read_nothing : (r : Reading) → r ≡ nothing_read → HasRead r [] []
 unfolding contents
 read_nothing r e = record { read = λ more. rw e (sym (past_none first_place [] more)) }
 
--- the reader's invariant holds before a block of which no byte has come
+-- before a block of which no byte was taken, the reader's invariant holds
 pub block_begins : (c : Cursor) (interfaces : List Interface) (front part : List ℕ) → c.stage ≡ stage.Block → c.skip ≡ 0 → c.interface ≡ None → c.packet ≡ None → part ≡ [] → IsPart (place_of c interfaces front) c.skip part
 unfolding refusal_here block_need block_refused
 block_begins c interfaces front part at_block none no_interface no_packet e = rw (at_block, none, no_interface, no_packet, e) (record { accepted = refl; partial = omega arith; ahead = refl; room = tt; free = (refl, refl) })
@@ -84,11 +83,11 @@ block_begins c interfaces front part at_block none no_interface no_packet e = rw
 abbrev pub reading : Place → ℕ → List ℕ → Bool → Option Refusal → Reading
 reading p skip part whole refusal = record { place = p; skip = skip; part = part; whole = whole; refusal = refusal }
 
--- what is still to come from a reader that is not refused and holds no packet
+-- if a reader has no refusal and holds no packet, the capture still holds the contents from the reader's place on
 pub going : (p : Place) (skip : ℕ) (part : List ℕ) (whole : Bool) (refusal : Option Refusal) (more : List ℕ) → refusal ≡ None → whole ≡ false → rest_of (reading p skip part whole refusal) more ≡ contents_past skip p part more
 going p skip part whole refusal more none partial = rw (none, partial) refl
 
--- a reader takes bytes that are skipped
+-- the reader takes bytes that are to be skipped
 pub pass_takes : (p : Place) (skip : ℕ) (part : List ℕ) (whole : Bool) (refusal : Option Refusal) (front : List ℕ) (n : ℕ) → refusal ≡ None → whole ≡ false → length front ≡ n → n ≤ skip → Takes (reading p skip part whole refusal) front (reading p (skip - n) part whole refusal)
 pass_takes p skip part whole refusal front n none partial size h = record {
   same = λ more.

@@ -1,4 +1,4 @@
--- How many bytes must come before more is known.
+-- How many bytes of a block or an option must be taken before more is known of it.
 use Rattle.std.proofs.Common.{◌≡◌, ℕ, ◌+◌, ◌-◌, ◌≤◌, ◌<◌, nat_lt, if◌then◌else◌, List, ◌++◌, length, take, min, Option, None, refl, ap, arith, inl, inr, length-append}
 use Rattle.std.proofs.lemmas.Bool.{cases_lt}
 use Rattle.std.proofs.lemmas.List.{length-take-le}
@@ -45,7 +45,7 @@ head_keeps kind.Interface order bytes more room h = omega (arith, length-append 
 head_keeps kind.Packet order bytes more room h = packet_keeps order bytes more room h
 head_keeps kind.Other order bytes more room h = omega (arith, length-append bytes more)
 
--- if at most the bytes that are needed of a block are added, at most the needed bytes have come
+-- If at most the bytes that a block still needs are added, the block has at most the bytes that it then needs.
 pub block_keeps : (order : Option Order) (bytes more : List ℕ) → length bytes < block_need order bytes → length more ≤ block_need order bytes - length bytes → length (bytes ++ more) ≤ block_need order (bytes ++ more)
 block_keeps order bytes more h room = elim (cases_lt (length bytes) 8) [
   | inl short ↦ omega (arith, need_short order bytes short, need_eight order (bytes ++ more), length-append bytes more)
@@ -67,7 +67,7 @@ head_bound kind.Interface order interfaces start bytes h = omega arith
 head_bound kind.Packet order interfaces start bytes h = packet_bound (order_or_little order) interfaces start bytes h
 head_bound kind.Other order interfaces start bytes h = omega arith
 
--- the bytes that are needed of a block fit the reader's memory
+-- the needed bytes of a block fit the reader's memory
 pub block_bound : (order : Option Order) (interfaces : List Interface) (start : ℕ) (bytes : List ℕ) → block_refused order interfaces start bytes ≡ None → block_need order bytes ≤ 262172
 block_bound order interfaces start bytes h = elim (cases_lt (length bytes) 8) [
   | inl short ↦ omega (arith, need_short order bytes short)
@@ -78,7 +78,7 @@ option_short : (order : Order) (bytes : List ℕ) → length bytes < 4 → optio
 unfolding option_need
 option_short order bytes h = grind (arith, nat_tests)
 
--- if at most the bytes that are needed of an option are added, at most the needed bytes have come
+-- If at most the bytes that an option still needs are added, the option has at most the bytes that it then needs.
 pub option_keeps : (order : Order) (bytes more : List ℕ) → length bytes < option_need order bytes → length more ≤ option_need order bytes - length bytes → length (bytes ++ more) ≤ option_need order (bytes ++ more)
 option_keeps order bytes more h room = elim (cases_lt (length bytes) 4) [
   | inl short ↦ omega (arith, option_short order bytes short, need_of_four order (bytes ++ more), length-append bytes more)
@@ -121,14 +121,14 @@ size_eight kind.Interface total = omega arith
 size_eight kind.Packet total = omega arith
 size_eight kind.Other total = omega arith
 
--- if more bytes of a block are needed, fewer have come than are before the next place
+-- while needed bytes of a block that is not refused are missing, its bytes so far end before the next place
 pub block_lacks : (order : Option Order) (interfaces : List Interface) (start : ℕ) (bytes : List ℕ) → block_refused order interfaces start bytes ≡ None → length bytes < block_need order bytes → length bytes < size_of_any order bytes
 block_lacks order interfaces start bytes h partial = elim (cases_lt (length bytes) 8) [
   | inl short ↦ omega (arith, size_eight (kind_at order bytes) (number_at (order_at (kind_at order bytes) order bytes) 4 4 bytes))
   | inr long ↦ head_lacks (kind_at order bytes) order interfaces start bytes (kind_accepted (kind_at order bytes) order interfaces start bytes refl (omega arith) h) (omega (arith, need_long order bytes long))
 ]
 
--- a piece has brought all bytes that are needed of a block
+-- if a piece completes the needed bytes of a block, exactly the needed bytes were taken
 pub block_came : (order : Option Order) (part piece next : List ℕ) (n : ℕ) → length part < block_need order part → n ≡ min (length piece) (block_need order part - length part) → next ≡ part ++ take n piece → block_need order next ≤ length next
     → (8 ≤ length next) × (length next ≡ block_need order next)
 block_came order part piece next n partial is grown came =
@@ -137,7 +137,7 @@ block_came order part piece next n partial is grown came =
     let kept = rw (← grown) at keeps in
     (omega (arith, kept, need_eight order next), omega (arith, kept))
 
--- a piece has brought all bytes that are needed of an option
+-- if a piece completes the needed bytes of an option, exactly the needed bytes were taken
 pub option_came : (order : Order) (part piece next : List ℕ) (n : ℕ) → length part < option_need order part → n ≡ min (length piece) (option_need order part - length part) → next ≡ part ++ take n piece → option_need order next ≤ length next
     → (4 ≤ length next) × (length next ≡ option_need order next)
 option_came order part piece next n partial is grown came =

@@ -15,11 +15,11 @@ use Rattle.pcapng_frames.specs.declared.interface.Interface.{Interface}
 use Rattle.pcapng_frames.specs.Interface.{arrival_limit, arrival_of, instant, is_resolution, units}
 use Rattle.pcapng_frames.specs.state.Fields.{AllResolved}
 
--- a power of a number from 1 on is at least 1
+-- a power of a positive number is positive
 pub power_some : (a k : ℕ) → 1 ≤ a → 1 ≤ a ^ k
 power_some a k h = one-le-pow k a h
 
--- a unit of a nanosecond or more is a whole number of nanoseconds
+-- if a unit is at least a nanosecond, the nanoseconds are the timestamp times a power of 10
 pub long_units : (x k : ℕ) → k ≤ 9 → x * 10 ^ (9 - k) ≡ x * 1000000000 / 10 ^ k
 long_units x k h =
     let nine : (9 - k) + k ≡ 9 = omega arith in
@@ -27,7 +27,7 @@ long_units x k h =
     let all : x * 1000000000 ≡ x * 10 ^ (9 - k) * 10 ^ k = ap (λ (n : ℕ). x * n) (sym whole) ∙ sym (mul_assoc x (10 ^ (9 - k)) (10 ^ k)) in
     sym (div-eq_of_eq-mul_left (power_some 10 k (omega arith)) all)
 
--- a nanosecond is a whole number of shorter units
+-- if a unit is at most a nanosecond, the nanoseconds are the timestamp divided by a power of 10, rounded down
 pub short_units : (x k : ℕ) → 9 ≤ k → x / 10 ^ (k - 9) ≡ x * 1000000000 / 10 ^ k
 short_units x k h =
     let more : k ≡ (k - 9) + 9 = omega arith in
@@ -72,11 +72,11 @@ microsecond_late interface x epoch unit late = out_of_time (instant interface x)
 pub time_limit : (x units : ℕ) → x < 2 ^ 64 → x * 1000000000 / units < 2 ^ 94
 time_limit x units h = omega (arith, div-le_self (x * 1000000000) units)
 
--- the resolution of an interface is read if those of all interfaces are
+-- if the resolutions of all interfaces are accepted, the resolution of interface `id` is accepted
 pub one_resolved : (interfaces : List Interface) (id : ℕ) (d : Interface) → AllResolved interfaces → id < length interfaces → is_resolution (slice_index_or interfaces id d).resolution ≡ true
 one_resolved interfaces id d all h = All-get_or (λ (i : Interface). is_resolution i.resolution ≡ true) interfaces id d h all
 
--- the packet that the reader makes of the fixed fields and the captured bytes is that of the block
+-- the packet made of the fixed fields and the captured bytes is the packet of the block
 pub packet_is : (head : Option PacketHead) (arrival : Option ℤ) (order : Order) (part : List ℕ) → is_some head ≡ is_some arrival → IfSome head (λ h. arrival ≡ Some (pos h.arrival)) → IfSome head (λ h. h.orig_len ≡ number_at order 24 4 part)
     → length part ≡ 28 + number_at order 20 4 part → packet_of head part ≡ record_by arrival order part
 packet_is None None order part some e l size = refl

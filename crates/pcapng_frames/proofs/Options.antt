@@ -1,4 +1,4 @@
--- What is known of an option or a trailer stays true, whatever bytes follow.
+-- Bytes that follow do not change what is known of an option or a trailer.
 use Rattle.std.proofs.Common.{◌≡◌, ℕ, ◌⊎◌, ◌&&◌, not, ◌+◌, ◌-◌, ◌≤◌, ◌<◌, Bool, true, false, nat_lt, nat_eq, if◌then◌else◌, List, [], ◌∷◌, ◌++◌, length, drop, slice_index, Option, Some, None, refl, ap, sym, ◌∙◌, arith, inl, inr, length-append}
 use Rattle.std.proofs.lemmas.Bool.{cases_lt}
 use Rattle.std.proofs.lemmas.Bool.Decides.{nat_tests}
@@ -32,7 +32,7 @@ code_stays order bytes more h = number_stays order 0 2 bytes more (omega arith)
 length_stays : (order : Order) (bytes more : List ℕ) → 4 ≤ length bytes → option_length order (bytes ++ more) ≡ option_length order bytes
 length_stays order bytes more h = number_stays order 2 2 bytes more (omega arith)
 
--- a row that is judged with the option's header gives this result again when more bytes have come
+-- a row that is checked with the option's header gives the same result after more bytes
 header_row : (field : Field) (b : Bool) (start len more : ℕ) (rows others : List Row) (x : Option Refusal) → 4 ≤ len → len ≤ more → first_refused start len (row field 0 4 b ∷ rows) ≡ x → (first_refused start len rows ≡ x → first_refused start more others ≡ x)
     → first_refused start more (row field 0 4 b ∷ others) ≡ x
 header_row field b start len more rows others x long less e h =
@@ -90,7 +90,8 @@ pub need_whole : (order : Order) (bytes : List ℕ) → 4 ≤ length bytes → o
 unfolding option_need
 need_whole order bytes h = grind (arith, nat_tests)
 
--- a refused field of an option stays refused; if none is refused once all that is read of the option has come, none is later
+-- Bytes that follow do not change the refusal of an option. If nothing is refused once all that is read of the option
+-- is there, nothing in the option is refused later.
 pub option_stays : (order : Order) (left start : ℕ) (bytes more : List ℕ) (x : Option Refusal) → first_refused start (length bytes) (option_rows (option_code order bytes) (option_length order bytes) left bytes) ≡ x
     → (x ≡ None → option_need order bytes ≤ length bytes)
     → first_refused start (length (bytes ++ more)) (option_rows (option_code order (bytes ++ more)) (option_length order (bytes ++ more)) left (bytes ++ more)) ≡ x
@@ -144,7 +145,7 @@ next_stays : (p : Place) (bytes more : List ℕ) → 4 ≤ length bytes → valu
 next_stays p bytes more h need =
     rw (described_stays (order_or_little p.order) p.interface bytes more h need, size_of_stays (order_or_little p.order) p.left bytes more h) refl
 
--- if all that is read of an option has come and is accepted, the reader moves to the next place
+-- if all that is read of an option was taken and nothing in it is refused, the reader moves to the next place
 pub option_moves : (p q : Place) (part more : List ℕ) (skip : ℕ) → p.stage ≡ stage.Option → 4 ≤ length part → length part ≡ option_need (order_or_little p.order) part → refusal_here p part ≡ None
     → next_by stage.Option p part ≡ q → size_of_option (order_or_little p.order) p.left part ≡ length part + skip → contents_past 0 p part more ≡ contents_past skip q [] more
 option_moves p q part more skip is long whole accepted next size =
@@ -158,7 +159,7 @@ option_moves p q part more skip is long whole accepted next size =
     (none_in_option p.stage p.packet is)
     (cut_option p (part ++ more) is ∙ ap (λ (n : ℕ). ends (Some (short_at BlockBody (n + 8)))) (sym start))
 
--- if an option is refused, the capture ends there
+-- if a field of an option is refused, the capture ends there
 pub option_stops : (p : Place) (part more : List ℕ) (r : Refusal) → p.stage ≡ stage.Option → refusal_here p part ≡ Some r → contents_past 0 p part more ≡ ends (Some (record { refusal = r; cut = false }))
 option_stops p part more r is e =
     stops p part more r (at_option p (part ++ more) is ∙ option_stays (order_or_little p.order) p.left _ part more (Some r) (sym (at_option p part is) ∙ e) (λ h. absurd (cc)))
@@ -192,7 +193,7 @@ next_at_trailer p bytes is = rw is refl
 packet_at_trailer : (s : Stage) (packet : Option Record) → s ≡ stage.Trailer → packet_by s packet ≡ packet
 packet_at_trailer s packet is = rw is refl
 
--- if a trailer has come and repeats the total length, the block's packet is complete
+-- if a trailer was taken and repeats the total length, the block's packet is complete
 pub trailer_moves : (p : Place) (part more : List ℕ) → p.stage ≡ stage.Trailer → length part ≡ 4 → refusal_here p part ≡ None → contents_past 0 p part more ≡ and_then p.packet (contents_at (after_trailer p) more)
 trailer_moves p part more is whole accepted =
     let bytes : List ℕ = part ++ more in
@@ -221,7 +222,7 @@ with_resolved false false order interface bytes is h = is
 resolved_by : (code len start left n : ℕ) (order : Order) (interface : Interface) (bytes : List ℕ) → 4 ≤ n → n ≡ value_need code → first_refused start n (option_rows code len left bytes) ≡ None → is_resolution interface.resolution ≡ true → is_resolution (with_option order code interface bytes).resolution ≡ true
 resolved_by code len start left n order interface bytes long whole h is = with_resolved (nat_eq code 9) (nat_eq code 14) order interface bytes is (λ nine. resolved_nine code len start left n bytes nine long whole h)
 
--- an option that is accepted has all bytes that are needed of it
+-- the bytes that are needed of an accepted option are within the option
 pub option_fits : (order : Order) (start left : ℕ) (bytes : List ℕ) → 4 ≤ length bytes → 4 ≤ left → length bytes ≡ option_need order bytes → option_refused order start left bytes ≡ None
     → length bytes ≤ size_of_option order left bytes
 unfolding option_refused
@@ -231,7 +232,7 @@ pub option_small : (order : Order) (bytes : List ℕ) → length bytes ≡ optio
 unfolding option_need
 option_small order bytes h = grind (arith, nat_tests)
 
--- after an option that is accepted, the resolution of the interface is one that is read
+-- after an accepted option, the resolution of the interface is accepted
 pub option_resolved : (order : Order) (start left : ℕ) (interface : Option Interface) (bytes : List ℕ) → 4 ≤ length bytes → length bytes ≡ option_need order bytes → option_refused order start left bytes ≡ None
     → IsResolved interface → IsResolved (described order (option_code order bytes) interface bytes)
 unfolding option_refused
@@ -244,7 +245,7 @@ need_by_code code len start left n bytes long some h = grind (arith, nat_tests)
 size_four : (order : Order) (left : ℕ) (bytes : List ℕ) → 4 ≤ size_of_option order left bytes
 size_four order left bytes = grind (arith, nat_tests)
 
--- if more bytes of an option are needed, fewer have come than it has
+-- while more bytes of an option are needed, its bytes so far end before the option does
 pub option_lacks : (order : Order) (at left : ℕ) (bytes : List ℕ) → 4 ≤ left → option_refused order at left bytes ≡ None → length bytes < option_need order bytes → length bytes < size_of_option order left bytes
 unfolding option_refused
 option_lacks order at left bytes some h partial = elim (cases_lt (length bytes) 4) [

@@ -1,4 +1,5 @@
--- The contents of the bytes from a place on do not depend on how many places are asked for, and go on from place to place.
+-- The contents from a place on do not depend on the allowed number of places, if it is large enough. They are what the
+-- place holds, followed by the contents from the next place on.
 use Rattle.std.proofs.Common.{◌≡◌, ℕ, zero, suc, ◌+◌, ◌-◌, ◌≤◌, ◌<◌, Bool, true, false, nat_lt, nat_eq, if◌then◌else◌, List, length, drop, refl, ap, arith, length-drop}
 use Rattle.std.proofs.lemmas.Bool.Decides.{nat_tests}
 use Rattle.pcapng_frames.specs.declared.block.Kind.{Kind}
@@ -36,7 +37,7 @@ choice false x y z h = h refl
 not_less : (m n : ℕ) → nat_lt m n ≡ false → n ≤ m
 not_less m n h = grind (arith, nat_tests)
 
--- the contents are the same for any number of places above the number of bytes
+-- if more places are allowed than there are bytes, the contents do not depend on the number of places
 fuel : (n m : ℕ) (p : Place) (bytes : List ℕ) → length bytes < n → length bytes < m → contents_from n p bytes ≡ contents_from m p bytes
 fuel zero m p bytes h k = absurd (omega arith)
 fuel (suc n) zero p bytes h k = absurd (omega arith)
@@ -49,7 +50,7 @@ fuel (suc n) (suc m) p bytes h k =
     let size = length-drop (size_here p bytes) bytes in
     fuel n m (next_place p bytes) (drop (size_here p bytes) bytes) (omega arith) (omega arith))))
 
--- the contents from a place on are what comes there, followed by the contents from the next place on
+-- the contents from a place on are what the place holds, followed by the contents from the next place on
 pub unroll : (p : Place) (bytes : List ℕ) → contents_at p bytes
     ≡ refused_or (refusal_here p bytes) (if nat_lt (length bytes) (size_here p bytes) then cut_short p bytes
     else and_then (packet_by p.stage p.packet) (contents_at (next_place p bytes) (drop (size_here p bytes) bytes)))

@@ -1,5 +1,5 @@
--- What a pcapng capture holds: blocks one after another, each a type, a total length, a body and the total length again
--- (draft-ietf-opsawg-pcapng, section 3).
+-- What a pcapng capture holds: blocks one after the other. Each block has a type, a total length, a body and the total
+-- length again (draft-ietf-opsawg-pcapng, section 3).
 use Rattle.std.specs.Prelude.{ℕ, ℤ, zero, suc, ◌+◌, ◌-◌, ◌&&◌, Bool, true, false, not, nat_lt, nat_le, nat_eq, if◌then◌else◌, List, [], ◌∷◌, ◌++◌, length, take, drop, Option, Some, None, is_none}
 use Rattle.std.specs.Option.{option_to_list}
 use Rattle.avtp_base.specs.declared.field.Field.{Field}
@@ -17,12 +17,12 @@ use Rattle.pcapng_frames.specs.declared.interface.Interface.{Interface}
 use Rattle.pcapng_frames.specs.Interface.{microseconds}
 use Rattle.pcapng_frames.specs.Fields.{kind_of, order_of_magic, padded, Row, row, refusal_at, first_refused, section_rows, interface_rows, packet_rows, packet_arrival, other_rows, option_code, option_length, option_rows, with_option}
 
--- A place in a capture: what comes next there, and what the bytes before it say.
+-- A place in a capture: what follows there, and what is known from the bytes before it.
 --
--- `order` is the byte order of the section, or `None` before the first; `interfaces` are those that were described in it;
--- `start` is the offset of the block, and `total` its total length. In an interface description, `interface` is what
--- its options say so far, and `left` is how many bytes of options are left. Before the trailer of a packet, `packet` is
--- the packet.
+-- `order` is the byte order of the section, or `None` before the first section. `interfaces` are the interfaces
+-- described in the section so far. `start` is the offset of the block, and `total` is its total length. In an interface
+-- description, `interface` is what its options state so far, and `left` is the number of bytes of options that are
+-- left. Before the trailer of a packet's block, `packet` is that packet.
 pub record Place : Type 0 where
   pub stage : Stage
   pub order : Option Order
@@ -33,7 +33,7 @@ pub record Place : Type 0 where
   pub left : ℕ
   pub packet : Option Record
 
--- the byte order of a section, and little-endian before the first section
+-- the byte order of the section; before the first section, little-endian
 abbrev pub order_or_little : Option Order → Order
 order_or_little None = Little
 order_or_little (Some order) = order
@@ -42,7 +42,7 @@ order_or_little (Some order) = order
 abbrev pub kind_at : Option Order → List ℕ → Kind
 kind_at order bytes = kind_of (number_at (order_or_little order) 0 4 bytes)
 
--- the byte order of the block that the bytes begin with; a section header has its own
+-- the byte order of the block that the bytes begin with; a section header states its own
 abbrev pub order_at : Kind → Option Order → List ℕ → Order
 order_at kind.Section order bytes = order_or_little (order_of_magic (number_at Little 8 4 bytes))
 order_at kind.Interface order bytes = order_or_little order
@@ -63,7 +63,7 @@ is_interface kind.Interface = true
 is_interface kind.Packet = false
 is_interface kind.Other = false
 
--- the fields that are judged in a block of this kind, after its type
+-- the fields that are checked in a block of this kind, after its type
 abbrev pub kind_rows : Kind → Order → List Interface → List ℕ → List Row
 kind_rows kind.Section order interfaces bytes =
     row ByteOrderMagic 8 12 (is_none (order_of_magic (number_at Little 8 4 bytes))) ∷ section_rows order bytes
@@ -71,68 +71,68 @@ kind_rows kind.Interface order interfaces bytes = interface_rows order (length i
 kind_rows kind.Packet order interfaces bytes = packet_rows order interfaces bytes
 kind_rows kind.Other order interfaces bytes = other_rows order bytes
 
--- a block before the first section header that is not a section header itself
+-- this block is before the first section header, and is not a section header itself
 abbrev pub is_misplaced : Option Order → Kind → Bool
 is_misplaced order k = is_none order && not (is_section k)
 
--- the fields that are judged in a block; the first block of a capture must be a section header
+-- the fields that are checked in a block; the first block of a capture must be a section header
 abbrev pub block_rows : Kind → Option Order → List Interface → List ℕ → List Row
 block_rows k order interfaces bytes =
     row BlockType 0 4 (is_misplaced order k) ∷ kind_rows k (order_at k order bytes) interfaces bytes
 
--- the first refused field of the block that the bytes begin with, among those that the bytes hold
+-- the first refused field of the block that the bytes begin with, among the fields that the bytes contain
 unfoldable pub block_refused : Option Order → List Interface → ℕ → List ℕ → Option Refusal
 block_refused order interfaces start bytes = first_refused start (length bytes) (block_rows (kind_at order bytes) order interfaces bytes)
 
--- the first refused field of the option that the bytes begin with, among those that the bytes hold; `left` bytes of
--- options are left
+-- The first refused field of the option that the bytes begin with, among the fields that the bytes contain. `left`
+-- bytes of options are left.
 unfoldable pub option_refused : Order → ℕ → ℕ → List ℕ → Option Refusal
 option_refused order at left bytes = first_refused at (length bytes) (option_rows (option_code order bytes) (option_length order bytes) left bytes)
 
--- the field that is judged in a trailer: it repeats the block's total length
+-- the field that is checked in a trailer: it must repeat the block's total length
 abbrev pub trailer_rows : Order → ℕ → List ℕ → List Row
 trailer_rows order total bytes = row BlockTrailer 0 4 (not (nat_eq (number_at order 0 4 bytes) total)) ∷ []
 
--- the refusal of a trailer that the bytes hold and that does not repeat the block's total length
+-- if the bytes contain the trailer and it does not repeat the block's total length, the refusal of the trailer
 unfoldable pub trailer_refused : Order → ℕ → ℕ → List ℕ → Option Refusal
 trailer_refused order at total bytes = first_refused at (length bytes) (trailer_rows order total bytes)
 
--- the first refused field, among those that the bytes hold, of the block, option or trailer at this place
+-- the first refused field of the block, option or trailer at this place, among the fields that the bytes contain
 abbrev pub refusal_by : Stage → Place → List ℕ → Option Refusal
 refusal_by stage.Block p bytes = block_refused p.order p.interfaces p.start bytes
 refusal_by stage.Option p bytes = option_refused (order_or_little p.order) (p.start + (p.total - 4 - p.left)) p.left bytes
 refusal_by stage.Trailer p bytes = trailer_refused (order_or_little p.order) (p.start + (p.total - 4)) p.total bytes
 
--- the first refused field, among those that the bytes hold, of what comes at this place
+-- the first refused field of what follows at this place, among the fields that the bytes contain
 unfoldable pub refusal_here : Place → List ℕ → Option Refusal
 refusal_here p bytes = refusal_by p.stage p bytes
 
--- How many bytes of a block come before the next place: the fixed fields of an interface description; everything before the
--- trailer of any other block.
+-- The number of bytes from the start of a block to the next place. In an interface description these are the fixed
+-- fields. In any other block they are everything before the trailer.
 abbrev pub block_size : Kind → ℕ → ℕ
 block_size kind.Section total = 16 + (total - 20)
 block_size kind.Interface total = 16
 block_size kind.Packet total = 28 + (total - 32)
 block_size kind.Other total = 8 + (total - 12)
 
--- how many bytes of the block that the bytes begin with come before the next place
+-- in the block that the bytes begin with, the number of bytes to the next place
 abbrev pub size_of_any : Option Order → List ℕ → ℕ
 size_of_any order bytes =
     let k = kind_at order bytes in
     block_size k (number_at (order_at k order bytes) 4 4 bytes)
 
--- the size in bytes of the option at the front of the bytes: its header and its padded value, or all bytes of options that are
--- left if it ends the options
+-- The size in bytes of the option that the bytes begin with: its header and its padded value. If it ends the options,
+-- the size is all bytes of options that are left.
 abbrev pub size_of_option : Order → ℕ → List ℕ → ℕ
 size_of_option order left bytes = if nat_eq (option_code order bytes) 0 then 4 + (left - 4) else 4 + padded (option_length order bytes)
 
--- how many bytes come before the next place, depending on whether a block, an option or a trailer comes here
+-- the number of bytes to the next place: through the block, the option or the trailer at this place
 abbrev pub size_by : Stage → Place → List ℕ → ℕ
 size_by stage.Block p bytes = size_of_any p.order bytes
 size_by stage.Option p bytes = size_of_option (order_or_little p.order) p.left bytes
 size_by stage.Trailer p bytes = 4
 
--- how many bytes come before the next place
+-- the number of bytes to the next place
 unfoldable pub size_here : Place → List ℕ → ℕ
 size_here p bytes = size_by p.stage p bytes
 
@@ -145,8 +145,8 @@ record_by (Some arrival) order bytes = Some (record {
   bytes = take (number_at order 20 4 bytes) (drop 28 bytes);
 })
 
--- the place after the fixed fields of an interface description, the body of another block or an option: an option if
--- bytes of options are left, otherwise the trailer
+-- The place after the fixed fields of an interface description, the body of another block or an option. If bytes of
+-- options are left, an option follows; otherwise the trailer follows.
 abbrev pub in_block : Place → Option Order → List Interface → Option Interface → ℕ → ℕ → Option Record → Place
 in_block p order interfaces interface total left packet = record {
   stage = if nat_eq left 0 then stage.Trailer else stage.Option;
@@ -179,7 +179,7 @@ abbrev pub described : Order → ℕ → Option Interface → List ℕ → Optio
 described order code None bytes = None
 described order code (Some interface) bytes = Some (with_option order code interface bytes)
 
--- the place after a block's trailer; an interface that was described becomes the next of its section
+-- The place after a block's trailer. An interface that the block described becomes the next one of its section.
 abbrev pub after_trailer : Place → Place
 after_trailer p = record {
   stage = stage.Block;
@@ -192,7 +192,7 @@ after_trailer p = record {
   packet = None;
 }
 
--- the next place, depending on whether a block, an option or a trailer comes here
+-- the next place: after the block's head, the option or the trailer at this place
 abbrev pub next_by : Stage → Place → List ℕ → Place
 next_by stage.Block p bytes = after_any p bytes
 next_by stage.Option p bytes =
@@ -200,17 +200,18 @@ next_by stage.Option p bytes =
     in_block p p.order p.interfaces (described order (option_code order bytes) p.interface bytes) p.total (p.left - size_by stage.Option p bytes) None
 next_by stage.Trailer p bytes = after_trailer p
 
--- the place after what comes at this one
+-- the place after what follows at this place
 unfoldable pub next_place : Place → List ℕ → Place
 next_place p bytes = next_by p.stage p bytes
 
--- the packet that is complete after what comes here: after a trailer the packet of its block, otherwise none
+-- the packet that is complete after this stage: after a trailer, the packet of the block; otherwise none
 abbrev pub packet_by : Stage → Option Record → Option Record
 packet_by stage.Block packet = None
 packet_by stage.Option packet = None
 packet_by stage.Trailer packet = packet
 
--- How the bytes of a capture end: the first refusal, and whether bytes are missing, so that more bytes may change it.
+-- How the bytes of a capture end: the first refusal, and whether bytes are missing. If bytes are missing, more bytes
+-- may change the refusal.
 pub record Ending : Type 0 where
   pub refusal : Refusal
   pub cut : Bool
@@ -219,7 +220,7 @@ pub record Ending : Type 0 where
 abbrev pub short_at : Field → ℕ → Ending
 short_at field at = record { refusal = record { field = field; at = at; short = true }; cut = true }
 
--- how a capture ends within a block, of which it has these bytes
+-- how a capture ends if only these bytes of the block at this place are there
 abbrev pub cut_block : Place → List ℕ → Ending
 cut_block p bytes =
     if nat_lt (length bytes) 4 then short_at BlockType p.start
@@ -229,13 +230,13 @@ cut_block p bytes =
     else short_at BlockLength (p.start + 4))
     else short_at BlockBody (p.start + 8)
 
--- how a capture ends within the block, option or trailer at this place, of which it has these bytes
+-- how a capture ends if only these bytes of the block, option or trailer at this place are there
 abbrev pub cut_by : Stage → Place → List ℕ → Ending
 cut_by stage.Block p bytes = cut_block p bytes
 cut_by stage.Option p bytes = short_at BlockBody (p.start + 8)
 cut_by stage.Trailer p bytes = short_at BlockBody (p.start + 8)
 
--- a capture that ends here is whole: a section was begun, a block may come next, and no byte is left
+-- a capture that ends here is whole: a section was begun, a block may follow, and no byte is left
 abbrev pub ends_at : Stage → Option Order → ℕ → ℕ → Bool
 ends_at stage.Block (Some order) start zero = true
 ends_at stage.Block (Some order) start (suc n) = false
@@ -252,20 +253,21 @@ pub record Contents : Type 0 where
 abbrev pub ends : Option Ending → Contents
 ends ending = record { records = []; ending = ending }
 
--- one packet, or none, and then the rest
+-- the packet, if there is one, and then the contents `rest`
 abbrev pub and_then : Option Record → Contents → Contents
 and_then packet rest = record { records = option_to_list packet ++ rest.records; ending = rest.ending }
 
--- what the bytes hold if they end before the next place: no packet, and no refusal if a capture that ends here is whole
+-- What the bytes hold if they end before the next place. They hold no packet. If a capture that ends here is whole,
+-- there is no refusal.
 abbrev pub cut_short : Place → List ℕ → Contents
 cut_short p bytes = if ends_at p.stage p.order p.start (length bytes) then ends None else ends (Some (cut_by p.stage p bytes))
 
--- if a field is refused, no packets and this refusal; otherwise the rest
+-- if a field is refused, no packets and this refusal; otherwise the contents `rest`
 abbrev pub refused_or : Option Refusal → Contents → Contents
 refused_or (Some refusal) rest = ends (Some (record { refusal = refusal; cut = false }))
 refused_or None rest = rest
 
--- what the bytes from a place on hold, in at most n places
+-- what the bytes from a place on hold, within the next n places
 abbrev pub contents_from : ℕ → Place → List ℕ → Contents
 contents_from zero p bytes = ends None
 contents_from (suc n) p bytes =
@@ -286,7 +288,7 @@ first_place = record {
   packet = None;
 }
 
--- What a capture holds: its packets before the first refusal, and that refusal. Each place takes at least four bytes,
+-- What a capture holds: the packets before its first refusal, and that refusal. Each place takes at least four bytes,
 -- so this number of places is enough.
 unfoldable pub contents : List ℕ → Contents
 contents bytes = contents_from (suc (length bytes)) first_place bytes
@@ -295,16 +297,16 @@ contents bytes = contents_from (suc (length bytes)) first_place bytes
 unfoldable pub whole_records : List ℕ → List Record
 whole_records bytes = (contents bytes).records
 
--- the refusal of an ending, if it has one
+-- the refusal of an ending, if any
 abbrev pub refusal_of : Option Ending → Option Refusal
 refusal_of None = None
 refusal_of (Some ending) = Some ending.refusal
 
--- the first refusal of a capture, by a field that is cut off or whose value is refused
+-- the first refusal of a capture, at a field that is cut off or whose value is refused
 unfoldable pub first_refusal : List ℕ → Option Refusal
 first_refusal bytes = refusal_of (contents bytes).ending
 
--- the refusal of an ending, if it stays whatever bytes follow
+-- the refusal of an ending, if no later bytes can change it
 abbrev pub settled : Option Ending → Option Refusal
 settled None = None
 settled (Some ending) = if ending.cut then None else Some ending.refusal

@@ -13,7 +13,7 @@ use Rattle.pcapng_frames.specs.declared.block.Kind.TheVariants as kind
 use Rattle.pcapng_frames.specs.declared.interface.Interface.{Interface}
 use Rattle.pcapng_frames.specs.Interface.{microseconds, is_resolution, arrival_of}
 
--- the kind of a block, given its type (draft-ietf-opsawg-pcapng, section 4)
+-- the kind of a block of this type (draft-ietf-opsawg-pcapng, section 4)
 abbrev pub kind_of : ℕ → Kind
 kind_of n =
     if nat_eq n 0x0A0D0D0A then kind.Section
@@ -21,39 +21,39 @@ kind_of n =
     else if nat_eq n 6 then kind.Packet
     else kind.Other
 
--- the byte order that a section's magic number gives, read as little-endian
+-- the byte order of a section with this magic number, read as little-endian
 abbrev pub order_of_magic : ℕ → Option Order
 order_of_magic n = if nat_eq n 0x1A2B3C4D then Some Little else if nat_eq n 0x4D3C2B1A then Some Big else None
 
--- the least total length of a block of this kind
+-- the smallest total length of a block of this kind
 abbrev pub least_size : Kind → ℕ
 least_size kind.Section = 28
 least_size kind.Interface = 20
 least_size kind.Packet = 32
 least_size kind.Other = 12
 
--- a number of bytes, padded to a multiple of 4
+-- a number of bytes, rounded up to a multiple of 4
 abbrev pub padded : ℕ → ℕ
 padded n = (n + 3) / 4 * 4
 
--- A field whose number is judged once the bytes up to `end` have come, and whether it is refused.
+-- A field that is checked once the bytes up to `end` are there, and whether it is refused.
 pub record Row : Type 0 where
   pub field : Field
   pub offset : ℕ
   pub end : ℕ
   pub refuses : Bool
 
--- the row of a field at this offset, which is judged once the bytes up to `end` have come
+-- the row of a field at this offset, which is checked once the bytes up to `end` are there
 abbrev pub row : Field → ℕ → ℕ → Bool → Row
 row field offset end refuses = record { field = field; offset = offset; end = end; refuses = refuses }
 
--- the refusal of the field at byte `at` for its value
+-- the refusal of the field at byte `at` because of its value
 abbrev pub refusal_at : Field → ℕ → Refusal
 refusal_at field at = record { field = field; at = at; short = false }
 
--- The first row of a table that refuses, among those whose bytes are in the first `len`. A table's rows are in the order in
--- which their fields end, so no row is judged after one whose bytes have not come. The bytes begin at offset `start` of the
--- capture.
+-- The first row of a table that refuses, among the rows whose bytes are within the first `len`. A table's rows are
+-- ordered by `end`. Therefore no row is checked after a row whose bytes are missing. The bytes begin at offset `start`
+-- of the capture.
 abbrev pub first_refused : ℕ → ℕ → List Row → Option Refusal
 first_refused start len [] = None
 first_refused start len (r ∷ rows) =
@@ -61,18 +61,18 @@ first_refused start len (r ∷ rows) =
     else if r.refuses then Some (refusal_at r.field (start + r.offset))
     else first_refused start len rows
 
--- a total length is too small for a block of this kind, or not a multiple of 4
+-- the total length is too small for a block of this kind, or is not a multiple of 4
 abbrev pub bad_length : Kind → ℕ → Bool
 bad_length k total = nat_lt total (least_size k) || not (nat_eq (total % 4) 0)
 
--- the fields that are judged in a section header, after its magic number
+-- the fields that are checked in a section header, after its magic number
 abbrev pub section_rows : Order → List ℕ → List Row
 section_rows order bytes =
     row BlockLength 4 12 (bad_length kind.Section (number_at order 4 4 bytes))
     ∷ row SectionVersion 12 14 (not (nat_eq (number_at order 12 2 bytes) 1))
     ∷ []
 
--- the fields that are judged in an interface description, in a section that has `count` interfaces before it
+-- the fields that are checked in an interface description, if the section has `count` interfaces before it
 abbrev pub interface_rows : Order → ℕ → List ℕ → List Row
 interface_rows order count bytes =
     row BlockLength 4 8 (bad_length kind.Interface (number_at order 4 4 bytes))
@@ -80,11 +80,11 @@ interface_rows order count bytes =
     ∷ row LinkType 8 10 (not (nat_eq (number_at order 8 2 bytes) 1))
     ∷ []
 
--- the timestamp of a packet: its high half comes first, in either byte order
+-- the timestamp of a packet; its high half is stored first, in either byte order
 unfoldable pub timestamp : Order → List ℕ → ℕ
 timestamp order bytes = number_at order 12 4 bytes * 2 ^ 32 + number_at order 16 4 bytes
 
--- the interface with this number, in a section with these interfaces
+-- the interface with this number, among the interfaces of the section
 abbrev pub interface_at : List Interface → ℕ → Interface
 interface_at interfaces id = slice_index_or interfaces id microseconds
 
@@ -92,7 +92,7 @@ interface_at interfaces id = slice_index_or interfaces id microseconds
 unfoldable pub packet_arrival : Order → List Interface → List ℕ → Option ℤ
 packet_arrival order interfaces bytes = arrival_of (interface_at interfaces (number_at order 8 4 bytes)) (timestamp order bytes)
 
--- the fields that are judged in an enhanced packet block, in a section with these interfaces
+-- the fields that are checked in an enhanced packet block, in a section with these interfaces
 abbrev pub packet_rows : Order → List Interface → List ℕ → List Row
 packet_rows order interfaces bytes =
     let captured = number_at order 20 4 bytes in
@@ -103,7 +103,7 @@ packet_rows order interfaces bytes =
     ∷ row CapturedLength 20 24 (nat_lt 262144 captured || nat_lt total (32 + padded captured))
     ∷ []
 
--- the field that is judged in a block that is skipped: its total length
+-- the field that is checked in a skipped block: its total length
 abbrev pub other_rows : Order → List ℕ → List Row
 other_rows order bytes = row BlockLength 4 8 (bad_length kind.Other (number_at order 4 4 bytes)) ∷ []
 
@@ -115,8 +115,8 @@ option_code order bytes = number_at order 0 2 bytes
 abbrev pub option_length : Order → List ℕ → ℕ
 option_length order bytes = number_at order 2 2 bytes
 
--- the fields that are judged in an option with this code and this length of its value, if `left` bytes of options are
--- left before the trailer
+-- The fields that are checked in an option with this code and this length of its value. `left` bytes of options are
+-- left before the trailer.
 abbrev pub option_rows : ℕ → ℕ → ℕ → List ℕ → List Row
 option_rows code len left bytes =
     if nat_eq code 0 then [] else
@@ -126,7 +126,7 @@ option_rows code len left bytes =
     ∷ row IfTsresol 0 5 (nat_eq code 9 && not (is_resolution (slice_index bytes 4)))
     ∷ []
 
--- the interface after the option that the bytes begin with: if an option comes twice, the last one counts
+-- The interface after the option that the bytes begin with. If an option occurs twice, the last one counts.
 abbrev pub with_option : Order → ℕ → Interface → List ℕ → Interface
 with_option order code interface bytes =
     if nat_eq code 9 then record interface { resolution = slice_index bytes 4 }

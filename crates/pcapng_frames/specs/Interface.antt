@@ -6,12 +6,12 @@ use Rattle.pcapng_frames.specs.declared.interface.Interface.{Interface}
 abbrev pub microseconds : Interface
 microseconds = record { resolution = 6; offset = pos 0 }
 
--- a resolution (if_tsresol) that is read: 10^-k seconds for k up to 18, and 2^-k seconds, with the top bit set, for k
--- up to 63
+-- An accepted resolution (if_tsresol): 10^-k seconds for k up to 18; or, with the top bit set, 2^-k seconds for k up to
+-- 63.
 abbrev pub is_resolution : ℕ → Bool
 is_resolution resolution = if nat_lt resolution 128 then nat_le resolution 18 else nat_le resolution 191
 
--- how many units of a timestamp make a second, at this resolution
+-- the number of timestamp units in a second, at this resolution
 abbrev pub units : ℕ → ℕ
 units resolution = if nat_lt resolution 128 then 10 ^ resolution else 2 ^ (resolution - 128)
 
@@ -23,7 +23,7 @@ instant interface timestamp = interface.offset *ℤ pos 1000000000 +ℤ pos (tim
 abbrev pub arrival_limit : ℤ
 arrival_limit = pos (2 ^ 32 * 1000000000)
 
--- the arrival of a packet, if its instant is not before the epoch and below the limit
+-- the arrival of a packet, if its instant is not before the epoch and is below the limit
 abbrev pub arrival_of : Interface → ℕ → Option ℤ
 arrival_of interface timestamp =
     let t = instant interface timestamp in

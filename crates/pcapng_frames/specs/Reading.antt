@@ -1,4 +1,4 @@
--- What the state of a reader means: the bytes that it has taken, and the packets that it has released.
+-- What the state of a reader means: which bytes it has taken, and which packets it has released.
 use Rattle.std.specs.Prelude.{◌≡◌, ℕ, suc, ◌+◌, ◌-◌, ◌≤◌, Bool, true, false, is_some, nat_lt, if◌then◌else◌, List, [], ◌++◌, length, drop, Option, Some, None}
 use Rattle.avtp_base.specs.declared.field.Field.TheVariants.{BlockBody}
 use Rattle.avtp_base.specs.declared.refusal.Refusal.{Refusal}
@@ -12,8 +12,8 @@ use Rattle.pcapng_frames.specs.declared.interface.Interface.{Interface}
 use Rattle.pcapng_frames.specs.Fields.{first_refused, kind_of, number_at, packet_rows}
 use Rattle.pcapng_frames.specs.Blocks.{Place, Contents, after_block, order_or_little, contents, contents_from, whole_records, first_refusal, settled, ends, and_then, first_place, after_trailer, short_at}
 
--- The state of a reader: the place that it has reached; how many bytes are to be skipped before that place; the bytes that have
--- come there; whether the block's packet is whole; and the refusal.
+-- The state of a reader: the place that it has reached; how many bytes are to be skipped before that place; the bytes
+-- taken at that place; whether the block's packet is whole; and the refusal.
 pub record Reading : Type 0 where
   pub place : Place
   pub skip : ℕ
@@ -21,7 +21,7 @@ pub record Reading : Type 0 where
   pub whole : Bool
   pub refusal : Option Refusal
 
--- a reader that has taken nothing yet
+-- a reader that has taken nothing
 abbrev pub nothing_read : Reading
 nothing_read = record { place = first_place; skip = 0; part = []; whole = false; refusal = None }
 
@@ -29,34 +29,35 @@ nothing_read = record { place = first_place; skip = 0; part = []; whole = false;
 abbrev pub contents_at : Place → List ℕ → Contents
 contents_at p bytes = contents_from (suc (length bytes)) p bytes
 
--- what is still to come of a capture if the bytes `more` follow: `skip` of them are skipped, and the others follow what has
--- come of the place
+-- What the capture still holds if the bytes `more` follow. The first `skip` of them are skipped. The others follow
+-- `part`, the bytes taken at the place.
 abbrev pub contents_past : ℕ → Place → List ℕ → List ℕ → Contents
 contents_past skip p part more =
     if nat_lt (length more) skip then ends (Some (short_at BlockBody (p.start + 8)))
     else contents_at p (part ++ drop skip more)
 
--- what is still to come from a reader in this state if the bytes `more` follow: its refusal; or the packet that it
--- holds and what follows that block; or what the place and the bytes hold
+-- What the capture still holds after a reader in this state, if the bytes `more` follow. If the reader has a refusal,
+-- it is this refusal. If the reader holds a packet, it is this packet and what follows the packet's block. Otherwise it
+-- is what the bytes from the place on hold.
 abbrev pub rest_by : Option Refusal → Bool → Reading → List ℕ → Contents
 rest_by (Some refusal) whole r more = ends (Some (record { refusal = refusal; cut = false }))
 rest_by None true r more = and_then r.place.packet (contents_at (after_trailer r.place) more)
 rest_by None false r more = contents_past r.skip r.place r.part more
 
--- what is still to come from a reader if the bytes `more` follow
+-- what the capture still holds after this reader, if the bytes `more` follow
 abbrev pub rest_of : Reading → List ℕ → Contents
 rest_of r more = rest_by r.refusal r.whole r more
 
--- these packets, and then the rest
+-- these packets, and then the contents `rest`
 abbrev pub after_all : List Record → Contents → Contents
 after_all records rest = record { records = records ++ rest.records; ending = rest.ending }
 
--- The reader has taken these bytes, and has released these of their packets, in order: whatever follows, the bytes hold these
--- packets and what is still to come.
+-- The reader has taken these bytes and released these packets, in order. Whatever bytes follow, the capture holds these
+-- packets, and then what it still holds after the reader.
 pub record HasRead (r : Reading) (bytes : List ℕ) (records : List Record) : Type 0 where
   pub read : (more : List ℕ) → contents (bytes ++ more) ≡ after_all records (rest_of r more)
 
--- the packet that a reader in this state holds: that of the block, if it is whole and nothing is refused
+-- the packet that a reader in this state holds: the packet of the block, if it is whole and nothing is refused
 abbrev pub held_by : Option Refusal → Bool → Option Record → Option Record
 held_by (Some refusal) whole packet = None
 held_by None true packet = packet
@@ -66,7 +67,7 @@ held_by None false packet = None
 abbrev pub held : Reading → Option Record
 held r = held_by r.refusal r.whole r.place.packet
 
--- how many bytes of a block come before this place, less those that are still to be skipped
+-- the number of bytes of a block before this place, without those that are still to be skipped
 abbrev pub passed_by : Stage → ℕ → ℕ → ℕ → ℕ
 passed_by stage.Block skip left total = 0
 passed_by stage.Option skip left total = total - 4 - left - skip
@@ -84,7 +85,7 @@ taken r = taken_by r.place.stage r.place r.skip r.part
 abbrev pub meaning : Meaning
 meaning = record { records = whole_records; refusal = first_refusal; certain = λ bytes. settled (contents bytes).ending }
 
--- how far the reader is
+-- the state of the reader, as contracts see it
 abbrev pub progress : Reading → Progress
 progress r = record { has_read = HasRead r; held = held r; taken = taken r; refusal = r.refusal }
 
@@ -94,8 +95,8 @@ refused_after records refusal = record { records = records; ending = Some (recor
 
 -- ---- a packet that is borrowed
 
--- The bytes are the whole block of an enhanced packet, in a section with this byte order and these interfaces, and nothing in it
--- is refused.
+-- The bytes are the whole block of an enhanced packet, in a section with this byte order and these interfaces. Nothing
+-- in the block is refused.
 pub record IsPacketBlock (order : Order) (interfaces : List Interface) (block : List ℕ) : Type 0 where
   pub kind : kind_of (number_at order 0 4 block) ≡ kind.Packet
   pub accepted : first_refused 0 (length block) (packet_rows order interfaces block) ≡ None
@@ -103,7 +104,8 @@ pub record IsPacketBlock (order : Order) (interfaces : List Interface) (block : 
   pub trailer : number_at order 0 4 (drop (length block - 4) block) ≡ length block
   pub long : 32 ≤ length block
 
--- These bytes are the block of the next packet, and the reader has taken nothing of it yet: if it takes them, it holds the packet.
+-- These bytes are the block of the next packet, and none of them was taken yet. If the reader takes them, it holds the
+-- packet.
 pub record IsNext (r : Reading) (block : List ℕ) : Type 0 where
   pub accepted : r.refusal ≡ None
   pub free : r.whole ≡ false
@@ -113,7 +115,7 @@ pub record IsNext (r : Reading) (block : List ℕ) : Type 0 where
   pub opened : is_some r.place.order ≡ true
   pub packet : IsPacketBlock (order_or_little r.place.order) r.place.interfaces block
 
--- the reader after it took the block of the next packet, which it holds
+-- the reader after it took the block of the next packet, which it then holds
 abbrev pub with_block : Reading → List ℕ → Reading
 with_block r block = record {
   place = after_block kind.Packet r.place (length block) block;
@@ -123,6 +125,6 @@ with_block r block = record {
   refusal = r.refusal;
 }
 
--- the reader after it took the block of the next packet and released it
+-- the reader after it took the block of the next packet and released the packet
 abbrev pub passing : Reading → List ℕ → Reading
 passing r block = record r { place = record r.place { start = r.place.start + length block } }

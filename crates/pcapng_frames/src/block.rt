@@ -3,7 +3,7 @@
 use crate::interface::Interface;
 use pcap_frames::Order;
 
-/// The kinds of block that are distinguished (draft-ietf-opsawg-pcapng, section 4).
+/// The kinds of blocks that are distinguished (draft-ietf-opsawg-pcapng, section 4).
 #[derive(Clone, Copy, Debug, PartialEq, Eq)]
 pub enum Kind {
     /// A section header, which begins a section.
@@ -16,18 +16,18 @@ pub enum Kind {
     Other,
 }
 
-/// What comes next in a capture.
+/// What follows next in a capture.
 #[derive(Clone, Copy, Debug, PartialEq, Eq)]
 pub enum Stage {
     /// A block.
     Block,
     /// An option of an interface description.
     Option,
-    /// The trailer of a block: its total length again.
+    /// The trailer of a block, which repeats its total length.
     Trailer,
 }
 
-/// What the fixed fields of an enhanced packet say.
+/// The fixed fields of an enhanced packet.
 #[derive(Clone, Copy, Debug, PartialEq, Eq)]
 pub struct PacketHead {
     /// When the frame was captured, in nanoseconds since the epoch.
@@ -39,21 +39,21 @@ pub struct PacketHead {
 /// Where a reader is in a capture.
 #[derive(Clone, Copy, Debug, PartialEq, Eq)]
 pub struct Cursor {
-    /// What comes next.
+    /// What follows next.
     pub stage: Stage,
-    /// The section's byte order. `None` before the first section.
+    /// The byte order of the section; `None` before the first section.
     pub order: Option<Order>,
     /// The interface that is being described.
     pub interface: Option<Interface>,
-    /// The offset in the capture of the block.
+    /// The offset of the block in the capture.
     pub start: u64,
     /// The block's total length.
     pub total: u32,
     /// How many bytes of options are left.
     pub left: u32,
-    /// How many bytes are skipped before what comes next.
+    /// How many bytes are to be skipped first.
     pub skip: u32,
-    /// The packet in the block.
+    /// The fixed fields of the block's packet.
     pub packet: Option<PacketHead>,
 }
 

@@ -7,7 +7,7 @@ ghost use Rattle.pcapng_frames.specs.Interface.{arrival_of, instant, is_resoluti
 /// How an interface counts time (draft-ietf-opsawg-pcapng, section 4.2).
 #[derive(Clone, Copy, Debug, PartialEq, Eq)]
 pub struct Interface {
-    /// The option `if_tsresol`: k for units of 10^-k seconds, 128 + k for units of 2^-k seconds.
+    /// The option `if_tsresol`: k for units of 10^-k seconds; 128 + k for units of 2^-k seconds.
     pub resolution: u8,
     /// The option `if_tsoffset`: seconds that are added to each timestamp.
     pub offset: i64,
@@ -19,13 +19,13 @@ const SECOND: u128 = 1_000_000_000;
 /// The first instant, in nanoseconds, that is too late for an arrival.
 const ARRIVAL_LIMIT: u64 = 4_294_967_296_000_000_000;
 
-/// Microseconds since the epoch.
+/// A clock that counts microseconds since the epoch.
 pub const MICROSECONDS: Interface = Interface {
     resolution: 6,
     offset: 0,
 };
 
-/// Whether the resolution is one that is read: no finer than 10^-18 or 2^-63 seconds.
+/// Whether the resolution is accepted: no finer than 10^-18 or 2^-63 seconds.
 pub fn resolved(resolution: u8) -> bool
     ensures { result ≡ is_resolution resolution }
 {
@@ -36,7 +36,7 @@ pub fn resolved(resolution: u8) -> bool
     }
 }
 
-/// The units in a second.
+/// The number of units in a second.
 #[tactic(auto, using(crate::proofs::Numbers::power_some))]
 fn units_in(resolution: u8) -> u64
     requires { is_resolution resolution ≡ true }
@@ -52,8 +52,8 @@ fn units_in(resolution: u8) -> u64
 
 /// The nanoseconds of a timestamp, rounded down.
 ///
-/// Decimal units need no long division: a unit of a nanosecond or more is a whole number of nanoseconds, and a nanosecond is a
-/// whole number of shorter units.
+/// Decimal units need no long division. If a unit is at least a nanosecond, it is a whole number of nanoseconds;
+/// otherwise a nanosecond is a whole number of units.
 #[tactic(auto, using(crate::proofs::Numbers::long_units, crate::proofs::Numbers::short_units, crate::proofs::Numbers::power_some, crate::proofs::Numbers::time_limit))]
 fn nanoseconds(resolution: u8, timestamp: u64) -> u128
     requires { is_resolution resolution ≡ true }
@@ -79,7 +79,7 @@ fn instant_of(interface: Interface, timestamp: u64) -> i128
     i128::from(interface.offset) * 1_000_000_000 + nanoseconds as i128
 }
 
-/// The arrival of a packet by any clock.
+/// The arrival of a packet, for any clock.
 #[inline(never)]
 fn any_arrival(interface: Interface, timestamp: u64) -> Option<u64>
     requires { is_resolution interface.resolution ≡ true }
@@ -93,9 +93,9 @@ fn any_arrival(interface: Interface, timestamp: u64) -> Option<u64>
     Some(instant as u64)
 }
 
-/// The arrival of a packet, in nanoseconds. `None` if that is before the epoch, or 2^32 seconds or more after it.
+/// The arrival of a packet, in nanoseconds. `None` if it is before the epoch, or at least 2^32 seconds after it.
 ///
-/// Most clocks count nanoseconds or microseconds from the epoch, and need at most one product.
+/// Most clocks count nanoseconds or microseconds from the epoch; then at most one product is needed.
 #[tactic(auto, using(crate::proofs::Numbers::nanosecond_arrival, crate::proofs::Numbers::microsecond_arrival, crate::proofs::Numbers::nanosecond_late, crate::proofs::Numbers::microsecond_late))]
 #[inline(always)]
 pub fn arrival(interface: Interface, timestamp: u64) -> Option<u64>

@@ -25,7 +25,7 @@ pub const INTERFACE_DESCRIPTION: u32 = 1;
 
 pub const ENHANCED_PACKET: u32 = 6;
 
-/// The magic number of a section, in the capture's byte order and in the other one.
+/// The magic number of a section: in the section's byte order, and with its bytes swapped.
 const MAGIC: u32 = 0x1A2B_3C4D;
 
 const SWAPPED_MAGIC: u32 = 0x4D3C_2B1A;
@@ -36,7 +36,7 @@ pub const INTERFACE_LIMIT: usize = 256;
 /// The greatest number of bytes that a packet may have.
 pub const PACKET_LIMIT: u32 = 262_144;
 
-/// The bytes of a packet's fixed fields.
+/// The number of bytes of a packet's fixed fields.
 pub const PACKET_HEAD: usize = 28;
 
 /// The codes of options.
@@ -58,7 +58,7 @@ pub fn i64_at(order: Order, bytes: &[u8], offset: usize) -> i64
     }
 }
 
-/// The kind of a block, given its type.
+/// The kind of a block of this type.
 pub fn kind_of(block_type: u32) -> Kind
     ensures { result ≡ kind_of_type block_type }
 {
@@ -70,7 +70,7 @@ pub fn kind_of(block_type: u32) -> Kind
     }
 }
 
-/// The byte order that a section's magic number, read as little-endian, gives.
+/// The byte order of a section with this magic number, read as little-endian.
 pub fn order_of_magic(magic: u32) -> Option<Order>
     ensures { result ≡ order_of_number magic }
 {
@@ -111,7 +111,7 @@ pub fn packet_arrival(order: Order, interfaces: &[Interface], bytes: &[u8]) -> O
     interface::arrival(interface, timestamp(order, bytes))
 }
 
-/// What the fixed fields and the held bytes of a packet show.
+/// The packet with these fixed fields, whose captured bytes follow the first 28 bytes of `part`.
 pub fn view(packet: PacketHead, part: &[u8]) -> RecordView<'_>
     requires whole { 28 ≤ length part.now }
     requires limit { packet.arrival ≤ 2 ^ 62 }
@@ -125,7 +125,7 @@ pub fn view(packet: PacketHead, part: &[u8]) -> RecordView<'_>
     }
 }
 
-/// What the block of a packet shows.
+/// The packet in this block.
 #[inline(always)]
 pub fn packet_view<'a>(order: Order, interfaces: &[Interface], block: &'a [u8]) -> RecordView<'a>
     requires packet { IsPacketBlock order interfaces.now block.now }
@@ -133,14 +133,14 @@ pub fn packet_view<'a>(order: Order, interfaces: &[Interface], block: &'a [u8]) 
     ensures exact { record_by (arrival_in order interfaces.now block.now) order block.now ≡ Some (shown result) }
     ensures time { IsRecordTime result.arrival }
 {
-    // In each of the calls the byte order is known to the compiler.
+    // In each of the two calls, the compiler knows the byte order.
     match order {
         Order::Little => view_in(Order::Little, interfaces, block),
         Order::Big => view_in(Order::Big, interfaces, block),
     }
 }
 
-/// What `packet_view` returns.
+/// The packet in this block, in a byte order that the compiler knows.
 #[inline(always)]
 fn view_in<'a>(order: Order, interfaces: &[Interface], block: &'a [u8]) -> RecordView<'a>
     requires packet { IsPacketBlock order interfaces.now block.now }
@@ -159,7 +159,7 @@ fn view_in<'a>(order: Order, interfaces: &[Interface], block: &'a [u8]) -> Recor
     }
 }
 
-/// A number of nanoseconds as a signed number.
+/// Converts a number of nanoseconds to a signed number.
 fn instant(nanoseconds: u64) -> i64
     requires { nanoseconds ≤ 2 ^ 62 }
     ensures exact { result ≡ pos nanoseconds }
@@ -168,7 +168,7 @@ fn instant(nanoseconds: u64) -> i64
     nanoseconds as i64
 }
 
-/// The byte order, or little-endian before the first section.
+/// The byte order of the section; before the first section, little-endian.
 pub fn order_or_little(order: Option<Order>) -> Order
     ensures { result ≡ order_or order }
 {
@@ -178,7 +178,7 @@ pub fn order_or_little(order: Option<Order>) -> Order
     }
 }
 
-/// The kind of a block.
+/// The kind of the block that the bytes begin with.
 pub fn kind_at(order: Option<Order>, bytes: &[u8]) -> Kind
     requires { 4 ≤ length bytes.now }
     ensures { result ≡ kind_in order bytes.now }
@@ -186,7 +186,7 @@ pub fn kind_at(order: Option<Order>, bytes: &[u8]) -> Kind
     kind_of(u32_at(order_or_little(order), bytes, 0))
 }
 
-/// The byte order of a section header.
+/// The byte order of the section header that the bytes begin with.
 pub fn section_order(bytes: &[u8]) -> Order
     requires { 12 ≤ length bytes.now }
     ensures { result ≡ order_in kind.Section None bytes.now }

@@ -1,4 +1,4 @@
-//! Packets from the bytes of a pcapng capture, in pieces of any length.
+//! Reads the packets of a pcapng capture, in pieces of any length.
 
 ghost use Rattle.std.specs.Prelude.{ℕ, List, IfSome, IsSome, ◌⊎◌, ◌↔◌, is_some, ◌≡◌, ◌+◌, ◌<◌, ◌≤◌, ◌^◌, false, length, take, None, Some, Ok, IfOk, [], vec_capacity};
 ghost use Rattle.pcap_frames.specs.Layout.{IsRecordTime};
@@ -18,25 +18,26 @@ use pcap_frames::part::gather;
 use std::alloc::Global;
 use std::marker::Model;
 
-/// The greatest number of bytes of a block that are held: a packet's fixed fields and its captured bytes.
+/// The greatest number of bytes of a block that are held: the fixed fields of a packet and its captured bytes.
 const PART_ROOM: usize = 262_172;
 
 /// The greatest number of bytes of an option that are held: its header and the value of `if_tsoffset`.
 const TAIL_ROOM: usize = 12;
 
-/// Reads a pcapng capture (draft-ietf-opsawg-pcapng). It takes the capture's bytes in pieces of any length, and holds one
-/// packet at a time: feed a piece until all of it is taken, and after each call look at the held packet and release it.
+/// Reads a pcapng capture (draft-ietf-opsawg-pcapng). It takes the capture's bytes in pieces of any length, and holds
+/// one packet at a time. Feed a piece until all of it is taken; after each call, look at the held packet and release
+/// it.
 ///
-/// A packet whose block is complete in a piece need not be copied: if `whole_ahead` finds one, `lend` shows it in the piece, and
-/// `pass` skips it, instead of `feed`, `held` and `release`.
+/// A packet whose block is complete in a piece need not be copied. If `whole_ahead` finds such a block, use `lend` to
+/// see the packet in the piece and `pass` to skip it, instead of `feed`, `held` and `release`.
 #[derive(Debug, Drop)]
 pub struct Ng {
     cursor: Cursor,
     /// The section's interfaces.
     interfaces: Vec<Interface>,
-    /// The front of the block: its fixed fields, and the bytes of a packet.
+    /// The bytes held of the block: its fixed fields, and the captured bytes of a packet.
     part: Vec<u8>,
-    /// What has come of an option or a trailer.
+    /// The bytes taken of an option or a trailer.
     tail: Vec<u8>,
     /// Whether the block of a packet is whole.
     whole: bool,
@@ -56,7 +57,8 @@ impl Model for Ng {
 }
 
 impl Ng {
-    /// A reader that has taken nothing. It allocates the memory of one packet and of 256 interfaces, and no more later.
+    /// A reader that has taken nothing. It allocates the memory of one packet and of 256 interfaces, and allocates no
+    /// more later.
     pub fn new(alloc: Global) -> Result<Self, NoMemory>
         ensures empty { IfOk result (λ reader. reader ≡ nothing_read) }
         ensures read { IfOk result (λ reader. HasRead reader [] []) }
@@ -82,8 +84,9 @@ impl Ng {
 
     /// Takes bytes up to the end of one packet's block or of the piece, and returns how many.
     ///
-    /// A reader that is not refused returns `Ok(0)` exactly if the piece is empty or a whole packet is held. The refusal is the
-    /// capture's first, and comes as soon as the bytes so far show it; from then on every `feed` and every `finish` returns it.
+    /// While nothing is refused, it returns `Ok(0)` exactly if the piece is empty or a whole packet is held. As soon as
+    /// the bytes so far show the first refusal of the capture, it returns that refusal. From then on every `feed` and
+    /// every `finish` returns it.
     ///
     /// At most 2^62 bytes may be taken in all, including the piece.
     pub fn feed(&mut self, piece: &[u8]) -> Result<usize, Refusal>
@@ -111,7 +114,7 @@ impl Ng {
         Ok(used)
     }
 
-    /// Takes bytes until more is known of what comes next.
+    /// Skips bytes, or takes bytes until more is known of what follows next.
     fn feed_place(&mut self, piece: &[u8]) -> Result<usize, Refusal>
         requires { IsGoing self.old piece.now }
         ensures some { IfOk result (λ n. 0 < n) }
@@ -137,7 +140,7 @@ impl Ng {
         }
     }
 
-    /// Drops the held packet, so that the next can be taken. Returns whether there was one.
+    /// Drops the held packet, to make room for the next one. Returns whether a packet was held.
     pub fn release(&mut self) -> bool
         ensures answer { result ≡ is_some (held self.old) }
         ensures releases { Releases (progress self.old) (progress self.new) }
@@ -154,10 +157,10 @@ impl Ng {
         true
     }
 
-    /// The size of the next packet's block, if it is complete at the front of the piece and nothing of it was taken yet.
+    /// The size of the next packet's block, if the front of the piece has all of it and none of it was taken yet.
     ///
-    /// It is `None` only if there is no such block: another block comes first, some bytes of the block were taken, a field is
-    /// refused, or the block continues after the piece. Then the piece must be fed.
+    /// It is `None` if another block is first, some bytes of the block were taken, a field is refused, or the block
+    /// continues after the piece. Then the piece must be fed.
     #[inline(always)]
     pub fn whole_ahead(&self, piece: &[u8]) -> Option<usize>
         ensures within { IfSome result (λ size. size ≤ length piece.now) }
@@ -199,10 +202,10 @@ impl Ng {
         self.cursor.start += block.len() as u64;
     }
 
-    /// Whether the bytes so far are a whole capture: whole blocks, of which the first is a section header.
+    /// Whether the bytes so far are a whole capture: whole blocks, the first of which is a section header.
     ///
-    /// Otherwise it returns the earlier refusal, or what the bytes lack, usually with `short`. It changes nothing: bytes may
-    /// follow.
+    /// If not, it returns the earlier refusal, or else what the bytes lack, usually with `short`. The call changes
+    /// nothing, and more bytes may follow.
     pub fn finish(&self) -> Result<(), Refusal>
         ensures { Ends meaning (progress self.now) result }
     {
@@ -216,7 +219,7 @@ impl Ng {
         }
     }
 
-    /// What the bytes so far lack.
+    /// What the bytes so far lack to be a whole capture.
     fn missing(&self) -> Option<Refusal>
         requires accepted { self.now.refusal ≡ None }
         ensures { result ≡ lacks self.now }
@@ -236,7 +239,7 @@ impl Ng {
         }
     }
 
-    /// Skips bytes that are not read. Nothing is held of a block that is skipped, whatever its length.
+    /// Takes bytes that are to be skipped. Nothing is held of a skipped block, whatever its length.
     fn skip(&mut self, piece: &[u8]) -> usize
         requires going { IsGoing self.old piece.now }
         requires some { 0 < self.old.skip }

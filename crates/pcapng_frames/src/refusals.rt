@@ -19,7 +19,7 @@ use avtp_base::{Field, Refusal};
 use pcap_frames::Order;
 use pcap_frames::numbers::{u16_at, u32_at};
 
-/// Whether a total length is too small for the kind of block, or not a multiple of 4.
+/// Whether a total length is too small for this kind of block, or is not a multiple of 4.
 pub fn bad_length(kind: Kind, total: u32) -> bool
     ensures { result ≡ is_bad_length kind total }
 {
@@ -32,7 +32,7 @@ pub fn bad_length(kind: Kind, total: u32) -> bool
     total < least || total % 4 != 0
 }
 
-/// The first refused field of a section header, after its magic number, among those that these bytes hold.
+/// The first refused field of a section header after its magic number, among the fields that these bytes contain.
 pub fn section_refusal(order: Order, start: u64, bytes: &[u8]) -> Option<Refusal>
     requires { start < 2 ^ 63 }
     ensures { result ≡ first_refused start (length bytes.now) (section_rows order bytes.now) }
@@ -49,7 +49,7 @@ pub fn section_refusal(order: Order, start: u64, bytes: &[u8]) -> Option<Refusal
     None
 }
 
-/// The first refused field of an interface description, among those that these bytes hold, in a section that has
+/// The first refused field of an interface description, among the fields that these bytes contain. The section has
 /// `count` interfaces before it.
 pub fn interface_refusal(order: Order, count: usize, start: u64, bytes: &[u8]) -> Option<Refusal>
     requires { start < 2 ^ 63 }
@@ -70,7 +70,7 @@ pub fn interface_refusal(order: Order, count: usize, start: u64, bytes: &[u8]) -
     None
 }
 
-/// The first refused field of an enhanced packet, among those that these bytes hold, in a section with these
+/// The first refused field of an enhanced packet, among the fields that these bytes contain, in a section with these
 /// interfaces.
 pub fn packet_refusal(
     order: Order,
@@ -112,7 +112,7 @@ pub fn packet_refusal(
     None
 }
 
-/// The refusal of a block that is skipped, by its total length.
+/// Refuses a skipped block because of its total length.
 pub fn other_refusal(order: Order, start: u64, bytes: &[u8]) -> Option<Refusal>
     requires { start < 2 ^ 63 }
     ensures { result ≡ first_refused start (length bytes.now) (other_rows order bytes.now) }
@@ -123,8 +123,8 @@ pub fn other_refusal(order: Order, start: u64, bytes: &[u8]) -> Option<Refusal>
     None
 }
 
-/// The first refused field of an option, among those that these bytes hold. The option begins at offset `at` of the capture,
-/// and `left` bytes of options are left before the trailer.
+/// The first refused field of an option, among the fields that these bytes contain. The option begins at offset `at` of
+/// the capture, and `left` bytes of options are left before the trailer.
 #[tactic(auto, unfolding(crate::specs::Blocks::option_refused))]
 pub fn option_refusal(order: Order, at: u64, left: u32, bytes: &[u8]) -> Option<Refusal>
     ensures { result ≡ refused_in_option order at left bytes.now }
@@ -150,7 +150,7 @@ pub fn option_refusal(order: Order, at: u64, left: u32, bytes: &[u8]) -> Option<
     }
 }
 
-/// The first refused field of a block of this kind, among those that these bytes hold.
+/// The first refused field of a block of this kind, among the fields that these bytes contain.
 fn kind_refusal(
     kind: Kind,
     order: Option<Order>,
@@ -172,7 +172,7 @@ fn kind_refusal(
     }
 }
 
-/// The first refused field of a section header, among those that these bytes hold.
+/// The first refused field of a section header, among the fields that these bytes contain.
 fn whole_section_refusal(start: u64, bytes: &[u8]) -> Option<Refusal>
     requires { start < 2 ^ 63 }
     ensures { result ≡ first_refused start (length bytes.now) (kind_rows kind.Section (order_in kind.Section None bytes.now) [] bytes.now) }
@@ -186,7 +186,7 @@ fn whole_section_refusal(start: u64, bytes: &[u8]) -> Option<Refusal>
     }
 }
 
-/// Whether the first block of a capture is not a section header.
+/// Whether this block is before the first section header, and is not a section header itself.
 fn misplaced(kind: Kind, order: Option<Order>) -> bool
     ensures { result ≡ is_misplaced order kind }
 {
@@ -196,7 +196,7 @@ fn misplaced(kind: Kind, order: Option<Order>) -> bool
     }
 }
 
-/// The first refused field of a block, among those that these bytes hold.
+/// The first refused field of a block, among the fields that these bytes contain.
 #[tactic(auto, unfolding(crate::specs::Blocks::block_refused))]
 pub fn block_refusal(
     order: Option<Order>,
@@ -218,7 +218,7 @@ pub fn block_refusal(
     kind_refusal(kind, order, interfaces, start, bytes)
 }
 
-/// The refusal of a trailer whose bytes have come and differ from the total length.
+/// Refuses a trailer whose bytes are there and differ from the total length.
 #[tactic(auto, unfolding(crate::specs::Blocks::trailer_refused))]
 pub fn trailer_refusal(order: Order, at: u64, total: u32, tail: &[u8]) -> Option<Refusal>
     ensures { result ≡ refused_in_trailer order at total tail.now }
@@ -229,8 +229,8 @@ pub fn trailer_refusal(order: Order, at: u64, total: u32, tail: &[u8]) -> Option
     None
 }
 
-/// What is missing of a block that the end of the bytes cuts off, in a section with `count` interfaces. Nothing is missing
-/// after a whole block.
+/// What is missing of a block that is cut off at the end of the bytes, in a section with `count` interfaces. At the end
+/// of a block nothing is missing.
 pub fn missing_of_block(
     order: Option<Order>,
     count: usize,

@@ -1,4 +1,4 @@
-//! How a cursor moves on: how much is read of a block, an option or a trailer, and the cursor after it.
+//! How a cursor moves on: how many bytes are read of a block, an option or a trailer, and the cursor after them.
 
 ghost use Rattle.std.specs.Prelude.{ℕ, List, [], ◌++◌, true, ◌≡◌, ◌+◌, ◌-◌, ◌<◌, ◌≤◌, ◌^◌, ◌%◌, is_none, is_some, vec_capacity, length, take, pos, IfSome, None, Some};
 ghost use Rattle.std.specs.Option.{option_to_list};
@@ -22,7 +22,7 @@ use crate::layout::{
 use pcap_frames::Order;
 use pcap_frames::numbers::{u16_at, u32_at};
 
-/// How many bytes of a block must come before more is known of it.
+/// How many bytes of a block must be taken before more is known of it.
 #[tactic(auto, unfolding(crate::specs::state::Reading::block_need))]
 pub fn block_need(order: Option<Order>, part: &[u8]) -> usize
     ensures { result ≡ need_of_block order part.now }
@@ -38,7 +38,7 @@ pub fn block_need(order: Option<Order>, part: &[u8]) -> usize
     }
 }
 
-/// How many bytes of an enhanced packet must come before more is known of it.
+/// How many bytes of an enhanced packet must be taken before more is known of it.
 fn packet_need(order: Order, part: &[u8]) -> usize
     ensures { result ≡ head_need kind.Packet order part.now }
 {
@@ -48,7 +48,7 @@ fn packet_need(order: Order, part: &[u8]) -> usize
     PACKET_HEAD + u32_at(order, part, 20) as usize
 }
 
-/// The cursor after the front of a section header.
+/// The cursor after the head of a section header.
 fn after_section(cursor: Cursor, part: &[u8]) -> Cursor
     requires whole { length part.now ≡ 16 }
     requires accepted { first_refused cursor.start (length part.now) (kind_rows kind.Section (order_in kind.Section None part.now) [] part.now) ≡ None }
@@ -72,7 +72,7 @@ fn after_section(cursor: Cursor, part: &[u8]) -> Cursor
     }
 }
 
-/// The cursor after the front of an interface description.
+/// The cursor after the fixed fields of an interface description.
 fn after_interface(cursor: Cursor, order: Order, count: usize, part: &[u8]) -> Cursor
     requires whole { length part.now ≡ 16 }
     requires order { order ≡ order_or cursor.order }
@@ -101,7 +101,7 @@ fn after_interface(cursor: Cursor, order: Order, count: usize, part: &[u8]) -> C
     }
 }
 
-/// The cursor after the front of a block that is skipped.
+/// The cursor after the head of a skipped block.
 fn after_other(cursor: Cursor, order: Order, part: &[u8]) -> Cursor
     requires whole { length part.now ≡ 8 }
     requires order { order ≡ order_or cursor.order }
@@ -125,7 +125,7 @@ fn after_other(cursor: Cursor, order: Order, part: &[u8]) -> Cursor
     }
 }
 
-/// The cursor after the fixed fields and the bytes of an enhanced packet.
+/// The cursor after the fixed fields and the captured bytes of an enhanced packet.
 #[tactic(auto, using(crate::proofs::Numbers::packet_is))]
 fn after_packet(cursor: Cursor, order: Order, interfaces: &[Interface], part: &[u8]) -> Cursor
     requires whole { length part.now ≡ 28 + number_at order 20 4 part.now }
@@ -153,7 +153,7 @@ fn after_packet(cursor: Cursor, order: Order, interfaces: &[Interface], part: &[
     }
 }
 
-/// What the fixed fields of an enhanced packet say.
+/// The fixed fields of an enhanced packet, if its timestamp is in range.
 fn packet_head(order: Order, interfaces: &[Interface], part: &[u8]) -> Option<PacketHead>
     requires stands { 28 ≤ length part.now }
     requires known { number_at order 8 4 part.now < length interfaces.now }
@@ -170,7 +170,7 @@ fn packet_head(order: Order, interfaces: &[Interface], part: &[u8]) -> Option<Pa
     })
 }
 
-/// Whether none of the fixed fields of an enhanced packet is refused.
+/// Whether no fixed field of an enhanced packet is refused.
 #[inline(always)]
 fn accepts_packet(order: Order, interfaces: &[Interface], bytes: &[u8]) -> bool
     requires long { 28 ≤ length bytes.now }
@@ -186,7 +186,8 @@ fn accepts_packet(order: Order, interfaces: &[Interface], bytes: &[u8]) -> bool
         && packet_arrival(order, interfaces, bytes).is_some()
 }
 
-/// The size of the enhanced packet's block that the bytes begin with, if it is complete in them and nothing in it is refused.
+/// The size of the enhanced packet's block that the bytes begin with, if the bytes contain all of it and nothing in it
+/// is refused.
 #[inline(always)]
 pub fn packet_size(order: Order, interfaces: &[Interface], bytes: &[u8]) -> Option<usize>
     requires { AllResolved interfaces.now }
@@ -194,14 +195,14 @@ pub fn packet_size(order: Order, interfaces: &[Interface], bytes: &[u8]) -> Opti
     ensures packet { IfSome result (λ size. IsPacketBlock order interfaces.now (take size bytes.now)) }
     ensures none { result ≡ None → (size : ℕ) → IsPacketBlock order interfaces.now (take size bytes.now) → ⊥ }
 {
-    // In each of the calls the byte order is known to the compiler.
+    // In each of the two calls, the compiler knows the byte order.
     match order {
         Order::Little => size_in(Order::Little, interfaces, bytes),
         Order::Big => size_in(Order::Big, interfaces, bytes),
     }
 }
 
-/// What `packet_size` returns.
+/// The size of the enhanced packet's block that the bytes begin with, in a byte order that the compiler knows.
 #[inline(always)]
 fn size_in(order: Order, interfaces: &[Interface], bytes: &[u8]) -> Option<usize>
     requires { AllResolved interfaces.now }
@@ -229,7 +230,7 @@ fn size_in(order: Order, interfaces: &[Interface], bytes: &[u8]) -> Option<usize
     Some(size)
 }
 
-/// The cursor after what is read of a block's front.
+/// The cursor after the bytes that are read at the start of a block.
 #[tactic(auto, using(crate::proofs::Heads::head_known, crate::proofs::Heads::kind_accepted))]
 pub fn after_block(cursor: Cursor, interfaces: &[Interface], part: &[u8]) -> Cursor
     requires long { 8 ≤ length part.now }
@@ -257,7 +258,7 @@ pub fn after_block(cursor: Cursor, interfaces: &[Interface], part: &[u8]) -> Cur
     }
 }
 
-/// How many bytes of an option must come before more is known of it.
+/// How many bytes of an option must be taken before more is known of it.
 #[tactic(auto, unfolding(crate::specs::state::Reading::option_need))]
 pub fn option_need(order: Order, tail: &[u8]) -> usize
     ensures { result ≡ need_of_option order tail.now }
@@ -272,8 +273,8 @@ pub fn option_need(order: Order, tail: &[u8]) -> usize
     }
 }
 
-/// How long an option is, with its header and the padding of its value. The code 0 ends the options, whatever is left
-/// of them.
+/// The length of an option, with its header and the padding of its value. The code 0 ends the options; then the length
+/// is all bytes of options that are left.
 #[tactic(auto, unfolding(crate::specs::Blocks::option_refused))]
 fn option_size(order: Order, at: u64, left: u32, tail: &[u8]) -> u32
     requires long { 4 ≤ length tail.now }
@@ -289,7 +290,7 @@ fn option_size(order: Order, at: u64, left: u32, tail: &[u8]) -> u32
     4 + padded(u32::from(u16_at(order, tail, 2))) as u32
 }
 
-/// An interface after one more of its options.
+/// The interface, if there is one, after one more of its options.
 #[tactic(auto, unfolding(crate::specs::state::Reading::option_need))]
 fn with_option(order: Order, interface: Option<Interface>, tail: &[u8]) -> Option<Interface>
     requires long { 4 ≤ length tail.now }
@@ -347,7 +348,8 @@ pub fn after_option(cursor: Cursor, at: u64, tail: &[u8]) -> Cursor
     }
 }
 
-/// The section's interfaces after a block's front: a section header begins a section.
+/// Updates the interfaces of the section after the head of a block: a section header begins a section without
+/// interfaces.
 pub fn settle(kind: Kind, interfaces: &mut Vec<Interface>)
     requires resolved { AllResolved interfaces.old.items }
     ensures exact { interfaces.new.items ≡ interfaces_after kind interfaces.old.items }
@@ -382,7 +384,7 @@ pub fn after_trailer(cursor: Cursor) -> Cursor
     }
 }
 
-/// The section's interfaces after a block: an interface that the block described becomes the next one.
+/// Adds the interface that a block described, if any, to the interfaces of the section.
 pub fn add_described(interface: Option<Interface>, interfaces: &mut Vec<Interface>)
     requires room { IfSome interface (λ i. length interfaces.old.items < 256) }
     requires capacity { 256 ≤ vec_capacity interfaces.old }

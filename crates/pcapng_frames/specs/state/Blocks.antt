@@ -1,12 +1,12 @@
--- Kept for proofs: what the code's own parts hold and do. No clause of a public call rests on it.
--- What a pcapng capture holds: blocks one after another, each a type, a total length, a body and the total length again
+-- Kept for proofs: what the code's own parts hold and do. No clause of a public call rests on it. What a pcapng capture
+-- holds: blocks one after the other. Each block has a type, a total length, a body and the total length again
 -- (draft-ietf-opsawg-pcapng, section 3).
 use Rattle.std.specs.Prelude.{List, []}
 use Rattle.pcapng_frames.specs.declared.block.Kind.{Kind}
 use Rattle.pcapng_frames.specs.declared.block.Kind.TheVariants as kind
 use Rattle.pcapng_frames.specs.declared.interface.Interface.{Interface}
 
--- the interfaces of the section after a block's front: a section header begins a section without interfaces
+-- the interfaces of the section after the head of a block; a section header begins a section without interfaces
 abbrev pub interfaces_after : Kind → List Interface → List Interface
 interfaces_after kind.Section interfaces = []
 interfaces_after kind.Interface interfaces = interfaces

@@ -7,18 +7,18 @@ use Rattle.pcapng_frames.specs.declared.block.Kind.TheVariants as kind
 use Rattle.pcapng_frames.specs.declared.interface.Interface.{Interface}
 use Rattle.pcapng_frames.specs.Interface.{is_resolution}
 
--- how many bytes at the front of a block are fixed fields that are read
+-- the number of bytes of fixed fields that are read at the start of a block
 abbrev pub head_size : Kind → ℕ
 head_size kind.Section = 16
 head_size kind.Interface = 16
 head_size kind.Packet = 28
 head_size kind.Other = 8
 
--- the resolutions of all interfaces are ones that are read
+-- the resolution of each interface is accepted
 abbrev pub AllResolved : List Interface → Type 0
 AllResolved interfaces = All (λ (i : Interface). is_resolution i.resolution ≡ true) interfaces
 
--- the codes of options that are read, and the code that ends the options
+-- the codes of the options that are read, and the code that ends the options
 abbrev pub end_of_options : ℕ
 end_of_options = 0
 

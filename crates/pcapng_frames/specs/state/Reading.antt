@@ -17,13 +17,13 @@ use Rattle.pcapng_frames.specs.Blocks.{kind_at, order_or_little, refusal_here, e
 use Rattle.pcapng_frames.specs.Reading.{Reading, rest_of, passed_by, taken, taken_by}
 use Rattle.pcapng_frames.specs.state.Fields.{AllResolved}
 
--- What is still to come from the old reader if these bytes and then more follow is still to come from the new one if only those
--- more follow.
+-- The reader took `bytes`: reading on from `old` with `bytes ++ more` gives the same contents as reading on from `new`
+-- with `more`.
 pub record Takes (old : Reading) (bytes : List ℕ) (new : Reading) : Type 0 where
   pub same : (more : List ℕ) → rest_of old (bytes ++ more) ≡ rest_of new more
 
--- How many bytes of a place are taken before more is known of it: for a block its first 8 bytes, then its fixed fields, then
--- the bytes of a packet; for an option its header, and then the value, if it is read.
+-- How many bytes are taken at a place before more is known of it. Of a block these are its first 8 bytes, then its
+-- fixed fields, then the bytes of a packet. Of an option they are its header, and then its value if that is read.
 abbrev pub head_need : Kind → Order → List ℕ → ℕ
 head_need kind.Section order part = 16
 head_need kind.Interface order part = 16
@@ -44,20 +44,20 @@ need_by stage.Block order part = block_need order part
 need_by stage.Option order part = option_need (order_or_little order) part
 need_by stage.Trailer order part = 4
 
--- How far a reader is in a block, given how many bytes are to be skipped, how many bytes of options are left, and the block's
--- total length: nothing is skipped before a block, and within a block these bytes and the trailer fit the total length.
+-- How far a reader is in a block. Before a block, nothing is to be skipped. Within a block, the bytes to be skipped,
+-- the bytes of options that are left, and the trailer fit the total length.
 abbrev pub IsAhead : Stage → ℕ → ℕ → ℕ → Type 0
 IsAhead stage.Block skip left total = skip ≡ 0
 IsAhead stage.Option skip left total = (0 < left) × (left % 4 ≡ 0) × (skip + left + 4 ≤ total)
 IsAhead stage.Trailer skip left total = skip + 4 ≤ total
 
--- before a block there is neither a packet nor an interface that is being described, and before an option there is no packet
+-- Before a block there is no packet, and no interface that is being described. Before an option there is no packet.
 abbrev pub IsFree : Stage → Option Record → Option Interface → Type 0
 IsFree stage.Block packet interface = (packet ≡ None) × (interface ≡ None)
 IsFree stage.Option packet interface = packet ≡ None
 IsFree stage.Trailer packet interface = ⊤
 
--- What has come of a place: nothing in it is refused, and more is needed to go on.
+-- The bytes taken at a place: nothing in them is refused, and more bytes are needed before the reader can move on.
 pub record IsPart (p : Place) (skip : ℕ) (part : List ℕ) : Type 0 where
   pub accepted : refusal_here p part ≡ None
   pub partial : length part < need_by p.stage p.order part
@@ -80,13 +80,13 @@ IsReading (Some refusal) whole p skip part = ⊤
 IsReading None true p skip part = IsWhole p skip part
 IsReading None false p skip part = IsPart p skip part
 
--- the bytes that have come of a place: of a block, or of an option or a trailer
+-- the bytes taken at a place: `part` of a block, `tail` of an option or a trailer
 abbrev pub part_at : Stage → List ℕ → List ℕ → List ℕ
 part_at stage.Block part tail = part
 part_at stage.Option part tail = tail
 part_at stage.Trailer part tail = tail
 
--- the packet whose head was read, with its bytes
+-- the packet with these fixed fields, whose captured bytes follow the first 28 bytes of `part`
 abbrev pub packet_with : PacketHead → List ℕ → Record
 packet_with head part = record { arrival = pos head.arrival; orig_len = head.orig_len; bytes = drop 28 part }
 
@@ -94,7 +94,7 @@ abbrev pub packet_of : Option PacketHead → List ℕ → Option Record
 packet_of None part = None
 packet_of (Some head) part = Some (packet_with head part)
 
--- the place of a cursor, in a section with these interfaces, if these bytes of the block are held
+-- the place of a cursor, in a section with these interfaces, if `part` are the bytes held of the block
 abbrev pub place_of : Cursor → List Interface → List ℕ → Place
 place_of c interfaces part = record {
   stage = c.stage;
@@ -107,30 +107,30 @@ place_of c interfaces part = record {
   packet = packet_of c.packet part;
 }
 
--- the fixed fields of the packet have come, in a section
+-- if there is a packet, its fixed fields are held, and it is in a section
 abbrev pub HasHead : Option Order → Option PacketHead → List ℕ → Type 0
 HasHead order None part = ⊤
 HasHead order (Some head) part = (28 ≤ length part) × (head.arrival ≤ 2 ^ 62) × (is_some order ≡ true)
 
--- the resolution of the interface is one that is read
+-- the resolution of the interface, if there is one, is accepted
 abbrev pub IsResolved : Option Interface → Type 0
 IsResolved None = ⊤
 IsResolved (Some interface) = is_resolution interface.resolution ≡ true
 
--- an option or a trailer, and not a block
+-- an option or a trailer follows, not a block
 abbrev pub is_inside : Stage → Bool
 is_inside stage.Block = false
 is_inside stage.Option = true
 is_inside stage.Trailer = true
 
--- there is no packet before an option
+-- before an option there is no packet
 abbrev pub IsUnpacked : Stage → Option PacketHead → Type 0
 IsUnpacked stage.Block packet = ⊤
 IsUnpacked stage.Option packet = packet ≡ None
 IsUnpacked stage.Trailer packet = ⊤
 
--- A cursor has entered a block, or moved on in it: it is before an option or the trailer, these bytes of the block's front are
--- held, and this many of its bytes have come.
+-- A cursor has entered a block, or moved on in it. It is before an option or the trailer. `front` are the bytes held of
+-- the block's head, and `count` bytes of the block were taken.
 pub record HasEntered (c : Cursor) (front : List ℕ) (count : ℕ) : Type 0 where
   pub head : HasHead c.order c.packet front
   pub resolved : IsResolved c.interface
@@ -139,20 +139,20 @@ pub record HasEntered (c : Cursor) (front : List ℕ) (count : ℕ) : Type 0 whe
   pub unpacked : IsUnpacked c.stage c.packet
   pub passed : passed_by c.stage c.skip c.left c.total ≡ count
 
--- A reader takes bytes of a piece: it is not refused, and holds no packet.
+-- A reader can take the bytes of a piece, which is not empty: the reader has no refusal and holds no packet.
 pub record IsGoing (r : Reading) (piece : List ℕ) : Type 0 where
   pub accepted : r.refusal ≡ None
   pub partial : r.whole ≡ false
   pub more : 0 < length piece
   pub bounded : taken r + length piece ≤ 2 ^ 62
 
--- A reader takes bytes of a piece before a block, an option or a trailer, with nothing to skip.
+-- A reader can take the bytes of a piece before a block, an option or a trailer, and has nothing to skip.
 pub record IsAt (next : Stage) (r : Reading) (piece : List ℕ) : Type 0 where
   pub going : IsGoing r piece
   pub stage : r.place.stage ≡ next
   pub ready : r.skip ≡ 0
 
--- what the bytes of a reader lack if the capture ends with them
+-- what is missing if the capture ends with the bytes of a reader in this state
 abbrev pub lacks_by : Bool → Place → List ℕ → Option Refusal
 lacks_by true p part = None
 lacks_by false p part = if ends_at p.stage p.order p.start (length part) then None else Some (cut_by p.stage p part).refusal
@@ -160,7 +160,7 @@ lacks_by false p part = if ends_at p.stage p.order p.start (length part) then No
 abbrev pub lacks : Reading → Option Refusal
 lacks r = lacks_by r.whole r.place r.part
 
--- The bytes begin with the whole block of a packet, and nothing in it is refused.
+-- The bytes begin with the whole block of a packet, in which nothing is refused.
 pub record BeginsPacket (order : Order) (interfaces : List Interface) (bytes : List ℕ) : Type 0 where
   pub long : 28 ≤ length bytes
   pub kind : kind_of (number_at order 0 4 bytes) ≡ kind.Packet
@@ -168,7 +168,7 @@ pub record BeginsPacket (order : Order) (interfaces : List Interface) (bytes : L
   pub within : number_at order 4 4 bytes ≤ length bytes
   pub trailer : number_at order 0 4 (drop (number_at order 4 4 bytes - 4) bytes) ≡ number_at order 4 4 bytes
 
--- The invariant of a reader with these fields, whose buffers can hold this many bytes and interfaces.
+-- The invariant of a reader with these fields, whose buffers have these capacities.
 pub record IsReader (cursor : Cursor) (interfaces : List Interface) (front tail : List ℕ) (whole : Bool) (refusal : Option Refusal) (front_capacity tail_capacity interface_capacity : ℕ) : Type 0 where
   pub front_room : 262172 ≤ front_capacity
   pub tail_room : 12 ≤ tail_capacity
