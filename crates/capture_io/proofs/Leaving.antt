@@ -25,7 +25,7 @@ only_reads_then s t u names more first second = record {
   asked = λ earlier stands. subst (WasAsked u.asked) (append_assoc earlier names more) (second.asked (earlier ++ names) (first.asked earlier stands));
 }
 
--- if nothing is done, slot k counts as read
+-- doing nothing counts as reading slot k
 pub reads_nothing : (s : ShelfState) (k : ℕ) → IsSome (s.slots k) → ReadsSlot s s k k
 reads_nothing s k live = record {
   slot = refl;
@@ -38,7 +38,7 @@ reads_nothing s k live = record {
   asked = λ names stands. stands;
 }
 
--- if nothing is done and `j` is `k`, slot k counts as read and is still open as slot j
+-- if `j` is k, doing nothing counts as reading slot k
 pub reads_still : (s : ShelfState) (k j : ℕ) → j ≡ k → IsSome (s.slots k) → ReadsSlot s s k j
 reads_still s k j same live = subst (ReadsSlot s s k) (sym same) (reads_nothing s k live)
 

@@ -102,7 +102,7 @@ ng_passes f front c n n' bytes is ahead new =
 
 -- ---- the source
 
--- the reader took the bytes of the next record
+-- if the reader takes the bytes of the next record, `HasFed` still holds
 fed_more : (limit : ℕ) (bytes : List ℕ) (remains : Option (List ℕ)) (source : Sourcing) (size : ℕ) (records : List Record) → LiesAhead source size → HasFed limit bytes remains source records → HasFed limit bytes remains (holding source size) records
 fed_more limit bytes remains source size records ahead fed =
     let waiting = source.pieces.waiting in
@@ -135,7 +135,7 @@ reads_ahead shelf source size live ahead =
       reads = reads_nothing shelf (slot_of source) live;
     }
 
--- if the held record was released and then the next record is lent, `next` succeeded
+-- after the held record was released, lending the next record delivers it
 lends_next : (shelf : ShelfState) (old mid : Sourcing) (size : ℕ) → IsSome (shelf.slots (slot_of old)) → GivesUp old mid → LiesAhead mid size → GivesNext shelf shelf old (holding mid size) None
 lends_next shelf old mid size live gone ahead =
     let here = subst (λ (p : Piecing). IsSome (shelf.slots p.slot)) (sym gone.pieces) live in
@@ -165,7 +165,7 @@ gives_after before after old mid next result gone gives = record {
   reads = subst (λ (p : Piecing). ReadsSlot before after p.slot (slot_of next)) gone.pieces gives.reads;
 }
 
--- if `o` is the size of the next record, that record is lent
+-- if `o` is the size of the next record, lending that record delivers it
 pub lent_by : (shelf : ShelfState) (old mid : Sourcing) (o : Option ℕ) → IsSome (shelf.slots (slot_of old)) → GivesUp old mid → IfSome o (λ size. LiesAhead mid size) → is_some o ≡ true → GivesNext shelf shelf old (lending o mid) None
 lent_by shelf old mid None live gone ahead some = absurd cc
 lent_by shelf old mid (Some size) live gone ahead some = lends_next shelf old mid size live gone ahead

@@ -31,7 +31,7 @@ opened_left (Some files) slot name told is e =
     let some = some_of (files name) is.1 in
     (some.0, ap (λ (m : Files). m name) (sym same) ∙ some.1, rw is.0 some.1)
 
--- of a file that was just opened, no byte was taken
+-- no byte was taken of a file that was just opened
 pub nothing_taken : (limit : ℕ) (bytes : List ℕ) (remains : Option (List ℕ)) (p : Piecing) → remains ≡ Some bytes → p.waiting ≡ [] → p.left ≡ limit → p.over ≡ false → HasTaken limit bytes remains p []
 nothing_taken limit bytes remains p is none all more = record {
   rest = bytes;
@@ -53,7 +53,7 @@ consumed None b bs xs e h = absurd cc
 consumed (Some zs) None bs xs e h = absurd h
 consumed (Some zs) (Some ys) bs xs e h = let same : xs ≡ zs = cc in (ys, refl, same ∙ h)
 
--- until a read shows that the file exceeds the limit, what the slot has left comes next
+-- until a read shows that the file exceeds the limit, `rest` is what the slot has left to read
 ahead_left : (over : Bool) (remains : Option (List ℕ)) (left : ℕ) (rest : List ℕ) → over ≡ false → IsAhead over remains left rest → remains ≡ Some rest
 ahead_left true remains left rest none ahead = absurd cc
 ahead_left false remains left rest none ahead = ahead

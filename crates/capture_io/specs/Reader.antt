@@ -19,7 +19,7 @@ pub record CaptureReading : Type 0 where
   pub classic : classic.Reading
   pub ng : ng.Reading
 
--- how far the reader of this layout is
+-- the state of the reader of this layout, as contracts see it
 abbrev pub progress_by : Format → classic.Reading → ng.Reading → Progress
 progress_by Classic c n = classic.progress c
 progress_by Pcapng c n = ng.progress n

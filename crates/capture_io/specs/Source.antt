@@ -47,7 +47,7 @@ pub record HasGiven (limit : ℕ) (bytes : List ℕ) (remains : Option (List ℕ
   pub given : records ≡ before ++ option_to_list (held_in source)
 
 -- The source has delivered these records from a file with these bytes, of which at most `limit` may be read. What is
--- left to read is what the shelf shows in its slot. The reading has not ended.
+-- left to read is what the shelf shows in the source's slot. The reading has not ended.
 abbrev pub HasGivenOf : ℕ → List ℕ → ShelfState → Sourcing → List Record → Type 0
 HasGivenOf limit bytes shelf source records = HasGiven limit bytes (remains_of shelf source) source records
 
@@ -69,9 +69,9 @@ pub record OpensSource (before after : ShelfState) (limit : ℕ) (name : List �
   pub going : IfOk result (λ source. (source.ended ≡ None) × (to_do source ≤ 2 * limit))
   pub tries : TriesOpen slot_of before after name result
 
--- The next record was read and is held now. Or the reading ended at the end in `result`, after the delivered records;
--- if a fault ended it, the count of reading faults rose. If the reading had ended before the call, the call returns the
--- same end again.
+-- The next record was read and is held now. Or the reading ended after the delivered records, and `result` is how it
+-- ended; if a fault ended it, the count of reading faults rose. If the reading had ended before the call, the call
+-- returns the same end again.
 pub record GivesNext (before after : ShelfState) (old new : Sourcing) (result : Option End) : Type 0 where
   pub given : result ≡ None → (limit : ℕ) (bytes : List ℕ) (records : List Record) → HasGivenOf limit bytes before old records
       → (next : Record) × (held_in new ≡ Some next) × HasGivenOf limit bytes after new (records ++ next ∷ [])

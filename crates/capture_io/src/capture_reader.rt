@@ -142,8 +142,8 @@ impl CaptureReader {
         }
     }
 
-    /// Whether the piece is known to have all of the next record. For a pcapng capture any bytes count as known,
-    /// because writers write whole blocks.
+    /// Whether the piece counts as having all of the next record. In a pcapng capture one byte is enough, because
+    /// programs write whole blocks.
     pub fn is_ahead(&self, piece: &[u8]) -> bool {
         match self.format {
             None => false,
@@ -183,8 +183,8 @@ impl CaptureReader {
         }
     }
 
-    /// Whether the bytes so far are a whole capture; if not, returns their first refusal. It changes nothing, and more
-    /// bytes may follow. Fewer than four bytes lack the magic number of a classic capture.
+    /// Whether the bytes so far are a whole capture; if not, returns their first refusal. The call changes nothing, and
+    /// more bytes may follow. Fewer than four bytes lack the magic number of a classic capture.
     pub fn finish(&self) -> Result<(), Refusal>
         ensures { (bytes : List ℕ) (records : List Record) → HasRead self.now bytes records → EndsHere self.now bytes records (result_err result) }
     {

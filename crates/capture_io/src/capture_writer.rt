@@ -26,7 +26,7 @@ const RECORD_HEADER: usize = 16;
 /// A classic capture, little-endian with nanoseconds (draft-ietf-opsawg-pcap), that is written to a file of a shelf.
 ///
 /// The bytes of the file and then the buffered bytes are the file header and a record of each frame that was added. If
-/// the shelf fails, the file has a prefix of these bytes. Nothing is lost or written twice, so the call may be
+/// the shelf fails, the file has a prefix of these bytes. Nothing is lost or written twice, so a failed call may be
 /// repeated. Between the calls, other files of the shelf may be read.
 #[derive(Drop)]
 pub struct CaptureWriter {

@@ -115,8 +115,8 @@ impl Feed {
         self.reader.whole_ahead(self.pieces.waiting())
     }
 
-    /// Whether the file must be read for the next record, because the buffered bytes after the first `taken` are not
-    /// known to have all of it.
+    /// Whether the file must be read for the next record. It need not be read if the buffered bytes after the first
+    /// `taken` count as all of the record.
     pub fn must_read(&self, taken: usize) -> bool
         requires { taken ≤ length self.now.pieces.waiting }
     {

@@ -12,7 +12,7 @@ use std::marker::Model;
 /// A file of a shelf that is made and written through a buffer.
 ///
 /// Each byte that was added is in the file, or in the buffer to be written next. If the shelf fails, the file has a
-/// prefix of the bytes added. Nothing is lost or written twice, so the call may be repeated.
+/// prefix of the bytes added. Nothing is lost or written twice, so a failed call may be repeated.
 #[derive(Drop)]
 pub struct FileWriter {
     slot: Slot,

@@ -83,7 +83,7 @@ impl Source {
     }
 
     /// Drops the held record. If the next record is complete in the bytes that were read, goes on to it and returns
-    /// `true`. Otherwise returns `false`: `next` will then read from the file, and may wait for the program that writes
+    /// `true`. Otherwise returns `false`, and leaves reading on to `next`, which may wait for the program that writes
     /// the file.
     #[inline(always)]
     pub fn advance(&mut self) -> bool
@@ -94,9 +94,9 @@ impl Source {
         self.lent.is_some()
     }
 
-    /// Whether `next` will read from the file, judging by the bytes that were read. It may then wait for the program
-    /// that writes the file, so a caller should first print what is known so far. This is a hint: no clause states
-    /// anything about it.
+    /// Whether `next` will read from the file, judging by the bytes that were read. `next` may then wait for the
+    /// program that writes the file, so a caller should first print what is known so far. This is a hint: no clause
+    /// states anything about it.
     #[inline(always)]
     pub fn must_read(&self) -> bool {
         self.feed.must_read(self.lent.unwrap_or(0))

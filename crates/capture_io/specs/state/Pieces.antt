@@ -39,7 +39,7 @@ pub record ReadsPiece (before after : ShelfState) (old new : Piecing) (result : 
   pub counted : CountsStop result before.reading_faults after.reading_faults
   pub reads : ReadsSlot before after old.slot new.slot
 
--- All pieces of a file of which nothing had been taken were read, up to its end, a fault or the limit, and were joined.
+-- From a file of which no byte had been taken, all pieces were read and joined, up to its end, a fault or the limit.
 pub record JoinsPieces (before after : ShelfState) (old new : Piecing) (result : Result Contents NoMemory) : Type 0 where
   pub read : IfOk result (λ contents. (limit : ℕ) (bytes : List ℕ) → HasTakenOf limit bytes before old [] → IsContents limit bytes contents.stop contents.bytes.items)
   pub bounded : IfOk result (λ contents. length contents.bytes.items ≤ old.left)

@@ -34,7 +34,7 @@ IsFront None front c n = (length front < 4) × (c ≡ classic.nothing_read) × (
 IsFront (Some Classic) front c n = n ≡ ng.nothing_read
 IsFront (Some Pcapng) front c n = c ≡ classic.nothing_read
 
--- the reader of the layout that is not `Format` was not changed
+-- the reader of the layout other than the given one was not changed
 abbrev pub KeepsOther : Format → classic.Reading → classic.Reading → ng.Reading → ng.Reading → Type 0
 KeepsOther Classic c c' n n' = n' ≡ n
 KeepsOther Pcapng c c' n n' = c' ≡ c
@@ -62,14 +62,15 @@ pub record Feeds (old : CaptureReading) (piece : List ℕ) (result : Result ℕ 
 abbrev pub Releases : CaptureReading → CaptureReading → Type 0
 Releases old new = readers.Releases (progress old) (progress new)
 
--- If the capture ends after these bytes, it has the released records and the held one, and this first refusal.
+-- If the capture ends after these bytes, its records are `records` and then the held one, and its first refusal is
+-- `refusal`.
 pub record EndsHere (r : CaptureReading) (bytes : List ℕ) (records : List Record) (refusal : Option Refusal) : Type 0 where
   pub all : records_in bytes ≡ records ++ option_to_list (held r)
   pub first : refusal ≡ refusal_in bytes
 
 -- ---- a record that is lent
 
--- the reader after it took these bytes, which are the next record, and which it then holds
+-- the reader after it took these bytes, which are the next record; it holds this record
 abbrev pub with_by : Option Format → CaptureReading → List ℕ → CaptureReading
 with_by None r bytes = r
 with_by (Some Classic) r bytes = record r { classic = classic.with_part r.classic bytes }

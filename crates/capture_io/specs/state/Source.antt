@@ -17,8 +17,8 @@ abbrev pub HasFedOf : ℕ → List ℕ → ShelfState → Sourcing → List Reco
 HasFedOf limit bytes shelf source records = HasFed limit bytes (remains_of shelf source) source records
 
 -- The state after a call that read a piece or took buffered bytes. If the reading continues, no further record was
--- released, and less work is left. If the reading ended, it ended at the end in `result`, after the released records.
--- If a fault ended it, the count of reading faults rose; otherwise the count is unchanged.
+-- released, and less work is left. If the reading ended, it ended after the released records, and `result` is how it
+-- ended. If a fault ended it, the count of reading faults rose; otherwise the count is unchanged.
 pub record ReadsOn (before after : ShelfState) (old new : Sourcing) (result : Option End) : Type 0 where
   pub more : result ≡ None → (limit : ℕ) (bytes : List ℕ) (records : List Record) → HasFedOf limit bytes before old records → HasFedOf limit bytes after new records
   pub ends : IfSome result (λ how. (limit : ℕ) (bytes : List ℕ) (records : List Record) → HasFedOf limit bytes before old records → EndsAfter limit bytes (Rose before.reading_faults after.reading_faults) how records)
