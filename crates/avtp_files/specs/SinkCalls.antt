@@ -1,4 +1,4 @@
--- What a write to a sink does, depending on its result.
+-- What a write to a sink does, depending on the result of the write.
 use Rattle.std.specs.Prelude.{ℕ, ◌≤◌, ◌<◌, List, length, IfOk, Result}
 use Rattle.avtp_base.specs.declared.failed.Failed.{Failed}
 use Rattle.avtp_base.specs.Faults.{IsCounted}

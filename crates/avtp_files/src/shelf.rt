@@ -12,8 +12,8 @@ pub struct Slot(pub u32);
 /// Files by name, read and written in pieces through slots. A shelf counts faults of reading (`open_file` and `read`)
 /// and of writing (`create_file` and `write`) separately. A call raises only its own count.
 ///
-/// One relation says what each call does to every shelf. A ghost member (`opens` to `closes`) adds what the call does
-/// to one kind of shelf. If the kind does not define the member, it adds nothing.
+/// For each call, one relation says what the call does to every shelf. A ghost member (`opens` to `closes`) adds what
+/// the call does to one kind of shelf. If the kind does not define the member, it adds nothing.
 pub trait Shelf {
     ghost use Rattle.std.specs.Prelude.{ℕ, List, Result};
     ghost use Rattle.avtp_base.specs.declared.failed.Failed.{Failed};
@@ -22,7 +22,7 @@ pub trait Shelf {
     ghost use Rattle.avtp_base.specs.Files.{left_in, name_in};
     ghost use Rattle.avtp_base.specs.States.{ShelfState};
 
-    /// The files of the shelf, if it shows them, its open files, its counts of faults and the names that it was asked
+    /// The files of the shelf (if it shows them), its open files, its counts of faults and the names that it was asked
     /// for. A shelf may stop showing its files, and then never shows them again.
     ghost state: { Self → ShelfState };
 
@@ -51,8 +51,8 @@ pub trait Shelf {
         ensures does { MakesInSlot (state self.old) (state self.new) name.now result }
         ensures own { makes self.old self.new name.now result };
 
-    /// Moves at least one byte from the front of what is left to read into the buffer, and returns how many bytes it
-    /// moved. At 0 nothing is left to read.
+    /// If nothing is left to read, returns 0. Otherwise moves at least one byte from the front of what is left into the
+    /// buffer, and returns how many bytes it moved.
     ///
     /// At `Failed` the reading count rose, and nothing was moved.
     fn read(&mut self, slot: Slot, buf: &mut [u8]) -> Result<usize, Failed>

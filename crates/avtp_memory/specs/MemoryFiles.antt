@@ -25,7 +25,7 @@ slots_in held k = option_map (open_in held.files.entries.items) (entry_at held.l
 abbrev pub room_in : MemoryFiles → ℕ
 room_in held = held.room
 
--- Of `piece`, the named file keeps as much as fits its room. `fits` is whether all of the piece fits. Every other file
+-- The named file keeps as much of `piece` as fits its room. `fits` tells whether the whole piece fits. Every other file
 -- is unchanged.
 pub record KeepsPart (old new : Files) (named : Option (List ℕ)) (room : ℕ) (piece : List ℕ) (fits : Bool) : Type 0 where
   pub name : List ℕ

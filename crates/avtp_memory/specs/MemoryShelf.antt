@@ -46,7 +46,7 @@ writing_count shelf = shelf.writing_faults
 abbrev pub IsToFail : MemoryShelf → Type 0
 IsToFail shelf = Contains (failing_calls shelf) (next_number (calls shelf))
 
--- One more call was counted. Which calls fail is unchanged, and so is the greatest number of bytes that a call moves.
+-- One more call was counted. The failing calls, and the greatest number of bytes that a call moves, are unchanged.
 pub record CountsCall (old new : MemoryShelf) : Type 0 where
   pub next : calls new ≡ next_number (calls old)
   pub fails : failing_calls new ≡ failing_calls old
@@ -68,8 +68,8 @@ pub record ReadsByNumber (old new : MemoryShelf) (k room : ℕ) (result : Result
   pub failed : IsErr result ↔ IsToFail old
   pub call : CountsCall old new
 
--- A write of `piece`. It took the whole piece, or its first bytes if it is longer than a call may move; or it failed.
--- If its number is among the failing ones, it failed. The call was counted.
+-- A write of `piece`. At `Ok` it took the whole piece, but at most as many bytes as a call may move. If its number is
+-- among the failing ones, it failed. The call was counted.
 pub record WritesByNumber (old new : MemoryShelf) (piece : List ℕ) (result : Result ℕ Failed) : Type 0 where
   pub whole : IfOk result (λ n. n ≡ min (length piece) (most old))
   pub failed : IsToFail old → IsErr result

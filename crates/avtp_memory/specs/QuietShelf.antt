@@ -33,15 +33,15 @@ slots_of shelf = slots_in shelf.held
 abbrev pub asked_of : QuietShelf → List (List ℕ) → Type 0
 asked_of shelf = StandsForNames shelf.asked
 
--- Of a piece, the named file keeps as much as fits its room. Every other file is unchanged. `keeps_all` stays true if
--- the whole piece fits, and becomes false otherwise.
+-- The named file keeps as much of the piece as fits its room. Every other file is unchanged. If the whole piece does
+-- not fit, `keeps_all` becomes false; otherwise it is unchanged.
 abbrev pub KeepsPiece : QuietShelf → QuietShelf → Option (List ℕ) → List ℕ → Type 0
 KeepsPiece old new name piece =
     (fits : Bool) × KeepsPart (kept_files old) (kept_files new) name (room_of old) piece fits × (keeps_all new ≡ (keeps_all old && fits))
 
 -- ---- what a call adds to what it does on every shelf
 
--- The kept bytes are unchanged. So are `keeps_all` and the room of files that are made.
+-- The kept bytes, `keeps_all` and the room of files that are made are unchanged.
 pub record KeepsKept (old new : QuietShelf) : Type 0 where
   pub kept : KeepsFiles (Some (kept_files old)) (Some (kept_files new))
   pub all : keeps_all new ≡ keeps_all old

@@ -27,7 +27,7 @@ capacity_under entries name = unwrap_or (option_map (λ entry. vec_capacity entr
 abbrev pub KeepsCapacity : List (String Global × Vec ℕ) → List (String Global × Vec ℕ) → Type 0
 KeepsCapacity old new = (name : List ℕ) → capacity_under old name ≤ capacity_under new name
 
--- Of `piece`, the file keeps as much as fits its room. `fits` is whether all of the piece fits. Every other file is
+-- The file keeps as much of `piece` as fits its room. `fits` tells whether the whole piece fits. Every other file is
 -- unchanged.
 pub record KeepsWithin (old new : List (String Global × Vec ℕ)) (name : List ℕ) (room : ℕ) (piece : List ℕ) (fits : Bool) : Type 0 where
   pub before : List ℕ
