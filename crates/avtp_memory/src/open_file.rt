@@ -44,8 +44,8 @@ pub fn advance(live: &mut Slots<OpenFile>, slot: Slot, by: usize)
     }
 }
 
-/// Copies the bytes of a file from index `place` on to the front of the buffer, but at most `most` bytes, and returns
-/// how many it copied.
+/// Copies the bytes of a file, from index `place` on, to the front of the buffer. Copies at most `most` bytes, and
+/// returns how many it copied.
 pub fn copy_from(bytes: &[u8], place: usize, most: usize, buf: &mut [u8]) -> usize
     requires some { 0 < most }
     requires room { 0 < length buf.old }

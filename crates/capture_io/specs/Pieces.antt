@@ -1,8 +1,8 @@
 -- A file that is read in pieces, up to a limit.
 use Rattle.std.specs.Prelude.{◌≡◌, ◌++◌, ◌+◌, ◌<◌, ℕ, Bool, true, false, List, length, Option, Some}
 
--- A file that is read in pieces: its slot, the buffered bytes (read but not taken), the number of bytes that may still
--- be read, and whether a read has shown that the file exceeds the limit.
+-- A file that is read in pieces, and its slot. The bytes `waiting` were read but not taken: they are the buffered
+-- bytes. At most `left` more bytes may be read. `over` tells whether a read has shown that the file exceeds the limit.
 pub record Piecing : Type 0 where
   pub slot : ℕ
   pub waiting : List ℕ

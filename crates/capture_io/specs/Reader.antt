@@ -11,8 +11,8 @@ use Rattle.capture_io.specs.declared.capture_reader.Format.{Format}
 use Rattle.capture_io.specs.declared.capture_reader.Format.TheVariants.{Classic, Pcapng}
 use Rattle.capture_io.specs.Formats.{format_in, certain_in}
 
--- The state of a reader of captures in either layout: the layout, once it is known; the bytes that arrived before it
--- was known; and a reader of each layout.
+-- The state of a reader of captures in either layout: the layout, once it is known, and a reader of each layout.
+-- `front` are the bytes that arrived before the layout was known.
 pub record CaptureReading : Type 0 where
   pub format : Option Format
   pub front : List ℕ

@@ -1,5 +1,5 @@
--- What the readers of captures in each layout have in common: what the bytes mean, the state of a reader between two
--- calls, and what its calls do.
+-- What the readers of captures in each layout have in common: what the bytes mean, what the state of a reader is, and
+-- what its calls do.
 use Rattle.std.specs.Prelude.{◌≡◌, ◌↔◌, ◌⊎◌, ℕ, ◌+◌, ◌<◌, ◌≤◌, List, ◌++◌, length, take, Option, None, Some, IfSome, IsSome, Result, Err, IfOk, IfErr, OnOk, OnErr, option_map, option_to_list}
 use Rattle.std.specs.Result.{result_err}
 use Rattle.avtp_base.specs.declared.refusal.Refusal.{Refusal}
@@ -7,15 +7,16 @@ use Rattle.pcap_frames.specs.declared.style.RecordView.{RecordView}
 use Rattle.pcap_frames.specs.Capture.{Record}
 use Rattle.pcap_frames.specs.Layout.{IsRecordTime}
 
--- What the bytes of a capture mean in one layout: the whole records before the first refusal; the first refusal of the
--- bytes as they are; and the first refusal that no later bytes can change.
+-- What the bytes of a capture mean in one layout. `records` are the whole records before the first refusal. `refusal`
+-- is the first refusal of the bytes as they are. `certain` is the first refusal that no later bytes can change.
 pub record Meaning : Type 0 where
   pub records : List ℕ → List Record
   pub refusal : List ℕ → Option Refusal
   pub certain : List ℕ → Option Refusal
 
--- The state of a reader between two calls: which bytes it has taken and which of their records it has released, in
--- order; the record that it holds; how many bytes it has taken; and the refusal that it keeps returning.
+-- The state of a reader between two calls. `has_read` holds for the bytes that it has taken and the records that it has
+-- released of them, in order. `held` is the record that it holds. `taken` is how many bytes it has taken. `refusal` is
+-- the refusal that it keeps returning.
 pub record Progress : Type 1 where
   pub has_read : List ℕ → List Record → Type 0
   pub held : Option Record

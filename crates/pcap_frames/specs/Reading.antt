@@ -9,8 +9,8 @@ use Rattle.pcap_frames.specs.Readers as readers
 use Rattle.pcap_frames.specs.Readers.{Meaning, Progress}
 pub use Rattle.pcap_frames.specs.Readers.{shown}
 
--- The state of a reader: the style, once the file header was accepted; the offset of the file header or record that is
--- being read; the bytes of it that were taken; and the refusal.
+-- The state of a reader. `style` is the style, once the file header was accepted. `start` is the offset of the file
+-- header or record that is being read, and `part` are the bytes taken of it. `refusal` is the refusal, if any.
 pub record Reading : Type 0 where
   pub style : Option Style
   pub start : ℕ
@@ -39,13 +39,13 @@ held_by None (Some style) start part = whole_record style start part
 abbrev pub held : Reading → Option Record
 held r = held_by r.refusal r.style r.start r.part
 
--- The part of a record that was taken: nothing in it is refused, and it does not extend past the end of the record.
+-- The part of a record that was taken. Nothing in it is refused, and it does not extend past the end of the record.
 pub record IsPart (order : Order) (start : ℕ) (part : List ℕ) : Type 0 where
   pub accepted : certain (record_refusal order start part) ≡ None
   pub within : (length part ≤ 16) ⊎ (length part ≤ 16 + number_at order 8 4 part)
 
--- The part of a file header that was taken: it is the start of the capture, nothing in it is refused, and it is not the
--- whole header.
+-- The part of a file header that was taken. It is the start of the capture, and not the whole header. Nothing in it is
+-- refused.
 pub record IsHeaderPart (start : ℕ) (part : List ℕ) : Type 0 where
   pub begins : start ≡ 0
   pub accepted : certain (file_refusal part) ≡ None

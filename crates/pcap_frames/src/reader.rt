@@ -195,8 +195,8 @@ impl Reader {
 
     /// The size of the next record, if the front of the piece has all of it and none of it was taken yet.
     ///
-    /// It is `None` if the file header was not taken yet, some bytes of the record were taken, a field is refused, or
-    /// the record continues after the piece. Then the piece must be fed.
+    /// It is `None` before the end of the file header, or if some bytes of the record were taken, a field is refused,
+    /// or the record continues after the piece. Then the piece must be fed.
     pub fn whole_ahead(&self, piece: &[u8]) -> Option<usize>
         ensures within { IfSome result (λ size. size ≤ length piece.now) }
         ensures limit { IfSome result (λ size. size ≤ 262160) }

@@ -10,8 +10,8 @@ use crate::style::{Style, Unit};
 use avtp_base::Room;
 use avtp_base::octets::write_front;
 
-/// Writes the file header of a capture of Ethernet frames (draft-ietf-opsawg-pcap, section 4): version 2.4, zone and
-/// accuracy 0, a snapshot length of 262,144 bytes, and link type 1. Returns its length.
+/// Writes the file header of a capture of Ethernet frames (draft-ietf-opsawg-pcap, section 4), and returns its length.
+/// The header has version 2.4, zone and accuracy 0, a snapshot length of 262,144 bytes, and link type 1.
 ///
 /// It returns `Room` exactly if `out` has fewer than 24 bytes; then nothing is written.
 pub fn write_header(out: &mut [u8], style: Style) -> Result<usize, Room>

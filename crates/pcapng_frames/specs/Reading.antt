@@ -12,8 +12,9 @@ use Rattle.pcapng_frames.specs.declared.interface.Interface.{Interface}
 use Rattle.pcapng_frames.specs.Fields.{first_refused, kind_of, number_at, packet_rows}
 use Rattle.pcapng_frames.specs.Blocks.{Place, Contents, after_block, order_or_little, contents, contents_from, whole_records, first_refusal, settled, ends, and_then, first_place, after_trailer, short_at}
 
--- The state of a reader: the place that it has reached; how many bytes are to be skipped before that place; the bytes
--- taken at that place; whether the block's packet is whole; and the refusal.
+-- The state of a reader. It has reached `place`, except that `skip` bytes are still to be skipped before that place.
+-- `part` are the bytes taken at that place. `whole` tells whether the block's packet is whole. `refusal` is the
+-- refusal, if any.
 pub record Reading : Type 0 where
   pub place : Place
   pub skip : ℕ
