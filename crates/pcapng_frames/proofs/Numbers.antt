@@ -54,14 +54,14 @@ microsecond_instant interface x epoch unit =
     let long : x * 1000 ≡ x * 1000000000 / 1000000 = long_units x 6 (omega arith) in
     instant_is interface x (x * 1000) epoch (ap (λ (k : ℕ). x * 1000000000 / units k) unit ∙ sym long)
 
--- the arrival by a clock that counts nanoseconds from the epoch
+-- by a clock that counts nanoseconds from the epoch, the arrival is the timestamp
 pub nanosecond_arrival : (interface : Interface) (x : ℕ) → interface.offset ≡ pos 0 → interface.resolution ≡ 9 → x < 4294967296000000000 → arrival_of interface x ≡ Some (pos x)
 nanosecond_arrival interface x epoch unit early = in_time (instant interface x) x (nanosecond_instant interface x epoch unit) early
 
 pub nanosecond_late : (interface : Interface) (x : ℕ) → interface.offset ≡ pos 0 → interface.resolution ≡ 9 → 4294967296000000000 ≤ x → arrival_of interface x ≡ None
 nanosecond_late interface x epoch unit late = out_of_time (instant interface x) x (nanosecond_instant interface x epoch unit) late
 
--- the arrival by a clock that counts microseconds from the epoch
+-- by a clock that counts microseconds from the epoch, the arrival is 1000 times the timestamp
 pub microsecond_arrival : (interface : Interface) (x : ℕ) → interface.offset ≡ pos 0 → interface.resolution ≡ 6 → x < 4294967296000000 → arrival_of interface x ≡ Some (pos (x * 1000))
 microsecond_arrival interface x epoch unit early = in_time (instant interface x) (x * 1000) (microsecond_instant interface x epoch unit) (omega arith)
 

@@ -47,8 +47,8 @@ GoesOn old more new = readers.GoesOn (progress old) more (progress new)
 abbrev pub RefusedAfter : List ℕ → List Record → Refusal → Type 0
 RefusedAfter bytes records refusal = IsRefusedAfter meaning bytes records refusal
 
--- What feeding a piece does. If the bytes so far show a refusal, it is returned. Otherwise the reader takes bytes from
--- the front of the piece: at least one, unless the piece is empty or a record is held.
+-- What feeding a piece does. At `Ok(n)` the reader took n bytes from the front of the piece: at least one, unless the
+-- piece is empty or a record is held. At `Err` the bytes so far, with the whole piece, are refused.
 pub record Feeds (old : CaptureReading) (piece : List ℕ) (result : Result ℕ Refusal) (new : CaptureReading) : Type 0 where
   pub within : IfOk result (λ n. n ≤ length piece)
   pub some : IfOk result (λ n. 0 < length piece → held old ≡ None → 0 < n)
