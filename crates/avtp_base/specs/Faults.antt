@@ -1,5 +1,5 @@
--- Counts of faults. An object outside the program counts the calls that failed. Its count stops at the largest 64-bit
--- number.
+-- Counts of faults. An object outside the program counts the calls that failed. The count of an object stops at the
+-- largest 64-bit number.
 use Rattle.std.specs.Prelude.{◌≡◌, ℕ, ◌+◌, ◌-◌, ◌^◌, ◌≤◌, ◌<◌, min, Result, OnOk, OnErr, IsErrOf}
 use Rattle.avtp_base.specs.declared.failed.Failed.{Failed}
 use Rattle.avtp_base.specs.declared.failed.OpenFault.{OpenFault}

@@ -74,8 +74,8 @@ pub record KeepsOtherFiles (old new : Slots) (name : Option (List ℕ)) : Type 0
   pub same : (j : ℕ) → option_map file_of (new j) ≡ option_map file_of (old j)
   pub left : (j : ℕ) → name_in old j ≢ name → left_in new j ≡ left_in old j
 
--- Every slot except slot k stays live or free and keeps its file. Among these slots, what is left to read changes only
--- in those of the file `name`.
+-- Every slot except slot k stays live or free and keeps its file. What is left to read changes only in slot k and in
+-- slots of the file `name`.
 pub record KeepsOthersFiles (old new : Slots) (k : ℕ) (name : List ℕ) : Type 0 where
   pub same : (j : ℕ) → j ≢ k → option_map file_of (new j) ≡ option_map file_of (old j)
   pub left : (j : ℕ) → j ≢ k → name_in old j ≢ Some name → left_in new j ≡ left_in old j

@@ -23,8 +23,8 @@ abbrev pub or_else : Option Refusal → Option Refusal → Option Refusal
 or_else None second = second
 or_else (Some refusal) second = Some refusal
 
--- A reader's result. If nothing refuses the bytes, it is `Ok` with the view that the bytes spell; otherwise it is the
--- refusal.
+-- A reader's result. If nothing refuses the bytes, the result is `Ok` with the view that the bytes spell; otherwise the
+-- result is the refusal.
 abbrev pub Reads : {X V : Type 0} → (X → V) → Option Refusal → V → Result X Refusal → Type 0
 Reads shape refusal view (Ok x) = (refusal ≡ None) × (shape x ≡ view)
 Reads shape refusal view (Err r) = refusal ≡ Some r

@@ -1,5 +1,6 @@
--- What an object outside the program shows of the bytes that it holds. It may show them, not show them, or stop showing
--- them; then it never shows them again. A statement about the bytes holds if they are shown before and after.
+-- What an object outside the program shows of the bytes that it holds. The object may show the bytes, not show them, or
+-- stop showing them; then it never shows them again. A statement about the bytes holds if they are shown before and
+-- after.
 use Rattle.std.specs.Prelude.{◌≡◌, ℕ, List, ◌++◌, take, ⊤, Option, None, Some, Result, MatchResult, option_map}
 
 -- the bytes are unchanged, if they are shown

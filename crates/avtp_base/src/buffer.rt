@@ -63,8 +63,8 @@ impl Buffer {
         self.len = end;
     }
 
-    /// Adds the first `len` of these bytes at the end. There must be room for all of `bytes`, because all are copied:
-    /// if the compiler knows the length of a copy, the copy needs no call.
+    /// Adds the first `len` of these bytes at the end. All of `bytes` are copied, because a copy whose length the
+    /// compiler knows needs no call. Therefore there must be room for all of `bytes`.
     #[inline(always)]
     pub fn push_first(&mut self, bytes: &[u8], len: usize)
         requires some { len ≤ length bytes.now }

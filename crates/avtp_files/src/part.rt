@@ -5,7 +5,8 @@ ghost use Rattle.std.specs.Io.KnownBytes.{WriteAppends};
 
 use std::io::{Error, ErrorKind, Result, Write};
 
-/// Writes a prefix of the piece, and returns how many bytes were written. It is an error if none were.
+/// Writes a prefix of the piece, and returns how many bytes were written. If no byte was written, the call returns an
+/// error.
 pub fn write_part<W: Write>(file: &mut W, piece: &[u8]) -> Result<usize>
     ensures some { IfOk result (λ n. 0 < n) }
     ensures within { IfOk result (λ n. n ≤ length piece.now) }

@@ -91,8 +91,8 @@ impl MemoryFiles {
         Ok(slot)
     }
 
-    /// Moves bytes from the front of what is left to read into the buffer. It moves as many as are left and fit, but at
-    /// most `most`.
+    /// Moves bytes from the front of what is left to read into the buffer: as many as are left and fit, but at most
+    /// `most`.
     pub fn read(&mut self, slot: Slot, most: usize, buf: &mut [u8]) -> usize
         requires live { IsSome (slots_in self.old slot.0) }
         requires some { 0 < most }

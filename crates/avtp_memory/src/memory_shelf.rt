@@ -49,7 +49,7 @@ impl MemoryShelf {
         }
     }
 
-    /// Sets the greatest number of bytes that a read or a write moves, which is at least 1.
+    /// Sets the greatest number of bytes that a read or a write moves, which must be at least 1.
     pub fn at_most(self, n: usize) -> Self
         requires { 0 < n }
         ensures files { files_of result ≡ files_of self }
@@ -138,8 +138,8 @@ impl Shelf for MemoryShelf {
         Ok(slot)
     }
 
-    /// Fails exactly if the number of the call is among the failing ones. Otherwise it moves as many bytes as are left
-    /// and fit, but at most the limit of a call.
+    /// Fails exactly if the number of the call is among the failing ones. Otherwise moves as many bytes as are left and
+    /// fit, but at most the limit of a call.
     fn read(&mut self, slot: Slot, buf: &mut [u8]) -> Result<usize, Failed> {
         if self.calls.next_fails() {
             self.reading_faults = self.reading_faults.saturating_add(1);
@@ -149,7 +149,7 @@ impl Shelf for MemoryShelf {
     }
 
     /// Fails if the number of the call is among the failing ones, or if there is no memory to keep the piece. Otherwise
-    /// it takes the whole piece, or as much of it as the limit of a call allows.
+    /// takes the whole piece, or as much of the piece as the limit of a call allows.
     fn write(&mut self, slot: Slot, piece: &[u8]) -> Result<usize, Failed> {
         if self.calls.next_fails() {
             self.writing_faults = self.writing_faults.saturating_add(1);

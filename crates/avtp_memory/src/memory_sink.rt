@@ -7,7 +7,8 @@ use avtp_base::Failed;
 use avtp_files::Sink;
 use std::alloc::Global;
 
-/// A sink that keeps all written bytes. Its calls are numbered from 1, and the calls with the given numbers fail.
+/// A sink that keeps all written bytes. The calls of the sink are numbered from 1, and the calls with the given numbers
+/// fail.
 #[derive(Debug, Drop)]
 pub struct MemorySink {
     bytes: Vec<u8>,
@@ -37,7 +38,7 @@ impl MemorySink {
         }
     }
 
-    /// Sets the greatest number of bytes that a write takes, which is at least 1.
+    /// Sets the greatest number of bytes that a write takes, which must be at least 1.
     pub fn at_most(self, n: usize) -> Self
         requires { 0 < n }
         ensures kept { kept result ≡ kept self }

@@ -1,4 +1,4 @@
-//! A shelf whose calls never return `Failed`. It allocates for a written file only when the file is made.
+//! A shelf whose calls never return `Failed`, and which allocates for a written file only when the file is made.
 
 use crate::asked_names::AskedNames;
 use crate::memory_files::MemoryFiles;
@@ -7,7 +7,7 @@ use avtp_files::{Shelf, Slot};
 use std::alloc::Global;
 
 /// A shelf that keeps as much of each written file as fits its room, and takes all further bytes without keeping them.
-/// It shows its files while everything that was written fits, and never again after that.
+/// The shelf shows its files while everything that was written fits, and never again after that.
 #[derive(Debug, Drop)]
 pub struct QuietShelf {
     held: MemoryFiles,
@@ -64,7 +64,7 @@ impl Shelf for QuietShelf {
 
     ghost told = { λ shelf k told live. told_of_live shelf.held k live };
 
-    /// Never returns `Failed`. A shelf that no longer shows its files cannot tell that a file is missing. It returns
+    /// Never returns `Failed`. A shelf that no longer shows its files cannot tell that a file is missing, and returns
     /// `Memory` instead.
     fn open_file(&mut self, name: &str) -> Result<Slot, OpenFault> {
         self.asked.note(name);
@@ -84,12 +84,12 @@ impl Shelf for QuietShelf {
         }
     }
 
-    /// Never fails. It moves as many bytes as are left and fit.
+    /// Never fails. Moves as many bytes as are left and fit.
     fn read(&mut self, slot: Slot, buf: &mut [u8]) -> Result<usize, Failed> {
         Ok(self.held.read(slot, usize::MAX, buf))
     }
 
-    /// Never fails. It takes the whole piece, and keeps as much of it as fits the room of the file.
+    /// Never fails. Takes the whole piece, and keeps as much of it as fits the room of the file.
     fn write(&mut self, slot: Slot, piece: &[u8]) -> Result<usize, Failed> {
         let fits = self.held.keep(slot, piece);
         self.all = self.all && fits;

@@ -7,8 +7,8 @@ use avtp_base::{Failed, NoMemory};
 use avtp_files::Sink;
 use std::alloc::Global;
 
-/// A sink that keeps as many bytes as fit its room, and takes all further bytes without keeping them. It shows its
-/// bytes while all written bytes fit, and never again after that.
+/// A sink that keeps as many bytes as fit its room, and takes all further bytes without keeping them. The sink shows
+/// its bytes while all written bytes fit, and never again after that.
 #[derive(Debug, Drop)]
 pub struct QuietSink {
     bytes: Vec<u8>,
@@ -50,7 +50,7 @@ impl Sink for QuietSink {
 
     ghost writes = { λ old new piece result. TakesQuietly old new piece result };
 
-    /// Never fails. It takes the whole piece, and keeps as much of it as fits.
+    /// Never fails. Takes the whole piece, and keeps as much of it as fits.
     fn write(&mut self, piece: &[u8]) -> Result<usize, Failed> {
         let fits = keep_within(&mut self.bytes, self.room, piece);
         self.all = self.all && fits;

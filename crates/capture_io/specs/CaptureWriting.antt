@@ -50,8 +50,8 @@ pub record KeepsBeside (files : Option Files) (old new : Slots) (k : ℕ) (name 
 
 -- ---- calls
 
--- The file `name` was made for a capture, which has no record so far. Or it was not made, and if the shelf failed, the
--- count of writing faults rose. The name was asked for.
+-- At `Ok` the file `name` was made for a capture, which has no record so far. At `Err` the file was not made. At
+-- `Failed` the count of writing faults rose. In each case the name was asked for.
 pub record BeginsCapture (before after : ShelfState) (name : List ℕ) (result : Result Writing OpenFault) : Type 0 where
   pub begun : IfOk result (λ writer. HoldsCapture before.files after writer name [])
   pub fresh : IfOk result (λ writer. before.slots writer.slot ≡ None)
@@ -69,8 +69,8 @@ pub record AddsRecord (before after : ShelfState) (old new : Writing) (r : Recor
   pub kept : OnErr result ((files : Option Files) (name : List ℕ) (records : List Record) → HoldsCapture files before old name records → HoldsCapture files after new name records)
   pub writes : WritesSlot before after old new result
 
--- The file was closed, and has a prefix of the capture. Its slot is free. If the shelf failed, the count of writing
--- faults rose. No reading fault was counted, and no name was asked for.
+-- The file was closed, and has a prefix of the capture. The writer's slot is free. If the shelf failed, the count of
+-- writing faults rose. No reading fault was counted, and no name was asked for.
 pub record ClosesCapture (before after : ShelfState) (writer : Writing) (result : Result Unit Failed) : Type 0 where
   pub prefix : (files : Option Files) (name : List ℕ) (records : List Record) → HoldsCapture files before writer name records → PutsPrefix files after.files name (capture_bytes records)
   pub free : (files : Option Files) (name : List ℕ) (records : List Record) → HoldsCapture files before writer name records → after.slots writer.slot ≡ None

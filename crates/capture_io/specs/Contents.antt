@@ -18,8 +18,8 @@ IsContents limit bytes stop.End prefix = (bytes ≡ prefix) × (length prefix �
 IsContents limit bytes stop.Fault prefix = (rest : List ℕ) × (bytes ≡ prefix ++ rest) × (length prefix ≤ limit)
 IsContents limit bytes stop.Limit prefix = (limit < length bytes) × (prefix ≡ take limit bytes)
 
--- What happened to the count of reading faults when a file was read whole. It rose if opening or reading the file
--- failed; otherwise it is unchanged.
+-- What happened to the count of reading faults when a file was read whole. If opening or reading the file failed, the
+-- count rose; otherwise the count is unchanged.
 pub record IsReadCounted (before after : ℕ) (result : Result Contents OpenFault) : Type 0 where
   pub never_falls : before ≤ after
   pub stopped : IfOk result (λ contents. CountsStop (Some contents.stop) before after)
@@ -27,8 +27,8 @@ pub record IsReadCounted (before after : ℕ) (result : Result Contents OpenFaul
   pub memory : IsErrOf result open_fault.Memory → after ≡ before
   pub failed : IsErrOf result open_fault.Failed → Rose before after
 
--- The file `name` was opened, read up to its end, a fault or the limit, and closed again. Or it was not opened, or
--- memory ran out. Nothing else was done.
+-- At `Ok` the file `name` was opened, read up to its end, a fault or the limit, and closed again. At `Err` the file was
+-- not opened, or memory ran out. Nothing else was done.
 pub record ReadsContents (before after : ShelfState) (limit : ℕ) (name : List ℕ) (result : Result Contents OpenFault) : Type 0 where
   -- if the shelf shows its files, the bytes are those of the file
   pub read : IfOk result (λ contents. (files : Files) → before.files ≡ Some files → (bytes : List ℕ) × (files name ≡ Some bytes) × IsContents limit bytes contents.stop contents.bytes.items)

@@ -41,8 +41,9 @@ pub record OpensSlot (before after : ShelfState) (name : List ℕ) (k : ℕ) : T
   pub writing : after.writing_faults ≡ before.writing_faults
   pub asked : Asks (name ∷ []) before after
 
--- The file `name` was opened in the slot that `slot` finds in the result. If it was not opened, the call only read.
--- `Missing` means that the shelf shows its files and none has the name. At `Failed` the count of reading faults rose.
+-- At `Ok` the file `name` was opened in the slot that `slot` finds in the result. At `Err` the file was not opened, and
+-- no file or slot changed. `Missing` means that the shelf shows its files and none has the name. At `Failed` the count
+-- of reading faults rose.
 pub record TriesOpen {T : Type 0} (slot : T → ℕ) (before after : ShelfState) (name : List ℕ) (result : Result T OpenFault) : Type 0 where
   pub opened : IfOk result (λ file. OpensSlot before after name (slot file))
   pub refused : OnErr result (OnlyReads before after (name ∷ []))

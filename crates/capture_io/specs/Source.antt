@@ -30,8 +30,8 @@ remains_of shelf source = left_in shelf.slots (slot_of source)
 abbrev pub held_in : Sourcing → Option Record
 held_in source = held source.reader
 
--- The reader has taken a prefix of a file with these bytes, of which at most `limit` may be read. It has refused
--- nothing, and has released the records `records`.
+-- The reader has taken a prefix of a file with these bytes, of which at most `limit` may be read. The reader has
+-- refused nothing, and has released the records `records`.
 pub record HasFed (limit : ℕ) (bytes : List ℕ) (remains : Option (List ℕ)) (source : Sourcing) (records : List Record) : Type 0 where
   pub prefix : List ℕ
   pub taken : HasTaken limit bytes remains source.pieces prefix
@@ -61,17 +61,17 @@ pub record EndsAfter (limit : ℕ) (bytes : List ℕ) (fault : Type 0) (how : En
 abbrev pub to_do : Sourcing → ℕ
 to_do source = 2 * source.pieces.left + length source.pieces.waiting
 
--- The capture `name` was opened, at most `limit` of its bytes may be read, and no record was delivered yet. Or it was
--- not opened.
+-- At `Ok` the capture `name` was opened, at most `limit` of its bytes may be read, and no record was delivered yet. At
+-- `Err` the capture was not opened.
 pub record OpensSource (before after : ShelfState) (limit : ℕ) (name : List ℕ) (result : Result Sourcing OpenFault) : Type 0 where
   -- if the shelf shows the file's bytes, no record of them was delivered yet
   pub begun : IfOk result (λ source. (files : Files) → before.files ≡ Some files → (bytes : List ℕ) × (files name ≡ Some bytes) × HasGivenOf limit bytes after source [])
   pub going : IfOk result (λ source. (source.ended ≡ None) × (to_do source ≤ 2 * limit))
   pub tries : TriesOpen slot_of before after name result
 
--- The next record was read and is held now. Or the reading ended after the delivered records, and `result` is how it
--- ended; if a fault ended it, the count of reading faults rose. If the reading had ended before the call, the call
--- returns the same end again.
+-- At `None` the next record was read and is held now. Otherwise the reading ended after the delivered records, and
+-- `result` is how it ended. If a fault ended the reading, the count of reading faults rose. If the reading had ended
+-- before the call, the call returns the same end again.
 pub record GivesNext (before after : ShelfState) (old new : Sourcing) (result : Option End) : Type 0 where
   pub given : result ≡ None → (limit : ℕ) (bytes : List ℕ) (records : List Record) → HasGivenOf limit bytes before old records
       → (next : Record) × (held_in new ≡ Some next) × HasGivenOf limit bytes after new (records ++ next ∷ [])

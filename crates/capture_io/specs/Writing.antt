@@ -51,8 +51,8 @@ pub record NotMade (before after : ShelfState) : Type 0 where
   pub slots : KeepsSlots before.slots after.slots
   pub reading : after.reading_faults ≡ before.reading_faults
 
--- The file `name` was made, and is written through a buffer that is empty. Or it was not made, and if the shelf failed,
--- the count of writing faults rose. The name was asked for.
+-- At `Ok` the file `name` was made, and is written through a buffer that is empty. At `Err` the file was not made. At
+-- `Failed` the count of writing faults rose. In each case the name was asked for.
 pub record CreatesFile (before after : ShelfState) (name : List ℕ) (result : Result Writing OpenFault) : Type 0 where
   pub begun : IfOk result (λ writer. IsWriting before after writer name [])
   pub not_made : OnErr result (NotMade before after)
@@ -87,7 +87,7 @@ pub record ClosesFile (before after : ShelfState) (writer : Writing) (result : R
   pub counted : IsCounted before.writing_faults after.writing_faults result
   pub asked : AsksNothing before after
 
--- The writer's file was closed. If nothing failed, it has all bytes that were added.
+-- The writer's file was closed. If nothing failed, the file has all bytes that were added.
 pub record FinishesFile (before after : ShelfState) (writer : Writing) (result : Result Unit Failed) : Type 0 where
   pub put : OnOk result ((begun : ShelfState) (name all : List ℕ) → IsWriting begun before writer name all → PutsFile begun.files after.files name all)
   pub closes : ClosesFile before after writer result

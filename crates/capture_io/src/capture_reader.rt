@@ -31,7 +31,7 @@ const SECTION_HEADER: u32 = 0x0A0D_0D0A;
 /// The number of bytes that show the layout.
 const FRONT: usize = 4;
 
-/// Reads a capture in either layout, with the calls of [`Reader`]. The first four bytes show the layout. They are held
+/// Reads a capture in either layout, with the calls of [`Reader`]. The first four bytes show the layout, and are held
 /// back until all four have arrived.
 #[derive(Drop)]
 pub struct CaptureReader {
@@ -55,8 +55,8 @@ impl Model for CaptureReader {
 }
 
 impl CaptureReader {
-    /// A reader that has taken nothing. It allocates the memory of a reader of each layout, and allocates no more
-    /// later.
+    /// A reader that has taken nothing. This call allocates the memory of a reader of each layout. Later calls allocate
+    /// nothing.
     pub fn new(alloc: Global) -> Result<Self, NoMemory>
         ensures { IfOk result (λ reader. reader ≡ nothing_read) }
     {
@@ -128,7 +128,7 @@ impl CaptureReader {
 
     /// The size of the next record, if the front of the piece has all of it and none of it was taken yet.
     ///
-    /// If it is `None`, there is no such record, and the piece must be fed.
+    /// At `None` there is no such record, and the piece must be fed.
     #[inline(always)]
     pub fn whole_ahead(&self, piece: &[u8]) -> Option<usize>
         ensures { FindsNext self.now piece.now result }

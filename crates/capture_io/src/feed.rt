@@ -103,8 +103,8 @@ impl Feed {
         }
     }
 
-    /// The size of the next record, if the front of the buffered bytes has all of it and none of it was taken yet. It
-    /// is `None` only if there is no such record, or the reading has ended.
+    /// The size of the next record, if the front of the buffered bytes has all of it and none of it was taken yet. The
+    /// result is `None` only if there is no such record, or the reading has ended.
     #[inline(always)]
     pub fn whole_ahead(&self) -> Option<usize>
         ensures { FindsAhead self.now result }
@@ -115,8 +115,8 @@ impl Feed {
         self.reader.whole_ahead(self.pieces.waiting())
     }
 
-    /// Whether the file must be read for the next record. It need not be read if the buffered bytes after the first
-    /// `taken` count as all of the record.
+    /// Whether the file must be read for the next record. The file need not be read if the buffered bytes after the
+    /// first `taken` count as all of the record.
     pub fn must_read(&self, taken: usize) -> bool
         requires { taken ≤ length self.now.pieces.waiting }
     {

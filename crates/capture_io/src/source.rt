@@ -95,8 +95,8 @@ impl Source {
     }
 
     /// Whether `next` will read from the file, judging by the bytes that were read. `next` may then wait for the
-    /// program that writes the file, so a caller should first print what is known so far. This is a hint: no clause
-    /// states anything about it.
+    /// program that writes the file, so a caller should first print what is known so far. The answer is a hint: no
+    /// clause states anything about it.
     #[inline(always)]
     pub fn must_read(&self) -> bool {
         self.feed.must_read(self.lent.unwrap_or(0))

@@ -106,7 +106,7 @@ record_refuses refusal style s start part more rest bytes records why left ref s
       reading = long;
     }
 
--- what the code leaves of a piece after its first n bytes is the piece without these bytes
+-- the slice that the code takes after the first n bytes of a piece is the piece without these bytes
 rest_is : (n : ℕ) (piece : List ℕ) → take (length piece - n) (drop n piece) ≡ drop n piece
 rest_is n piece = take_all (length piece - n) (drop n piece) (omega (arith, length-drop n piece))
 

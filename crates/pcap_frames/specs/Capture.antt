@@ -27,7 +27,7 @@ pub record Spells (style : Style) (r : Record) (bytes : List ℕ) : Type 0 where
   pub orig_len : number_at style.order 12 4 bytes ≡ r.orig_len
   pub packet_bytes : drop 16 bytes ≡ r.bytes
 
--- the bytes are the bytes of each record, in order, and nothing else
+-- the bytes encode these records, in order, and nothing else
 abbrev pub SpellsAll : Style → List Record → List ℕ → Type 0
 SpellsAll style [] bytes = bytes ≡ []
 SpellsAll style (r ∷ records) bytes =
@@ -134,8 +134,8 @@ record_spelling style r =
     ++ number_bytes style.order 4 r.orig_len
     ++ r.bytes
 
--- A record that can be written in the canonical spelling. Its instant has 32 bits of seconds, and its fraction is a
--- whole number of the style's units. Its length on the wire has 32 bits. It has at most 262,144 captured bytes.
+-- A record that can be written in the canonical spelling. The record's instant has 32 bits of seconds, and the fraction
+-- is a whole number of the style's units. The length on the wire has 32 bits. There are at most 262,144 captured bytes.
 pub record HasSpelling (style : Style) (r : Record) : Type 0 where
   pub begun : pos 0 ≤ℤ r.arrival
   pub ended : r.arrival <ℤ pos (2 ^ 32 * 1000000000)

@@ -89,8 +89,8 @@ frame_of bytes =
       payload = drop (header_len tagged) bytes;
     }
 
--- A frame that can be written. Its fields fit their bits. If it is untagged, its EtherType is not the one that
--- announces a tag.
+-- A frame that can be written. The fields of the frame fit their bits. The EtherType of an untagged frame is not the
+-- one that announces a tag.
 pub record IsWritableFrame (v : Frame) : Type 0 where
   pub dst : v.dst < 2 ^ 48
   pub src : v.src < 2 ^ 48

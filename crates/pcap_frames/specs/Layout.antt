@@ -60,7 +60,7 @@ row field offset size refuses = record { field = field; offset = offset; size = 
 abbrev pub never : ℕ → Bool
 never n = false
 
--- The magic number. It is read as little-endian, and gives the byte order of all other fields.
+-- The magic number, which is read as little-endian and gives the byte order of all other fields.
 abbrev pub magic_number : List Row
 magic_number = row Magic 0 4 (λ n. is_none (style_of_magic n)) ∷ []
 

@@ -39,13 +39,14 @@ held_by None (Some style) start part = whole_record style start part
 abbrev pub held : Reading → Option Record
 held r = held_by r.refusal r.style r.start r.part
 
--- The part of a record that was taken. Nothing in it is refused, and it does not extend past the end of the record.
+-- The part of a record that was taken. Nothing in the part is refused, and the part does not extend past the end of the
+-- record.
 pub record IsPart (order : Order) (start : ℕ) (part : List ℕ) : Type 0 where
   pub accepted : certain (record_refusal order start part) ≡ None
   pub within : (length part ≤ 16) ⊎ (length part ≤ 16 + number_at order 8 4 part)
 
--- The part of a file header that was taken. It is the start of the capture, and not the whole header. Nothing in it is
--- refused.
+-- The part of a file header that was taken. The part is the start of the capture, and not the whole header. Nothing in
+-- the part is refused.
 pub record IsHeaderPart (start : ℕ) (part : List ℕ) : Type 0 where
   pub begins : start ≡ 0
   pub accepted : certain (file_refusal part) ≡ None
@@ -65,9 +66,9 @@ pub record Follows (style : Style) (start : ℕ) (part bytes : List ℕ) (record
   pub capture : IsCapture style records front
   pub begins : length front ≡ start
 
--- Which bytes a reader in this state has taken, and which records it has released. If it has a refusal, that is the
--- first refusal of the bytes. Without a refusal and without a style, the bytes are `part`. Otherwise they are a capture
--- of the released records, followed by `part`.
+-- Which bytes a reader in this state has taken, and which records it has released. A refusal of the reader is the first
+-- refusal of the bytes. Without a refusal and without a style, the bytes are `part`. Without a refusal but with a
+-- style, the bytes are a capture of the released records, followed by `part`.
 abbrev pub StandsFor : Option Refusal → Option Style → ℕ → List ℕ → List ℕ → List Record → Type 0
 StandsFor (Some refusal) style start part bytes records = IsRefused bytes records refusal
 StandsFor None None start part bytes records = (records ≡ []) × (bytes ≡ part)
@@ -103,8 +104,8 @@ pub record IsNext (r : Reading) (bytes : List ℕ) : Type 0 where
   pub reading : IsReading r.refusal r.style r.start bytes
   pub whole : IsSome (held (with_part r bytes))
 
--- The reader skipped a borrowed record with these bytes. It has now taken these bytes and released their record, and
--- holds none.
+-- The reader skipped a borrowed record with these bytes. The reader has taken these bytes, has released their record,
+-- and holds no record.
 pub record Passes (old : Reading) (bytes : List ℕ) (new : Reading) : Type 0 where
   pub read : (before : List ℕ) (records : List Record) → HasRead old before records → HasRead new (before ++ bytes) (records ++ option_to_list (held (with_part old bytes)))
   pub counted : taken new ≡ taken old + length bytes

@@ -37,8 +37,8 @@ pub fn style_at(header: &[u8]) -> Option<Style>
     requires { 4 ≤ length header.now }
     ensures { result ≡ style_of_bytes header.now }
 {
-    // The number is read as little-endian and compared with all four magic numbers. This has the same effect as reading
-    // it in each byte order.
+    // The number is read as little-endian and compared with all four magic numbers. The effect is the same as reading
+    // the number in each byte order.
     let (order, unit) = match u32_at(Order::Little, header, 0) {
         MAGIC_MICRO => (Order::Little, Unit::Micro),
         MAGIC_NANO => (Order::Little, Unit::Nano),

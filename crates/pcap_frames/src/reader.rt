@@ -18,9 +18,9 @@ use avtp_base::{NoMemory, Refusal};
 use std::alloc::Global;
 use std::marker::Model;
 
-/// Reads a capture in the classic pcap layout (draft-ietf-opsawg-pcap). It takes the capture's bytes in pieces of any
-/// length, and holds one record at a time. Feed a piece until all of it is taken; after each call, look at the held
-/// record and release it.
+/// Reads a capture in the classic pcap layout (draft-ietf-opsawg-pcap). The reader takes the capture's bytes in pieces
+/// of any length, and holds one record at a time. Feed a piece until all of it is taken; after each call, look at the
+/// held record and release it.
 ///
 /// A record that is complete in a piece need not be copied. If `whole_ahead` finds such a record, use `lend` to see it
 /// in the piece and `pass` to skip it, instead of `feed`, `held` and `release`.
@@ -47,7 +47,7 @@ impl Model for Reader {
 }
 
 impl Reader {
-    /// A reader that has taken nothing. It allocates the memory of one record, and allocates no more later.
+    /// A reader that has taken nothing. This call allocates the memory of one record. Later calls allocate nothing.
     #[tactic(auto, using(crate::proofs::Fields::header_begins, crate::proofs::Steps::read_nothing))]
     pub fn new(alloc: Global) -> Result<Self, NoMemory>
         ensures empty { IfOk result (λ reader. reader ≡ nothing_read) }
@@ -195,8 +195,8 @@ impl Reader {
 
     /// The size of the next record, if the front of the piece has all of it and none of it was taken yet.
     ///
-    /// It is `None` before the end of the file header, or if some bytes of the record were taken, a field is refused,
-    /// or the record continues after the piece. Then the piece must be fed.
+    /// The result is `None` before the end of the file header, or if some bytes of the record were taken, a field is
+    /// refused, or the record continues after the piece. At `None` the piece must be fed.
     pub fn whole_ahead(&self, piece: &[u8]) -> Option<usize>
         ensures within { IfSome result (λ size. size ≤ length piece.now) }
         ensures limit { IfSome result (λ size. size ≤ 262160) }
@@ -236,8 +236,8 @@ impl Reader {
 
     /// Whether the bytes so far are a whole capture: a file header and whole records.
     ///
-    /// If not, it returns the earlier refusal, or else the first field with a missing byte, with `short`. A held record
-    /// counts as whole. The call changes nothing, and more bytes may follow.
+    /// If the capture is not whole, the call returns the earlier refusal, or else the first field with a missing byte,
+    /// with `short`. A held record counts as whole. The call changes nothing, and more bytes may follow.
     pub fn finish(&self) -> Result<(), Refusal>
         ensures exact { (bytes : List ℕ) (records : List Record) → HasRead self.now bytes records → Holds bytes (records ++ option_to_list (held self.now)) (result_err result) }
         ensures ends { Ends meaning (progress self.now) result }

@@ -169,14 +169,14 @@ block_record r block next =
     let order : Order = order_or_little r.place.order in
     record_some (packet_arrival order r.place.interfaces block) order block (accepted_time order r.place.interfaces block (omega (arith, next.packet.long)) next.packet.accepted)
 
--- after the reader took the block of the next packet, it holds this packet
+-- after the reader took the block of the next packet, the reader holds this packet
 pub holds_block : (r : Reading) (block : List ℕ) → IsNext r block → held (with_block r block) ≡ (with_block r block).place.packet
 holds_block r block next = held_whole r.refusal true (with_block r block).place.packet next.accepted refl
 
 pub next_held : (r : Reading) (block : List ℕ) → IsNext r block → IsSome (held (with_block r block))
 next_held r block next = ap is_some (holds_block r block next) ∙ block_record r block next
 
--- after the reader took the block of the next packet, its invariant holds
+-- after the reader took the block of the next packet, the reader's invariant holds
 next_reading : (r : Reading) (block : List ℕ) → IsNext r block → IsReading r.refusal true (with_block r block).place 0 (drop (length block - 4) block)
 next_reading r block next =
     whole_by r.refusal true (with_block r block).place 0 (drop (length block - 4) block) next.accepted refl (record {

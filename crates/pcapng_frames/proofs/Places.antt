@@ -1,5 +1,5 @@
--- The contents from a place on do not depend on the allowed number of places, if it is large enough. They are what the
--- place holds, followed by the contents from the next place on.
+-- The contents from a place on do not depend on the allowed number of places, if that number is large enough. The
+-- contents are what the place holds, followed by the contents from the next place on.
 use Rattle.std.proofs.Common.{◌≡◌, ℕ, zero, suc, ◌+◌, ◌-◌, ◌≤◌, ◌<◌, Bool, true, false, nat_lt, nat_eq, if◌then◌else◌, List, length, drop, refl, ap, arith, length-drop}
 use Rattle.std.proofs.lemmas.Bool.Decides.{nat_tests}
 use Rattle.pcapng_frames.specs.declared.block.Kind.{Kind}

@@ -121,8 +121,8 @@ size_of_any order bytes =
     let k = kind_at order bytes in
     block_size k (number_at (order_at k order bytes) 4 4 bytes)
 
--- The size in bytes of the option that the bytes begin with: its header and its padded value. If it ends the options,
--- the size is all bytes of options that are left.
+-- The size in bytes of the option that the bytes begin with: its header and its padded value. The option that ends the
+-- options has all bytes of options that are left.
 abbrev pub size_of_option : Order → ℕ → List ℕ → ℕ
 size_of_option order left bytes = if nat_eq (option_code order bytes) 0 then 4 + (left - 4) else 4 + padded (option_length order bytes)
 
@@ -257,8 +257,8 @@ ends ending = record { records = []; ending = ending }
 abbrev pub and_then : Option Record → Contents → Contents
 and_then packet rest = record { records = option_to_list packet ++ rest.records; ending = rest.ending }
 
--- What the bytes hold if they end before the next place. They hold no packet. If a capture that ends here is whole,
--- there is no refusal.
+-- What the bytes hold if they end before the next place: no packet. If a capture that ends here is whole, there is no
+-- refusal.
 abbrev pub cut_short : Place → List ℕ → Contents
 cut_short p bytes = if ends_at p.stage p.order p.start (length bytes) then ends None else ends (Some (cut_by p.stage p bytes))
 

@@ -12,8 +12,8 @@ use Rattle.pcapng_frames.specs.declared.interface.Interface.{Interface}
 use Rattle.pcapng_frames.specs.Fields.{first_refused, kind_of, number_at, packet_rows}
 use Rattle.pcapng_frames.specs.Blocks.{Place, Contents, after_block, order_or_little, contents, contents_from, whole_records, first_refusal, settled, ends, and_then, first_place, after_trailer, short_at}
 
--- The state of a reader. It has reached `place`, except that `skip` bytes are still to be skipped before that place.
--- `part` are the bytes taken at that place. `whole` tells whether the block's packet is whole. `refusal` is the
+-- The state of a reader. The reader has reached `place`, except that `skip` bytes are still to be skipped before that
+-- place. `part` are the bytes taken at that place. `whole` tells whether the block's packet is whole. `refusal` is the
 -- refusal, if any.
 pub record Reading : Type 0 where
   pub place : Place
@@ -37,9 +37,9 @@ contents_past skip p part more =
     if nat_lt (length more) skip then ends (Some (short_at BlockBody (p.start + 8)))
     else contents_at p (part ++ drop skip more)
 
--- What the capture still holds after a reader in this state, if the bytes `more` follow. If the reader has a refusal,
--- it is this refusal. If the reader holds a packet, it is this packet and what follows the packet's block. Otherwise it
--- is what the bytes from the place on hold.
+-- What the capture still holds after a reader in this state, if the bytes `more` follow. After a reader with a refusal,
+-- that is only the refusal. After a reader that holds a packet, that is the packet and what follows the packet's block.
+-- After any other reader, that is what the bytes from the place on hold.
 abbrev pub rest_by : Option Refusal → Bool → Reading → List ℕ → Contents
 rest_by (Some refusal) whole r more = ends (Some (record { refusal = refusal; cut = false }))
 rest_by None true r more = and_then r.place.packet (contents_at (after_trailer r.place) more)

@@ -24,9 +24,9 @@ const PART_ROOM: usize = 262_172;
 /// The greatest number of bytes of an option that are held: its header and the value of `if_tsoffset`.
 const TAIL_ROOM: usize = 12;
 
-/// Reads a pcapng capture (draft-ietf-opsawg-pcapng). It takes the capture's bytes in pieces of any length, and holds
-/// one packet at a time. Feed a piece until all of it is taken; after each call, look at the held packet and release
-/// it.
+/// Reads a pcapng capture (draft-ietf-opsawg-pcapng). The reader takes the capture's bytes in pieces of any length, and
+/// holds one packet at a time. Feed a piece until all of it is taken; after each call, look at the held packet and
+/// release it.
 ///
 /// A packet whose block is complete in a piece need not be copied. If `whole_ahead` finds such a block, use `lend` to
 /// see the packet in the piece and `pass` to skip it, instead of `feed`, `held` and `release`.
@@ -57,8 +57,8 @@ impl Model for Ng {
 }
 
 impl Ng {
-    /// A reader that has taken nothing. It allocates the memory of one packet and of 256 interfaces, and allocates no
-    /// more later.
+    /// A reader that has taken nothing. This call allocates the memory of one packet and of 256 interfaces. Later calls
+    /// allocate nothing.
     pub fn new(alloc: Global) -> Result<Self, NoMemory>
         ensures empty { IfOk result (λ reader. reader ≡ nothing_read) }
         ensures read { IfOk result (λ reader. HasRead reader [] []) }
@@ -159,8 +159,8 @@ impl Ng {
 
     /// The size of the next packet's block, if the front of the piece has all of it and none of it was taken yet.
     ///
-    /// It is `None` if another block is first, some bytes of the block were taken, a field is refused, or the block
-    /// continues after the piece. Then the piece must be fed.
+    /// The result is `None` if another block is first, some bytes of the block were taken, a field is refused, or the
+    /// block continues after the piece. At `None` the piece must be fed.
     #[inline(always)]
     pub fn whole_ahead(&self, piece: &[u8]) -> Option<usize>
         ensures within { IfSome result (λ size. size ≤ length piece.now) }
@@ -204,8 +204,8 @@ impl Ng {
 
     /// Whether the bytes so far are a whole capture: whole blocks, the first of which is a section header.
     ///
-    /// If not, it returns the earlier refusal, or else what the bytes lack, usually with `short`. The call changes
-    /// nothing, and more bytes may follow.
+    /// If the capture is not whole, the call returns the earlier refusal, or else what the bytes lack, usually with
+    /// `short`. The call changes nothing, and more bytes may follow.
     pub fn finish(&self) -> Result<(), Refusal>
         ensures { Ends meaning (progress self.now) result }
     {

@@ -21,7 +21,8 @@ HasTakenOf limit bytes shelf pieces prefix = HasTaken limit bytes (left_in shelf
 abbrev pub IsDrained : Slots → Piecing → Type 0
 IsDrained slots pieces = IsSome (slots pieces.slot) × (pieces.waiting ≡ [])
 
--- The file `name` was opened, at most `limit` of its bytes may be read, and none was read yet. Or it was not opened.
+-- At `Ok` the file `name` was opened, at most `limit` of its bytes may be read, and none was read yet. At `Err` the
+-- file was not opened.
 pub record OpensPieces (before after : ShelfState) (limit : ℕ) (name : List ℕ) (result : Result Piecing OpenFault) : Type 0 where
   pub begun : IfOk result (λ pieces. (files : Files) → before.files ≡ Some files → (bytes : List ℕ) × (files name ≡ Some bytes) × HasTakenOf limit bytes after pieces [])
   pub nothing : IfOk result (λ pieces. (pieces.waiting ≡ []) × (pieces.left ≡ limit))

@@ -10,8 +10,8 @@ pub record Accepts (reader : Progress) (piece : List ℕ) : Type 0 where
   pub accepted : reader.refusal ≡ None
   pub bounded : reader.taken + length piece ≤ 2 ^ 62
 
--- What a step does with a piece. The reader takes bytes from the front of the piece. If it is refused, it has taken the
--- whole piece.
+-- What a step does with a piece. At `Ok(n)` the reader took n bytes from the front of the piece. At `Err` the reader
+-- has a refusal, and has taken the whole piece.
 pub record Steps (old : Progress) (piece : List ℕ) (result : Result ℕ Refusal) (new : Progress) : Type 0 where
   pub within : IfOk result (λ n. n ≤ length piece)
   pub counted : IfOk result (λ n. new.taken ≡ old.taken + n)
@@ -27,8 +27,8 @@ pub record Advances (old : Progress) (piece : List ℕ) (result : Result ℕ Ref
   pub nothing : IfOk result (λ n. (n ≡ 0) ↔ ((length piece ≡ 0) ⊎ IsSome old.held))
   pub end : IfOk result (λ n. n < length piece → IsSome new.held)
 
--- If a reader has no refusal, the bytes taken are not certain to be refused. If it has a refusal, that is the first
--- one, whatever bytes follow.
+-- If a reader has no refusal, the bytes taken are not certain to be refused. A refusal of the reader is the first one
+-- of the capture, whatever bytes follow.
 pub record IsSure (meaning : Meaning) (reader : Progress) : Type 0 where
   pub uncertain : reader.refusal ≡ None → (bytes : List ℕ) (records : List Record) → reader.has_read bytes records → meaning.certain bytes ≡ None
   pub refused : (why : Refusal) → reader.refusal ≡ Some why → (bytes more : List ℕ) (records : List Record) → reader.has_read bytes records

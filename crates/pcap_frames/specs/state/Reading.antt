@@ -19,8 +19,8 @@ pub record IsBefore (style : Option Style) (r : Reading) (piece : List ℕ) : Ty
   pub styled : r.style ≡ style
   pub bounded : taken r + length piece ≤ 2 ^ 62
 
--- Bytes from the front of a piece were added to the part of a record, up to the end of the record. Or they showed a
--- refusal.
+-- At `Ok(n)` the first n bytes of a piece were added to the part of a record, up to the end of the record. At `Err` the
+-- bytes showed a refusal.
 pub record Fills (order : Order) (start : ℕ) (old piece : List ℕ) (result : Result ℕ Refusal) (new : List ℕ) : Type 0 where
   pub within : IfOk result (λ n. n ≤ length piece)
   pub moved : IfOk result (λ n. new ≡ old ++ take n piece)

@@ -22,8 +22,8 @@ use Rattle.pcapng_frames.specs.state.Fields.{AllResolved}
 pub record Takes (old : Reading) (bytes : List ℕ) (new : Reading) : Type 0 where
   pub same : (more : List ℕ) → rest_of old (bytes ++ more) ≡ rest_of new more
 
--- How many bytes are taken at a place before more is known of it. Of a block these are its first 8 bytes, then its
--- fixed fields, then the bytes of a packet. Of an option they are its header, and then its value if that is read.
+-- How many bytes are taken at a place before more is known of it. At a block: its first 8 bytes, then its fixed fields,
+-- then the bytes of a packet. At an option: its header, then its value if the value is read.
 abbrev pub head_need : Kind → Order → List ℕ → ℕ
 head_need kind.Section order part = 16
 head_need kind.Interface order part = 16
@@ -129,8 +129,8 @@ IsUnpacked stage.Block packet = ⊤
 IsUnpacked stage.Option packet = packet ≡ None
 IsUnpacked stage.Trailer packet = ⊤
 
--- A cursor has entered a block, or moved on in it. It is before an option or the trailer. `front` are the bytes held of
--- the block's head, and `count` bytes of the block were taken.
+-- A cursor has entered a block, or moved on in a block: the cursor is before an option or the trailer. `front` are the
+-- bytes held of the block's head, and `count` bytes of the block were taken.
 pub record HasEntered (c : Cursor) (front : List ℕ) (count : ℕ) : Type 0 where
   pub head : HasHead c.order c.packet front
   pub resolved : IsResolved c.interface
