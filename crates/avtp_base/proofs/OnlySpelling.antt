@@ -1,4 +1,4 @@
--- Bytes that hold what a writer puts into a header are the bytes that it writes.
+-- Bytes that hold what a writer puts into a header are the written header.
 use Rattle.std.proofs.Common.{◌≡◌, ℕ, zero, suc, ◌+◌, ◌-◌, ◌*◌, ◌/◌, ◌%◌, ◌^◌, ◌<◌, ◌≤◌, List, [], ◌∷◌, ◌++◌, length, take, drop, get_or, refl, sym, ap, subst, ◌∙◌, append_assoc, inl, inr, arith}
 use Rattle.std.specs.Int.{bytes_high_first}
 use Rattle.std.proofs.Math.Nat.{div-eq_of_lt, div-one}
@@ -121,8 +121,7 @@ length-spelling (p ∷ parts) v =
     let here : List ℕ = big_bytes (size_of p) (packed p.bits v) in
     omega (arith, length-append here (spelling parts v), length-bytes_high_first (size_of p) (packed p.bits v), length-spelling parts v)
 
--- If bytes hold what a writer puts into a header, they are the bytes that it writes, followed by the bytes after the
--- header.
+-- If bytes hold what a writer puts into a header, they are the written header and the bytes after the header.
 pub only_spelling : {V : Type 0} (layout : Layout V) (v : V) (bytes : List ℕ) (size : ℕ) → IsLaid 0 layout → layout_size layout ≡ size
     → AreBytes bytes → size ≤ length bytes → Holds layout v bytes → bytes ≡ spelling layout v ++ drop size bytes
 only_spelling layout v bytes size laid len fits long h =

@@ -38,7 +38,7 @@ Writes spelling old new (Ok n) =
 Writes spelling old new (Err room) =
     (room ≡ record { need = length spelling; found = length old }) × (length old < length spelling) × (new ≡ old)
 
--- If nothing refuses the bytes, they spell exactly one view. If something refuses them, they spell none.
+-- If nothing refuses the bytes, they spell exactly one view. If something refuses the bytes, they spell no view.
 abbrev pub IsSpelledOnce : {V : Type 0} → Option Refusal → (V → Type 0) → Type 0
 IsSpelledOnce {V} None Spelled = (v : V) × Spelled v × ((w : V) → Spelled w → w ≡ v)
 IsSpelledOnce {V} (Some refusal) Spelled = (w : V) → ¬ Spelled w

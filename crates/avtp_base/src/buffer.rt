@@ -38,7 +38,7 @@ impl Buffer {
     pub fn new(alloc: Global) -> Result<Self, NoMemory>
         ensures { IfOk result (λ buffer. buffer ≡ []) }
     {
-        // The memory is filled here, because a slice of it must have values.
+        // The memory is filled here, because a slice can only show filled memory.
         match vec![in alloc; 0; Self::ROOM] {
             Ok(bytes) => Ok(Buffer { bytes, len: 0 }),
             Err(_) => Err(NoMemory),

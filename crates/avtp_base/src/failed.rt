@@ -3,7 +3,7 @@
 use std::alloc::{AllocError, AllocFailed};
 use thiserror::Error;
 
-/// A call to an object outside the program failed. The object counts it.
+/// A call to an object outside the program failed. The object counts the failure.
 #[derive(Clone, Copy, Debug, PartialEq, Eq, Error)]
 #[error("a call of the outside failed")]
 pub struct Failed;

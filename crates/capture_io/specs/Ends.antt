@@ -36,8 +36,8 @@ EndsAt limit (Some bytes) fault end.ReadFault prefix =
     fault × ((rest : List ℕ) × (bytes ≡ prefix ++ rest) × (length prefix ≤ limit) × (certain_in prefix ≡ None))
 EndsAt limit (Some bytes) fault how prefix = (how ≡ end_of limit bytes) × (prefix ≡ take limit bytes)
 
--- How a capture ends if nothing in it was refused and its reading stopped at this `Stop`. If its file ended, `lack` is
--- the first missing field, if any.
+-- How a capture ends if nothing in it was refused and the reading stopped at this `Stop`. If the file ended, `lack` is
+-- the first field that is missing, if any.
 abbrev pub end_at : Stop → Option Refusal → End
 end_at stop.End lack = at_end lack
 end_at stop.Fault lack = end.ReadFault

@@ -30,8 +30,8 @@ pub enum Stop {
 }
 
 impl Stop {
-    /// How a capture ends if nothing in it was refused and its reading stopped here. If the file ended, `lack` is the
-    /// first field that it lacks.
+    /// How a capture ends if nothing in it was refused and the reading stopped here. If the file ended, `lack` is the
+    /// first field that is missing, if any.
     pub fn end(self, lack: Option<Refusal>) -> End
         ensures { result ≡ end_at self lack }
     {

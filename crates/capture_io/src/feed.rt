@@ -36,7 +36,7 @@ impl Model for Feed {
 
 impl Feed {
     /// Drops the held record, and reads on to the next. At `None` the next record is held now; otherwise the result is
-    /// how the reading ended. Once it has ended, each further call returns the same end and reads nothing.
+    /// how the reading ended. Once the reading has ended, each further call returns the same end and reads nothing.
     #[inline(never)]
     pub fn next<F: Shelf>(&mut self, shelf: &mut F) -> Option<End>
         requires { IsSome ((F.state shelf.old).slots (slot_of self.old)) }
@@ -65,7 +65,7 @@ impl Feed {
         }
     }
 
-    /// Feeds the reader the buffered bytes. If none are buffered, reads the next piece.
+    /// Feeds the reader the buffered bytes. If no bytes are buffered, reads the next piece.
     fn step<F: Shelf>(&mut self, shelf: &mut F) -> Option<End>
         requires { IsReady (F.state shelf.old).slots self.old }
         ensures { ReadsOn (F.state shelf.old) (F.state shelf.new) self.old self.new result }

@@ -68,7 +68,7 @@ impl Source {
     }
 
     /// Drops the held record, and reads on to the next. At `None` the next record is held now; otherwise the result is
-    /// how the reading ended. Once it has ended, each further call returns the same end and reads nothing.
+    /// how the reading ended. Once the reading has ended, each further call returns the same end and reads nothing.
     #[inline(always)]
     pub fn next<F: Shelf>(&mut self, shelf: &mut F) -> Option<End>
         requires { IsSome ((F.state shelf.old).slots (slot_of self.old)) }
