@@ -140,7 +140,7 @@ or_none : {X : Type 0} (x : Option X) → option_or x None ≡ x
 or_none None = refl
 or_none (Some x) = refl
 
--- appending an entry whose name no entry had sets the entry with that name
+-- if no entry had the name, appending `entry` sets the entry with this name
 pub add_named : (entries : List (String Global × Vec ℕ)) (name : List ℕ) (entry : String Global × Vec ℕ)
     → position (has_name name) entries ≡ None → string_bytes entry.0 ≡ name → SetsNamed entries (entries ++ entry ∷ []) name entry
 add_named entries name entry e named =

@@ -115,7 +115,7 @@ impl MemoryFiles {
         moved
     }
 
-    /// Appends the whole piece to the file of a slot. If there is no memory, it appends nothing.
+    /// Appends the whole piece to the file of a slot. If there is no memory, nothing is appended.
     pub fn append(&mut self, slot: Slot, piece: &[u8]) -> Result<(), NoMemory>
         requires live { option_map (λ o. o.made) (slots_in self.old slot.0) ≡ Some true }
         ensures appended { OnOk result (AppendsTo (Some (files_in self.old)) (Some (files_in self.new)) (name_in (slots_in self.old) slot.0) piece.now) }

@@ -1,4 +1,4 @@
--- A capture that is written to a file of a shelf while others are read.
+-- A capture that is written to a file of a shelf while other files are read.
 use Rattle.std.specs.Prelude.{◌≡◌, ◌≢◌, ℕ, ℤ, List, [], ◌∷◌, ◌++◌, length, Option, None, Some, IfOk, IsErrOf, IsSome, OnErr, OnOk, Result, option_map}
 use Rattle.pcap_frames.specs.declared.style.Order.TheVariants.{Little}
 use Rattle.pcap_frames.specs.declared.style.Style.{Style}

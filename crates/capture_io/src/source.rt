@@ -19,12 +19,12 @@ use std::marker::Model;
 /// A capture that is read from a shelf, and delivers its records one after the other. Each call of the shelf reads at
 /// most 65,536 bytes. The memory of a source is reserved when it is opened, and does not grow with the capture.
 ///
-/// If a record is complete in the piece that was read, it is lent from there. A record that is cut between pieces is
-/// copied. Contracts see a lent record as held, and its bytes as taken, until the next record is asked for.
+/// If a record is complete in the piece that was read, the record is lent from there. A record that is cut between
+/// pieces is copied. Contracts see a lent record as held, and its bytes as taken, until the next record is asked for.
 #[derive(Drop)]
 pub struct Source {
     feed: Feed,
-    /// The size of the held record, if it is lent: its bytes are the first buffered ones.
+    /// If the held record is lent, its size. The bytes of a lent record are the first buffered bytes.
     lent: Option<usize>,
 }
 

@@ -84,9 +84,9 @@ impl Ng {
 
     /// Takes bytes up to the end of one packet's block or of the piece, and returns how many.
     ///
-    /// While nothing is refused, it returns `Ok(0)` exactly if the piece is empty or a whole packet is held. As soon as
-    /// the bytes so far show the first refusal of the capture, it returns that refusal. From then on every `feed` and
-    /// every `finish` returns it.
+    /// While nothing is refused, the call returns `Ok(0)` exactly if the piece is empty or a whole packet is held. As
+    /// soon as the bytes so far show the first refusal of the capture, the call returns that refusal. From then on
+    /// every `feed` and every `finish` returns it.
     ///
     /// At most 2^62 bytes may be taken in all, including the piece.
     pub fn feed(&mut self, piece: &[u8]) -> Result<usize, Refusal>
