@@ -1,4 +1,4 @@
--- Command lines of every command, and the first word that breaks them.
+-- Command lines in general, and the first word that breaks one.
 use Rattle.std.proofs.Common.{◌≡◌, ℕ, suc, ◌+◌, ◌-◌, ◌<◌, ◌≤◌, ◌^◌, inl, inr, true, false, List, [], ◌∷◌, ◌++◌, flat_map, length, take, drop, Option, Some, None, slice_get, IsSomeAnd, IfSome, MatchOption, option_to_list, get_or, ◌==◌, if◌then◌else◌, arith, sym, subst, ap, ◌∙◌, refl, append_assoc, length-append, All, string_bytes, String, ℤ}
 use Rattle.std.specs.Str.{bytes_eq}
 use Rattle.std.specs.declared.alloc.Global.{Global}
@@ -25,7 +25,7 @@ use Rattle.avtp_words.proofs.Numbers.{same_spelled}
 use Rattle.avtp_words.proofs.Settings.{name-dash, same-true, found-dashes, setting-value, same_first}
 use Rattle.avtp_words.proofs.Operands.{names, samples, sampled}
 
--- the value of an option is one that its row takes
+-- if an option is given, its value is one that its row takes
 pub value_is : (rows : List Row) (name : List ℕ) (row : Row) (gs : List Setting) → row_named rows name ≡ Some row → All (IsSetting rows) gs → IfSome (value_in name gs) (IsValue row.takes)
 value_is rows name row [] is_row each = tt
 value_is rows name row (g ∷ gs) is_row each =
@@ -39,7 +39,7 @@ value_is rows name row (g ∷ gs) is_row each =
       valued None taken = tt
       valued (Some word) taken = taken
 
--- the word after the name of an option that takes a value is its value
+-- if an option takes a value, the word after the option's name is that value
 pub value-after : (rows : List Row) (gs : List Setting) (name : List ℕ) (row : Row) → are_sound rows ≡ true → All (IsSetting rows) gs → row_named rows name ≡ Some row → stands_alone row.takes ≡ false → value_after name (flat_map words_of gs) ≡ value_in name gs
 value-after rows [] name row sound each is_row wanted = refl
 value-after rows (g ∷ gs) name row sound each is_row wanted =
@@ -60,7 +60,7 @@ value-after rows (g ∷ gs) name row sound each is_row wanted =
         | inr different ↦ rw different later
       ]
 
--- A word that does not begin as an option splits a line into options and names in only one way.
+-- If `rest` does not begin with an option, words split into options and `rest` in only one way.
 pub same_settings : (rows : List Row) (gs hs : List Setting) (rest names : List (List ℕ)) → All (IsSetting rows) gs → All (IsSetting rows) hs → All IsName names → IfSome (slice_get rest 0) (λ word. BeginsWithDash word → ⊥) → flat_map words_of gs ++ rest ≡ flat_map words_of hs ++ names → (gs ≡ hs) × (rest ≡ names)
 same_settings rows [] [] rest names gs_each hs_each named ends e = (refl, e)
 same_settings rows [] (h ∷ hs) [] names gs_each hs_each named ends e = absurd (cc)
@@ -83,12 +83,12 @@ start (x ∷ before) rest = start before rest
 
 -- ---- options, then operands
 
--- no operand begins as an option
+-- the first operand, if any, does not begin with a dash
 first_operand : (operands : List Operand) (ns : List (List ℕ)) → AreOperands operands ns → IfSome (slice_get ns 0) (λ word. BeginsWithDash word → ⊥)
 first_operand operands [] are = tt
 first_operand operands (n ∷ ns) are = λ dash. name-dash n (All-head IsName n ns (names operands (n ∷ ns) are)) dash
 
--- the first word that cannot follow the options before it is also the first wrong word of the rest of a command line
+-- the first wrong word among the options is also the first wrong word of all words after the command
 pub stops_of_options : (rows : List Row) (operands : List Operand) (words : List (List ℕ)) (place : ℕ) → StopsOptions rows words place → StopsAt (IsRest rows operands) words place
 stops_of_options rows operands words place s = record {
   before = s.before;
@@ -114,7 +114,7 @@ stops_of_options rows operands words place s = record {
   go [] never = λ line. never (tail s.before line)
   go (word ∷ rest) never = λ b. never (record { more = b.more; whole = tail ((s.before ++ word ∷ []) ++ b.more) b.whole })
 
--- the word at the end of the options is the first of the rest
+-- the word at index `place` is the first word after the options
 at_end : (rows : List Row) (words : List (List ℕ)) (place : ℕ) (o : AreOptionsTo rows words place) → slice_get words place ≡ slice_get o.rest 0
 at_end rows words place o = ap (slice_get words) o.here ∙ ap (λ ws. slice_get ws (length (flat_map words_of o.settings))) o.split ∙ start (flat_map words_of o.settings) o.rest
 
@@ -122,11 +122,10 @@ drop_before : (before rest : List (List ℕ)) → drop (length before) (before +
 drop_before [] rest = refl
 drop_before (x ∷ before) rest = drop_before before rest
 
--- what is left after the options
 pub left_is : (rows : List Row) (words : List (List ℕ)) (place : ℕ) (o : AreOptionsTo rows words place) → drop place words ≡ o.rest
 left_is rows words place o = ap (λ n. drop n words) o.here ∙ ap (drop (length (flat_map words_of o.settings))) o.split ∙ drop_before (flat_map words_of o.settings) o.rest
 
--- the first of a list is the first of a prefix followed by the rest
+-- the words after `word` do not change which word is the first
 first_of : (before more : List (List ℕ)) (word : List ℕ) (rest other : List (List ℕ)) → slice_get (before ++ word ∷ rest) 0 ≡ slice_get (before ++ word ∷ other) 0
 first_of [] more word rest other = refl
 first_of (x ∷ before) more word rest other = refl
@@ -135,7 +134,7 @@ first_of_all : (before rest : List (List ℕ)) (P : List ℕ → Type 0) → IfS
 first_of_all [] rest P has = tt
 first_of_all (x ∷ before) rest P has = has
 
--- the first word that is not an operand at its place is also the first wrong word of the rest of a command line
+-- the first wrong word among the operands is also the first wrong word of all words after the command
 pub stops_of_operands : (rows : List Row) (operands : List Operand) (words : List (List ℕ)) (place wrong : ℕ) → EndsOptions rows words place → StopsAt (AreOperands operands) (drop place words) wrong → StopsAt (IsRest rows operands) words (place + wrong)
 stops_of_operands rows operands words place wrong e s = record {
   before = flat_map words_of o.settings ++ s.before;
@@ -168,7 +167,7 @@ stops_of_operands rows operands words place wrong e s = record {
         (subst (IsRest rows operands) (append_assoc (flat_map words_of o.settings ++ s.before) (word ∷ []) b.more ∙ append_assoc (flat_map words_of o.settings) s.before (word ∷ b.more)) b.whole));
   })
 
--- the words after the options are the operands
+-- options up to index `place` and then valid operands are together all words after a command
 pub rest_to : (rows : List Row) (operands : List Operand) (words : List (List ℕ)) (place : ℕ) → EndsOptions rows words place → AreOperands operands (drop place words) → IsRestTo rows operands words place
 rest_to rows operands words place e are = record {
   rest = record { settings = e.options.settings; names = e.options.rest; spelled = e.options.split; options = e.options.options; named = subst (AreOperands operands) (left_is rows words place e.options) are };
@@ -178,15 +177,15 @@ rest_to rows operands words place e are = record {
 abbrev pub options_to : (rows : List Row) (operands : List Operand) (words : List (List ℕ)) (place : ℕ) → IsRestTo rows operands words place → AreOptionsTo rows words place
 options_to rows operands words place r = record { settings = r.rest.settings; rest = r.rest.names; split = r.rest.spelled; here = r.here; options = r.rest.options }
 
--- the words from a place on, taken as a slice
+-- the slice of `words` from `place` on is the list without its first `place` words
 pub words_after : (words : List (String Global)) (place : ℕ) → texts (take (length words - place) (drop place words)) ≡ drop place (texts words)
 words_after words place = ap texts (take_all (length words - place) (drop place words) (omega (arith, length-drop place words))) ∙ sym (drop-map {X = String Global} {Y = List ℕ} string_bytes place words)
 
--- the operands' place is at most the number of words
+-- the index of the first operand is at most the number of words
 pub rest_within : (rows : List Row) (operands : List Operand) (words : List (String Global)) (place : ℕ) → IsRestTo rows operands (texts words) place → place ≤ length words
 rest_within rows operands words place r = omega (arith, r.here, ap length r.rest.spelled, length-append (flat_map words_of r.rest.settings) r.rest.names, length-map {A = String Global} {B = List ℕ} words string_bytes)
 
--- a line of a form falls into options and operands in only one way
+-- a command line splits into options and operands in only one way
 pub same_line : (form : Form) (words : List (List ℕ)) (gs hs : List Setting) (ns ms : List (List ℕ)) → IsOf form words gs ns → IsOf form words hs ms → (gs ≡ hs) × (ns ≡ ms)
 same_line form words gs hs ns ms p q =
     let spelled : flat_map words_of gs ++ ns ≡ flat_map words_of hs ++ ms = cc (p.spelled, q.spelled) in
@@ -194,7 +193,7 @@ same_line form words gs hs ns ms p q =
 
 -- ---- what options give
 
--- a number is the one that the value of its option spells
+-- the number that the code reads for an option is the one that the option gives
 pub number_given : (option : NumberOption) (default bound n : ℕ) (v : Option (List ℕ)) → option.default ≡ Some default → option.high < bound → IfSome v (IsValue (Number option.low option.high)) → IsRead bound default v n → MatchOption v (IsSomeAnd option.default (λ default. n ≡ default)) (λ word. IsNumber option.low option.high word n)
 number_given option default bound n None has small is reads = subst (λ d. IsSomeAnd d (λ default. n ≡ default)) (sym has) reads.absent
 number_given option default bound n (Some word) has small (m, is) reads =
@@ -221,14 +220,14 @@ pub format_given : (default format : AafFormat) (v : Option (List ℕ)) → IfSo
 format_given default format None is reads = reads.absent
 format_given default format (Some word) (named, is) reads = is ∙ ap format_name (sym (reads.read named is))
 
--- an option gives a number within its range if its default is within it
+-- if an option's default is in its range, the option gives a number in its range
 pub within : (option : NumberOption) (default n : ℕ) (gs : List Setting) → option.default ≡ Some default → option.low ≤ default → default ≤ option.high → IsGiven option gs n → (option.low ≤ n) × (n ≤ option.high)
 within option default n gs has least most given = go (value_in option.name gs) given where
   go : (v : Option (List ℕ)) → MatchOption v (IsSomeAnd option.default (λ default. n ≡ default)) (λ word. IsNumber option.low option.high word n) → (option.low ≤ n) × (n ≤ option.high)
   go None given = let is : n ≡ default = subst (λ d. IsSomeAnd d (λ default. n ≡ default)) has given in (omega arith, omega arith)
   go (Some word) given = (given.least, given.most)
 
--- options give only one number
+-- the settings give only one number for `option`
 pub same_number : (option : NumberOption) (m n : ℕ) (gs : List Setting) → option.high < 2 ^ 64 → IsGiven option gs m → IsGiven option gs n → m ≡ n
 same_number option m n gs small p q = go (value_in option.name gs) p q where
   fixed : (default : Option ℕ) → IsSomeAnd default (λ default. m ≡ default) → IsSomeAnd default (λ default. n ≡ default) → m ≡ n
@@ -272,7 +271,7 @@ same_signed option y z gs small p q = go (value_in option.name gs) p q where
   go None p q = p ∙ sym q
   go (Some word) p q = same_spelled word y z (omega (arith, p.size, small)) (omega (arith, q.size, small)) p.spelled q.spelled
 
--- formats differ in the fourth letter of their words
+-- a sample format by the fourth letter of its name, which differs between the formats
 by_fourth : ℕ → AafFormat
 by_fourth letter = if letter == 49 then Int16 else if letter == 50 then Int24 else if letter == 51 then Int32 else Float32
 
@@ -283,7 +282,7 @@ fourth_is Int24 = refl
 fourth_is Int32 = refl
 fourth_is Float32 = refl
 
--- a word names at most one format
+-- a word names at most one sample format
 same_format : (a b : AafFormat) → format_name a ≡ format_name b → a ≡ b
 same_format a b e = sym (fourth_is a) ∙ ap (λ (name : List ℕ). by_fourth (get_or name 3 0)) e ∙ fourth_is b
 

@@ -81,7 +81,7 @@ line_of words (talk asked) (s, rules) = record { form = talk_form; known = refl;
 
 -- ---- no command
 
--- no word is there, or the first one is no command's name
+-- there is no word, or the first word is not a command's name
 abbrev pub IsNoCommand : List (List ℕ) → Type 0
 IsNoCommand words = IfSome (slice_get words 0) (λ word. form_named word ≡ None)
 
@@ -109,7 +109,7 @@ offence_of_command words other = of_a_word 0 refl (record {
 pub words_are : (words rest : List (String Global)) (command : String Global) (name : List ℕ) → words ≡ command ∷ rest → string_bytes command ≡ name → texts words ≡ name ∷ texts rest
 words_are words rest command name e same = ap texts e ∙ ap (λ (first : List ℕ). first ∷ texts rest) same
 
--- a word that is no command's name has no form
+-- a word that is not a command's name has no form
 no_form : (word : List ℕ) → (word ≡ codes "show" → ⊥) → (word ≡ codes "check" → ⊥) → (word ≡ codes "listen" → ⊥) → (word ≡ codes "talk" → ⊥) → (word ≡ codes "soak" → ⊥) → (word ≡ codes "agree" → ⊥) → (word ≡ codes "gateway" → ⊥) → form_named word ≡ None
 no_form word not_show not_check not_listen not_talk not_soak not_agree not_gateway = elim (cases_Bool (bytes_eq (codes "show") word)) [
   | inl same ↦ absurd (not_show (sym (same-true (codes "show") word same)))
@@ -143,7 +143,7 @@ none_first (word ∷ words) e = absurd (omega (arith, e))
 
 -- ---- what the code has read
 
--- the word after the name of an option that takes a value is its value
+-- if an option takes a value, the word after the option's name is that value
 after_options : (form : Form) (words : List (String Global)) (place : ℕ) (r : IsRestTo form.rows form.operands (texts words) place) (name : List ℕ) (row : Row) → are_sound form.rows ≡ true → row_named form.rows name ≡ Some row → stands_alone row.takes ≡ false → value_after name (texts (take place words)) ≡ value_in name r.rest.settings
 after_options form words place r name row sound is_row wanted = ap (value_after name) (words_before form.rows words place (options_to form.rows form.operands (texts words) place r)) ∙ value-after form.rows r.rest.settings name row sound r.rest.options.each is_row wanted
 
@@ -152,7 +152,7 @@ number_is form words place r option default bound n sound is_row has small reads
     number_given option default bound n (value_in option.name r.rest.settings) has small (value_is form.rows option.name (number option) r.rest.settings is_row r.rest.options.each)
     (subst (λ v. IsRead bound default v n) (after_options form words place r option.name (number option) sound is_row refl) reads)
 
--- the words after the options are the operands
+-- the word at index `place + k` is operand `k`, counted from 0
 operand_at : (form : Form) (words : List (List ℕ)) (place k : ℕ) (r : IsRestTo form.rows form.operands words place) → slice_get words (place + k) ≡ slice_get r.rest.names k
 operand_at form words place k r = ap (λ n. slice_get words (n + k)) r.here ∙ ap (λ ws. slice_get ws (length (flat_map words_of r.rest.settings) + k)) r.rest.spelled ∙ beyond (flat_map words_of r.rest.settings) r.rest.names k
 
@@ -161,7 +161,7 @@ first_operand form words place r = ap (slice_get words) {y = place + 0} (omega a
 
 -- ---- a listener
 
--- The options of a command make a listener.
+-- The command of `form` has all options of a listener.
 record MakesListener (form : Form) : Type 0 where
   sound : are_sound form.rows ≡ true
   limit : row_named form.rows limits.limit.name ≡ Some (number limits.limit)
@@ -193,7 +193,7 @@ listener_says form words place r id asked makes is read = record {
 
 -- ---- show
 
--- an operand is there
+-- there is a word at the index of the first operand
 pub show_operand : (words : List (List ℕ)) (place : ℕ) → IsRestTo show_form.rows show_form.operands words place → slice_get words place ≡ None → ⊥
 show_operand words place r none = go r.rest.names r.rest.named (sym (first_operand show_form words place r) ∙ none) where
   go : (ns : List (List ℕ)) → AreOperands show_form.operands ns → slice_get ns 0 ≡ None → ⊥
@@ -229,7 +229,7 @@ check_is words place limit files r next reads =
 
 -- ---- listen
 
--- The operands of `listen`.
+-- The words after `listen` are options, then the stream ID at index `place`, then the names of files.
 pub record IdAndNames (words : List (List ℕ)) (place : ℕ) (settings : List Setting) : Type 0 where
   pub id : List ℕ
   pub files : List (List ℕ)
@@ -255,7 +255,7 @@ id_and_names words place r = go r.rest.names r.rest.spelled r.rest.named (first_
 pub listen_stands : (words : List (List ℕ)) (place : ℕ) → IsRestTo listen_form.rows listen_form.operands words place → slice_get words place ≡ None → ⊥
 listen_stands words place r none = let t = id_and_names words place r in let both = sym t.at_id ∙ none in cc
 
--- the first operand is an id
+-- the first operand of `listen` is a stream ID
 pub listen_id : (words : List (List ℕ)) (place : ℕ) (word : List ℕ) → IsRestTo listen_form.rows listen_form.operands words place → slice_get words place ≡ Some word → ((stream : ℕ) → IsId word stream → ⊥) → ⊥
 listen_id words place word r here none =
     let t = id_and_names words place r in
@@ -264,14 +264,14 @@ listen_id words place word r here none =
     let id = t.line.operands.0 in
     none id.0 (subst (λ w. IsId w id.0) same id.1)
 
--- the words are a line with the operands that are there
+-- the words fit the form of `listen` with the operands that were read
 listen_line : (words : List (List ℕ)) (place : ℕ) (settings : List Setting) (t : IdAndNames words place settings) (id : List ℕ) (files : List (List ℕ)) → slice_get words place ≡ Some id → drop (place + 1) words ≡ files → IsOf listen_form (codes "listen" ∷ words) settings (id ∷ files)
 listen_line words place settings t id files at_id at_files =
     let ids : t.id ≡ id = (let e = sym t.at_id ∙ at_id in cc) in
     let names : t.files ≡ files = sym t.at_files ∙ at_files in
     subst (λ (n : List (List ℕ)). IsOf listen_form (codes "listen" ∷ words) settings (id ∷ n)) names (subst (λ (n : List ℕ). IsOf listen_form (codes "listen" ∷ words) settings (n ∷ t.files)) ids t.line)
 
--- a word among the first words is among all words
+-- the word at index `k` of a list is also at index `k` if more words follow
 among_first : (ws more : List (List ℕ)) (k : ℕ) (word : List ℕ) → slice_get ws k ≡ Some word → slice_get (ws ++ more) k ≡ Some word
 among_first [] more k word e = absurd cc
 among_first (w ∷ ws) more zero word e = e
@@ -292,7 +292,7 @@ listen_says words place id asked r here is next read = record {
   gs : List Setting
   gs = r.rest.settings
 
-  -- a word among the options is among all words, one place later
+  -- the word at index `k` of the options is at index `k + 1` of the command line, which begins with the command
   after_command : (k : ℕ) (word : List ℕ) → slice_get (texts (take place words)) k ≡ Some word → slice_get (codes "listen" ∷ texts words) (k + 1) ≡ Some word
   after_command k word e =
       let before : texts (take place words) ≡ flat_map words_of gs = words_before listen_form.rows words place (options_to listen_form.rows listen_form.operands (texts words) place r) in
@@ -336,7 +336,7 @@ listen_says words place id asked r here is next read = record {
 
 -- ---- talk
 
--- The operands of `talk`.
+-- The words after `talk` are options, then two names, of which the first is at index `place`.
 pub record TwoNames (words : List (List ℕ)) (place : ℕ) (settings : List Setting) : Type 0 where
   pub first : List ℕ
   pub second : List ℕ
@@ -358,7 +358,7 @@ two_names words place r = go r.rest.names r.rest.spelled r.rest.named (first_ope
   }
   go (first ∷ second ∷ more ∷ ns) spelled named at_first at_second = absurd named.1.1
 
--- the words are a line with the operands that are there
+-- the words fit the form of `talk` with the two names that were read
 line_at : (words : List (List ℕ)) (place : ℕ) (settings : List Setting) (t : TwoNames words place settings) (first second : List ℕ) → slice_get words place ≡ Some first → slice_get words (place + 1) ≡ Some second → IsOf talk_form (codes "talk" ∷ words) settings (first ∷ second ∷ [])
 line_at words place settings t first second at_first at_second =
     let firsts : t.first ≡ first = (let e = sym t.at_first ∙ at_first in cc) in
@@ -371,7 +371,7 @@ first_stands words place r none = let t = two_names words place r in let both = 
 pub second_stands : (words : List (List ℕ)) (place : ℕ) → IsRestTo talk_form.rows talk_form.operands words place → slice_get words (place + 1) ≡ None → ⊥
 second_stands words place r none = let t = two_names words place r in let both = sym t.at_second ∙ none in cc
 
--- the words have an option's name exactly if the words after `talk` have it
+-- an option's name is among all words exactly if it is among the words after `talk`
 after_talk : (name : List ℕ) (tells : Bool) (words : List (List ℕ)) → BeginsWithDash name → IsTrue tells ↔ Contains words name → IsTrue tells ↔ Contains (codes "talk" ∷ words) name
 after_talk name tells words dash told =
     let all = after_first (codes "talk") name words other in
@@ -476,7 +476,7 @@ talk_clock words asked says =
 
 -- ---- soak
 
--- The operand of `soak`.
+-- The words after `soak` have the number of packets at index `place`.
 pub record OneNumber (words : List (List ℕ)) (place : ℕ) (settings : List Setting) : Type 0 where
   pub number : List ℕ
   pub line : IsOf soak_form (codes "soak" ∷ words) settings (number ∷ [])
@@ -513,14 +513,14 @@ soak_is words place word packets r here is =
 
 -- ---- a stream and two captures
 
--- what the operands are, as a slice has them
+-- the slice from `place` on holds the operands
 operands_here : (form : Form) (words : List (String Global)) (place : ℕ) (r : IsRestTo form.rows form.operands (texts words) place) → texts (take (length words - place) (drop place words)) ≡ r.rest.names
 operands_here form words place r = words_after words place ∙ left_is form.rows (texts words) place (options_to form.rows form.operands (texts words) place r)
 
 pub are_operands : (form : Form) (words : List (String Global)) (place : ℕ) → IsRestTo form.rows form.operands (texts words) place → AreOperands form.operands (texts (take (length words - place) (drop place words)))
 are_operands form words place r = subst (AreOperands form.operands) (sym (operands_here form words place r)) r.rest.named
 
--- the line with the operands that were read
+-- the words fit the command's form with the operands that were read
 line_named : (form : Form) (words : List (String Global)) (place stream : ℕ) (first second : List ℕ) (r : IsRestTo form.rows form.operands (texts words) place)
     → (n : NameStreamAndTwo (texts (take (length words - place) (drop place words))) stream first second) → IsOf form (form.command ∷ texts words) r.rest.settings (n.id ∷ first ∷ second ∷ [])
 line_named form words place stream first second r n =
@@ -540,7 +540,7 @@ agree_says words place stream asked r n is read = record {
 
 -- ---- gateway
 
--- the word after `--to` is its value
+-- the word that the code reads after `--to` is that option's value
 to_word : (words : List (String Global)) (place : ℕ) (r : IsRestTo gateway_form.rows gateway_form.operands (texts words) place) → value_after (codes "--to") (texts (take place words)) ≡ value_in (codes "--to") r.rest.settings
 to_word words place r = after_options gateway_form words place r (codes "--to") (record { name = codes "--to"; takes = takes.OutFormat }) refl refl refl
 
@@ -563,25 +563,25 @@ gateway_says words place stream asked r n is read to read_id = record {
 
 -- ---- one request
 
--- equal words are of one command
+-- the same words cannot be lines of two commands
 same_command : (form other : Form) (words : List (List ℕ)) (gs hs : List Setting) (ns ms : List (List ℕ)) → IsOf form words gs ns → IsOf other words hs ms → form.command ≡ other.command
 same_command form other words gs hs ns ms p q = cc (p.spelled, q.spelled)
 
--- two lines of the same words are of one command
+-- the same words cannot ask for requests of two commands
 one_command : (words : List (List ℕ)) (r s : Request) (p : IsCommandLine words r) (q : IsCommandLine words s) → (line_of words r p).form.command ≡ (line_of words s q).form.command
 one_command words r s p q =
     let l = line_of words r p in
     let m = line_of words s q in
     same_command l.form m.form words l.settings m.settings l.names m.names l.line m.line
 
--- the first two letters of a command's name, which differ from those of each other command
+-- the first two letters of a command's name as a number, which differs between commands
 abbrev mark : List ℕ → ℕ
 mark word = get_or word 0 0 * 256 + get_or word 1 0
 
 one_mark : (words : List (List ℕ)) (r s : Request) (p : IsCommandLine words r) (q : IsCommandLine words s) → mark (line_of words r p).form.command ≡ mark (line_of words s q).form.command
 one_mark words r s p q = ap mark (one_command words r s p q)
 
--- Words that fit a form, but are not a command line, have their offence at the command.
+-- If words fit a form but are not a command line, their offence is at the command.
 offence_of_form : (form : Form) (words : List (List ℕ)) (settings : List Setting) (names : List (List ℕ)) → form_named form.command ≡ Some form → IsOf form words settings names
     → ((request : Request) (p : IsCommandLine words request) → mark (line_of words request p).form.command ≡ mark form.command → ⊥) → IsOffence words 1
 offence_of_form form words settings names known line none = of_a_rule refl (record { form = form; known = known; settings = settings; names = names; line = line })
@@ -651,7 +651,7 @@ same_talk words a b p q = same inputs outputs
       same : a.input ≡ b.input → a.output ≡ b.output → a.kind ≡ b.kind → a.rate ≡ b.rate → a.channels ≡ b.channels → a.count ≡ b.count → a.id ≡ b.id → a.start ≡ b.start → a.lead ≡ b.lead → a.restart ≡ b.restart → a.jump ≡ b.jump → a.crf ≡ b.crf → a ≡ b
       same inputs outputs kinds rates channels counts ids starts leads restarts jumps clocks = rw (inputs, outputs, kinds, rates, channels, counts, ids, starts, leads, restarts, jumps, clocks) refl
 
--- each word is accepted, but they contradict one another
+-- if the words of `talk` fit its form but break a rule over several words, their offence is at the command
 pub offence_of_rule : (words : List (List ℕ)) (asked : Talking) → SaysTalk words asked → (KeepsRules (drop 1 words) asked → ⊥) → IsOffence words 1
 offence_of_rule words asked says breaks = offence_of_form talk_form words says.settings (asked.input ∷ asked.output ∷ []) refl says.line none where
   none : (request : Request) (p : IsCommandLine words request) → mark (line_of words request p).form.command ≡ mark (codes "talk") → ⊥
@@ -699,7 +699,7 @@ same_listen words a b p q = same
       same : a.listener ≡ b.listener → a.ring ≡ b.ring → a.raw ≡ b.raw → a.annexb ≡ b.annexb → a.files ≡ b.files → a ≡ b
       same listeners rings raws annexbs files = rw (listeners, rings, raws, annexbs, files) refl
 
--- each word after `listen` is accepted, but they contradict one another
+-- if the words of `listen` fit its form but break a rule over several words, their offence is at the command
 pub offence_of_names : (words : List (List ℕ)) (asked : Listening) → SaysListen words asked → (KeepsNames (drop 1 words) asked → ⊥) → IsOffence words 1
 offence_of_names words asked says breaks = offence_of_form listen_form words says.settings (says.id ∷ asked.files) refl says.line none where
   none : (request : Request) (p : IsCommandLine words request) → mark (line_of words request p).form.command ≡ mark (codes "listen") → ⊥
@@ -763,7 +763,7 @@ same_gateway words a b p q = same listeners
       same : a.listener ≡ b.listener → a.to ≡ b.to → a.id ≡ b.id → a.input ≡ b.input → a.output ≡ b.output → a ≡ b
       same listeners formats ids inputs outputs = rw (listeners, formats, ids, inputs, outputs) refl
 
--- words that fit the form of `gateway` but are not a command line have their offence at the command
+-- if words fit the form of `gateway` but are not a command line, their offence is at the command
 offence_of_gateway : (words : List (List ℕ)) (settings : List Setting) (names : List (List ℕ)) → IsOf gateway_form words settings names → ((other : Turning) → SaysGateway words other → KeepsOutput other → ⊥) → IsOffence words 1
 offence_of_gateway words settings names line breaks = offence_of_form gateway_form words settings names refl line none where
   none : (request : Request) (p : IsCommandLine words request) → mark (line_of words request p).form.command ≡ mark (codes "gateway") → ⊥
@@ -775,7 +775,7 @@ offence_of_gateway words settings names line breaks = offence_of_form gateway_fo
   none (agree other) p same = absurd (omega (arith, same))
   none (gateway other) (s, rules) same = breaks other s rules
 
--- no `--to` is given
+-- if `--to` is not given, the offence is at the command
 pub offence_without_to : (words : List (String Global)) (place : ℕ) → IsRestTo gateway_form.rows gateway_form.operands (texts words) place
     → ((to : GatewayFormat) → value_after (codes "--to") (texts (take place words)) ≡ Some (gateway_format_name to) → ⊥) → IsOffence (codes "gateway" ∷ texts words) 1
 offence_without_to words place r none = offence_of_gateway (codes "gateway" ∷ texts words) r.rest.settings r.rest.names line breaks where
@@ -787,19 +787,19 @@ offence_without_to words place r none = offence_of_gateway (codes "gateway" ∷ 
       let both = same_line gateway_form (codes "gateway" ∷ texts words) r.rest.settings s.settings r.rest.names (s.id ∷ other.input ∷ other.output ∷ []) line s.line in
       none other.to (to_word words place r ∙ ap (value_in (codes "--to")) both.0 ∙ s.to_given)
 
--- the capture that is written is the one that is read
+-- if the output of `gateway` has the input's name, the offence is at the command
 pub offence_of_output : (words : List (List ℕ)) (asked : Turning) → SaysGateway words asked → (KeepsOutput asked → ⊥) → IsOffence words 1
 offence_of_output words asked says breaks = offence_of_gateway words says.settings (says.id ∷ asked.input ∷ asked.output ∷ []) says.line
     (λ other s rules. breaks (subst KeepsOutput (same_gateway words other asked s says) rules))
 
--- the stream id of what `gateway` writes has 64 bits
+-- the stream ID that `gateway` writes is below 2^64
 pub gateway_id : (words : List (List ℕ)) (asked : Turning) → SaysGateway words asked → asked.id < 2 ^ 64
 gateway_id words asked says = go (value_in (codes "--id") says.settings) says.id_given where
   go : (v : Option (List ℕ)) → MatchOption v (asked.id ≡ asked.listener.stream) (λ word. IsId word asked.id) → asked.id < 2 ^ 64
   go None given = subst (λ (n : ℕ). n < 2 ^ 64) (sym given) says.listener.stream.fits
   go (Some word) given = given.fits
 
--- words ask for only one thing
+-- a command line asks for only one request
 pub same_request : (words : List (List ℕ)) (r s : Request) → IsCommandLine words r → IsCommandLine words s → r ≡ s
 same_request words (show limit file) (show other name) p q =
     let both = same_line show_form words p.settings q.settings (file ∷ []) (name ∷ []) p.line q.line in
@@ -868,12 +868,12 @@ stopped words place o line = go o.rest o.split o.stops where
   go [] split never = never (subst IsLine (split ∙ append-nil o.before) line)
   go (word ∷ rest) split never = never (record { more = rest; whole = subst IsLine (split ∙ sym (append_assoc o.before (word ∷ []) rest)) line })
 
--- no command line has an offence
+-- a command line has no offence
 no_offence : (words : List (List ℕ)) (position : ℕ) (request : Request) → IsOffence words position → IsCommandLine words request → ⊥
 no_offence words position request (of_a_word place here stops) line = stopped words place stops (line_of words request line)
 no_offence words position request (of_a_rule here fits none) line = none request line
 
--- Of two prefixes of one list, one begins with the other.
+-- Of two prefixes of one list, one is a prefix of the other.
 one_begins : (xs ys rest more : List (List ℕ)) → xs ++ rest ≡ ys ++ more → ((m : List (List ℕ)) × (ys ≡ xs ++ m) × (rest ≡ m ++ more)) ⊎ ((m : List (List ℕ)) × (xs ≡ ys ++ m) × (more ≡ m ++ rest))
 one_begins [] ys rest more e = inl (ys, refl, e)
 one_begins (x ∷ xs) [] rest more e = inr (x ∷ xs, refl, sym e)
@@ -885,7 +885,7 @@ one_begins (x ∷ xs) (y ∷ ys) rest more e =
       | inr (m, whole, left) ↦ inr (m, ap (λ (first : List ℕ). first ∷ xs) heads ∙ ap (λ (ws : List (List ℕ)). y ∷ ws) whole, left)
     ]
 
--- a continuation past a word that is not accepted begins no line
+-- if the word after `before` is not accepted, no longer prefix begins a line
 past : (before rest m : List (List ℕ)) (more : List (List ℕ)) → Stops IsLine before rest → rest ≡ m ++ more → Begins IsLine (before ++ m) → m ≡ []
 past before rest [] more stops split begins = refl
 past before [] (word ∷ m) more stops split begins = absurd (cc)
@@ -912,7 +912,7 @@ same_offence words p q (of_a_word place here stops) (of_a_rule there fits none) 
 same_offence words p q (of_a_rule here fits none) (of_a_word place there stops) = absurd (stopped words place stops fits)
 same_offence words p q (of_a_rule here fits none) (of_a_rule there others nothing) = here ∙ sym there
 
--- the command that is read from the words is the only one that they ask for
+-- the words ask for no other command than the one that was read from them
 pub answered_only : (words : List (List ℕ)) (result : Result Command Offence) → IfOk result (λ command. IsCommandLine words (request_of command)) → IfErr result (λ offence. IsOffence words offence.position)
     → (request : Request) → IsCommandLine words request → IsOkAnd result (λ command. request_of command ≡ request)
 answered_only words (Ok command) ok err request line = same_request words (request_of command) request ok line

@@ -10,7 +10,7 @@ use Rattle.avtp_words.specs.Number.{IsNumber}
 use Rattle.avtp_words.specs.Options.{Setting, value_in, words_of}
 use Rattle.avtp_words.proofs.Settings.{same-true}
 
--- an option with a value is among the words
+-- the name of an option that has a value is among the words
 has_value : (gs : List Setting) (name word : List ℕ) → value_in name gs ≡ Some word → Contains (flat_map words_of gs) name
 has_value [] name word e = absurd cc
 has_value (g ∷ gs) name word e = elim (cases_Bool (bytes_eq g.name name)) [

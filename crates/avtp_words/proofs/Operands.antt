@@ -1,4 +1,4 @@
--- Operands, and the first word that is none.
+-- Operands, and the first word that is not a valid operand.
 use Rattle.std.proofs.Common.{◌≡◌, ℕ, ◌+◌, ◌/◌, ◌%◌, ◌==◌, Bool, true, false, if◌then◌else◌, List, [], ◌∷◌, ◌++◌, take, drop, get_or, length, Option, Some, None, IfSome, IfNone, Result, Ok, Err, arith, sym, subst, ap, ◌∙◌, refl, codes, All, String, decimal}
 use Rattle.std.specs.Int.{w64, to_be_bytes}
 use Rattle.std.proofs.lemmas.List.Elements.{All-nil, All-cons, All-head, All-append, All-contains, Contains-append_left, Contains-append_right}
@@ -19,7 +19,7 @@ use Rattle.std.specs.declared.alloc.Global.{Global}
 use Rattle.avtp_words.proofs.Numbers.{number_name}
 use Rattle.avtp_words.specs.Word.{texts, IsName, IsId}
 
--- an id can also be a name
+-- a stream ID is also valid as a file's name
 pub id_name : (word : List ℕ) (id : ℕ) → IsId word id → IsName word
 unfolding decode_pairs
 id_name [] id is = absurd (let d = is.digits in cc)
@@ -48,7 +48,7 @@ names (Name ∷ operands) (n ∷ ns) are = All-cons IsName n ns are.0 (names ope
 names (Names ∷ operands) (n ∷ ns) are = are
 names (Packets ∷ operands) (n ∷ ns) are = All-cons IsName n ns (operand_name Packets n are.0) (names operands ns are.1)
 
--- some operand of each kind
+-- a valid word for each type of operand
 sample : Operand → List ℕ
 sample Id = codes "0000000000000000"
 sample Name = codes "a"
@@ -77,7 +77,6 @@ sampled (Name ∷ operands) = (sample_is Name, sampled operands)
 sampled (Names ∷ operands) = All-cons IsName (sample Names) [] (sample_is Names) (All-nil IsName)
 sampled (Packets ∷ operands) = (sample_is Packets, sampled operands)
 
--- an operand is missing
 missing : (operand : Operand) (operands : List Operand) → StopsAt (AreOperands (operand ∷ operands)) [] 0
 missing operand operands = record { before = []; rest = []; split = refl; here = refl; begins = record { more = samples (operand ∷ operands); whole = sampled (operand ∷ operands) }; stops = λ are. are }
 
@@ -85,14 +84,14 @@ pub missing_of : (operand : Operand) (operands : List Operand) (words : List (St
 missing_of operand operands [] e = missing operand operands
 missing_of operand operands (word ∷ words) e = absurd (omega (arith, e))
 
--- the first word is the operand of its place
+-- the first of valid operands is valid by itself
 first_is : (operand : Operand) (operands : List Operand) (word : List ℕ) (words : List (List ℕ)) → AreOperands (operand ∷ operands) (word ∷ words) → IsOperand operand word
 first_is Id operands word words are = are.0
 first_is Name operands word words are = are.0
 first_is Names operands word words are = All-head IsName word words are
 first_is Packets operands word words are = are.0
 
--- the first word is not the operand of its place
+-- if the first word is not valid as the first operand, it is the first wrong word
 pub other : (operand : Operand) (operands : List Operand) (word : List ℕ) (words : List (List ℕ)) → (IsOperand operand word → ⊥) → StopsAt (AreOperands (operand ∷ operands)) (word ∷ words) 0
 other operand operands word words not = record { before = []; rest = word ∷ words; split = refl; here = refl; begins = record { more = samples (operand ∷ operands); whole = sampled (operand ∷ operands) }; stops = λ b. not (first_is operand operands word b.more b.whole) }
 
@@ -108,7 +107,7 @@ rest_are Name operands word words single are = are.1
 rest_are Names operands word words single are = absurd cc
 rest_are Packets operands word words single are = are.1
 
--- a later word is wrong
+-- if the first operand is valid, the first wrong word is that of the remaining operands
 pub later : (operand : Operand) (operands : List Operand) (word : List ℕ) (words : List (List ℕ)) (place : ℕ) → takes_all operand ≡ false → IsOperand operand word → StopsAt (AreOperands operands) words place → StopsAt (AreOperands (operand ∷ operands)) (word ∷ words) (place + 1)
 later operand operands word words place single is s = record {
   before = word ∷ s.before;
@@ -122,7 +121,7 @@ later operand operands word words place single is s = record {
   go [] never = λ are. never (rest_are operand operands word s.before single are)
   go (next ∷ rest) never = λ b. never (record { more = b.more; whole = rest_are operand operands word ((s.before ++ next ∷ []) ++ b.more) single b.whole })
 
--- a word among the names is not a name
+-- for `Names`, the first word that is not a name is the first wrong word
 unnamed : (operands : List Operand) (words : List (List ℕ)) (place : ℕ) → IsFirstUnnamed words place → StopsAt (AreOperands (Names ∷ operands)) words place
 unfolding samples
 unnamed operands words place u = record {
@@ -142,7 +141,7 @@ unnamed operands words place u = record {
       let word : List ℕ = get_or words place [] in
       All-contains IsName ((before ++ word ∷ []) ++ more) word (names (Names ∷ operands) ((before ++ word ∷ []) ++ more) are) (Contains-append_left (before ++ word ∷ []) more word (Contains-append_right before (word ∷ []) word (0, omega arith, refl)))
 
--- an operand that takes all remaining words
+-- if an operand takes all remaining words, the first word that is not a name is the first wrong word
 pub all_unnamed : (operand : Operand) (operands : List Operand) (words : List (List ℕ)) (wrong : Option ℕ) → takes_all operand ≡ true → IfSome wrong (IsFirstUnnamed words) → IfSome wrong (StopsAt (AreOperands (operand ∷ operands)) words)
 all_unnamed Id operands words wrong all is = absurd cc
 all_unnamed Name operands words wrong all is = absurd cc
@@ -157,14 +156,12 @@ all_named Packets operands word words wrong all is = absurd cc
 all_named Names operands word words None all is = is
 all_named Names operands word words (Some place) all is = tt
 
--- what was decoded
 pub decoded : (word : List ℕ) (result : Result Unit FromHexError) (bytes : List ℕ) → result ≡ Ok tt → MatchResult (decode_sized word 8) (λ bs. (result ≡ Ok tt) × (bytes ≡ bs)) (λ e. result ≡ Err e) → decode_sized word 8 ≡ Ok bytes
 decoded word result bytes ok value = go (decode_sized word 8) value where
   go : (d : Result (List ℕ) FromHexError) → MatchResult d (λ bs. (result ≡ Ok tt) × (bytes ≡ bs)) (λ e. result ≡ Err e) → d ≡ Ok bytes
   go (Ok bs) value = ap Ok (sym value.1)
   go (Err e) value = absurd (let no : Ok tt ≡ Err e = sym ok ∙ value in cc)
 
--- bytes are what was decoded
 pub decoded_bytes : (word bytes : List ℕ) → decode_sized word 8 ≡ Ok bytes → IsBytes bytes
 decoded_bytes word bytes e = sized (length word % 2 == 1) (length word / 2 == 8) e where
   sized : (odd full : Bool) → (if odd then Err OddLength else if full then decode_pairs 0 word else Err InvalidStringLength) ≡ Ok bytes → IsBytes bytes

@@ -10,7 +10,7 @@ use Rattle.aaf_format.specs.Aaf.{rate_of}
 use Rattle.iec61883_format.specs.Iec.{rate_of_fdf, syt_interval}
 use Rattle.avtp_words.specs.state.Reading.{is_long_enough, suits}
 
--- the codes that name a rate are 1 to 10
+-- the codes of AAF that name a rate are 1 to 10
 known : (code rate : ℕ) → rate_of code ≡ Some rate → (1 ≤ code) × (code ≤ 10)
 known code rate h = (grind (arith, nat_tests), grind (arith, nat_tests))
 
@@ -33,7 +33,7 @@ named_rate rate code h =
 
 -- ---- IEC 61883-6
 
--- the codes that name a rate are 0 to 6
+-- the codes of IEC 61883-6 that name a rate are 0 to 6
 known_fdf : (fdf rate : ℕ) → rate_of_fdf fdf ≡ Some rate → fdf ≤ 6
 known_fdf fdf rate h = grind (arith, nat_tests)
 

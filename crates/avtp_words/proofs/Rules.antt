@@ -11,7 +11,7 @@ use Rattle.avtp_words.specs.state.Reading.{names_of}
 use Rattle.avtp_words.specs.Word.{texts}
 use Rattle.avtp_words.proofs.Steps.{absent, present}
 
--- a test of whether an option is among the words
+-- whether the name of an option is among the words
 abbrev has : List (String Global) → OptionRow → Bool
 has words row = list_any (λ word. bytes_eq (string_bytes word) row.name.now) words
 
@@ -29,22 +29,20 @@ all_lack words (row ∷ options) none = elim (cases_Bool (has words row)) [
   | inr other ↦ rw other (all_lack words options (All-tail (λ option. Contains (texts words) option → ⊥) row.name.now (names_of options) none))
 ]
 
--- the result of a test for some of the options
+-- the test finds none of `options` exactly if `words` lack all of them
 pub lack : (words : List (String Global)) (options : List OptionRow) (one : Bool) → one ≡ list_any (has words) options → IsTrue (not one) ↔ Lacks (texts words) (names_of options)
 lack words options true e = ((λ no. absurd (let f : false ≡ true = no in cc)), λ none. absurd (let f : true ≡ false = e ∙ all_lack words options none in cc))
 lack words options false e = ((λ yes. none_has words options (sym e)), λ none. refl)
 
--- the result of a test for a word, if the words do not have it
+-- the test does not find `name` exactly if `words` do not contain it
 pub not_contained : (words : List (String Global)) (name : List ℕ) (tells : Bool) → tells ≡ list_any (λ word. bytes_eq (string_bytes word) name) words → IsTrue (not tells) ↔ (Contains (texts words) name → ⊥)
 not_contained words name true e = ((λ no. absurd (let f : false ≡ true = no in cc)), λ none. absurd (none (present words name (sym e))))
 not_contained words name false e = ((λ yes. absent words name (sym e)), λ none. refl)
 
--- words with the option that others need
 pub needed_there : (words : List (List ℕ)) (needed : List ℕ) (options : List (List ℕ)) → Contains words needed → Need words needed options
 needed_there words needed [] there = All-nil (λ option. Contains words option → Contains words needed)
 needed_there words needed (option ∷ options) there = All-cons (λ option. Contains words option → Contains words needed) option options (λ given. there) (needed_there words needed options there)
 
--- words with none of these options
 pub none_needs : (words : List (List ℕ)) (needed : List ℕ) (options : List (List ℕ)) → Lacks words options → Need words needed options
 none_needs words needed [] none = All-nil (λ option. Contains words option → Contains words needed)
 none_needs words needed (option ∷ options) none = All-cons (λ option. Contains words option → Contains words needed) option options

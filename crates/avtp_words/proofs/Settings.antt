@@ -1,4 +1,4 @@
--- Options as they are given, and the only way to split words into them.
+-- The options that a command line gives, and the only way to split words into options.
 use Rattle.std.proofs.Common.{◌≡◌, ◌≢◌, ℕ, zero, suc, ◌<◌, ◌^◌, inl, inr, true, false, List, [], ◌∷◌, ◌++◌, flat_map, length, get_or, Option, Some, None, IsSomeAnd, arith, add-zero, sym, subst, ap, ◌∙◌, refl, append_assoc, length-append, All, AllPairs, Contains, IsTrue, option_to_list}
 use Rattle.std.specs.Str.{bytes_eq}
 use Rattle.std.proofs.lemmas.Bool.{cases_Bool, ltb-true, and_parts}
@@ -18,7 +18,7 @@ use Rattle.avtp_words.specs.Options.{Row, row_named, Setting, words_of, IsValue,
 use Rattle.avtp_words.proofs.Numbers.{no_dash, one_dash, no_dashes}
 use Rattle.avtp_words.proofs.Operands.{id_name}
 
--- no name begins as an option
+-- the name of a file does not begin with a dash
 pub name-dash : (word : List ℕ) → IsName word → BeginsWithDash word → ⊥
 name-dash [] name dash = name
 name-dash (first ∷ more) name dash = name dash
@@ -32,7 +32,7 @@ same-false xs ys e same = let yes = (bytes_eq-Decides xs ys).1 same in cc
 plain : false ≡ true → ⊥
 plain e = absurd cc
 
--- no value begins with two dashes
+-- no value of an option begins with two dashes
 pub value-dashes : (takes : Takes) (word : List ℕ) → is_sound takes ≡ true → IsValue takes word → begins_with_dashes word ≡ true → ⊥
 value-dashes (Number low high) word sound (n, is) dashes =
     let bound : high < 2 ^ 64 = ltb-true high (2 ^ 64) (and_parts _ _ sound).1 in
@@ -59,7 +59,7 @@ value-dashes OutFormat word sound (format, is) dashes = named format (subst (λ 
   named Aaf found = plain found
 value-dashes Nothing word sound is dashes = is
 
--- an option that takes no value has none
+-- no word is a value of an option that takes no value
 alone : (takes : Takes) (word : List ℕ) → IsTrue (stands_alone takes) → IsValue takes word → ⊥
 alone (Number low high) word stands is = absurd cc
 alone (Signed most) word stands is = absurd cc
@@ -71,7 +71,7 @@ alone Silence word stands is = absurd cc
 alone OutFormat word stands is = absurd cc
 alone Nothing word stands is = is
 
--- the row that a name finds is sound if all are, and the name begins with two dashes
+-- if all rows are sound, the row that is found by a name is sound
 pub found-sound : (rows : List Row) (name : List ℕ) (row : Row) → are_sound rows ≡ true → row_named rows name ≡ Some row → is_sound row.takes ≡ true
 found-sound [] name row sound found = cc
 found-sound (r ∷ rows) name row sound found =
@@ -88,7 +88,7 @@ found-dashes (r ∷ rows) name row sound found =
       | inr other ↦ found-dashes rows name row (and_parts _ _ sound).1 (rw other at found)
     ]
 
--- the name of an option begins with two dashes, and its value does not
+-- if all rows are sound, the name of each option begins with two dashes
 pub setting-dashes : (rows : List Row) (s : Setting) → are_sound rows ≡ true → IsSetting rows s → begins_with_dashes s.name ≡ true
 setting-dashes rows s sound is = go (row_named rows s.name) refl is.value where
   go : (found : Option Row) → row_named rows s.name ≡ found → IsSomeAnd found (λ row. IsTaken row.takes s.value) → begins_with_dashes s.name ≡ true
@@ -101,12 +101,12 @@ setting-value rows s value sound is valued = setting_value (row_named rows s.nam
   setting_value None e taken dashes = taken
   setting_value (Some row) e taken dashes = value-dashes row.takes value (found-sound rows s.name row sound e) taken dashes
 
--- a name that is not among the words belongs to no option
+-- a name that is not among the words of the options is not the name of an option
 pub fresh : (gs : List Setting) (name : List ℕ) → (Contains (flat_map words_of gs) name → ⊥) → All (λ s. s.name ≢ name) gs
 fresh [] name absent = All-nil (λ s. s.name ≢ name)
 fresh (g ∷ gs) name absent = All-cons (λ s. s.name ≢ name) g gs (λ e. absent (0, omega arith, e)) (fresh gs name (λ within. absent (Contains-append_right (words_of g) (flat_map words_of gs) name within)))
 
--- a word that begins with two dashes is among the words only as the name of an option
+-- a word that begins with two dashes is among the words of the options only as the name of an option
 pub taken : (rows : List Row) (gs : List Setting) (name : List ℕ) → are_sound rows ≡ true → All (IsSetting rows) gs → All (λ s. s.name ≢ name) gs → begins_with_dashes name ≡ true → Contains (flat_map words_of gs) name → ⊥
 taken rows [] name sound each apart dashes (k, lt, e) = absurd (omega (arith, lt))
 taken rows (g ∷ gs) name sound each apart dashes within =
@@ -120,7 +120,7 @@ taken rows (g ∷ gs) name sound each apart dashes within =
       here_ (zero, lt, e) = All-head (λ s. s.name ≢ name) g gs apart e
       here_ (suc k, lt, e) = valued g.value refl (k, omega (arith, lt), e)
 
--- in a list of options with different names, each differs from those before it
+-- if all options have different names, no option before `m` has the name of `m`
 pub apart : (gs ms : List Setting) (m : Setting) → AllPairs (λ s t. s.name ≢ t.name) (gs ++ m ∷ ms) → All (λ s. s.name ≢ m.name) gs
 apart gs ms m once k d lt =
     let here : get_or (gs ++ m ∷ ms) k d ≡ get_or gs k d = get_or_append_left gs (m ∷ ms) d k lt in
@@ -134,7 +134,7 @@ push rows gs s options is new = record { each = All-push (IsSetting rows) gs s o
 same_setting : (g h : Setting) → g.name ≡ h.name → g.value ≡ h.value → g ≡ h
 same_setting g h p q = ap (λ n. let s : Setting = record { name = n; value = g.value } in s) p ∙ ap (λ v. let s : Setting = record { name = h.name; value = v } in s) q
 
--- A list of words begins with only one option.
+-- If words begin with the option `g` and with the option `h`, these two options are equal.
 pub same_first : (rows : List Row) (g h : Setting) (xs ys : List (List ℕ)) → IsSetting rows g → IsSetting rows h → words_of g ++ xs ≡ words_of h ++ ys → (g ≡ h) × (xs ≡ ys)
 same_first rows g h xs ys g_is h_is e = go (row_named rows h.name) g.value h.value refl refl
     (subst (λ name. IsSomeAnd (row_named rows name) (λ row. IsTaken row.takes g.value)) names g_is.value) h_is.value (cc) where
@@ -150,8 +150,8 @@ same_first rows g h xs ys g_is h_is e = go (row_named rows h.name) g.value h.val
           let values : value ≡ other = cc in
           (same_setting g h names (v_is ∙ ap Some values ∙ sym w_is), cc)
 
--- The options `hs` begin with the options `gs`. The next of them has this word as its name; its value, the options after it and
--- the names are the rest.
+-- `hs` is `gs`, then an option that `word` names, then `more`. `rest` is that option's value, if it has one, then the
+-- words of `more`, then `names`.
 pub record Next (rows : List Row) (gs hs : List Setting) (word : List ℕ) (rest names : List (List ℕ)) : Type 0 where
   pub setting : Setting
   pub more : List Setting

@@ -1,4 +1,4 @@
--- A step through the options: on to the next one, or to the word that is not accepted.
+-- A step through the options: to the next option, or to a word that is not accepted.
 use Rattle.std.proofs.Common.{◌≡◌, ◌≢◌, ℕ, zero, suc, ◌+◌, ◌<◌, inl, inr, true, false, List, [], ◌∷◌, ◌++◌, map, flat_map, length, take, Option, Some, None, option_map, slice_get, IsSomeAnd, IfSome, option_to_list, codes, ◌≤◌, arith, add-one, sym, subst, ap, ◌∙◌, refl, append_assoc, length-append, All, AllPairs, Contains, Bool, IsTrue, ◌↔◌, decimal, pos, string_bytes, String}
 use Rattle.std.specs.List.{find, list_any}
 use Rattle.std.specs.Str.{bytes_eq}
@@ -21,7 +21,7 @@ use Rattle.avtp_words.specs.Options.{Row, row_named, Setting, words_of, IsValue,
 use Rattle.avtp_words.specs.Grammar.{Stops}
 use Rattle.avtp_words.proofs.Settings.{same-true, same-false, found-sound, setting-dashes, apart, push, next, fresh, taken}
 
--- the word after the first words of a list
+-- if `word` is at the index at which `rest` begins, `rest` begins with `word`
 pub at : (before rest : List (List ℕ)) (word : List ℕ) → slice_get (before ++ rest) (length before) ≡ Some word → (more : List (List ℕ)) × (rest ≡ word ∷ more)
 at [] [] word e = absurd (cc)
 at [] (r ∷ rest) word e = (rest, cc)
@@ -31,7 +31,7 @@ pub following : (before : List (List ℕ)) (word : List ℕ) (more : List (List 
 following [] word more = refl
 following (x ∷ before) word more = following before word more
 
--- the row that a name finds in the table, as the code finds it
+-- the code's search for a name finds the row of that name
 pub found : (rows : List OptionRow) (name : List ℕ) → row_named (rows_of rows) name ≡ option_map row_of (find (λ row. bytes_eq row.name.now name) rows)
 found [] name = refl
 found (r ∷ rows) name = elim (cases_Bool (bytes_eq r.name.now name)) [ inl here ↦ rw here refl | inr other ↦ rw other (found rows name) ]
@@ -60,27 +60,28 @@ present (w ∷ words) name e =
       | inr other ↦ Contains-append_right (string_bytes w ∷ []) (map string_bytes words) name (present words name (rw other at e))
     ]
 
--- the result of a test for a word
+-- the test finds `name` exactly if `words` contain it
 pub contained : (words : List (String Global)) (name : List ℕ) (tells : Bool) → tells ≡ list_any (λ word. bytes_eq (string_bytes word) name) words → IsTrue tells ↔ Contains (texts words) name
 contained words name true e = ((λ yes. present words name (sym e)), λ within. refl)
 contained words name false e = ((λ yes. absurd (cc)), λ within. absurd (absent words name (sym e) within))
 
--- a word is among others after another word
+-- if `first` is not `name`, a list contains `name` exactly if it does with `first` before it
 pub after_first : (first name : List ℕ) (words : List (List ℕ)) → (first ≡ name → ⊥) → Contains words name ↔ Contains (first ∷ words) name
 after_first first name words other = (
   (λ within. Contains-append_right (first ∷ []) words name within),
   λ within. elim (Contains-append_cases (first ∷ []) words name within) [ inl here ↦ absurd (other (only first name here)) | inr later ↦ later ],
 )
 
--- the words before the place are the options'
+-- the words before index `place` are those of the options
 pub words_before : (rows : List Row) (words : List (String Global)) (place : ℕ) (o : AreOptionsTo rows (texts words) place) → map string_bytes (take place words) ≡ flat_map words_of o.settings
 words_before rows words place o = sym (take-map string_bytes place words) ∙ ap (take place) o.split ∙ (rw o.here (take-append_seam (flat_map words_of o.settings) o.rest))
 
--- the word at the place
+-- if `word` is at index `place`, the words after the options begin with `word`
 pub here : (rows : List Row) (words : List (List ℕ)) (place : ℕ) (o : AreOptionsTo rows words place) (word : List ℕ) → slice_get words place ≡ Some word → (more : List (List ℕ)) × (o.rest ≡ word ∷ more)
 here rows words place o word e = at (flat_map words_of o.settings) o.rest word (sym (ap (λ ws. slice_get ws (length (flat_map words_of o.settings))) o.split) ∙ sym (ap (slice_get words) o.here) ∙ e)
 
--- If options and names begin with these options, followed by a word that begins as an option, that word's option is the next one.
+-- The option `setting` can follow the options `gs`: `word` is its name, which no option of `gs` has. `after` begins
+-- with its value, if it has one.
 pub record Follows (rows : List Row) (gs : List Setting) (word : List ℕ) (after : List (List ℕ)) : Type 0 where
   pub setting : Setting
   pub tail : List (List ℕ)
@@ -103,7 +104,7 @@ follows rows gs word after options dash t =
       left = n.left;
     }
 
--- a word that begins as an option is not accepted if no option of this name can follow
+-- a word that begins with a dash is not accepted if no option of this name can follow
 pub stops_here : (rows : List Row) (words : List (List ℕ)) (place : ℕ) (o : AreOptionsTo rows words place) (word : List ℕ) → slice_get words place ≡ Some word → BeginsWithDash word → ((s : Setting) → IsSetting rows s → All (λ t. t.name ≢ s.name) o.settings → word ≡ s.name → ⊥) → StopsOptions rows words place
 stops_here rows words place o word e dash none =
     let h = here rows words place o word e in
@@ -117,7 +118,7 @@ stops_here rows words place o word e dash none =
           none f.setting f.is f.new f.name;
     }
 
--- a value that an option of this sort takes, or none if it takes none
+-- a value that an option of this type takes, or no value if it takes none
 sample : (takes : Takes) → is_sound takes ≡ true → (value : Option (List ℕ)) × IsTaken takes value
 unfolding decode_pairs
 sample (Number low high) sound = (Some (decimal low), (low, record { least = omega arith; most = leb-true low high (and_parts _ _ sound).0; spelled = refl }))
@@ -130,7 +131,7 @@ sample Silence sound = (Some (codes "zero"), inl refl)
 sample OutFormat sound = (Some (codes "aaf"), (Aaf, refl))
 sample Nothing sound = (None, refl)
 
--- an option of the table, with a value that its row takes
+-- an option with this name and this value
 abbrev setting : List ℕ → Option (List ℕ) → Setting
 setting name value = record { name = name; value = value }
 
@@ -141,13 +142,13 @@ is_setting rows name value row dash e is =
 words-push : (gs : List Setting) (s : Setting) → flat_map words_of (gs ++ s ∷ []) ≡ flat_map words_of gs ++ words_of s
 words-push gs s = flat_map-append words_of gs (s ∷ []) ∙ ap (λ ws. flat_map words_of gs ++ ws) (append-nil (words_of s))
 
--- an option's value is one that the row with the option's name takes
+-- an option has a value that the row of its name takes
 value_of : (rows : List Row) (name : List ℕ) (row : Row) (s : Setting) → row_named rows name ≡ Some row → name ≡ s.name → IsSetting rows s → IsTaken row.takes s.value
 value_of rows name row s e same is =
     let found : row_named rows s.name ≡ Some row = ap (row_named rows) (sym same) ∙ e in
     subst (λ o. IsSomeAnd o (λ row. IsTaken row.takes s.value)) found is.value
 
--- the name of an option without a value of it
+-- if an option's name is not followed by a value that the option takes, the next word is not accepted
 stops_after : (rows : List Row) (gs : List Setting) (word : List ℕ) (row : Row) (more : List (List ℕ)) → AreSettings rows gs → BeginsWithDash word → row_named rows word ≡ Some row → stands_alone row.takes ≡ false → IfSome (slice_get more 0) (λ value. IsValue row.takes value → ⊥) → Stops (IsTail rows) (flat_map words_of gs ++ word ∷ []) more
 stops_after rows gs word row more options dash e wanted bad = go more bad where
   none_follows : (after : List (List ℕ)) → IfSome (slice_get after 0) (λ value. IsValue row.takes value → ⊥) → IsTail rows (flat_map words_of gs ++ word ∷ after) → ⊥
@@ -164,7 +165,7 @@ stops_after rows gs word row more options dash e wanted bad = go more bad where
   go [] bad = λ t. none_follows [] bad t
   go (value ∷ more) bad = λ b. none_follows (value ∷ b.more) bad (subst (IsTail rows) (append_assoc (flat_map words_of gs ++ word ∷ []) (value ∷ []) b.more ∙ append_assoc (flat_map words_of gs) (word ∷ []) (value ∷ b.more)) b.whole)
 
--- the words after the place
+-- the word after index `place` is the word after `word`
 pub after_place : (rows : List Row) (words : List (List ℕ)) (place : ℕ) (o : AreOptionsTo rows words place) (word : List ℕ) (more : List (List ℕ)) → o.rest ≡ word ∷ more → slice_get words (place + 1) ≡ slice_get more 0
 after_place rows words place o word more e =
     let place_is : place + 1 ≡ suc (length (flat_map words_of o.settings)) = rw add-one (ap suc o.here) in
@@ -184,7 +185,7 @@ stops_next rows words place o word row sound e dash is_row new lacks =
       stops = stops_after rows o.settings word row h.0 o.options dash is_row lacks.wanted (subst (λ v. IfSome v (λ value. IsValue row.takes value → ⊥)) (after_place rows words place o word h.0 h.1) lacks.none);
     }
 
--- what is left after a value
+-- if `more` begins with the value, it is the value and then some rest
 left_after : (value : Option (List ℕ)) (more : List (List ℕ)) → IfSome value (λ word. slice_get more 0 ≡ Some word) → (rest : List (List ℕ)) × (more ≡ option_to_list value ++ rest)
 left_after None more here = (more, refl)
 left_after (Some word) [] here = absurd (cc)
@@ -203,33 +204,32 @@ goes_on rows words place len o word row e dash is_row new t =
       options = push rows o.settings s o.options (is_setting rows word t.value row dash is_row t.taken) new;
     }
 
--- the steps in terms of what the code has tested
+-- ---- the steps in terms of what the code has tested
 
--- the table has no row of this name
+-- an option that has no row in the table is not accepted
 pub unknown : (rows : List OptionRow) (words : List (String Global)) (place : ℕ) (o : AreOptionsTo (rows_of rows) (texts words) place) (name : List ℕ) → slice_get (texts words) place ≡ Some name → BeginsWithDash name → find (λ row. bytes_eq row.name.now name) rows ≡ None → StopsOptions (rows_of rows) (texts words) place
 unknown rows words place o name e dash none = stops_here (rows_of rows) (texts words) place o name e dash (λ s is new same.
     let no_row : row_named (rows_of rows) s.name ≡ None = ap (row_named (rows_of rows)) (sym same) ∙ found rows name ∙ ap (option_map row_of) none in
     subst (λ o. IsSomeAnd o (λ row. IsTaken row.takes s.value)) no_row is.value)
 
--- the option is before the place already
+-- an option that is already among the words before index `place` is not accepted
 pub repeated : (rows : List OptionRow) (words : List (String Global)) (place : ℕ) (o : AreOptionsTo (rows_of rows) (texts words) place) (name : List ℕ) → are_sound (rows_of rows) ≡ true → slice_get (texts words) place ≡ Some name → BeginsWithDash name → list_any (λ word. bytes_eq (string_bytes word) name) (take place words) ≡ true → StopsOptions (rows_of rows) (texts words) place
 repeated rows words place o name sound e dash given = stops_here (rows_of rows) (texts words) place o name e dash (λ s is new same.
     let within : Contains (flat_map words_of o.settings) name = subst (λ ws. Contains ws name) (words_before (rows_of rows) words place o) (present (take place words) name given) in
     let within' : Contains (flat_map words_of o.settings) s.name = subst (Contains (flat_map words_of o.settings)) same within in
     taken (rows_of rows) o.settings s.name sound o.options.each new (setting-dashes (rows_of rows) s sound is) within')
 
--- the option does not come before the place
+-- an option that is not among the words before index `place` differs from each option there
 pub first : (rows : List OptionRow) (words : List (String Global)) (place : ℕ) (o : AreOptionsTo (rows_of rows) (texts words) place) (name : List ℕ) → list_any (λ word. bytes_eq (string_bytes word) name) (take place words) ≡ false → All (λ s. s.name ≢ name) o.settings
 first rows words place o name not_given = fresh o.settings name (λ within. absent (take place words) name not_given (subst (λ ws. Contains ws name) (sym (words_before (rows_of rows) words place o)) within))
 
 pub row_is : (rows : List OptionRow) (name : List ℕ) (row : OptionRow) → find (λ row. bytes_eq row.name.now name) rows ≡ Some row → row_named (rows_of rows) name ≡ Some (row_of row)
 row_is rows name row e = found rows name ∙ ap (option_map row_of) e
 
--- a word is among the words
 pub stands : (words : List (String Global)) (place : ℕ) (word : List ℕ) → slice_get (texts words) place ≡ Some word → place < length words
 stands words place word e = omega (arith, slice_get_within (texts words) place word e, length-map {A = String Global} {B = List ℕ} words string_bytes)
 
--- a value is among the words
+-- an option and its value end within the words
 pub within : (takes : Takes) (words : List (String Global)) (place len : ℕ) → place < length words → IsTakenAt takes (texts words) (place + 1) len → place + (1 + len) ≤ length words
 within takes words place len lt t = go t.value t.size t.here where
   go : (value : Option (List ℕ)) → len ≡ length (option_to_list value) → IfSome value (λ word. slice_get (texts words) (place + 1) ≡ Some word) → place + (1 + len) ≤ length words

@@ -1,4 +1,4 @@
--- What an option gives: what its value says, or its default if it is not given.
+-- What an option gives: what its value spells, or the option's default if the option is not given.
 use Rattle.std.specs.Prelude.{◌≡◌, ℕ, ℤ, List, Option, Some, None, MatchOption, IsSomeAnd, IfSome, codes}
 use Rattle.aaf_format.specs.declared.aaf.AafFormat.{AafFormat}
 use Rattle.avtp_words.specs.declared.device.Silence.{Silence}
@@ -8,31 +8,34 @@ use Rattle.avtp_words.specs.Limits.{NumberOption, SignedOption}
 use Rattle.avtp_words.specs.Word.{IsId}
 use Rattle.avtp_words.specs.Options.{Setting, value_in, format_name}
 
--- the number, within its range, that an option gives, or its default if it is not given; the option must have a default
+-- `n` is what `option` gives: the number that its value spells, within the option's range, or the default if the option
+-- is not given. The option must have a default.
 abbrev pub IsGiven : NumberOption → List Setting → ℕ → Type 0
 IsGiven option settings n = MatchOption (value_in option.name settings) (IsSomeAnd option.default (λ default. n ≡ default)) (λ word. IsNumber option.low option.high word n)
 
--- the number, within its range, that an option gives, or its default if it is not given, which may be none
+-- `given` is what `option` gives: the number that its value spells, within the option's range, or the default if the
+-- option is not given. Without a default, that is `None`.
 abbrev pub IsGivenIf : NumberOption → List Setting → Option ℕ → Type 0
 IsGivenIf option settings given = MatchOption (value_in option.name settings) (given ≡ option.default) (λ word. (n : ℕ) × (given ≡ Some n) × IsNumber option.low option.high word n)
 
--- the stream id that the option of this name gives, or else this default
+-- `id` is the stream ID that the option `name` gives, or `default` if the option is not given
 abbrev pub IsGivenId : List ℕ → ℕ → List Setting → ℕ → Type 0
 IsGivenId name default settings id = MatchOption (value_in name settings) (id ≡ default) (λ word. IsId word id)
 
--- the stream id that the option of this name gives, or none
+-- `given` is the stream ID that the option `name` gives, or `None` if the option is not given
 abbrev pub IsGivenIdIf : List ℕ → List Setting → Option ℕ → Type 0
 IsGivenIdIf name settings given = MatchOption (value_in name settings) (given ≡ None) (λ word. (id : ℕ) × (given ≡ Some id) × IsId word id)
 
--- the number, within its range and possibly negative, that an option gives, or its default if it is not given
+-- `z` is what `option` gives: the number, possibly negative, that its value spells, within the option's range, or the
+-- default if the option is not given
 abbrev pub IsGivenSigned : SignedOption → List Setting → ℤ → Type 0
 IsGivenSigned option settings z = MatchOption (value_in option.name settings) (z ≡ option.default) (λ word. IsSigned option.most word z)
 
--- the sample format that the option of this name gives, or else this default
+-- `format` is the sample format that the option `name` gives, or `default` if the option is not given
 abbrev pub IsGivenFormat : List ℕ → AafFormat → List Setting → AafFormat → Type 0
 IsGivenFormat name default settings format = MatchOption (value_in name settings) (format ≡ default) (λ word. word ≡ format_name format)
 
--- what silence is made of, by `--silence`: zeros if it is not given
+-- what silence is made of: what `--silence` says, or zeros if the option is not given
 abbrev pub IsGivenSilence : List Setting → Silence → Type 0
 IsGivenSilence settings Zero = IfSome (value_in (codes "--silence") settings) (λ word. word ≡ codes "zero")
 IsGivenSilence settings Am824 = value_in (codes "--silence") settings ≡ Some (codes "am824")

@@ -32,20 +32,20 @@ use Rattle.avtp_words.specs.Operands.{AreOperands}
 use Rattle.avtp_words.specs.Word.{texts, IsId}
 use Rattle.avtp_words.specs.Options.{Row, Setting, words_of, AreSettings, gateway_format_name, value_in}
 
--- ---- what a command line asks for, without its names' location in memory
+-- ---- what a command line asks for, with plain bytes in place of borrowed strings
 
--- a file that is written: its name, and the position of the name among the words of the command line, from 0
+-- a file that is written: its name, and the name's position among the words of the command line, counted from 0
 pub record NamedFile : Type 0 where
   pub name : List ℕ
   pub place : ℕ
 
--- a file of raw audio, and what silence in it is made of
+-- a file of raw audio, and what is written into it as silence
 pub record NamedRaw : Type 0 where
   pub file : NamedFile
   pub silence : Silence
 
--- what `listen` is asked for: the stream and the listener to it, the size of the ring, the files that are written, if there
--- are any, and the captures, in order
+-- what `listen` is asked for: the stream and its listener, the size of the queue between the two threads, the files to
+-- write, if any, and the captures in order
 pub record Listening : Type 0 where
   pub listener : ListenerOptions
   pub ring : ℕ
@@ -53,7 +53,7 @@ pub record Listening : Type 0 where
   pub annexb : Option NamedFile
   pub files : List (List ℕ)
 
--- what `talk` is asked for: the samples to make a capture of, and how they are sent
+-- what `talk` is asked for: the file to make a capture of, and how its packets are sent
 pub record Talking : Type 0 where
   pub kind : Kind
   pub rate : ℕ
@@ -68,14 +68,14 @@ pub record Talking : Type 0 where
   pub input : List ℕ
   pub output : List ℕ
 
--- what `agree` is asked for: the stream and the listener to it, and the two captures
+-- what `agree` is asked for: the stream, its listener, and the two captures
 pub record Agreeing : Type 0 where
   pub listener : ListenerOptions
   pub a : List ℕ
   pub b : List ℕ
 
--- what `gateway` is asked for: the stream and the listener to it, the format and the stream id in the capture that is written,
--- and the names of the captures that are read and written
+-- what `gateway` is asked for: the stream and its listener, the format and the stream ID to write, and the names of the
+-- input and the output
 pub record Turning : Type 0 where
   pub listener : ListenerOptions
   pub to : GatewayFormat
@@ -83,7 +83,7 @@ pub record Turning : Type 0 where
   pub input : List ℕ
   pub output : List ℕ
 
--- what a command line asks for, given its command
+-- what a command line asks for, by command
 pub data Request : Type 0 where
   show : (limit : ℕ) → (file : List ℕ) → Request
   check : (limit : ℕ) → (files : List (List ℕ)) → Request
@@ -93,15 +93,15 @@ pub data Request : Type 0 where
   agree : Agreeing → Request
   gateway : Turning → Request
 
--- a file that is written, without its name's location in memory
+-- a file that is written, with plain bytes in place of its borrowed name
 abbrev pub named_file : DeviceFile → NamedFile
 named_file file = record { name = file.name.now; place = file.place }
 
--- a file of raw audio, without its name's location in memory
+-- a file of raw audio, with plain bytes in place of its borrowed name
 abbrev pub named_raw : RawFile → NamedRaw
 named_raw raw = record { file = named_file raw.file; silence = raw.silence }
 
--- what `listen` is asked for, without its names' location in memory
+-- what `listen` is asked for, with plain bytes in place of borrowed strings
 abbrev pub listening_of : AskedListen → Listening
 listening_of asked = record {
   listener = asked.listener;
@@ -111,7 +111,7 @@ listening_of asked = record {
   files = texts asked.files.now;
 }
 
--- what `talk` is asked for, without its names' location in memory
+-- what `talk` is asked for, with plain bytes in place of borrowed strings
 abbrev pub talking_of : AskedTalk → Talking
 talking_of asked = record {
   kind = asked.kind;
@@ -128,15 +128,15 @@ talking_of asked = record {
   output = asked.output.now;
 }
 
--- what `agree` is asked for, without its names' location in memory
+-- what `agree` is asked for, with plain bytes in place of borrowed strings
 abbrev pub agreeing_of : AskedAgree → Agreeing
 agreeing_of asked = record { listener = asked.listener; a = asked.a.now; b = asked.b.now }
 
--- what `gateway` is asked for, without its names' location in memory
+-- what `gateway` is asked for, with plain bytes in place of borrowed strings
 abbrev pub turning_of : AskedGateway → Turning
 turning_of asked = record { listener = asked.listener; to = asked.to; id = asked.id; input = asked.input.now; output = asked.output.now }
 
--- what a command is asked for, without its names' location in memory
+-- what a command is asked for, with plain bytes in place of borrowed strings
 abbrev pub request_of : Command → Request
 request_of (Show limit file) = show limit file.now
 request_of (Check limit files) = check limit (texts files.now)
@@ -168,7 +168,7 @@ output_of (gateway asked) = Some asked.output
 
 -- ---- the commands
 
--- the word of a command, the options that it knows, and its operands
+-- a command: its name, the options that it knows, and its operands
 pub record Form : Type 0 where
   pub command : List ℕ
   pub rows : List Row
@@ -190,7 +190,7 @@ check_form = record {
   operands = operand.Names ∷ [];
 }
 
--- the options that make a listener, for each command that listens
+-- the options of the listener in `listen`, `agree` and `gateway`
 abbrev pub listener_rows : List Row
 listener_rows =
     number limits.limit ∷
@@ -268,11 +268,11 @@ gateway_form = record {
 abbrev pub forms : List Form
 forms = show_form ∷ check_form ∷ listen_form ∷ talk_form ∷ soak_form ∷ agree_form ∷ gateway_form ∷ []
 
--- the form of the command with this name, if there is one
+-- the form of the command named `command`, if there is such a command
 abbrev pub form_named : List ℕ → Option Form
 form_named command = find (λ form. bytes_eq form.command command) forms
 
--- the command, its options in any order, each at most once, and then its operands
+-- `words` are the command, then its options in any order, each at most once, then its operands
 pub record IsOf (form : Form) (words : List (List ℕ)) (settings : List Setting) (names : List (List ℕ)) : Type 0 where
   pub spelled : words ≡ form.command ∷ (flat_map words_of settings ++ names)
   pub options : AreSettings form.rows settings
@@ -280,19 +280,20 @@ pub record IsOf (form : Form) (words : List (List ℕ)) (settings : List Setting
 
 -- ---- what the words say
 
--- what `show` is asked for
+-- `words` are a `show` command line for this limit and this file
 pub record IsShow (words : List (List ℕ)) (limit : ℕ) (file : List ℕ) : Type 0 where
   pub settings : List Setting
   pub line : IsOf show_form words settings (file ∷ [])
   pub limit_given : IsGiven limits.limit settings limit
 
--- what `check` is asked for
+-- `words` are a `check` command line for this limit and these files
 pub record IsCheck (words : List (List ℕ)) (limit : ℕ) (files : List (List ℕ)) : Type 0 where
   pub settings : List Setting
   pub line : IsOf check_form words settings files
   pub limit_given : IsGiven limits.limit settings limit
 
--- The option with this name gives this file. The file's place is that of its name among the words: right after the option.
+-- The option named `option` gives this file. The file's `place` is the index of its name in `words`: the name directly
+-- follows the option.
 pub record NamesFile (words : List (List ℕ)) (settings : List Setting) (option : List ℕ) (file : NamedFile) : Type 0 where
   pub value : value_in option settings ≡ Some file.name
   pub before : ℕ
@@ -300,22 +301,22 @@ pub record NamesFile (words : List (List ℕ)) (settings : List Setting) (option
   pub option_at : slice_get words before ≡ Some option
   pub name_at : slice_get words file.place ≡ Some file.name
 
--- the option with this name gives this file, or is not given if there is no file
+-- If there is a file, the option named `option` gives this file. If there is none, the option is not given.
 abbrev pub IsGivenFile : List (List ℕ) → List Setting → List ℕ → Option NamedFile → Type 0
 IsGivenFile words settings option None = value_in option settings ≡ None
 IsGivenFile words settings option (Some file) = NamesFile words settings option file
 
--- Words ask for raw audio in this file, with silence of this sort.
+-- `words` ask for raw audio in this file, with this kind of silence.
 pub record SaysRaw (words : List (List ℕ)) (settings : List Setting) (raw : NamedRaw) : Type 0 where
   pub file : NamesFile words settings (codes "--raw") raw.file
   pub silence : IsGivenSilence settings raw.silence
 
--- Words ask for this file of raw audio, or for none.
+-- If there is a file, `words` ask for raw audio in this file. If there is none, `--raw` is not given.
 abbrev pub IsGivenRaw : List (List ℕ) → List Setting → Option NamedRaw → Type 0
 IsGivenRaw words settings None = value_in (codes "--raw") settings ≡ None
 IsGivenRaw words settings (Some raw) = SaysRaw words settings raw
 
--- Words ask for this listener to a stream, whose id is this word.
+-- The options ask for this listener, and the word `id` is the ID of its stream.
 pub record SaysListener (settings : List Setting) (id : List ℕ) (asked : ListenerOptions) : Type 0 where
   pub stream : IsId id asked.stream
   pub limit : IsGiven limits.limit settings asked.limit
@@ -326,7 +327,7 @@ pub record SaysListener (settings : List Setting) (id : List ℕ) (asked : Liste
   pub clock : IsGivenIdIf (codes "--clock") settings asked.clock
   pub shift : IsGivenSigned limits.crf_shift settings asked.shift
 
--- what `listen` is asked for, each word by itself
+-- `words` fit the form of `listen` and ask for `asked`. The rules over several words are not included.
 pub record SaysListen (words : List (List ℕ)) (asked : Listening) : Type 0 where
   pub settings : List Setting
   pub id : List ℕ
@@ -336,22 +337,21 @@ pub record SaysListen (words : List (List ℕ)) (asked : Listening) : Type 0 whe
   pub raw : IsGivenRaw words settings asked.raw
   pub annexb : IsGivenFile words settings (codes "--annexb") asked.annexb
 
--- what `soak` is asked for
+-- `words` are a `soak` command line for this number of packets
 pub record IsSoak (words : List (List ℕ)) (packets : ℕ) : Type 0 where
   pub settings : List Setting
   pub number : List ℕ
   pub line : IsOf soak_form words settings (number ∷ [])
   pub packets_given : IsNumber 0 limits.packets number packets
 
--- what `agree` is asked for
+-- `words` are an `agree` command line that asks for `asked`
 pub record SaysAgree (words : List (List ℕ)) (asked : Agreeing) : Type 0 where
   pub settings : List Setting
   pub id : List ℕ
   pub line : IsOf agree_form words settings (id ∷ asked.a ∷ asked.b ∷ [])
   pub listener : SaysListener settings id asked.listener
 
--- What `gateway` is asked for, each word by itself, and one rule over several words: `--to` must be given. The stream keeps its
--- id if `--id` is not given.
+-- `words` fit the form of `gateway`, give `--to`, and ask for `asked`. If `--id` is not given, the stream keeps its ID.
 pub record SaysGateway (words : List (List ℕ)) (asked : Turning) : Type 0 where
   pub settings : List Setting
   pub id : List ℕ
@@ -360,25 +360,26 @@ pub record SaysGateway (words : List (List ℕ)) (asked : Turning) : Type 0 wher
   pub to_given : value_in (codes "--to") settings ≡ Some (gateway_format_name asked.to)
   pub id_given : IsGivenId (codes "--id") asked.listener.stream settings asked.id
 
--- The words ask for an AAF stream of this sample format, sparse or not.
+-- `words` ask for an AAF stream in this sample format. It is sparse exactly if `sparse` is true.
 pub record SaysAaf (words : List (List ℕ)) (settings : List Setting) (format : AafFormat) (sparse : Bool) : Type 0 where
   pub kind : IfSome (value_in (codes "--kind") settings) (λ word. word ≡ codes "aaf")
   pub format_given : IsGivenFormat (codes "--format") Int16 settings format
   pub sparse_given : IsTrue sparse ↔ Contains words (codes "--sparse")
 
--- The words ask for an H.264 stream: each packet of a NAL unit has a timestamp, or only the unit's last fragment has one.
+-- `words` ask for an H.264 stream. If `last_stamp` is true, only the last fragment of a NAL unit has a timestamp.
+-- Otherwise each packet has one.
 pub record SaysVideo (words : List (List ℕ)) (settings : List Setting) (last_stamp : Bool) : Type 0 where
   pub kind : value_in (codes "--kind") settings ≡ Some (codes "h264")
   pub last_stamp_given : IsTrue last_stamp ↔ Contains words (codes "--last-stamp")
 
--- Words ask for a stream of this kind, which is AAF if no kind is given.
+-- `words` ask for a stream of this kind. Without `--kind`, the kind is AAF.
 abbrev pub SaysKind : List (List ℕ) → List Setting → Kind → Type 0
 SaysKind words settings (Aaf format sparse) = SaysAaf words settings format sparse
 SaysKind words settings Am824 = value_in (codes "--kind") settings ≡ Some (codes "am824")
 SaysKind words settings (H264 last_stamp) = SaysVideo words settings last_stamp
 
--- Words ask for this media clock with a stream of `rate` sample frames a second. Its base frequency is the stream's
--- rate if no other is given.
+-- The options ask for this media clock, with a stream of `rate` sample frames a second. Without `--crf-rate`, the
+-- clock's base frequency is `rate`.
 pub record SaysCrf (settings : List Setting) (rate : ℕ) (crf : Crf) : Type 0 where
   pub id : IsGivenIdIf (codes "--crf") settings (Some crf.id)
   pub base : IsGiven (with_default limits.crf_rate rate) settings crf.rate
@@ -386,12 +387,12 @@ pub record SaysCrf (settings : List Setting) (rate : ℕ) (crf : Crf) : Type 0 w
   pub interval : IsGiven limits.crf_interval settings crf.interval
   pub points : IsGiven limits.crf_points settings crf.points
 
--- Words ask for this media clock, or for none.
+-- If there is a clock, the options ask for this media clock. If there is none, `--crf` is not given.
 abbrev pub SaysClock : List Setting → ℕ → Option Crf → Type 0
 SaysClock settings rate None = IsGivenIdIf (codes "--crf") settings None
 SaysClock settings rate (Some crf) = SaysCrf settings rate crf
 
--- what `talk` is asked for, each word by itself
+-- `words` fit the form of `talk` and ask for `asked`. The rules over several words are not included.
 pub record SaysTalk (words : List (List ℕ)) (asked : Talking) : Type 0 where
   pub settings : List Setting
   pub line : IsOf talk_form words settings (asked.input ∷ asked.output ∷ [])
@@ -408,56 +409,58 @@ pub record SaysTalk (words : List (List ℕ)) (asked : Talking) : Type 0 where
   pub jump : IsGiven limits.jump settings asked.jump
   pub crf : SaysClock settings asked.rate asked.crf
 
--- An AAF stream has a nominal sample rate of AAF, and the samples of a packet fit into it.
+-- AAF has a code for the sample rate, and the samples of a packet take at most 1,476 bytes.
 pub record FitsSamples (format : AafFormat) (asked : Talking) : Type 0 where
   pub rate : (code : ℕ) × (rate_of code ≡ Some asked.rate)
   pub size : asked.count * frame_size asked.channels format ≤ limits.samples
 
--- An AM824 stream has a sample rate of IEC 61883-6. A packet has at least an eighth as many blocks as the SYT interval, so each 8
--- packets have a stamped block. A block has at most 256 quadlets, and the blocks of a packet fit into it.
+-- IEC 61883-6 has a code for the sample rate. The blocks of a packet are at least an eighth of the SYT interval,
+-- because then each 8 packets in a row have a stamped block. A block has at most 256 quadlets, and the blocks of a
+-- packet take at most 1,468 bytes.
 pub record FitsBlocks (asked : Talking) : Type 0 where
   pub rate : (fdf : ℕ) × (rate_of_fdf fdf ≡ Some asked.rate) × IsSomeAnd (syt_interval fdf) (λ interval. interval ≤ 8 * asked.count)
   pub quadlets : asked.channels ≤ limits.quadlets
   pub size : asked.count * block_size asked.channels ≤ limits.blocks
 
--- what `talk` is asked for fits the kind of its stream: the format has the rate, and a packet fits an Ethernet frame; H.264 has
--- at most 240 access units a second
+-- The request fits the kind of its stream. For audio, the format has a code for the sample rate, and a packet fits an
+-- Ethernet frame. For H.264, there are at most 240 access units a second.
 abbrev pub FitsKind : Kind → Talking → Type 0
 FitsKind (Aaf format sparse) asked = FitsSamples format asked
 FitsKind Am824 asked = FitsBlocks asked
 FitsKind (H264 last_stamp) asked = asked.rate ≤ limits.access_units
 
--- The sample frames from one CRF timestamp to the next in a stream of `rate` sample frames a second: they take as long as
--- `interval` events at the clock's frequency, which is its base frequency times the factor of its pull (IEEE 1722-2016, 10).
+-- The number of sample frames from one CRF timestamp to the next, in a stream of `rate` sample frames a second. They
+-- take as long as `interval` events at the clock's frequency, which is the base frequency times the pull factor (IEEE
+-- 1722-2016, 10).
 abbrev pub spacing_of : Crf → ℕ → ℕ
 spacing_of crf rate = crf.interval * rate * pull_down crf.pull / (crf.rate * pull_up crf.pull)
 
--- The sample frames from one restart to the next, `packets` times `count`, are those of a multiple of 8 whole clock packets.
+-- The sample frames from one restart to the next, `packets` times `count`, take a multiple of 8 whole clock packets.
 -- Without restarts there is no condition.
 abbrev pub HasWholeRuns : Crf → ℕ → ℕ → Option ℕ → Type 0
 HasWholeRuns crf rate count None = ⊤
 HasWholeRuns crf rate count (Some packets) = packets * count % (8 * spacing_of crf rate * crf.points) ≡ 0
 
--- A clock fits a stream of `rate` sample frames a second, with `count` in a packet: its timestamps are at whole sample frames,
--- and between two restarts there is a multiple of 8 whole clock packets.
+-- The clock fits a stream of `rate` sample frames a second, with `count` in a packet. The clock's timestamps are at
+-- whole sample frames. Between two restarts there is a multiple of 8 whole clock packets.
 pub record FitsStream (crf : Crf) (rate count : ℕ) (restart : Option ℕ) : Type 0 where
   pub whole : crf.interval * rate * pull_down crf.pull % (crf.rate * pull_up crf.pull) ≡ 0
   pub runs : HasWholeRuns crf rate count restart
 
--- no media clock is asked for, or it fits the stream
+-- no media clock is asked for, or the clock fits the stream
 abbrev pub FitsClock : Option Crf → ℕ → ℕ → Option ℕ → Type 0
 FitsClock None rate count restart = ⊤
 FitsClock (Some crf) rate count restart = FitsStream crf rate count restart
 
--- The words have none of these options.
+-- None of `options` is among `words`.
 abbrev pub Lacks : List (List ℕ) → List (List ℕ) → Type 0
 Lacks words options = All (λ option. Contains words option → ⊥) options
 
--- If the words have one of these options, they have the one that it needs.
+-- If one of `options` is among `words`, the option `needed` is among `words`, too.
 abbrev pub Need : List (List ℕ) → List ℕ → List (List ℕ) → Type 0
 Need words needed options = All (λ option. Contains words option → Contains words needed) options
 
--- the options of `talk` that a kind does not have
+-- the options of `talk` that a kind does not allow
 abbrev pub lacking : Kind → List (List ℕ)
 lacking (Aaf format sparse) = codes "--last-stamp" ∷ []
 lacking Am824 = codes "--format" ∷ codes "--sparse" ∷ codes "--last-stamp" ∷ []
@@ -482,13 +485,14 @@ of_restart = codes "--jump" ∷ []
 abbrev pub of_clock : List (List ℕ)
 of_clock = codes "--crf-interval" ∷ codes "--crf-points" ∷ codes "--crf-rate" ∷ codes "--crf-pull" ∷ []
 
--- Each option of `talk` among the words is one that the kind has, and the option that it needs, if any, is given, too.
+-- `words` contain no option that `kind` does not allow. If an option in `words` needs another option, `words` contain
+-- that option, too.
 pub record FitsOptions (kind : Kind) (words : List (List ℕ)) : Type 0 where
   pub kind_has : Lacks words (lacking kind)
   pub restart : Need words (codes "--restart") of_restart
   pub clock : Need words (codes "--crf") of_clock
 
--- The rules over several words after `talk`: the file written differs from the one read, the stream fits its kind, the
+-- The rules over several words after `talk`: the output's name differs from the input's, the stream fits its kind, the
 -- clock fits the stream, and the options fit one another.
 pub record KeepsRules (words : List (List ℕ)) (asked : Talking) : Type 0 where
   pub apart : asked.input ≢ asked.output
@@ -500,21 +504,21 @@ pub record KeepsRules (words : List (List ℕ)) (asked : Talking) : Type 0 where
 abbrev pub of_raw : List (List ℕ)
 of_raw = codes "--silence" ∷ []
 
--- The rules over several words after `listen`: `--silence` needs `--raw`, and each file that is written has a different name
--- from each file that is read, and from the other one that is written.
+-- The rules over several words after `listen`. `--silence` needs `--raw`. No file to write has the name of a file to
+-- read. If two files are written, their names differ.
 pub record KeepsNames (words : List (List ℕ)) (asked : Listening) : Type 0 where
   pub silence : Need words (codes "--raw") of_raw
   pub new_raw : IfSome asked.raw (λ raw. Contains asked.files raw.file.name → ⊥)
   pub new_annexb : IfSome asked.annexb (λ file. Contains asked.files file.name → ⊥)
   pub apart : IfSome asked.raw (λ raw. IfSome asked.annexb (λ file. raw.file.name ≢ file.name))
 
--- A rule over several words after `gateway`: the file written differs from the one read.
+-- A rule over several words after `gateway`: the output's name differs from the input's.
 pub record KeepsOutput (asked : Turning) : Type 0 where
   pub apart : asked.input ≢ asked.output
 
 -- ---- command lines
 
--- the words are a command line, and this is what they ask for
+-- `words` are a command line that asks for this request
 abbrev pub IsCommandLine : List (List ℕ) → Request → Type 0
 IsCommandLine words (show limit file) = IsShow words limit file
 IsCommandLine words (check limit files) = IsCheck words limit files
@@ -524,7 +528,7 @@ IsCommandLine words (agree asked) = SaysAgree words asked
 IsCommandLine words (gateway asked) = SaysGateway words asked × KeepsOutput asked
 IsCommandLine words (talk asked) = SaysTalk words asked × KeepsRules (drop 1 words) asked
 
--- the words fit the form of their command: each can be at its place, and none is missing
+-- `words` fit the form of their command: each word is valid at its position, and no word is missing
 pub record IsLine (words : List (List ℕ)) : Type 0 where
   pub form : Form
   pub known : form_named form.command ≡ Some form
@@ -532,18 +536,19 @@ pub record IsLine (words : List (List ℕ)) : Type 0 where
   pub names : List (List ℕ)
   pub line : IsOf form words settings names
 
--- the words begin a line of L: with some more words they are a line
+-- `words` begin a line of `L`: some further words complete them
 pub record Begins (L : List (List ℕ) → Type 0) (words : List (List ℕ)) : Type 0 where
   pub more : List (List ℕ)
   pub whole : L (words ++ more)
 
--- With the next word, these words begin no line of L; if there is no next word, they are not a line themselves.
+-- If there is a next word, `before` and that word begin no line of `L`. If there is none, `before` is not a line of
+-- `L`.
 abbrev pub Stops : (List (List ℕ) → Type 0) → List (List ℕ) → List (List ℕ) → Type 0
 Stops L before [] = L before → ⊥
 Stops L before (next ∷ _) = Begins L (before ++ next ∷ []) → ⊥
 
--- The first `place` words begin a line of L, and with the next word they begin none; or there is no next word, and they are no
--- line themselves.
+-- The first `place` words begin a line of `L`. Together with the next word they begin none. If there is no next word,
+-- they are not a line of `L`.
 pub record StopsAt (L : List (List ℕ) → Type 0) (words : List (List ℕ)) (place : ℕ) : Type 0 where
   pub before : List (List ℕ)
   pub rest : List (List ℕ)
@@ -554,8 +559,8 @@ pub record StopsAt (L : List (List ℕ) → Type 0) (words : List (List ℕ)) (p
 
 -- The position of what is wrong with the words, from 1.
 pub data IsOffence (words : List (List ℕ)) (position : ℕ) : Type 0 where
-  -- The position of the first wrong word: the words before it begin a line, and with it they begin none. If a word is
-  -- missing, the position is one past the last word.
+  -- The position of the first wrong word. The words before it begin a line, but together with it they do not. If a word
+  -- is missing, the position is one past the last word.
   of_a_word : (place : ℕ) → position ≡ place + 1 → StopsAt IsLine words place → IsOffence words position
-  -- The position of the command: no word is wrong by itself, but a rule over several words fails.
+  -- The position of the command, because no word is wrong by itself, but a rule over several words fails.
   of_a_rule : position ≡ 1 → IsLine words → ((request : Request) → IsCommandLine words request → ⊥) → IsOffence words position

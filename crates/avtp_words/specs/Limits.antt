@@ -5,22 +5,22 @@ use Rattle.avtp_words.specs.declared.talk.Kind.{Kind}
 use Rattle.avtp_words.specs.declared.talk.Kind.TheVariants.{Aaf, Am824, H264}
 use Rattle.avtp_words.specs.Options.{Row}
 
--- an option that takes a number: its name, the least and the greatest value, and its default, if it has one
+-- an option that takes a number: its name, the least and the greatest value, and its default, if any
 pub record NumberOption : Type 0 where
   pub name : List ℕ
   pub low : ℕ
   pub high : ℕ
   pub default : Option ℕ
 
--- the option of this name, with a number from `low` to `high`, and its default, if it has one
+-- the option named `name`, with a number from `low` to `high`, and its default, if any
 abbrev pub option : List ℕ → ℕ → ℕ → Option ℕ → NumberOption
 option name low high default = record { name = name; low = low; high = high; default = default }
 
--- an option with this default in place of its own
+-- the option `given`, with this default instead of its own
 abbrev pub with_default : NumberOption → ℕ → NumberOption
 with_default given default = option given.name given.low given.high (Some default)
 
--- the row of an option with a number in the table of a command
+-- the row of an option that takes a number, in the table of a command's options
 abbrev pub number : NumberOption → Row
 number option = record { name = option.name; takes = Number option.low option.high }
 
@@ -30,7 +30,7 @@ pub record SignedOption : Type 0 where
   pub most : ℕ
   pub default : ℤ
 
--- the row of an option whose number may be negative in the table of a command
+-- the row of an option whose number may be negative, in the table of a command's options
 abbrev pub signed : SignedOption → Row
 signed option = record { name = option.name; takes = Signed option.most }
 
@@ -38,11 +38,11 @@ signed option = record { name = option.name; takes = Signed option.most }
 abbrev pub limit : NumberOption
 limit = option (codes "--limit") 1 (2 ^ 40) (Some (2 ^ 40))
 
--- listen, agree and gateway: the most packets that wait for their presentation time
+-- listen, agree and gateway: the most packets that are queued until their presentation time
 abbrev pub buffer : NumberOption
 buffer = option (codes "--buffer") 1 65536 (Some 4096)
 
--- listen, agree and gateway: the most bytes in the packets that wait
+-- listen, agree and gateway: the most bytes in the queued packets
 abbrev pub room : NumberOption
 room = option (codes "--room") 1 (2 ^ 30) (Some (2 ^ 26))
 
@@ -66,21 +66,21 @@ listen_lead = option (codes "--lead") 0 (10 ^ 9) (Some 2000000)
 abbrev pub talk_lead : NumberOption
 talk_lead = option (codes "--lead") 1 (10 ^ 9) (Some 2000000)
 
--- talk: the sample rate in Hz, for H.264 the access units in a second; the default depends on the kind
+-- talk: the sample rate in Hz, or for H.264 the access units per second. The default depends on the kind.
 abbrev pub rate : NumberOption
 rate = option (codes "--rate") 1 192000 None
 
--- talk: the default of the rate, for each kind
+-- talk: the default rate of each kind
 abbrev pub default_rate : Kind → ℕ
 default_rate (Aaf format sparse) = 48000
 default_rate Am824 = 48000
 default_rate (H264 last_stamp) = 30
 
--- talk: the channels of a sample frame
+-- talk: the number of channels of a sample frame
 abbrev pub channels : NumberOption
 channels = option (codes "--channels") 1 1023 (Some 2)
 
--- talk: the sample frames of a packet
+-- talk: the number of sample frames of a packet
 abbrev pub count : NumberOption
 count = option (codes "--count") 1 1476 (Some 6)
 
@@ -96,11 +96,11 @@ restart = option (codes "--restart") 8 (10 ^ 9) None
 abbrev pub jump : NumberOption
 jump = option (codes "--jump") 4 (10 ^ 9) (Some 1000000)
 
--- talk: the events of the media clock from one timestamp to the next
+-- talk: the number of events of the media clock from one timestamp to the next
 abbrev pub crf_interval : NumberOption
 crf_interval = option (codes "--crf-interval") 1 65535 (Some 96)
 
--- talk: the timestamps of a packet of the media clock
+-- talk: the number of timestamps in a packet of the media clock
 abbrev pub crf_points : NumberOption
 crf_points = option (codes "--crf-points") 1 180 (Some 1)
 
@@ -108,7 +108,7 @@ crf_points = option (codes "--crf-points") 1 180 (Some 1)
 abbrev pub crf_rate : NumberOption
 crf_rate = option (codes "--crf-rate") 1 200000000 None
 
--- talk: the code of the factor that the media clock's base frequency is multiplied by
+-- talk: the code of the factor by which the media clock's base frequency is multiplied
 abbrev pub crf_pull : NumberOption
 crf_pull = option (codes "--crf-pull") 0 5 (Some 0)
 
@@ -128,7 +128,7 @@ samples = 1476
 abbrev pub blocks : ℕ
 blocks = 1468
 
--- the most access units of H.264 in a second
+-- the most access units of H.264 per second
 abbrev pub access_units : ℕ
 access_units = 240
 

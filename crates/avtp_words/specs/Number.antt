@@ -1,14 +1,14 @@
 use Rattle.std.specs.Prelude.{◌≡◌, ℕ, ℤ, ◌≤◌, List, decimal, unsigned_abs}
 use Rattle.std.specs.Fmt.{signed_decimal}
 
--- The word is the number in decimal digits, without a sign and without leading zeros, and the number is in range.
+-- `word` is `n` in decimal digits, without a sign and without leading zeros, and `n` is in range.
 pub record IsNumber (low high : ℕ) (word : List ℕ) (n : ℕ) : Type 0 where
   pub least : low ≤ n
   pub most : n ≤ high
   pub spelled : word ≡ decimal n
 
--- The word is the number in decimal digits without leading zeros, with a `-` before them exactly if it is negative, and
--- the number is at most `most` from 0.
+-- `word` is `z` in decimal digits without leading zeros. A `-` precedes the digits exactly if `z` is negative. `z` is
+-- at most `most` away from 0.
 pub record IsSigned (most : ℕ) (word : List ℕ) (z : ℤ) : Type 0 where
   pub size : unsigned_abs z ≤ most
   pub spelled : word ≡ signed_decimal z

@@ -6,14 +6,15 @@ use Rattle.avtp_words.specs.Limits as limits
 use Rattle.avtp_words.specs.Number.{IsNumber}
 use Rattle.avtp_words.specs.Word.{IsId, IsName}
 
--- the word can be this operand: a stream id, the name of a file, or a number of packets
+-- `word` is valid as this operand: a stream ID, the name of a file, or a number of packets
 abbrev pub IsOperand : Operand → List ℕ → Type 0
 IsOperand Id word = (id : ℕ) × IsId word id
 IsOperand Name word = IsName word
 IsOperand Names word = IsName word
 IsOperand Packets word = (n : ℕ) × IsNumber 0 limits.packets word n
 
--- Each word is valid at its place, and no word is missing or left over. `Names` takes all remaining words, at least one.
+-- Each word is valid at its position, and no word is missing or left over. `Names` takes all remaining words, at least
+-- one.
 abbrev pub AreOperands : List Operand → List (List ℕ) → Type 0
 AreOperands [] [] = ⊤
 AreOperands [] (word ∷ words) = ⊥

@@ -1,4 +1,4 @@
--- The options of a command: those that it knows, and those that are given.
+-- The options of a command: those that it knows, and those that a command line gives.
 use Rattle.std.specs.Prelude.{◌≡◌, ◌≢◌, ℕ, ℤ, List, ◌∷◌, Bool, true, false, IsTrue, Option, Some, None, option_to_list, option_and_then, IsSomeAnd, All, AllPairs, codes, ◌⊎◌}
 use Rattle.std.specs.List.{find}
 use Rattle.std.specs.Str.{bytes_eq}
@@ -11,21 +11,21 @@ use Rattle.avtp_words.specs.declared.option.Takes.TheVariants.{Number, Signed, I
 use Rattle.avtp_words.specs.Number.{IsNumber, IsSigned}
 use Rattle.avtp_words.specs.Word.{BeginsWithDash, IsId, IsName}
 
--- an option that a command knows: its name, and the values that the word after it may have
+-- an option that a command knows: its name, and which values it takes
 pub record Row : Type 0 where
   pub name : List ℕ
   pub takes : Takes
 
--- the row of this name in the table of a command, if there is one
+-- the row of the option named `name` in the table of a command, if there is such a row
 abbrev pub row_named : List Row → List ℕ → Option Row
 row_named rows name = find (λ row. bytes_eq row.name name) rows
 
--- an option that is given: its name, and its value if it has one
+-- an option that a command line gives: its name, and its value, if any
 pub record Setting : Type 0 where
   pub name : List ℕ
   pub value : Option (List ℕ)
 
--- the words of an option that is given
+-- the words of an option on the command line: its name, then its value, if any
 abbrev pub words_of : Setting → List (List ℕ)
 words_of s = s.name ∷ option_to_list s.value
 
@@ -41,7 +41,7 @@ abbrev pub gateway_format_name : GatewayFormat → List ℕ
 gateway_format_name Am824 = codes "am824"
 gateway_format_name Aaf = codes "aaf"
 
--- the word is a value that an option of this sort takes
+-- `word` is a value that an option of this type takes
 abbrev pub IsValue : Takes → List ℕ → Type 0
 IsValue (Number low high) word = (n : ℕ) × IsNumber low high word n
 IsValue (Signed most) word = (z : ℤ) × IsSigned most word z
@@ -65,21 +65,21 @@ stands_alone Silence = false
 stands_alone OutFormat = false
 stands_alone Nothing = true
 
--- An option is given with a value that it takes, or without one if it takes none.
+-- An option is given with a value that it takes, or without a value if it takes none.
 abbrev pub IsTaken : Takes → Option (List ℕ) → Type 0
 IsTaken takes None = IsTrue (stands_alone takes)
 IsTaken takes (Some word) = IsValue takes word
 
--- the table has the option, and its row takes the value
+-- the table has the option, and the option's row takes the value
 pub record IsSetting (rows : List Row) (s : Setting) : Type 0 where
   pub dash : BeginsWithDash s.name
   pub value : IsSomeAnd (row_named rows s.name) (λ row. IsTaken row.takes s.value)
 
--- options in any order, each of the table with a value that it takes, and at most once
+-- The options are in any order, and each is given at most once. Each is in the table, and has a value that it takes.
 pub record AreSettings (rows : List Row) (settings : List Setting) : Type 0 where
   pub each : All (IsSetting rows) settings
   pub once : AllPairs (λ s t. s.name ≢ t.name) settings
 
--- the value of the option of this name, if it is given
+-- the value of the option named `name`, if that option is given and has a value
 abbrev pub value_in : List ℕ → List Setting → Option (List ℕ)
 value_in name settings = option_and_then (λ s. s.value) (find (λ s. bytes_eq s.name name) settings)

@@ -9,10 +9,10 @@ use crate::limits::AGREE_OPTIONS;
 use crate::listener::{ListenerOptions, listener_after};
 use crate::operand::{STREAM_OPERANDS, StreamAndTwo, operands_at, stream_and_two};
 
-/// Which stream to compare in two captures, and by which listener.
+/// The stream to compare in two captures, and its listener.
 #[derive(Clone, Copy, Debug, PartialEq, Eq)]
 pub struct Agree<'a> {
-    /// The stream, and the listener to it in either capture.
+    /// The stream, and the listener that presents it from each capture.
     pub listener: ListenerOptions,
     /// The name of the first capture.
     pub a: &'a str,
@@ -20,7 +20,7 @@ pub struct Agree<'a> {
     pub b: &'a str,
 }
 
-/// The words after `agree`.
+/// Reads the words after `agree`.
 pub fn read_agree(words: &[String]) -> Result<Command<'_>, Offence>
     ensures ok { IfOk result (λ command. IsCommandLine (codes "agree" ∷ texts words.now) (request_of command)) }
     ensures err { IfErr result (λ offence. IsOffence (codes "agree" ∷ texts words.now) offence.position) }
@@ -29,7 +29,6 @@ pub fn read_agree(words: &[String]) -> Result<Command<'_>, Offence>
     Ok(Command::Agree(asked))
 }
 
-/// What the words after `agree` ask for.
 fn read_words(words: &[String]) -> Result<Agree<'_>, Offence>
     ensures ok { IfOk result (λ asked. SaysAgree (codes "agree" ∷ texts words.now) (agreeing_of asked)) }
     ensures err { IfErr result (λ offence. IsOffence (codes "agree" ∷ texts words.now) offence.position) }

@@ -13,37 +13,37 @@ use crate::option::word_at;
 use crate::talk::{Talk, read_talk};
 use crate::value::number_after;
 
-/// A command that the words ask for.
+/// The command that a command line asks for.
 #[derive(Clone, Copy, Debug, PartialEq, Eq)]
 pub enum Command<'a> {
     /// Print what each packet of the capture `file` holds, and read at most `limit` bytes of it.
     Show { limit: u64, file: &'a str },
-    /// Print what breaks the rules of a stream in each of the captures `files`, at least one, and read at most `limit`
-    /// bytes of each.
+    /// Print what breaks the rules of a stream in each capture of `files`, and read at most `limit` bytes of each.
+    /// `files` has at least one name.
     Check { limit: u64, files: &'a [String] },
     /// Print the presentation time of each sample of a stream.
     Listen(Listen<'a>),
     /// Make a capture of raw samples.
     Talk(Talk<'a>),
-    /// Listen to a stream of this many packets, 0 to 1,000,000, some of which are late, lost or repeated, and print what became
-    /// of them.
+    /// Listen to a stream of `packets` packets, 0 to 1,000,000, some of which are late, lost or repeated. Print what
+    /// became of the packets.
     Soak { packets: u32 },
     /// Print where two captures present different samples of a stream.
     Agree(Agree<'a>),
-    /// Write a capture of a stream in the other format, with the same samples at the same times.
+    /// Write a capture of a stream in the other audio format, with the same samples at the same times.
     Gateway(Gateway<'a>),
 }
 
-/// The words are not a command line.
+/// What is wrong with words that are not a command line.
 #[derive(Clone, Copy, Debug, PartialEq, Eq)]
 pub struct Offence {
-    /// The position, from 1, of the first word that is wrong; one past the last if a word is missing; 1 if each word is valid
-    /// but they contradict one another.
+    /// The position, from 1, of the first wrong word. If a word is missing, one past the last word. If each word is
+    /// valid but the words contradict one another, 1.
     pub position: usize,
 }
 
 impl Offence {
-    /// The offence of a word after the command, given the word's place there, from 0.
+    /// The offence of the word at index `place` among the words after the command.
     pub(crate) fn after_command(place: usize) -> Offence
         requires { place < 2 ^ 64 - 2 }
         ensures { result.position ≡ place + 2 }
@@ -65,11 +65,13 @@ pub fn parse(words: &[String]) -> Result<Command<'_>, Offence>
     // The words are a command line that asks for the result.
     ensures found { IfOk result (λ command. IsCommandLine (texts words.now) (request_of command)) }
 
-    // Each command line is read as the command that it asks for, so it asks for only one.
+    // If the words are a command line, the result is what it asks for. A command line therefore asks for only one
+    // command.
     ensures only { (request : Request) → IsCommandLine (texts words.now) request →
         IsOkAnd result (λ command. request_of command ≡ request) }
 
-    // The position is that of the first wrong word or of a broken rule, and no other position is.
+    // If the words are not a command line, the result is the position of the first wrong word or of a broken rule.
+    // There is only one such position.
     ensures offence { IfErr result (λ offence. IsOffence (texts words.now) offence.position) }
     ensures only_offence { (position : ℕ) → IsOffence (texts words.now) position →
         IsErrAnd result (λ offence. offence.position ≡ position) }
@@ -89,7 +91,6 @@ pub fn parse(words: &[String]) -> Result<Command<'_>, Offence>
     }
 }
 
-/// The words after `show`.
 fn read_show(words: &[String]) -> Result<Command<'_>, Offence>
     ensures ok { IfOk result (λ command. IsCommandLine (codes "show" ∷ texts words.now) (request_of command)) }
     ensures err { IfErr result (λ offence. IsOffence (codes "show" ∷ texts words.now) offence.position) }
@@ -102,7 +103,6 @@ fn read_show(words: &[String]) -> Result<Command<'_>, Offence>
     Ok(Command::Show { limit, file })
 }
 
-/// The words after `check`.
 fn read_check(words: &[String]) -> Result<Command<'_>, Offence>
     ensures ok { IfOk result (λ command. IsCommandLine (codes "check" ∷ texts words.now) (request_of command)) }
     ensures err { IfErr result (λ offence. IsOffence (codes "check" ∷ texts words.now) offence.position) }
@@ -113,7 +113,6 @@ fn read_check(words: &[String]) -> Result<Command<'_>, Offence>
     Ok(Command::Check { limit, files })
 }
 
-/// The words after `soak`.
 fn read_soak(words: &[String]) -> Result<Command<'_>, Offence>
     ensures ok { IfOk result (λ command. IsCommandLine (codes "soak" ∷ texts words.now) (request_of command)) }
     ensures err { IfErr result (λ offence. IsOffence (codes "soak" ∷ texts words.now) offence.position) }

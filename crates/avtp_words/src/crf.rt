@@ -21,15 +21,15 @@ pub struct Crf {
     pub id: u64,
     /// The base frequency in Hz, 1 to 200,000,000.
     pub rate: u32,
-    /// The code of the factor that the base frequency is multiplied by, 0 to 5.
+    /// The code of the pull factor, by which the base frequency is multiplied, 0 to 5.
     pub pull: u8,
-    /// The events of the clock from one timestamp to the next, 1 to 65,535.
+    /// The number of events of the clock from one timestamp to the next, 1 to 65,535.
     pub interval: u16,
     /// The number of timestamps in a packet, 1 to 180.
     pub points: u8,
 }
 
-/// The clock that the options ask for, with a stream of `rate` sample frames a second.
+/// The media clock that the options ask for, if any, with a stream of `rate` sample frames a second.
 pub fn crf_after(options: &[String], rate: u32) -> Option<Crf>
     ensures { IsReadClock (texts options.now) rate result }
 {
@@ -43,7 +43,8 @@ pub fn crf_after(options: &[String], rate: u32) -> Option<Crf>
     })
 }
 
-/// Whether a clock, if there is one, fits a stream of `rate` sample frames a second, with `count` in a packet.
+/// Whether the clock fits a stream of `rate` sample frames a second, with `count` of them in a packet. True if there is
+/// no clock.
 pub fn fits_clock(crf: Option<Crf>, rate: u32, count: u32, restart: Option<u32>) -> bool
     requires { ClockIsWithin crf rate }
     ensures { IsTrue result ↔ FitsClock crf rate count restart }
@@ -64,7 +65,7 @@ impl Crf {
         events % up == 0 && self.has_whole_runs(events / up, rate, count, restart)
     }
 
-    /// The clock's frequency, times [`pull_down`].
+    /// The clock's frequency times the denominator of its pull factor.
     fn frequency_up(self) -> u64
         requires { 1 ≤ self.rate }
         ensures value { result ≡ self.rate * pull_up_of self.pull }
@@ -73,7 +74,7 @@ impl Crf {
         u64::from(self.rate) * pull_up(self.pull)
     }
 
-    /// The events from one timestamp to the next, times the sample frames of a second and [`pull_down`].
+    /// The product of the clock's interval, `rate`, and the denominator of the pull factor.
     fn events_by(self, rate: u32) -> u64
         requires some_interval { 1 ≤ self.interval }
         requires some_rate { 1 ≤ rate }
@@ -85,7 +86,8 @@ impl Crf {
         u64::from(self.interval) * u64::from(rate) * pull_down(self.pull)
     }
 
-    /// Whether the sample frames between two restarts, if there are any, are those of a multiple of 8 whole clock packets.
+    /// Whether the sample frames from one restart to the next take a multiple of 8 whole clock packets. True if there
+    /// are no restarts.
     fn has_whole_runs(self, spacing: u64, rate: u32, count: u32, restart: Option<u32>) -> bool
         requires spacing { spacing ≡ spacing_of self rate }
         requires some { 1 ≤ spacing }

@@ -35,7 +35,7 @@ pub struct RawFile<'a> {
     pub silence: Silence,
 }
 
-/// The file that the option with this name gives, if it is given. Its place counts the command as word 0.
+/// The file that the option `name` gives, if that option is given. The file's `place` counts the command as word 0.
 pub fn file_after<'a>(options: &'a [String], name: &str) -> Option<DeviceFile<'a>>
     ensures { IsReadFile name.now (texts options.now) (option_map named_file result) }
 {
@@ -47,7 +47,7 @@ pub fn file_after<'a>(options: &'a [String], name: &str) -> Option<DeviceFile<'a
     })
 }
 
-/// What silence is made of, given the options of `listen`; zeros by default.
+/// What silence is made of: what `--silence` says, or zeros if it is not given.
 fn silence_after(options: &[String]) -> Silence
     ensures { IsReadSilence (value_after (codes "--silence") (texts options.now)) result }
 {
@@ -57,7 +57,7 @@ fn silence_after(options: &[String]) -> Silence
     }
 }
 
-/// The file of raw audio that the options of `listen` ask for.
+/// The file of raw audio that the options of `listen` ask for, if any.
 pub fn raw_after<'a>(options: &'a [String]) -> Option<RawFile<'a>>
     ensures { IsReadRaw (texts options.now) (option_map named_raw result) }
 {
@@ -66,7 +66,7 @@ pub fn raw_after<'a>(options: &'a [String]) -> Option<RawFile<'a>>
     Some(RawFile { file, silence })
 }
 
-/// Whether a file that is written, if there is one, is not one of the files that are read.
+/// Whether `file`, which is written, has another name than each of `files`, which are read. True if there is no `file`.
 pub fn is_new(file: Option<DeviceFile<'_>>, files: &[String]) -> bool
     ensures { IsTrue result ↔ IfSome (option_map named_file file.entry) (λ file. Contains (texts files.now) file.name → ⊥) }
 {
@@ -76,7 +76,7 @@ pub fn is_new(file: Option<DeviceFile<'_>>, files: &[String]) -> bool
     }
 }
 
-/// Whether the name of the file of raw audio, if there is one, differs from the name of each of these files.
+/// Whether the file of raw audio has another name than each of `files`. True if there is no file of raw audio.
 pub fn is_new_raw(raw: Option<RawFile<'_>>, files: &[String]) -> bool
     ensures { IsTrue result ↔ IfSome (option_map named_raw raw.entry) (λ raw. Contains (texts files.now) raw.file.name → ⊥) }
 {
@@ -86,7 +86,7 @@ pub fn is_new_raw(raw: Option<RawFile<'_>>, files: &[String]) -> bool
     }
 }
 
-/// Whether the two files that are written, if there are two, have different names.
+/// Whether the two files that are written have different names. True if fewer than two are written.
 pub fn are_apart(raw: Option<RawFile<'_>>, annexb: Option<DeviceFile<'_>>) -> bool
     ensures { IsTrue result ↔ IfSome (option_map named_raw raw.entry) (λ raw. IfSome (option_map named_file annexb.entry) (λ file. raw.file.name ≢ file.name)) }
 {

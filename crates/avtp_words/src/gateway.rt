@@ -22,23 +22,23 @@ pub enum GatewayFormat {
     Aaf,
 }
 
-/// Which stream of a capture to convert to which format, and by which listener it is presented.
+/// The stream of a capture to convert, its listener, and the format to convert it to.
 #[derive(Clone, Copy, Debug, PartialEq, Eq)]
 pub struct Gateway<'a> {
-    /// The stream, and the listener to it.
+    /// The stream, and the listener that presents it.
     pub listener: ListenerOptions,
     /// The format of the capture that is written.
     pub to: GatewayFormat,
     /// The stream ID in the capture that is written.
     pub id: u64,
-    /// The capture that is read.
+    /// The name of the capture to read.
     pub input: &'a str,
-    /// The capture that is written.
+    /// The name of the capture to write.
     pub output: &'a str,
 }
 
-/// The words after `gateway`. If each word is valid but `--to` is not given, or the capture that is written has the name of the
-/// one that is read, the offence is at the command.
+/// Reads the words after `gateway`. The offence is at the command if each word is valid, but `--to` is not given or the
+/// output has the input's name.
 pub fn read_gateway(words: &[String]) -> Result<Command<'_>, Offence>
     ensures ok { IfOk result (λ command. IsCommandLine (codes "gateway" ∷ texts words.now) (request_of command)) }
     ensures err { IfErr result (λ offence. IsOffence (codes "gateway" ∷ texts words.now) offence.position) }
@@ -55,8 +55,8 @@ pub fn read_gateway(words: &[String]) -> Result<Command<'_>, Offence>
     }
 }
 
-/// What the words after `gateway` ask for, each by itself. The first operand is at `place`, and the options before it give the
-/// format `to`.
+/// What the words after `gateway` ask for. The first operand is at index `place`. The options before it give the format
+/// `to`.
 fn read_words(words: &[String], place: usize, to: GatewayFormat) -> Gateway<'_>
     requires rest { IsRestTo gateway_form.rows gateway_form.operands (texts words.now) place }
     requires to { value_after (codes "--to") (texts (take place words.now)) ≡ Some (gateway_format_name to) }
@@ -77,7 +77,7 @@ fn read_words(words: &[String], place: usize, to: GatewayFormat) -> Gateway<'_>
     }
 }
 
-/// The format that `--to` gives, if it is given.
+/// The format that `--to` gives, if `--to` is given.
 fn format_after(options: &[String]) -> Option<GatewayFormat>
     ensures some { IfSome result (λ to. value_after (codes "--to") (texts options.now) ≡ Some (gateway_format_name to)) }
     ensures none { IfNone result ((to : GatewayFormat) → value_after (codes "--to") (texts options.now) ≡ Some (gateway_format_name to) → ⊥) }
@@ -85,7 +85,7 @@ fn format_after(options: &[String]) -> Option<GatewayFormat>
     gateway_format_of(word_after(options, TO.name)?)
 }
 
-/// The format of `gateway` that a word names.
+/// The format that a word after `--to` names.
 pub fn gateway_format_of(word: &str) -> Option<GatewayFormat>
     ensures named { IfSome result (λ format. word.now ≡ gateway_format_name format) }
     ensures none { IfNone result ((format : GatewayFormat) → word.now ≡ gateway_format_name format → ⊥) }

@@ -1,5 +1,4 @@
-//! The words of the command line as a type: a command with its options and names, or the position of the first word
-//! that is wrong.
+//! Reads the words of the command line: a command with its options and names, or the position of the first wrong word.
 #![tactic(auto)]
 
 mod agree;

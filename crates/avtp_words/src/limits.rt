@@ -3,7 +3,8 @@
 use crate::option::{OptionRow, Takes};
 use aaf_format::AafFormat;
 
-/// The greatest value of `--limit`, the most bytes that are read of a capture, and its default: 1 TiB.
+/// The greatest value of `--limit`, and also its default: 1 TiB. The option limits how many bytes of a capture are
+/// read.
 pub const MAX_LIMIT: u64 = 1 << 40;
 
 pub const SHOW_OPTIONS: [OptionRow; 1] = [LIMIT];
@@ -32,7 +33,7 @@ pub const LISTEN_OPTIONS: [OptionRow; 11] = [
     ANNEXB,
 ];
 
-/// The options that make a listener. `agree` has no others.
+/// The options of a listener, which are all options of `agree`.
 pub const AGREE_OPTIONS: [OptionRow; 7] = [
     LIMIT,
     BUFFER,
@@ -55,13 +56,13 @@ pub const GATEWAY_OPTIONS: [OptionRow; 9] = [
     ID,
 ];
 
-/// The format of the capture that `gateway` writes. It must be given.
+/// The format that `gateway` writes. This option must be given.
 pub const TO: OptionRow = OptionRow {
     name: "--to",
     takes: Takes::OutFormat,
 };
 
-/// How many packets may wait for their presentation time.
+/// The most packets that are queued until their presentation time.
 pub const BUFFER: OptionRow = OptionRow {
     name: "--buffer",
     takes: Takes::Number {
@@ -72,7 +73,7 @@ pub const BUFFER: OptionRow = OptionRow {
 
 pub const BUFFER_DEFAULT: u32 = 4_096;
 
-/// How many bytes the packets that wait may hold: at most 1 GiB, by default 64 MiB.
+/// The most bytes in the queued packets: at most 1 GiB, by default 64 MiB.
 pub const ROOM: OptionRow = OptionRow {
     name: "--room",
     takes: Takes::Number {
@@ -91,7 +92,8 @@ pub const LOOK: OptionRow = OptionRow {
 
 pub const LOOK_DEFAULT: u32 = 0;
 
-/// The stream ID of the media clock whose timestamps time the samples. If it is not given, the stream's own timestamps do.
+/// The stream ID of the media clock whose timestamps determine the presentation times. Without this option, the
+/// stream's own timestamps determine them.
 pub const CLOCK: OptionRow = OptionRow {
     name: "--clock",
     takes: Takes::Id,
@@ -107,7 +109,7 @@ pub const CRF_SHIFT: OptionRow = OptionRow {
 
 pub const CRF_SHIFT_DEFAULT: i64 = 0;
 
-/// How many items the queue holds between the thread that judges and the one that presents.
+/// How many items fit into the queue between the thread that judges and the thread that presents.
 pub const RING: OptionRow = OptionRow {
     name: "--ring",
     takes: Takes::Number { low: 1, high: 256 },
@@ -115,7 +117,7 @@ pub const RING: OptionRow = OptionRow {
 
 pub const RING_DEFAULT: u32 = 64;
 
-/// The file to which presented samples are written as raw audio. If it is not given, they are not written.
+/// The file to which presented samples are written as raw audio. Without this option, no such file is written.
 pub const RAW: OptionRow = OptionRow {
     name: "--raw",
     takes: Takes::Name,
@@ -130,13 +132,14 @@ pub const SILENCE: OptionRow = OptionRow {
 /// The options that need `--raw`.
 pub const RAW_OPTIONS: [OptionRow; 1] = [SILENCE];
 
-/// The file to which presented H.264 units are written as a byte stream. If it is not given, they are not written.
+/// The file to which presented H.264 units are written as a byte stream. Without this option, no such file is written.
 pub const ANNEXB: OptionRow = OptionRow {
     name: "--annexb",
     takes: Takes::Name,
 };
 
-/// The max transit time in nanoseconds. For a listener it may be 0; a talker sends each packet before its presentation time.
+/// The max transit time in nanoseconds. For a listener, 0 is allowed. For a talker it is not, because a talker sends
+/// each packet before its presentation time.
 pub const LISTEN_LEAD: OptionRow = OptionRow {
     name: "--lead",
     takes: Takes::Number {
@@ -196,7 +199,7 @@ pub const H264_LACKS: [OptionRow; 11] = [
     CRF_PULL,
 ];
 
-/// The options that need `--restart`. Those that need `--crf` are the next ones.
+/// The options that need `--restart`. `CLOCK_OPTIONS` are those that need `--crf`.
 pub const RESTART_OPTIONS: [OptionRow; 1] = [JUMP];
 
 pub const CLOCK_OPTIONS: [OptionRow; 4] = [CRF_INTERVAL, CRF_POINTS, CRF_RATE, CRF_PULL];
@@ -213,7 +216,7 @@ pub const FORMAT: OptionRow = OptionRow {
 
 pub const FORMAT_DEFAULT: AafFormat = AafFormat::Int16;
 
-/// The sample rate in Hz, for H.264 the access units in a second.
+/// The sample rate in Hz, or for H.264 the access units per second.
 pub const RATE: OptionRow = OptionRow {
     name: "--rate",
     takes: Takes::Number {
@@ -226,10 +229,10 @@ pub const AUDIO_RATE_DEFAULT: u32 = 48_000;
 
 pub const VIDEO_RATE_DEFAULT: u32 = 30;
 
-/// The most access units of H.264 in a second.
+/// The most access units of H.264 per second.
 pub const MAX_VIDEO_RATE: u32 = 240;
 
-/// The channels of a sample frame.
+/// The number of channels of a sample frame.
 pub const CHANNELS: OptionRow = OptionRow {
     name: "--channels",
     takes: Takes::Number {
@@ -240,7 +243,7 @@ pub const CHANNELS: OptionRow = OptionRow {
 
 pub const CHANNELS_DEFAULT: u16 = 2;
 
-/// The sample frames of a packet.
+/// The number of sample frames of a packet.
 pub const COUNT: OptionRow = OptionRow {
     name: "--count",
     takes: Takes::Number {
@@ -275,13 +278,13 @@ pub const SPARSE: OptionRow = OptionRow {
     takes: Takes::Nothing,
 };
 
-/// Each NAL unit of H.264 is stamped in its last fragment alone.
+/// Only the last fragment of each H.264 NAL unit has a timestamp.
 pub const LAST_STAMP: OptionRow = OptionRow {
     name: "--last-stamp",
     takes: Takes::Nothing,
 };
 
-/// The number of packets from one media clock restart to the next. If it is not given, there is no restart.
+/// The number of packets from one media clock restart to the next. Without this option, there is no restart.
 pub const RESTART: OptionRow = OptionRow {
     name: "--restart",
     takes: Takes::Number {
@@ -301,13 +304,13 @@ pub const JUMP: OptionRow = OptionRow {
 
 pub const JUMP_DEFAULT: u32 = 1_000_000;
 
-/// The stream ID of the media clock that is sent with the stream. If it is not given, no clock is sent.
+/// The stream ID of the media clock that is sent with the stream. Without this option, no clock is sent.
 pub const CRF: OptionRow = OptionRow {
     name: "--crf",
     takes: Takes::Id,
 };
 
-/// The events of the clock from one timestamp to the next.
+/// The number of events of the clock from one timestamp to the next.
 pub const CRF_INTERVAL: OptionRow = OptionRow {
     name: "--crf-interval",
     takes: Takes::Number {
@@ -318,7 +321,7 @@ pub const CRF_INTERVAL: OptionRow = OptionRow {
 
 pub const CRF_INTERVAL_DEFAULT: u16 = 96;
 
-/// The timestamps of a packet of the clock.
+/// The number of timestamps in a packet of the clock.
 pub const CRF_POINTS: OptionRow = OptionRow {
     name: "--crf-points",
     takes: Takes::Number { low: 1, high: 180 },
@@ -335,7 +338,7 @@ pub const CRF_RATE: OptionRow = OptionRow {
     },
 };
 
-/// The code of the factor that the base frequency is multiplied by.
+/// The code of the factor by which the clock's base frequency is multiplied.
 pub const CRF_PULL: OptionRow = OptionRow {
     name: "--crf-pull",
     takes: Takes::Number { low: 0, high: 5 },
@@ -346,13 +349,14 @@ pub const CRF_PULL_DEFAULT: u8 = 0;
 /// `soak` has no options.
 pub const SOAK_OPTIONS: [OptionRow; 0] = [];
 
-/// The most packets of `soak`.
+/// The greatest number of packets that `soak` accepts.
 pub const MAX_PACKETS: u64 = 1_000_000;
 
-/// The most bytes of samples in a packet of AAF: the 1,500 that an Ethernet frame carries, less the 24 of the header.
+/// The most bytes of samples in an AAF packet: an Ethernet frame carries 1,500 bytes, of which the header takes 24.
 pub const MAX_SAMPLES: u64 = 1_476;
 
-/// The most bytes of data blocks in a packet of AM824, whose CIP header takes 8 more.
+/// The most bytes of data blocks in an AM824 packet: an Ethernet frame carries 1,500 bytes, of which the stream header
+/// takes 24 and the CIP header 8.
 pub const MAX_BLOCKS: u64 = 1_468;
 
 /// The most quadlets of a data block of AM824, one for each channel (IEC 61883-1).

@@ -13,12 +13,12 @@ use crate::operand::{Operand, id_of, operands_at};
 use crate::option::{have_needed, word_at};
 use crate::value::small_number_after;
 
-/// What to listen to, and within which bounds.
+/// The stream to listen to, its listener, and the files to read and write.
 #[derive(Clone, Copy, Debug, PartialEq, Eq)]
 pub struct Listen<'a> {
-    /// The stream, and the listener to it.
+    /// The stream, and the listener that presents it.
     pub listener: ListenerOptions,
-    /// How many items the queue holds between the thread that judges and the one that presents, 1 to 256.
+    /// How many items fit into the queue between the thread that judges and the thread that presents, 1 to 256.
     pub ring: u32,
     /// The file to which presented samples are written as raw audio, if one is asked for.
     pub raw: Option<RawFile<'a>>,
@@ -30,7 +30,8 @@ pub struct Listen<'a> {
 
 const LISTEN_OPERANDS: [Operand; 2] = [Operand::Id, Operand::Names];
 
-/// The words after `listen`. If each word is valid but they contradict one another, the offence is at the command.
+/// Reads the words after `listen`. If each word is valid but the words contradict one another, the offence is at the
+/// command.
 pub fn read_listen(words: &[String]) -> Result<Command<'_>, Offence>
     ensures ok { IfOk result (λ command. IsCommandLine (codes "listen" ∷ texts words.now) (request_of command)) }
     ensures err { IfErr result (λ offence. IsOffence (codes "listen" ∷ texts words.now) offence.position) }
@@ -43,7 +44,7 @@ pub fn read_listen(words: &[String]) -> Result<Command<'_>, Offence>
     }
 }
 
-/// What the words after `listen` ask for, each by itself.
+/// What the words after `listen` ask for. Rules over several words are not checked.
 fn read_words(words: &[String]) -> Result<Listen<'_>, Offence>
     ensures ok { IfOk result (λ asked. SaysListen (codes "listen" ∷ texts words.now) (listening_of asked)) }
     ensures err { IfErr result (λ offence. IsOffence (codes "listen" ∷ texts words.now) offence.position) }
@@ -58,7 +59,6 @@ fn read_words(words: &[String]) -> Result<Listen<'_>, Offence>
     Ok(read_options(&words[..place], stream, &words[place + 1..]))
 }
 
-/// The values of the options of `listen`, each by itself.
 fn read_options<'a>(options: &'a [String], stream: u64, files: &'a [String]) -> Listen<'a>
     ensures stream { result.listener.stream ≡ stream }
     ensures files { result.files.now ≡ files.now }
@@ -74,7 +74,8 @@ fn read_options<'a>(options: &'a [String], stream: u64, files: &'a [String]) -> 
 }
 
 impl<'a> Listen<'a> {
-    /// Whether the words after `listen`, which ask for this, keep the rules over several words.
+    /// Whether `words`, the words after `listen`, keep the rules over several words. `self` is what these words ask
+    /// for.
     fn keeps_names(&self, words: &[String]) -> bool
         ensures { IsTrue result ↔ KeepsNames (texts words.now) (listening_of self.now) }
     {

@@ -1,4 +1,4 @@
-//! A listener, by the options of any command that listens.
+//! The listener that the options of `listen`, `agree` and `gateway` ask for.
 
 ghost use Rattle.std.specs.Prelude.{◌≡◌};
 ghost use Rattle.avtp_words.specs.state.Reading.{IsReadListener};
@@ -17,22 +17,22 @@ pub struct ListenerOptions {
     pub stream: u64,
     /// The most bytes of each capture that are read, 1 to 2^40.
     pub limit: u64,
-    /// The most packets that wait for their presentation time, 1 to 65,536.
+    /// The most packets that are queued until their presentation time, 1 to 65,536.
     pub buffer: u32,
-    /// The most bytes in the packets that wait, 1 to 1,073,741,824.
+    /// The most bytes in the queued packets, 1 to 1,073,741,824.
     pub room: u32,
     /// How many later items are read before an item is judged, 0 to 64.
     pub look: u32,
-    /// The max transit time, in nanoseconds, 0 to 1,000,000,000: how long before its presentation time a packet is
-    /// expected.
+    /// The max transit time in nanoseconds, 0 to 1,000,000,000. A packet is expected this long before its presentation
+    /// time.
     pub lead: u32,
-    /// The stream ID of the media clock whose timestamps time the samples, if one is asked for.
+    /// The stream ID of the media clock whose timestamps determine the presentation times, if `--clock` is given.
     pub clock: Option<u64>,
     /// What is added to each timestamp of the clock, in nanoseconds, from -1,000,000,000 to 1,000,000,000.
     pub shift: i64,
 }
 
-/// The listener to this stream that the options of a command ask for.
+/// The listener to `stream` that the options of a command ask for.
 pub fn listener_after(options: &[String], stream: u64) -> ListenerOptions
     ensures stream { result.stream ≡ stream }
     ensures read { IsReadListener (texts options.now) result }

@@ -5,8 +5,8 @@ ghost use Rattle.std.specs.Fmt.{signed_decimal};
 ghost use Rattle.avtp_words.specs.Number.{IsNumber, IsSigned};
 ghost use Rattle.avtp_words.specs.state.Number.{BeginsAsNumber};
 
-/// The number that a word spells, in decimal digits without a sign and without a leading zero. `None` if the word is not a
-/// number below 2^64.
+/// The number that `word` spells in decimal digits, without a sign or a leading zero. `None` if `word` spells no number
+/// below 2^64.
 pub fn number_of(word: &str) -> Option<u64>
     ensures spelled { IfSome result (λ n. word.now ≡ decimal n) }
     ensures none { IfNone result ((n : ℕ) → n < 2 ^ 64 → word.now ≢ decimal n) }
@@ -28,8 +28,8 @@ pub fn is_number(word: &str, low: u64, high: u64) -> bool
     }
 }
 
-/// The number that a word spells in decimal digits without a leading zero, with a `-` before them if it is below 0. `None` if
-/// the word is not a number from -(2^63 - 1) to 2^63 - 1.
+/// The number that `word` spells in decimal digits without a leading zero. If it is below 0, a `-` precedes the digits.
+/// `None` if `word` spells no number from -(2^63 - 1) to 2^63 - 1.
 pub fn signed_number_of(word: &str) -> Option<i64>
     ensures spelled { IfSome result (λ z. word.now ≡ signed_decimal z) }
     ensures size { IfSome result (λ z. unsigned_abs z < 2 ^ 63) }
@@ -51,7 +51,7 @@ pub fn is_signed(word: &str, most: u32) -> bool
     }
 }
 
-/// The number below 0 with these digits.
+/// The negative number that `-` and then `digits` spell. `None` if they spell no number from -(2^63 - 1) to -1.
 fn negative_of(digits: &str) -> Option<i64>
     ensures spelled { IfSome result (λ z. 45 ∷ digits.now ≡ signed_decimal z) }
     ensures size { IfSome result (λ z. unsigned_abs z < 2 ^ 63) }
@@ -67,7 +67,7 @@ fn negative_of(digits: &str) -> Option<i64>
     }
 }
 
-/// The rest of a word after a first `-`.
+/// The part of `word` after a leading `-`, if it has one.
 fn after_minus(word: &str) -> Option<&str>
     ensures { MatchOption result ((rest : List ℕ) → word.now ≢ 45 ∷ rest) (λ rest. word.now ≡ 45 ∷ rest.now) }
 {

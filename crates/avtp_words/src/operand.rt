@@ -14,17 +14,16 @@ use crate::limits::MAX_PACKETS;
 use crate::number::number_of;
 use crate::option::{OptionRow, begins_with_dash, options_len};
 
-/// What an operand may be.
+/// The type of an operand.
 #[derive(Clone, Copy)]
 pub enum Operand {
-    /// A stream id.
+    /// A stream ID.
     Id,
     /// The name of a file.
     Name,
-    /// The number of packets of `soak`. It is read as an operand, so the offence of a number out of range has the number's
-    /// position.
+    /// The number of packets of `soak`. If the number is out of range, the offence is at the number.
     Packets,
-    /// The names of files: all remaining words, at least one. No option can follow the first name, and a file may be named
+    /// The names of files: all remaining words, at least one. No option can follow the first name. A file may be named
     /// twice.
     Names,
 }
@@ -48,17 +47,17 @@ impl Operand {
     }
 }
 
-/// The operands of a command about a stream and two captures.
+/// The operands of `agree` and `gateway`: a stream ID and the names of two captures.
 pub const STREAM_OPERANDS: [Operand; 3] = [Operand::Id, Operand::Name, Operand::Name];
 
-/// A stream and the names of two captures.
+/// The ID of a stream and the names of two captures.
 pub struct StreamAndTwo<'a> {
     pub stream: u64,
     pub first: &'a str,
     pub second: &'a str,
 }
 
-/// The stream and the captures that the operands of a command name.
+/// The stream and the two captures that `operands` name.
 pub fn stream_and_two(operands: &[String]) -> StreamAndTwo<'_>
     requires { AreOperands stream_operands (texts operands.now) }
     ensures { NameStreamAndTwo (texts operands.now) result.stream result.first.now result.second.now }
@@ -76,7 +75,7 @@ pub fn stream_and_two(operands: &[String]) -> StreamAndTwo<'_>
     }
 }
 
-/// The stream id that a word spells in sixteen hexadecimal digits, in lower or upper case.
+/// The stream ID that `word` spells in sixteen hexadecimal digits, in lower or upper case.
 pub fn id_of(word: &str) -> Option<u64>
     ensures spelled { IfSome result (λ id. IsId word.now id) }
     ensures none { IfNone result ((id : ℕ) → IsId word.now id → ⊥) }
@@ -88,7 +87,7 @@ pub fn id_of(word: &str) -> Option<u64>
     }
 }
 
-/// The number of packets that a word spells, 0 to 1,000,000.
+/// The number of packets that `word` spells, 0 to 1,000,000.
 pub fn packets_of(word: &str) -> Option<u32>
     ensures spelled { IfSome result (IsNumber 0 limits.packets word.now) }
     ensures none { IfNone result ((n : ℕ) → IsNumber 0 limits.packets word.now n → ⊥) }
@@ -108,7 +107,7 @@ pub fn is_name(word: &str) -> bool
     !word.is_empty() && !begins_with_dash(word)
 }
 
-/// The place, from 0, of the first word that is not a name.
+/// The index of the first word that is not a name.
 fn first_unnamed(words: &[String]) -> Option<usize>
     ensures some { IfSome result (IsFirstUnnamed (texts words.now)) }
     ensures none { IfNone result (All IsName (texts words.now)) }
@@ -121,7 +120,8 @@ fn first_unnamed(words: &[String]) -> Option<usize>
     None
 }
 
-/// The place, from 0, of the first word that is not the operand of its place, is missing, or is left over.
+/// The index of the first wrong word: a word that is not valid as the operand at its index, a missing word, or a word
+/// left over.
 fn first_wrong(operands: &[Operand], words: &[String]) -> Option<usize>
     ensures wrong { IfSome result (StopsAt (AreOperands operands.now) (texts words.now)) }
     ensures within { IfSome result (λ place. place ≤ length words.now) }
@@ -145,7 +145,8 @@ fn first_wrong(operands: &[Operand], words: &[String]) -> Option<usize>
     }
 }
 
-/// The place, from 0, of the first operand among the words after a command. The position of an offence counts the command as 1.
+/// The index of the first operand in `words`, the words after a command. The position of an offence counts the command
+/// as 1.
 pub fn operands_at(
     rows: &[OptionRow],
     operands: &[Operand],

@@ -1,4 +1,4 @@
-//! The options of a command: the table of those that it knows, and how they are read.
+//! The table of the options that a command knows, and how options are read.
 
 ghost use Rattle.std.specs.Prelude.{◌≡◌, ◌≤◌, ◌↔◌, Contains, length, IsTrue, IfOk, IfErr, IfSome, IfNone, slice_get, string_bytes};
 ghost use Rattle.std.specs.List.{find, list_any, position};
@@ -14,14 +14,14 @@ use crate::number::{is_number, is_signed};
 use crate::operand::{id_of, is_name};
 use crate::value::format_of;
 
-/// The values that an option may have.
+/// The type of the value that an option takes.
 #[derive(Clone, Copy)]
 pub enum Takes {
-    /// A number, from the first to the second.
+    /// A number from `low` to `high`.
     Number { low: u64, high: u64 },
-    /// A number that may be negative, at most this far from 0.
+    /// A number that may be negative, at most `most` away from 0.
     Signed { most: u32 },
-    /// A stream id.
+    /// A stream ID.
     Id,
     /// The kind of a stream: `aaf`, `am824` or `h264`.
     Kind,
@@ -65,9 +65,9 @@ impl Takes {
 /// An option that a command knows.
 #[derive(Clone, Copy)]
 pub struct OptionRow {
-    /// The option's own word.
+    /// The word that names the option.
     pub name: &'static str,
-    /// The values that the word after it may have.
+    /// The values that the option takes.
     pub takes: Takes,
 }
 
@@ -78,7 +78,7 @@ pub fn begins_with_dash(word: &str) -> bool
     word.starts_with('-')
 }
 
-/// The word at a place, from 0.
+/// The word at index `place`, if any.
 pub fn word_at(words: &[String], place: usize) -> Option<&str>
     ensures { option_copied result ≡ slice_get (texts words.now) place }
 {
@@ -94,50 +94,50 @@ fn find_row<'a>(rows: &'a [OptionRow], name: &str) -> Option<&'a OptionRow>
     rows.iter().find(|row| row.name == name)
 }
 
-/// Whether a word is among others.
+/// Whether `name` is one of `words`.
 pub fn contains(words: &[String], name: &str) -> bool
     ensures { result ≡ list_any (λ word. bytes_eq (string_bytes word) name.now) words.now }
 {
     words.iter().any(|word| word.as_str() == name)
 }
 
-/// Whether a word is not among others.
+/// Whether `name` is not one of `words`.
 pub fn lacks_word(words: &[String], name: &str) -> bool
     ensures { IsTrue result ↔ (Contains (texts words.now) name.now → ⊥) }
 {
     !contains(words, name)
 }
 
-/// The place, from 0, of the first word of this name.
+/// The index of the first word that is `name`.
 pub fn place_of(words: &[String], name: &str) -> Option<usize>
     ensures { result ≡ position (λ word. bytes_eq (string_bytes word) name.now) words.now }
 {
     words.iter().position(|word| word.as_str() == name)
 }
 
-/// Whether the words have none of these options.
+/// Whether none of `options` is among `words`.
 pub fn lacks(words: &[String], options: &[OptionRow]) -> bool
     ensures { IsTrue result ↔ Lacks (texts words.now) (names_of options.now) }
 {
     !has_one(words, options)
 }
 
-/// Whether one of these options is among the words.
+/// Whether at least one of `options` is among `words`.
 fn has_one(words: &[String], options: &[OptionRow]) -> bool
     ensures { result ≡ list_any (λ row. list_any (λ word. bytes_eq (string_bytes word) row.name.now) words.now) options.now }
 {
     options.iter().any(|option| contains(words, option.name))
 }
 
-/// Whether the words have the option `needed`, if they have one of `options`.
+/// Whether `words` contain the option `needed` or none of `options`.
 pub fn have_needed(words: &[String], needed: &str, options: &[OptionRow]) -> bool
     ensures { IsTrue result ↔ Need (texts words.now) needed.now (names_of options.now) }
 {
     contains(words, needed) || lacks(words, options)
 }
 
-/// How many words at a place are the value of an option: 0 if it takes no value, otherwise 1. `None` if the word there is not a
-/// value of the option.
+/// How many words the value of an option takes up at index `place`: 0 if the option takes no value, otherwise 1. `None`
+/// if the word at `place` is missing or is not a value that the option takes.
 fn value_len(words: &[String], place: usize, takes: Takes) -> Option<usize>
     ensures some { IfSome result (IsTakenAt takes (texts words.now) place) }
     ensures none { IfNone result (LacksValue takes (texts words.now) place) }
@@ -151,8 +151,8 @@ fn value_len(words: &[String], place: usize, takes: Takes) -> Option<usize>
     }
 }
 
-/// How many of the words after a command are its options, which come first, or the place of the first word that is not
-/// accepted.
+/// How many of `words`, the words after a command, belong to its options, which precede the operands. The error is the
+/// index of the first word that is not accepted.
 pub fn options_len(rows: &[OptionRow], words: &[String]) -> Result<usize, usize>
     requires { IsTrue (are_sound (rows_of rows.now)) }
     ensures ok { IfOk result (EndsOptions (rows_of rows.now) (texts words.now)) }
@@ -178,7 +178,7 @@ pub fn options_len(rows: &[OptionRow], words: &[String]) -> Result<usize, usize>
     Ok(place)
 }
 
-/// The word after the first one of this name.
+/// The word directly after the first `name` in `words`, if any.
 pub fn word_after<'a>(words: &'a [String], name: &str) -> Option<&'a str>
     ensures { option_copied result ≡ value_after name.now (texts words.now) }
 {

@@ -30,55 +30,57 @@ use iec61883_format::{rate_of_fdf, syt_interval};
 /// The kind of a stream.
 #[derive(Clone, Copy, Debug, PartialEq, Eq)]
 pub enum Kind {
-    /// PCM in the AVTP audio format (IEEE 1722-2016, 7). The format is that of the samples in the input and in the
-    /// packets; in a sparse stream only one packet in eight has a timestamp.
+    /// PCM in the AVTP audio format (IEEE 1722-2016, 7). The samples in the input and in the packets are in `format`.
+    /// In a sparse stream, only one packet in eight has a timestamp.
     Aaf { format: AafFormat, sparse: bool },
-    /// AM824 (IEC 61883-6): the input is quadlets as they are sent.
+    /// AM824 (IEC 61883-6). The input is quadlets as they are sent.
     Am824,
-    /// H.264 (IEEE 1722-2016, 8; RFC 6184): the input is a byte stream of NAL units. Each packet of a unit has a timestamp, or
-    /// only its last fragment has one.
+    /// H.264 (IEEE 1722-2016, 8; RFC 6184). The input is a byte stream of NAL units. If `last_stamp` is true, only the
+    /// last fragment of a unit has a timestamp. Otherwise each packet has one.
     H264 { last_stamp: bool },
 }
 
 /// What to make a capture of, and how its packets are sent.
 #[derive(Clone, Copy, Debug, PartialEq, Eq)]
 pub struct Talk<'a> {
-    /// What the stream is made of.
+    /// The kind of the stream.
     pub kind: Kind,
-    /// The sample rate in Hz, one of those of the kind; for H.264 the access units in a second, 1 to 240.
+    /// The sample rate in Hz, which the format must have a code for. For H.264 the access units per second, 1 to 240.
     pub rate: u32,
-    /// The channels of each sample frame, 1 to 1023, for AM824 at most 256. H.264 uses neither the channels nor the count.
+    /// The number of channels of each sample frame: 1 to 1023, for AM824 at most 256. H.264 does not use `channels` and
+    /// `count`.
     pub channels: u16,
-    /// The sample frames of a packet, or its data blocks for AM824. At least 1, with at most 1,476 bytes together; for
-    /// AM824 at least an eighth of SYT_INTERVAL, with at most 1,468 bytes.
+    /// The number of sample frames in a packet: at least 1, and together at most 1,476 bytes. For AM824 the number of
+    /// data blocks: at least an eighth of SYT_INTERVAL, and together at most 1,468 bytes.
     pub count: u32,
     /// The stream ID.
     pub id: u64,
     /// When the first packet is sent, in nanoseconds of gPTP, 0 to 4,000,000,000,000,000,000.
     pub start: i64,
-    /// The max transit time, in nanoseconds, 1 to 1,000,000,000: how long before its first presentation time a packet
-    /// is sent.
+    /// The max transit time in nanoseconds, 1 to 1,000,000,000. A packet is sent this long before its first
+    /// presentation time.
     pub lead: u32,
-    /// The number of packets from one media clock restart to the next, 8 to 1,000,000,000.
+    /// The number of packets from one media clock restart to the next, 8 to 1,000,000,000. `None` if there are no
+    /// restarts.
     pub restart: Option<u32>,
     /// How far each restart sets presentation times forward, in nanoseconds, 4 to 1,000,000,000.
     pub jump: u32,
     /// The media clock that is sent with the stream, if one is asked for.
     pub crf: Option<Crf>,
-    /// The file of raw samples, or of an H.264 byte stream.
+    /// The name of the input, which holds raw samples or an H.264 byte stream.
     pub input: &'a str,
-    /// The capture that is written.
+    /// The name of the capture to write.
     pub output: &'a str,
 }
 
 const TALK_OPERANDS: [Operand; 2] = [Operand::Name, Operand::Name];
 
-/// The codes that name a nominal sample rate.
+/// The codes of AAF that name a nominal sample rate.
 const RATE_CODES: [u8; 10] = [1, 2, 3, 4, 5, 6, 7, 8, 9, 10];
 
-/// The words after `talk`. If a word is missing, that is the offence. If each word is valid but they contradict one another,
-/// the offence is at the command. The limit of 240 access units a second for H.264 counts as such a contradiction, because the
-/// kind can come after the rate.
+/// Reads the words after `talk`. If a word is missing, that is the offence. If each word is valid but the words
+/// contradict one another, the offence is at the command. More than 240 access units a second for H.264 count as a
+/// contradiction, because `--kind` can follow `--rate`.
 pub fn read_talk(words: &[String]) -> Result<Command<'_>, Offence>
     ensures ok { IfOk result (λ command. IsCommandLine (codes "talk" ∷ texts words.now) (request_of command)) }
     ensures err { IfErr result (λ offence. IsOffence (codes "talk" ∷ texts words.now) offence.position) }
@@ -91,7 +93,7 @@ pub fn read_talk(words: &[String]) -> Result<Command<'_>, Offence>
     }
 }
 
-/// What the words after `talk` ask for, each by itself.
+/// What the words after `talk` ask for. Rules over several words are not checked.
 fn read_words(words: &[String]) -> Result<Talk<'_>, Offence>
     ensures ok { IfOk result (λ asked. SaysTalk (codes "talk" ∷ texts words.now) (talking_of asked)) }
     ensures err { IfErr result (λ offence. IsOffence (codes "talk" ∷ texts words.now) offence.position) }
@@ -109,7 +111,6 @@ fn read_words(words: &[String]) -> Result<Talk<'_>, Offence>
     Ok(read_options(&words[..place], kind, input, output))
 }
 
-/// The values of the options of `talk` other than the kind, each by itself.
 fn read_options<'a>(options: &[String], kind: Kind, input: &'a str, output: &'a str) -> Talk<'a>
     ensures kind { result.kind ≡ kind }
     ensures input { result.input.now ≡ input.now }
@@ -133,7 +134,7 @@ fn read_options<'a>(options: &[String], kind: Kind, input: &'a str, output: &'a 
     }
 }
 
-/// The kind of the stream. The word `--sparse` counts for AAF, and `--last-stamp` for H.264.
+/// The kind of the stream. Only AAF uses `sparse`, and only H.264 uses `last_stamp`.
 fn kind_after(options: &[String], sparse: bool, last_stamp: bool) -> Kind
     ensures { IsReadKind (texts options.now) sparse last_stamp result }
 {
@@ -156,7 +157,7 @@ fn start_after(options: &[String]) -> i64
 }
 
 impl<'a> Talk<'a> {
-    /// Whether the words after `talk`, which ask for this, keep the rules over several words.
+    /// Whether `words`, the words after `talk`, keep the rules over several words. `self` is what these words ask for.
     fn keeps_rules(&self, words: &[String]) -> bool
         requires { ClockIsWithin self.now.crf self.now.rate }
         ensures { IsTrue result ↔ KeepsRules (texts words.now) (talking_of self.now) }
@@ -196,7 +197,7 @@ impl<'a> Talk<'a> {
 }
 
 impl Kind {
-    /// The sample rate in Hz, or the access units in a second, if none is given.
+    /// The rate if `--rate` is not given: in Hz, or for H.264 in access units per second.
     fn default_rate(self) -> u32
         ensures { result ≡ default_rate_of self }
     {
@@ -206,7 +207,7 @@ impl Kind {
         }
     }
 
-    /// Whether each option after `talk` is one that the kind has, and comes with the option that it needs.
+    /// Whether the kind allows each option in `words`, and no option in `words` lacks another option that it needs.
     fn fits_options(self, words: &[String]) -> bool
         ensures { IsTrue result ↔ FitsOptions self (texts words.now) }
     {
@@ -215,7 +216,7 @@ impl Kind {
             && have_needed(words, CRF.name, &CLOCK_OPTIONS)
     }
 
-    /// Whether the words after `talk` have none of the options that the kind lacks.
+    /// Whether the kind allows each option in `words`, the words after `talk`.
     fn has_options(self, words: &[String]) -> bool
         ensures { IsTrue result ↔ Lacks (texts words.now) (lacking self) }
     {
@@ -234,7 +235,7 @@ fn is_nominal(rate: u32) -> bool
     has_rate(&RATE_CODES, rate)
 }
 
-/// Whether one of these codes names the sample rate.
+/// Whether one of `codes` names the sample rate.
 fn has_rate(codes: &[u8], rate: u32) -> bool
     ensures { result ≡ list_any (λ code. option_eq nat_eq (rate_of_code code) (Some rate)) codes.now }
 {
@@ -244,15 +245,15 @@ fn has_rate(codes: &[u8], rate: u32) -> bool
 /// The codes FDF that name a sample rate (IEC 61883-6).
 const FDF_CODES: [u8; 7] = [0, 1, 2, 3, 4, 5, 6];
 
-/// Whether IEC 61883-6 has a sample rate, and a packet of `count` data blocks has at least an eighth of its SYT_INTERVAL, so
-/// each eight packets have a stamped block.
+/// Whether IEC 61883-6 has a code for the sample rate, and `count` data blocks are at least an eighth of that rate's
+/// SYT_INTERVAL. Then each eight packets in a row have a stamped block.
 fn suits_blocks(rate: u32, count: u32) -> bool
     ensures { IsTrue result ↔ ((fdf : ℕ) × (rate_of_fdf_code fdf ≡ Some rate) × IsSomeAnd (interval_of_code fdf) (λ interval. interval ≤ 8 * count)) }
 {
     has_suiting(&FDF_CODES, rate, count)
 }
 
-/// Whether one of these codes has this rate, with an interval that suits the count.
+/// Whether one of `codes` names the sample rate, with an SYT_INTERVAL of at most 8 times `count`.
 fn has_suiting(codes: &[u8], rate: u32, count: u32) -> bool
     ensures { result ≡ list_any (λ fdf. suits_of rate count fdf) codes.now }
 {

@@ -10,7 +10,7 @@ use crate::operand::id_of;
 use crate::option::word_after;
 use aaf_format::AafFormat;
 
-/// The number after the option of this name, or else `default`.
+/// The number after the option `name`, or `default` if the option is not given.
 pub fn number_after(options: &[String], name: &str, default: u64) -> u64
     ensures { IsRead (2 ^ 64) default (value_after name.now (texts options.now)) result }
 {
@@ -20,28 +20,28 @@ pub fn number_after(options: &[String], name: &str, default: u64) -> u64
     }
 }
 
-/// The number of at most 32 bits after the option of this name, or else the default.
+/// The number of at most 32 bits after the option `name`, or `default` if the option is not given.
 pub fn small_number_after(options: &[String], name: &str, default: u32) -> u32
     ensures { IsRead (2 ^ 32) default (value_after name.now (texts options.now)) result }
 {
     u32::try_from(number_after(options, name, u64::from(default))).unwrap_or(default)
 }
 
-/// The number of at most 16 bits after the option of this name, or else the default.
+/// The number of at most 16 bits after the option `name`, or `default` if the option is not given.
 pub fn short_number_after(options: &[String], name: &str, default: u16) -> u16
     ensures { IsRead (2 ^ 16) default (value_after name.now (texts options.now)) result }
 {
     u16::try_from(number_after(options, name, u64::from(default))).unwrap_or(default)
 }
 
-/// The number of at most 8 bits after the option of this name, or else the default.
+/// The number of at most 8 bits after the option `name`, or `default` if the option is not given.
 pub fn byte_after(options: &[String], name: &str, default: u8) -> u8
     ensures { IsRead (2 ^ 8) default (value_after name.now (texts options.now)) result }
 {
     u8::try_from(number_after(options, name, u64::from(default))).unwrap_or(default)
 }
 
-/// The number of at most 32 bits after the option of this name, if it is given.
+/// The number of at most 32 bits after the option `name`, if that option is given.
 pub fn small_number_if(options: &[String], name: &str) -> Option<u32>
     ensures { IsReadIf (2 ^ 32) (value_after name.now (texts options.now)) result }
 {
@@ -49,7 +49,7 @@ pub fn small_number_if(options: &[String], name: &str) -> Option<u32>
     u32::try_from(number_of(word)?).ok()
 }
 
-/// The stream id after the option of this name, or else `default`.
+/// The stream ID after the option `name`, or `default` if the option is not given.
 pub fn id_after(options: &[String], name: &str, default: u64) -> u64
     ensures { IsReadId default (value_after name.now (texts options.now)) result }
 {
@@ -59,14 +59,14 @@ pub fn id_after(options: &[String], name: &str, default: u64) -> u64
     }
 }
 
-/// The stream id after the option of this name, if it is given.
+/// The stream ID after the option `name`, if that option is given.
 pub fn id_if(options: &[String], name: &str) -> Option<u64>
     ensures { IsReadIdIf (value_after name.now (texts options.now)) result }
 {
     id_of(word_after(options, name)?)
 }
 
-/// The number after the option of this name, which may be below 0, or else `default`.
+/// The number, possibly negative, after the option `name`, or `default` if the option is not given.
 pub fn signed_number_after(options: &[String], name: &str, default: i64) -> i64
     ensures { IsReadSigned default (value_after name.now (texts options.now)) result }
 {
@@ -76,7 +76,7 @@ pub fn signed_number_after(options: &[String], name: &str, default: i64) -> i64
     }
 }
 
-/// The format that a word names.
+/// The sample format that `word` names, if any.
 pub fn format_of(word: &str) -> Option<AafFormat>
     ensures named { IfSome result (λ format. word.now ≡ format_name format) }
     ensures none { IfNone result ((format : AafFormat) → word.now ≡ format_name format → ⊥) }
@@ -90,7 +90,7 @@ pub fn format_of(word: &str) -> Option<AafFormat>
     }
 }
 
-/// The format after the option of this name, or else `default`.
+/// The sample format after the option `name`, or `default` if the option is not given.
 pub fn format_after(options: &[String], name: &str, default: AafFormat) -> AafFormat
     ensures { IsReadFormat default (value_after name.now (texts options.now)) result }
 {

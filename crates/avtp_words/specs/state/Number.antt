@@ -1,7 +1,7 @@
 -- Kept for proofs: what the code's own parts hold and do. No clause of a public call rests on it.
 use Rattle.std.specs.Prelude.{◌≡◌, ℕ, ◌<◌, ◌≤◌, List, length, slice_index}
 
--- the first byte is a digit, and it is 0 only if it is the only one
+-- the first byte is a digit, and if the digit is 0, there is no other byte
 pub record BeginsAsNumber (bytes : List ℕ) : Type 0 where
   pub some : 0 < length bytes
   pub low : 48 ≤ slice_index bytes 0

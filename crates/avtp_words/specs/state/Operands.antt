@@ -16,7 +16,7 @@ takes_all Packets = false
 abbrev pub stream_operands : List Operand
 stream_operands = Id ∷ Name ∷ Name ∷ []
 
--- Words name a stream and two captures.
+-- `words` name a stream and two captures.
 pub record NameStreamAndTwo (words : List (List ℕ)) (stream : ℕ) (first second : List ℕ) : Type 0 where
   pub id : List ℕ
   pub spelled : words ≡ id ∷ first ∷ second ∷ []

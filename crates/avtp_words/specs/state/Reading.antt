@@ -25,7 +25,7 @@ use Rattle.avtp_words.specs.Limits.{NumberOption, default_rate, with_default}
 use Rattle.avtp_words.specs.Grammar.{Begins, Stops, StopsAt, Listening, NamedFile, NamedRaw, Talking}
 use Rattle.aaf_format.specs.declared.aaf.AafFormat.TheVariants.{Int16}
 
--- a row of the code, without its name's location in memory
+-- a row of the code's table, with plain bytes in place of its borrowed name
 abbrev pub row_of : OptionRow → Row
 row_of row = record { name = row.name.now; takes = row.takes }
 
@@ -35,7 +35,7 @@ rows_of rows = map row_of rows
 abbrev pub names_of : List OptionRow → List (List ℕ)
 names_of rows = map (λ row. row.name.now) rows
 
--- some word is a value that the option takes, and the size of each value is below 2^64
+-- some word is a value that the option takes, and each number that it takes has a size below 2^64
 abbrev pub is_sound : Takes → Bool
 is_sound (Number low high) = nat_le low high && nat_lt high (2 ^ 64)
 is_sound (Signed most) = nat_lt most (2 ^ 63)
@@ -47,7 +47,7 @@ is_sound Silence = true
 is_sound OutFormat = true
 is_sound Nothing = true
 
--- the word begins with "--", as names of options do and their values do not
+-- the word begins with `--`, as each option does and no value of an option does
 abbrev pub begins_with_dashes : List ℕ → Bool
 begins_with_dashes [] = false
 begins_with_dashes (first ∷ []) = false
@@ -56,46 +56,47 @@ begins_with_dashes (first ∷ second ∷ _) = nat_eq first 45 && nat_eq second 4
 abbrev pub are_sound : List Row → Bool
 are_sound rows = list_all (λ row. begins_with_dashes row.name && is_sound row.takes) rows
 
--- the word after the first one of this name
+-- the word directly after the first `name` in the list, if any
 abbrev pub value_after : List ℕ → List (List ℕ) → Option (List ℕ)
 value_after name [] = None
 value_after name (word ∷ words) = if bytes_eq word name then slice_get words 0 else value_after name words
 
--- What is read from a word: the number that it spells, below the bound, or the default if there is no word.
+-- What is read from `word`: the number below `bound` that it spells, or `default` if there is no word.
 pub record IsRead (bound default : ℕ) (word : Option (List ℕ)) (n : ℕ) : Type 0 where
   pub absent : IfNone word (n ≡ default)
   pub read : IfSome word (λ word. (k : ℕ) → k < bound → word ≡ decimal k → n ≡ k)
 
--- What is read from a word: the number that it spells, below the bound, or none if there is no word.
+-- What is read from `word`: the number below `bound` that it spells, or `None` if there is no word.
 pub record IsReadIf (bound : ℕ) (word : Option (List ℕ)) (given : Option ℕ) : Type 0 where
   pub absent : IfNone word (given ≡ None)
   pub read : IfSome word (λ word. (k : ℕ) → k < bound → word ≡ decimal k → given ≡ Some k)
 
--- What is read from a word: the stream id that it spells, or the default if there is no word.
+-- What is read from `word`: the stream ID that it spells, or `default` if there is no word.
 pub record IsReadId (default : ℕ) (word : Option (List ℕ)) (n : ℕ) : Type 0 where
   pub absent : IfNone word (n ≡ default)
   pub read : IfSome word (λ word. (id : ℕ) → IsId word id → n ≡ id)
 
--- What is read from a word: the stream id that it spells, or none if there is no word.
+-- What is read from `word`: the stream ID that it spells, or `None` if there is no word.
 pub record IsReadIdIf (word : Option (List ℕ)) (given : Option ℕ) : Type 0 where
   pub absent : IfNone word (given ≡ None)
   pub read : IfSome word (λ word. (id : ℕ) → IsId word id → given ≡ Some id)
 
--- What is read from a word: the number that it spells, which may be negative, or the default if there is no word.
+-- What is read from `word`: the number, possibly negative, that it spells, or `default` if there is no word.
 pub record IsReadSigned (default : ℤ) (word : Option (List ℕ)) (z : ℤ) : Type 0 where
   pub absent : IfNone word (z ≡ default)
   pub read : IfSome word (λ word. (k : ℤ) → unsigned_abs k < 2 ^ 63 → word ≡ signed_decimal k → z ≡ k)
 
--- What is read from a word: the format that it names, or the default if there is no word.
+-- What is read from `word`: the format that it names, or `default` if there is no word.
 pub record IsReadFormat (default : AafFormat) (word : Option (List ℕ)) (format : AafFormat) : Type 0 where
   pub absent : IfNone word (format ≡ default)
   pub read : IfSome word (λ word. (named : AafFormat) → word ≡ format_name named → format ≡ named)
 
--- the number that is read from a list of options for an option with a default
+-- `n` is what is read for `option`, which has a default, from a list of options
 abbrev pub IsReadOf : ℕ → NumberOption → List (List ℕ) → ℕ → Type 0
 IsReadOf bound option options n = IsSomeAnd option.default (λ default. IsRead bound default (value_after option.name options) n)
 
--- The name of the file after the option with this name, and its position among all words, with the command as word 0.
+-- The file is named by the word after the option `name`. Its `place` is that word's position on the whole command line,
+-- with the command as word 0.
 pub record ReadsFile (name : List ℕ) (options : List (List ℕ)) (file : NamedFile) : Type 0 where
   pub value : value_after name options ≡ Some file.name
   pub before : ℕ
@@ -107,7 +108,7 @@ abbrev pub IsReadFile : List ℕ → List (List ℕ) → Option NamedFile → Ty
 IsReadFile name options None = value_after name options ≡ None
 IsReadFile name options (Some file) = ReadsFile name options file
 
--- what is read from a word about silence
+-- What silence is read from the value of `--silence`. Every value but `am824` is read as zeros.
 abbrev pub IsReadSilence : Option (List ℕ) → RawSilence → Type 0
 IsReadSilence word silence.Zero = IfSome word (λ word. word ≢ codes "am824")
 IsReadSilence word silence.Am824 = word ≡ Some (codes "am824")
@@ -138,7 +139,7 @@ pub record AreHeard (options : List (List ℕ)) (asked : Listening) : Type 0 whe
   pub raw : IsReadRaw options asked.raw
   pub annexb : IsReadFile (codes "--annexb") options asked.annexb
 
--- The kind that is read is AAF. `tells` says whether the word `--sparse` is among all words.
+-- The kind that is read is AAF. `tells` says whether `--sparse` is among the words after the command.
 pub record IsReadAaf (options : List (List ℕ)) (tells : Bool) (format : AafFormat) (sparse : Bool) : Type 0 where
   pub no_blocks : IfSome (value_after (codes "--kind") options) (λ word. word ≢ codes "am824")
   pub no_video : IfSome (value_after (codes "--kind") options) (λ word. word ≢ codes "h264")
@@ -154,7 +155,7 @@ IsReadKind options tells_sparse tells_last (Aaf format sparse) = IsReadAaf optio
 IsReadKind options tells_sparse tells_last Am824 = value_after (codes "--kind") options ≡ Some (codes "am824")
 IsReadKind options tells_sparse tells_last (H264 last_stamp) = IsReadVideo options tells_last last_stamp
 
--- What is read from the options about a media clock for a stream of this rate.
+-- What is read from the options as a media clock, for a stream of this rate.
 pub record IsReadCrf (options : List (List ℕ)) (rate : ℕ) (crf : Crf) : Type 0 where
   pub id : IsReadIdIf (value_after (codes "--crf") options) (Some crf.id)
   pub base : IsReadOf (2 ^ 32) (with_default limits.crf_rate rate) options crf.rate
@@ -166,7 +167,7 @@ abbrev pub IsReadClock : List (List ℕ) → ℕ → Option Crf → Type 0
 IsReadClock options rate None = IsReadIdIf (value_after (codes "--crf") options) None
 IsReadClock options rate (Some crf) = IsReadCrf options rate crf
 
--- A media clock and the rate of its stream are within their limits.
+-- The media clock and the rate of its stream are within their limits.
 pub record IsWithin (crf : Crf) (rate : ℕ) : Type 0 where
   pub some_base : 1 ≤ crf.rate
   pub some_interval : 1 ≤ crf.interval
@@ -190,14 +191,14 @@ pub record AreRead (options : List (List ℕ)) (asked : Talking) : Type 0 where
   pub jump : IsReadOf (2 ^ 32) limits.jump options asked.jump
   pub crf : IsReadClock options asked.rate asked.crf
 
--- the words from a place on begin with a value that the option takes; the value is `len` words long
+-- the words from index `place` on begin with a value that the option takes; the value is `len` words long
 pub record IsTakenAt (takes : Takes) (words : List (List ℕ)) (place len : ℕ) : Type 0 where
   pub value : Option (List ℕ)
   pub taken : IsTaken takes value
   pub here : IfSome value (λ word. slice_get words place ≡ Some word)
   pub size : len ≡ length (option_to_list value)
 
--- the words from a place on do not begin with a value that the option takes
+-- The option takes a value, and the word at index `place` is not such a value or is missing.
 pub record LacksValue (takes : Takes) (words : List (List ℕ)) (place : ℕ) : Type 0 where
   pub wanted : stands_alone takes ≡ false
   pub none : IfSome (slice_get words place) (λ word. IsValue takes word → ⊥)
@@ -224,12 +225,12 @@ pub record IsRest (rows : List Row) (operands : List Operand) (words : List (Lis
   pub options : AreSettings rows settings
   pub named : AreOperands operands names
 
--- the words after a command: options, then the operands, of which the first is at this place, from 0
+-- The words after a command: options, then the operands. The first operand is at index `place`.
 pub record IsRestTo (rows : List Row) (operands : List Operand) (words : List (List ℕ)) (place : ℕ) : Type 0 where
   pub rest : IsRest rows operands words
   pub here : place ≡ length (flat_map words_of rest.settings)
 
--- the words before the place, from 0, are options
+-- the words before index `place` are options
 pub record AreOptionsTo (rows : List Row) (words : List (List ℕ)) (place : ℕ) : Type 0 where
   pub settings : List Setting
   pub rest : List (List ℕ)
@@ -237,12 +238,13 @@ pub record AreOptionsTo (rows : List Row) (words : List (List ℕ)) (place : ℕ
   pub here : place ≡ length (flat_map words_of settings)
   pub options : AreSettings rows settings
 
--- the words before the place, from 0, are options, and no option begins there
+-- the words before index `place` are options, and no option begins there
 pub record EndsOptions (rows : List Row) (words : List (List ℕ)) (place : ℕ) : Type 0 where
   pub options : AreOptionsTo rows words place
   pub ends : IfSome (slice_get words place) (λ word. BeginsWithDash word → ⊥)
 
--- The words before the place begin options. Together with the word there they begin no options and names.
+-- The words before index `place` begin a list of options. Together with the word there, they do not begin a list of
+-- options and names.
 pub record StopsOptions (rows : List Row) (words : List (List ℕ)) (place : ℕ) : Type 0 where
   pub before : List (List ℕ)
   pub rest : List (List ℕ)
@@ -251,23 +253,25 @@ pub record StopsOptions (rows : List Row) (words : List (List ℕ)) (place : ℕ
   pub begins : Begins (AreOptions rows) before
   pub stops : Stops (IsTail rows) before rest
 
--- from this position on, counted from 1 over all words, the words after a command are no line of L
+-- The words after a command stop being a line of `L` at `position`, which is counted from 1 over all words of the
+-- command line.
 pub record StopsAfter (L : List (List ℕ) → Type 0) (words : List (List ℕ)) (position : ℕ) : Type 0 where
   pub place : ℕ
   pub here : position ≡ place + 2
   pub stops : StopsAt L words place
 
--- the word at the place is the first that is not a name
+-- the word at index `place` is the first that is not a name
 pub record IsFirstUnnamed (words : List (List ℕ)) (place : ℕ) : Type 0 where
   pub within : place < length words
   pub named : All IsName (take place words)
   pub here : IsName (get_or words place []) → ⊥
 
--- a packet of this many blocks has at least an eighth of the interval
+-- `count` blocks are at least an eighth of the interval, if there is an interval
 abbrev pub is_long_enough : Option ℕ → ℕ → Bool
 is_long_enough None count = false
 is_long_enough (Some interval) count = nat_le interval (8 * count)
 
--- the code of IEC 61883-6 names the sample rate, and a packet of this many blocks is long enough for it
+-- The code `fdf` of IEC 61883-6 names the sample rate, and `count` blocks are at least an eighth of that rate's SYT
+-- interval.
 abbrev pub suits : ℕ → ℕ → ℕ → Bool
 suits rate count fdf = option_eq nat_eq (rate_of_fdf fdf) (Some rate) && is_long_enough (syt_interval fdf) count
