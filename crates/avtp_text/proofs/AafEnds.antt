@@ -1,4 +1,4 @@
--- The end of the line of an AAF packet.
+-- The end of an AAF packet's line.
 use Rattle.std.proofs.Common.{◌≡◌, ℕ, ◌-◌, List, ◌++◌, length, drop, codes, decimal, unwrap_or, subst, arith, append_assoc, length-append}
 use Rattle.std.proofs.Math.Seq.{drop-append_seam}
 use Rattle.aaf_format.specs.Aaf.{Aaf, rate_of}
@@ -7,7 +7,7 @@ use Rattle.avtp_text.specs.declared.aaf_line.AafEnd.{AafEnd}
 use Rattle.avtp_text.specs.Pieces.{newline, flag_text, id_text}
 use Rattle.avtp_text.specs.Show.{aaf_content, header_text, format_text}
 
--- an end, spelled out
+-- the text of an end, field by field
 abbrev pub spelled : AafEnd → List ℕ
 spelled e =
     codes " tv " ++ flag_text e.tv
@@ -35,7 +35,7 @@ ends v = rw (start_then v (spelled (end_of v))) (simp append_assoc)
 pub is_end : (e : AafEnd) → IsEnd e (spelled e)
 is_end e v same = subst (λ (k : AafEnd). aaf_content v ++ newline ≡ aaf_start v ++ spelled k) same (ends v)
 
--- the bytes after a start are the last bytes of the line
+-- if `len` is the length of `text`, the last `len` bytes of `start ++ text` are `text`
 pub last_of : (start text : List ℕ) (len : ℕ) → len ≡ length text → drop (length (start ++ text) - len) (start ++ text) ≡ text
 last_of start text len whole =
     let seam : length (start ++ text) - len ≡ length start = omega (arith, whole, length-append start text) in

@@ -29,7 +29,7 @@ pub length_eight : (n : ℕ) → length (eight_digits n) ≡ 8
 unfolding eight_digits
 length_eight n = refl
 
--- a number of more than eight digits is a number and its last eight digits
+-- if a number has more than eight digits, its digits are those of `n / 100000000`, then its last eight
 pub last_eight : (n : ℕ) → 100000000 ≤ n → n < 2 ^ 64 → decimal n ≡ decimal (n / 100000000) ++ eight_digits (n % 100000000)
 unfolding eight_digits
 last_eight n lo hi =
@@ -39,7 +39,7 @@ last_eight n lo hi =
     decimal_four n (omega arith) hi ∙ ap (λ front. front ++ four_digits (n % 10000)) (decimal_four (n / 10000) (omega arith) (omega arith))
     ∙ append_assoc (decimal (n / 10000 / 10000)) (four_digits (n / 10000 % 10000)) (four_digits (n % 10000)) ∙ rw (high, middle, low) refl
 
--- a number put together from a number and its last eight digits has the digits of both
+-- the digits of `high * 100000000 + low` are those of `high`, then eight digits for `low`
 pub with_eight : (high low : ℕ) → 1 ≤ high → low < 100000000 → high * 100000000 + low < 2 ^ 64 → decimal (high * 100000000 + low) ≡ decimal high ++ eight_digits low
 with_eight high low some small fits =
     let quotient : (high * 100000000 + low) / 100000000 ≡ high = omega (arith, small) in

@@ -1,4 +1,5 @@
--- What is written into the gaps of a sample's line at the end of a text.
+-- A text ends with the line of a sample. The gaps of this line are overwritten: the last eight digits of the instant,
+-- the sample's number, and the sample's bytes.
 use Rattle.std.proofs.Common.{◌≡◌, ℕ, ◌+◌, ◌*◌, ◌^◌, ◌<◌, ◌≤◌, ℤ, pos, List, ◌++◌, length, codes, decimal, refl, sym, ap, ◌∙◌, arith, append_assoc, length-append}
 use Rattle.std.specs.Fmt.{signed_decimal}
 use Rattle.avtp_text.specs.Listen.{due_text, place_text}
@@ -45,7 +46,6 @@ module _ (b : List ℕ) (high : ℕ) (low : List ℕ) (frame seq : ℕ) (number 
   pub at_hex : b ++ gapped high low frame seq number hex ≡ before_hex b high low frame seq number ++ hex ++ newline
   at_hex = at_number ∙ regroup (before_number b high low frame seq ++ number) (codes " ") hex newline
 
--- what is written over a gap has room where the gap is
 pub room : (l before gap after : List ℕ) → l ≡ before ++ gap ++ after → length before + length gap + length after ≤ length l
 room l before gap after split = omega (arith, ap length split, length-append (before ++ gap) after, length-append before gap)
 

@@ -6,7 +6,7 @@ use Rattle.std.specs.List.{refill}
 use borrow.Rule.Slice.PartMut.{put_mid}
 use Rattle.avtp_text.specs.state.Overwrites.{Overwrites}
 
--- the piece is written after the first m bytes
+-- if `piece` is written after the first `m` bytes, it replaces the bytes there and no others
 from_place : (s t before was after piece : List ℕ) (m : ℕ)
     → s ≡ before ++ was ++ after → length before ≡ m → length was ≡ length piece
     → take m t ≡ take m s → drop m t ≡ piece ++ drop (m + length piece) s
@@ -26,7 +26,7 @@ overwritten s t piece place behind ends kept written before was after split same
     ap length split ∙ length-append (before ++ was) after ∙ ap (λ (n : ℕ). n + length after) (length-append before was) in
     from_place s t before was after piece place split (omega (arith, len, ends, same, last)) same kept written
 
--- a piece that replaces n bytes in the middle of a text overwrites them
+-- if the `n` bytes of `piece` are put at index `place`, they overwrite the bytes there
 pub part_overwritten : (s piece : List ℕ) (place n behind : ℕ) → length piece ≡ n → place + n + behind ≡ length s
     → Overwrites s (put_mid place n s piece) piece behind
 part_overwritten s piece place n behind len ends =
@@ -35,6 +35,6 @@ part_overwritten s piece place n behind len ends =
     drop_at (take place s) (piece ++ drop n (drop place s)) place (length-take-le place s inside) ∙ ap (λ (x : List ℕ). piece ++ x) (drop-drop n place s ∙ ap (λ (k : ℕ). drop (place + k) s) (sym len)) in
     overwritten s (put_mid place n s piece) piece place behind (omega (arith, len, ends)) (take-put_mid_below place n s piece place (omega arith) inside) back
 
--- if what is left is as long as what was lent, it replaces all of that
+-- if `left` is as long as `lent`, it replaces all of `lent`
 pub all_left : (lent left : List ℕ) → length left ≡ length lent → refill (length lent) lent left ≡ left
 all_left lent left same = take_at left (drop (length left) lent) (length lent) same

@@ -12,11 +12,11 @@ use Rattle.avtp_text.proofs.Growth.{grows_further, grows_none}
 
 -- ---- prefixes
 
--- nothing was written
+-- if nothing was written, a prefix of any text was written: the empty one
 pub prefix_none : (before now : Option (List ℕ)) (text : List ℕ) → Keeps before now → AppendsPrefix before now text
 prefix_none before now text keeps = record { prefix = []; rest = text; split = refl; appends = Appends-kept before before now [] (Appends-nil before) keeps }
 
--- a first text was written whole, and a prefix of a second
+-- if `a` was written whole and then a prefix of `b`, a prefix of `a ++ b` was written
 pub prefix_after : (before mid now : Option (List ℕ)) (a b : List ℕ) → Appends before mid a → AppendsPrefix mid now b → AppendsPrefix before now (a ++ b)
 prefix_after before mid now a b first second = record {
   prefix = a ++ second.prefix;
@@ -25,7 +25,7 @@ prefix_after before mid now a b first second = record {
   appends = Appends-trans before mid now a second.prefix first second.appends;
 }
 
--- a prefix of the first text was written
+-- if a prefix of `a` was written, a prefix of `a ++ b` was written
 pub prefix_before : (before now : Option (List ℕ)) (a b : List ℕ) → AppendsPrefix before now a → AppendsPrefix before now (a ++ b)
 prefix_before before now a b first = record {
   prefix = first.prefix;
@@ -34,29 +34,28 @@ prefix_before before now a b first = record {
   appends = first.appends;
 }
 
--- all of the text was written
+-- if `a` was written whole, a prefix of `a` was written
 pub prefix_whole : (before now : Option (List ℕ)) (a : List ℕ) → Appends before now a → AppendsPrefix before now a
 prefix_whole before now a appends = record { prefix = a; rest = []; split = sym (append-nil a); appends = appends }
 
 -- ---- what is printed
 
--- what is written whole or not at all is written whole or in part
+-- if a call prints a text whole or not at all, it prints the text whole or in part
 pub part_of : {s t : SinkState} {w w' : List ℕ} {result : Result Unit Failed} {text : List ℕ} → Prints s t w w' result text → PrintsPart s t w w' result text
 part_of {result = Ok ok} prints = record { written = prints.written; grows = prints.grows; counted = prints.counted }
 part_of {result = Err e} prints = record { written = prefix_none _ _ _ prints.written; grows = prints.grows; counted = prints.counted }
 
--- a text that equals a printed one was printed
 pub part_as : {s t : SinkState} {w w' : List ℕ} {result : Result Unit Failed} (a b : List ℕ) → a ≡ b → PrintsPart s t w w' result a → PrintsPart s t w w' result b
 part_as a b same prints = subst (PrintsPart _ _ _ _ _) same prints
 
 pub line_as : {s t : SinkState} {w w' : List ℕ} {result : Result Unit Failed} (a b : List ℕ) → a ≡ b → Prints s t w w' result a → Prints s t w w' result b
 line_as a b same prints = subst (Prints _ _ _ _ _) same prints
 
--- nothing was printed yet
+-- if nothing happens, the empty text is printed
 pub part_none : (s : SinkState) (w : List ℕ) (ok : Unit) → PrintsPart s s w w (Ok ok) []
 part_none s w ok = record { written = Appends-nil (written s.held w); grows = grows_none s.held; counted = record { never_falls = omega arith; ok = refl; failed = tt } }
 
--- a second text after a first
+-- if `a` is printed and then `b`, whole or in part, `a ++ b` is printed, whole or in part
 pub part_then : {s t u : SinkState} {w w' w'' : List ℕ} {result : Result Unit Failed} {ok : Unit} (a b : List ℕ)
     → PrintsPart s t w w' (Ok ok) a → PrintsPart t u w' w'' result b → PrintsPart s u w w'' result (a ++ b)
 part_then {s} {t} {u} {w} {w'} {w''} {result = Ok o} a b first second = record {
@@ -70,7 +69,7 @@ part_then {s} {t} {u} {w} {w'} {w''} {result = Err e} a b first second = record 
   counted = subst (λ (n : ℕ). IsCounted {T = Unit} n u.faults (Err e)) first.counted.ok second.counted;
 }
 
--- the first of two texts failed
+-- if printing `a` fails, `a ++ b` is printed in part
 pub part_failed : {s t : SinkState} {w w' : List ℕ} {result : Result Unit Failed} {e : Failed} (a b : List ℕ)
     → IsErr result → PrintsPart s t w w' (Err e) a → PrintsPart s t w w' result (a ++ b)
 part_failed {result = Ok ok} a b err first = absurd cc

@@ -1,10 +1,10 @@
--- Each table of pairs of digits holds the digits of each number.
+-- The tables of pairs of digits hold the digits of each number.
 use Rattle.std.proofs.Common.{◌≡◌, ℕ, zero, suc, ◌+◌, ◌*◌, ◌/◌, ◌%◌, ◌<◌, Bool, true, false, ◌&&◌, ◌==◌, List, [], ◌∷◌, length, get_or, slice_index, refl, arith}
 use Rattle.std.proofs.lemmas.Bool.{and_parts, eqb-true}
 use Rattle.hex.specs.Hex.{lower_digits}
 use Rattle.avtp_text.specs.declared.pairs.TheConstants.{DECIMAL, HEXADECIMAL}
 
--- the table has these two digits of each number from n on
+-- the table has the two digits of `n`, then those of `n + 1`, and so on up to its end
 abbrev holds : (ℕ → ℕ) → (ℕ → ℕ) → ℕ → List ℕ → Bool
 holds first second n [] = true
 holds first second n (a ∷ []) = false

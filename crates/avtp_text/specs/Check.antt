@@ -8,11 +8,11 @@ use Rattle.avtp_text.specs.Pieces.{newline, id_text, refusal_text}
 unfoldable pub finding_start : ℕ → List ℕ
 finding_start number = codes "finding frame " ++ decimal number ++ codes " "
 
--- the line of a frame or a packet that cannot be accepted; the offset is in the frame
+-- the line of a malformed frame or packet; the offset is counted from the start of the frame
 unfoldable pub malformed_line : ℕ → Refusal → List ℕ
 malformed_line number r = finding_start number ++ codes "malformed " ++ refusal_text r ++ newline
 
--- how the line of a finding in a packet begins: the frame, and the id of its stream
+-- how the line of a finding in a packet begins: the number of the packet's frame, and the ID of the packet's stream
 unfoldable pub packet_start : ℕ → ℕ → List ℕ
 packet_start number id = finding_start number ++ codes "id " ++ id_text id ++ codes " "
 
@@ -20,11 +20,11 @@ packet_start number id = finding_start number ++ codes "id " ++ id_text id ++ co
 abbrev pub packet_line : ℕ → ℕ → List ℕ → List ℕ
 packet_line number id finding = packet_start number id ++ finding ++ newline
 
--- the name of a finding, if there is one
+-- the name of a finding if `is_found` is true, otherwise nothing
 abbrev pub found : Bool → List ℕ → List (List ℕ)
 found is_found name = if is_found then name ∷ [] else []
 
--- the label of a finding and its number, if there is one
+-- the label and the number of a finding, or nothing if it has no number
 abbrev pub counted : Option ℕ → List ℕ → List (List ℕ)
 counted count label = option_to_list (option_map (λ n. label ++ decimal n) count)
 
@@ -41,7 +41,8 @@ finding_texts f =
 abbrev pub findings_lines : ℕ → ℕ → Findings → List ℕ
 findings_lines number id f = flat_map (packet_line number id) (finding_texts f)
 
--- the line at the end of a capture: how many records were read, streams are tracked, and findings were made
+-- the line at the end of a capture: how many records were read, how many streams are tracked, and how many findings
+-- there are
 unfoldable pub end_check_line : ℕ → ℕ → ℕ → List ℕ
 end_check_line frames streams findings =
     codes "end frames " ++ decimal frames

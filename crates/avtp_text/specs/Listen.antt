@@ -16,19 +16,19 @@ use Rattle.avtp_text.specs.Pieces.{newline}
 unfoldable pub capture_line : List ℕ → List ℕ
 capture_line name = codes "capture " ++ name ++ newline
 
--- the bytes of all channels of sample j of a batch, whose samples all have the same size
+-- the bytes of all channels of sample `j` of a batch, in which all samples have the same size
 abbrev pub sample_bytes : Presented → ℕ → List ℕ
 sample_bytes batch j = take (length batch.bytes / batch.count) (drop (j * (length batch.bytes / batch.count)) batch.bytes)
 
--- how the line of a sample begins: when it is due, in nanoseconds, and the frame that it came in
+-- how the line of a sample begins: its presentation time in nanoseconds, and the number of its packet's frame
 unfoldable pub due_text : ℤ → ℕ → List ℕ
 due_text instant frame = codes "at " ++ signed_decimal instant ++ codes " frame " ++ decimal frame
 
--- how the line of a sample continues: its packet's sequence number, and its number in the packet
+-- how the line of a sample continues: the sequence number of its packet, and the sample's number in the packet
 unfoldable pub place_text : ℕ → ℕ → List ℕ
 place_text seq j = codes " seq " ++ decimal seq ++ codes " sample " ++ decimal j ++ codes " "
 
--- the line of sample j of a batch, with its bytes as hexadecimal digits
+-- the line of sample `j` of a batch, with the sample's bytes as hexadecimal digits
 abbrev pub sample_line : Presented → ℕ → List ℕ
 sample_line batch j =
     due_text (sample_instant batch j) batch.frame ++ place_text batch.seq j ++ encode_lower (sample_bytes batch j) ++ newline
@@ -37,7 +37,7 @@ sample_line batch j =
 abbrev pub batch_lines : Presented → List ℕ
 batch_lines batch = flat_map (sample_line batch) (range_with_len 0 batch.count)
 
--- the name of a reason for a flag
+-- the name of the reason why an item is flagged
 abbrev pub reason_text : Reason → List ℕ
 reason_text (Malformed field) = codes "malformed " ++ name_of field
 reason_text Uncertain = codes "uncertain"
@@ -60,12 +60,12 @@ abbrev pub shown_lines : Shown → List ℕ
 shown_lines (Present batch) = batch_lines batch
 shown_lines (Flag frame seq reason) = flag_line frame seq reason
 
--- the lines of all that is shown, in its order
+-- the lines of all items that are shown, in order
 abbrev pub list_lines : List Shown → List ℕ
 list_lines list = flat_map shown_lines list
 
--- the line at the end of a capture: how many records it has, how many of them are packets of the stream, and how many items
--- were presented and flagged
+-- the line at the end of a capture, with four counts: its records, the packets of the stream, the items that were
+-- presented, and the items that were flagged
 unfoldable pub end_listen_line : Counts → List ℕ
 end_listen_line counts =
     codes "end frames " ++ decimal counts.frames

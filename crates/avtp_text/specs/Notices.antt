@@ -3,15 +3,15 @@ use Rattle.std.specs.Prelude.{List, ℕ, ◌++◌, codes, decimal}
 use Rattle.avtp_base.specs.declared.refusal.Refusal.{Refusal}
 use Rattle.avtp_text.specs.Pieces.{newline, refusal_text}
 
--- the line of a capture whose own fields cannot be accepted; the offset is in the file
+-- the line of a capture that is refused for one of its own fields; the offset is counted from the start of the file
 unfoldable pub capture_refused_line : Refusal → List ℕ
 capture_refused_line r = codes "capture refused: " ++ refusal_text r ++ newline
 
--- the line of a file that could not be read further
+-- the line of a file of which the rest could not be read
 unfoldable pub read_fault_line : List ℕ
 read_fault_line = codes "read fault" ++ newline
 
--- the line of a device that failed to take an item
+-- the line of a device that failed to accept an item
 unfoldable pub device_fault_line : List ℕ
 device_fault_line = codes "device fault" ++ newline
 

@@ -13,10 +13,10 @@ newline = codes "\n"
 abbrev pub flag_text : Bool → List ℕ
 flag_text flag = if flag then codes "1" else codes "0"
 
--- a stream id as its sixteen hexadecimal digits
+-- a stream ID as sixteen hexadecimal digits
 unfoldable pub id_text : ℕ → List ℕ
 id_text id = encode_lower (to_be_bytes w64 id)
 
--- a refusal: the field, its offset, and whether the part that should hold it is too short
+-- the text of a refusal: the field's name, its offset, and `short` if the part that should hold the field is too short
 unfoldable pub refusal_text : Refusal → List ℕ
 refusal_text r = name_of r.field ++ codes " at " ++ decimal r.at ++ (if r.short then codes " short" else [])

@@ -18,7 +18,7 @@ use Rattle.avtp_text.specs.Pieces.{newline, flag_text, id_text, refusal_text}
 unfoldable pub frame_start : ℕ → ℤ → List ℕ
 frame_start number arrival = codes "frame " ++ decimal number ++ codes " at " ++ signed_decimal arrival ++ codes " "
 
--- the line of a record: what it is, and what it holds
+-- the line of a record: how it begins, and then what the record is and holds
 abbrev pub frame_line : ℕ → ℤ → List ℕ → List ℕ
 frame_line number arrival content = frame_start number arrival ++ content ++ newline
 
@@ -26,15 +26,15 @@ frame_line number arrival content = frame_start number arrival ++ content ++ new
 unfoldable pub end_frames_line : ℕ → List ℕ
 end_frames_line frames = codes "end frames " ++ decimal frames ++ newline
 
--- the text of a frame or a packet that is refused; the offset is in the frame
+-- the text of a frame or packet that is refused; the offset is counted from the start of the frame
 unfoldable pub refused_content : Refusal → List ℕ
 refused_content r = codes "refused " ++ refusal_text r
 
--- the text of a frame whose EtherType is not AVTP's, with the length of its payload
+-- the text of a frame whose EtherType is not AVTP's: the EtherType, and the length of the payload
 unfoldable pub ethertype_content : Frame → List ℕ
 ethertype_content f = codes "ethertype " ++ decimal f.ethertype ++ codes " bytes " ++ decimal (length f.payload)
 
--- the text of a packet whose AVTP subtype is not read
+-- the text of a packet whose AVTP subtype is not supported
 unfoldable pub other_content : ℕ → List ℕ
 other_content subtype = codes "other " ++ decimal subtype
 
@@ -100,7 +100,7 @@ h264_content v =
     ++ codes " part " ++ part_text v.part
     ++ codes " bytes " ++ decimal v.header.data_length
 
--- the text of a CRF packet, with the number of its timestamps and the first of them
+-- the text of a CRF packet, which ends with the number of timestamps and the first timestamp
 unfoldable pub crf_content : Crf → List ℕ
 crf_content v =
     codes "crf id " ++ id_text v.stream_id

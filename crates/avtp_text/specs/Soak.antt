@@ -3,7 +3,7 @@ use Rattle.std.specs.Prelude.{List, ℕ, ◌++◌, codes, decimal}
 use Rattle.soak_run.specs.declared.counts.SoakCounts.{SoakCounts}
 use Rattle.avtp_text.specs.Pieces.{newline}
 
--- the line of `soak`: what became of the deliveries of this many packets
+-- the line of `soak`: the number of packets, and what became of their deliveries
 unfoldable pub soak_line : ℕ → SoakCounts → List ℕ
 soak_line packets counts =
     codes "soak " ++ decimal packets

@@ -13,10 +13,10 @@ fault_text Packets = codes "packets"
 fault_text Arrival = codes "arrival"
 fault_text Memory = codes "memory"
 
--- the line of an input that makes no stream, with the reason
+-- the line of an input that cannot be made into a stream, with the reason
 unfoldable pub talk_input_line : TalkFault → List ℕ
 talk_input_line fault = codes "talk input: " ++ fault_text fault ++ newline
 
--- the line of a capture that was made: how many packets it has of the stream, and of its media clock
+-- the line of a capture that was made: how many packets of the stream it has, and how many of the media clock
 unfoldable pub talk_line : ℕ → ℕ → List ℕ
 talk_line packets clocks = codes "talk packets " ++ decimal packets ++ codes " clock " ++ decimal clocks ++ newline

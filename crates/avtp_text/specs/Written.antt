@@ -1,43 +1,43 @@
--- A sink, the text that waits for it, and how a call that prints changes both.
+-- A sink, the text that is buffered for it, and how a call that prints changes these two.
 use Rattle.std.specs.Prelude.{◌≡◌, List, ◌++◌, ℕ, Option, Result, MatchResult}
 use Rattle.avtp_base.specs.Told.{append_known, Appends, Keeps}
 use Rattle.avtp_base.specs.declared.failed.Failed.{Failed}
 use Rattle.avtp_base.specs.Faults.{IsCounted}
 use Rattle.avtp_base.specs.States.{SinkState}
 
--- all that was written so far: what the sink holds, if that is known, and then what waits
+-- all text that was written so far: what the sink holds, if that is known, followed by what is buffered
 abbrev pub written : Option (List ℕ) → List ℕ → Option (List ℕ)
 written held waiting = append_known held waiting
 
--- the known bytes grew by a prefix of the text
+-- a prefix of `text` was appended to the bytes `before`, if these are known
 pub record AppendsPrefix (before now : Option (List ℕ)) (text : List ℕ) : Type 0 where
   pub prefix : List ℕ
   pub rest : List ℕ
   pub split : text ≡ prefix ++ rest
   pub appends : Appends before now prefix
 
--- the text was written whole at `Ok`, and none of it at `Err`
+-- At `Ok`, the whole text was written. At `Err`, nothing was written.
 abbrev pub Writes : Option (List ℕ) → Option (List ℕ) → Result Unit Failed → List ℕ → Type 0
 Writes before now result text = MatchResult result (λ _. Appends before now text) (λ _. Keeps before now)
 
--- the text was written whole at `Ok`, and a prefix of it at `Err`
+-- At `Ok`, the whole text was written. At `Err`, a prefix of the text was written.
 abbrev pub WritesPrefix : Option (List ℕ) → Option (List ℕ) → Result Unit Failed → List ℕ → Type 0
 WritesPrefix before now result text = MatchResult result (λ _. Appends before now text) (λ _. AppendsPrefix before now text)
 
--- the sink still holds what it held, and perhaps more after it
+-- what the sink holds now begins with what it held before
 pub record Grows (before now : Option (List ℕ)) : Type 0 where
   pub more : List ℕ
   pub appends : Appends before now more
 
--- A call printed this text whole, or nothing if the sink failed. The sink keeps what it held, and its count of faults rose
--- exactly if the call failed.
+-- A call printed this text: all of it, or nothing if the sink failed. The sink keeps what it held, and its count of
+-- faults rose exactly if the call failed.
 pub record Prints (before after : SinkState) (waits waits' : List ℕ) (result : Result Unit Failed) (text : List ℕ) : Type 0 where
   pub written : Writes (written before.held waits) (written after.held waits') result text
   pub grows : Grows before.held after.held
   pub counted : IsCounted before.faults after.faults result
 
--- A call printed this text, which may be long: whole, or a prefix of it if the sink failed. The sink keeps what it held, and
--- its count of faults rose exactly if the call failed.
+-- A call printed this text, which may be long: all of it, or a prefix if the sink failed. The sink keeps what it held,
+-- and its count of faults rose exactly if the call failed.
 pub record PrintsPart (before after : SinkState) (waits waits' : List ℕ) (result : Result Unit Failed) (text : List ℕ) : Type 0 where
   pub written : WritesPrefix (written before.held waits) (written after.held waits') result text
   pub grows : Grows before.held after.held

@@ -11,10 +11,10 @@ use crate::pairs::write_hex;
 use crate::show::{format_name, prepend_frame};
 use aaf_format::{AafFormat, AafView, rate_of};
 
-/// The most bytes that the end of a line has.
+/// The most bytes of the end of a line.
 const LONGEST_END: usize = 138;
 
-/// What the line of an AAF packet shows after its timestamp. It seldom differs from packet to packet.
+/// The fields that the line of an AAF packet shows after the timestamp. They seldom change from packet to packet.
 #[derive(Clone, Copy, PartialEq, Eq)]
 struct AafEnd {
     tv: bool,
@@ -71,7 +71,7 @@ fn prepend_end(line: &mut Line, end: &AafEnd)
     line.prepend_flag(" tv ", end.tv);
 }
 
-/// A stream id and its hexadecimal digits.
+/// A stream ID and its hexadecimal digits.
 #[derive(Drop)]
 struct IdText {
     id: u64,
@@ -89,7 +89,7 @@ impl IdText {
         IdText { id, digits }
     }
 
-    /// Makes this the text of another stream id.
+    /// Makes this the text of the stream ID `id`.
     #[inline(always)]
     fn set(&mut self, id: u64)
         ensures { self.new.id ≡ id }
@@ -100,7 +100,7 @@ impl IdText {
     }
 }
 
-/// Puts the part that differs from packet to packet before the end of a line.
+/// Prepends the part that differs from packet to packet to the end of a line.
 #[inline(always)]
 fn prepend_start(line: &mut Line, id: &IdText, view: &AafView<'_>)
     requires id { id.now.id ≡ view.now.header.stream_id }
@@ -115,8 +115,8 @@ fn prepend_start(line: &mut Line, id: &IdText, view: &AafView<'_>)
     line.prepend("aaf ");
 }
 
-/// The line of an AAF packet. Its end is kept, because the next packet usually has the same end: then only the part before the
-/// end is written. If the next packet is of the same stream, too, the text of the stream id is copied.
+/// The line of an AAF packet. Its end is kept for the next packet: if that packet has the same end, only the part
+/// before the end is written. If that packet has the same stream ID, the digits of the ID are copied.
 #[derive(Drop)]
 pub struct AafLine {
     line: Line,
@@ -130,7 +130,7 @@ pub struct AafLine {
 }
 
 impl AafLine {
-    /// A line of which only the end is written.
+    /// A line that has only its end yet.
     pub fn new() -> Self {
         let end = AafEnd {
             tv: false,
@@ -177,7 +177,7 @@ impl AafLine {
         self.end = end;
     }
 
-    /// Keeps only this end of the line.
+    /// Keeps only the end of the line. Writes the end anew if it is not `end`.
     #[inline(always)]
     fn leave_end(&mut self, end: AafEnd)
         ensures text { IsEnd end self.new.line }
@@ -191,7 +191,7 @@ impl AafLine {
         }
     }
 
-    /// Makes this the line of a packet.
+    /// Makes this the line of the packet `view`.
     #[inline(always)]
     pub fn write(&mut self, number: u64, arrival: i64, view: &AafView<'_>)
         ensures { self.new.line ≡ frame_line number arrival (aaf_content (aaf_shape view.now)) }

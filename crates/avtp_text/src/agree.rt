@@ -9,7 +9,7 @@ use crate::line::{LONGEST, Line};
 use avtp_base::Failed;
 use avtp_files::Sink;
 
-/// A packet that is in both captures: its frame in each, and its sequence number.
+/// A packet that is in both captures: the number of its frame in each capture, and its sequence number.
 #[derive(Clone, Copy, Debug, PartialEq, Eq)]
 pub struct PacketPair {
     pub frame_a: u64,
@@ -17,7 +17,7 @@ pub struct PacketPair {
     pub seq: u8,
 }
 
-/// Puts the packet's frame in each capture and its sequence number before the line.
+/// Prepends the numbers of the packet's frames and the packet's sequence number to the line.
 #[tactic(auto, unfolding(crate::specs::Agree::differ_start))]
 fn prepend_pair(line: &mut Line, pair: PacketPair)
     requires { 70 + length line.old ≤ LONGEST }
@@ -31,7 +31,7 @@ fn prepend_pair(line: &mut Line, pair: PacketPair)
 }
 
 impl Text {
-    /// Prints that the listeners present different numbers of a packet's samples.
+    /// Prints that the listeners present different numbers of samples of a packet.
     #[tactic(auto, unfolding(crate::specs::Agree::differ_count_line))]
     pub fn differ_count<S: Sink>(
         &mut self,
@@ -69,7 +69,7 @@ impl Text {
         self.print(out, line.as_slice())
     }
 
-    /// Prints that a sample of a packet has different bytes in the two captures.
+    /// Prints that the listeners present a sample of a packet with different bytes.
     #[tactic(auto, unfolding(crate::specs::Agree::differ_bytes_line))]
     pub fn differ_bytes<S: Sink>(
         &mut self,
@@ -86,8 +86,8 @@ impl Text {
         self.print(out, line.as_slice())
     }
 
-    /// Prints how many packets both listeners present, how many only one of them presents, and how many of those that both
-    /// present differ.
+    /// Prints four counts: packets that both listeners present, packets that only the first presents, packets that only
+    /// the second presents, and packets that both present differently.
     #[tactic(auto, unfolding(crate::specs::Agree::end_agree_line))]
     pub fn end_agree<S: Sink>(
         &mut self,

@@ -16,15 +16,16 @@ use avtp_files::Sink;
 use std::alloc::Global;
 use std::marker::Model;
 
-/// The most bytes that a [`Text`] holds, and the longest piece that it takes.
+/// The most bytes that a [`Text`] holds. A piece that is printed at once has no more bytes than this.
 pub const ROOM: usize = Buffer::ROOM;
 
-/// Text that waits to be written to a sink. Contracts see it as the list of its bytes: at most 65,536, for which the memory is
-/// reserved once.
+/// Text that is buffered until it is written to a sink. Contracts see it as the list of its bytes: at most 65,536.
+/// Memory for all of them is reserved once.
 ///
-/// Each call that may write takes the sink. All that was written so far is what the sink holds and then what waits. A call adds
-/// its whole line to that, or nothing if the sink fails. No text is lost or written twice, so after a failure the call may be
-/// repeated.
+/// Each call that may write takes the sink. All text that was written so far is what the sink holds, followed by what
+/// is buffered. A call that prints a text of bounded length appends all of it, or nothing if the sink fails. After such
+/// a failure the call can be repeated, and no text is lost or written twice. A call that prints a text of any length
+/// may append a prefix if the sink fails.
 #[derive(Drop)]
 pub struct Text {
     pub(crate) buffer: Buffer,
@@ -40,7 +41,7 @@ impl Model for Text {
     ghost view = { λ text. text.buffer };
 }
 
-/// Writes the bytes to the sink until it has taken all or fails, and returns how many it took.
+/// Writes bytes to the sink until the sink has taken all of them or fails. Returns how many bytes the sink took.
 #[tactic(auto, using(crate::proofs::Moved::taken_none, crate::proofs::Moved::taken_more))]
 fn write_out<S: Sink>(out: &mut S, bytes: &[u8]) -> usize
     ensures within { result ≤ length bytes.now }
@@ -59,7 +60,7 @@ fn write_out<S: Sink>(out: &mut S, bytes: &[u8]) -> usize
     taken
 }
 
-/// Writes all that waits to the sink. If the sink fails, what it has not taken still waits.
+/// Writes all buffered text to the sink. If the sink fails, the text that it has not taken stays buffered.
 #[tactic(auto, using(crate::proofs::Moved::written_moved, crate::proofs::Growth::grows_by))]
 #[inline(never)]
 fn flush<S: Sink>(buffer: &mut Buffer, out: &mut S) -> Result<(), Failed>
@@ -77,7 +78,7 @@ fn flush<S: Sink>(buffer: &mut Buffer, out: &mut S) -> Result<(), Failed>
     Ok(())
 }
 
-/// Makes room for a piece of this many bytes.
+/// Makes room in the buffer for `len` bytes.
 #[tactic(auto, using(crate::proofs::Growth::grows_none))]
 #[inline(always)]
 pub(crate) fn make_room<S: Sink>(buffer: &mut Buffer, out: &mut S, len: usize) -> Result<(), Failed>
@@ -94,7 +95,7 @@ pub(crate) fn make_room<S: Sink>(buffer: &mut Buffer, out: &mut S, len: usize) -
 }
 
 impl Text {
-    /// No text yet. Reserves all the memory that text will need.
+    /// An empty text, for which all memory is reserved.
     pub fn new(alloc: Global) -> Result<Self, NoMemory>
         ensures { IfOk result (λ text. text ≡ []) }
     {
@@ -106,7 +107,7 @@ impl Text {
         })
     }
 
-    /// Writes all that waits to the sink. If the sink fails, what it has not taken still waits.
+    /// Writes all buffered text to the sink. If the sink fails, the text that it has not taken stays buffered.
     pub fn flush<S: Sink>(&mut self, out: &mut S) -> Result<(), Failed>
         ensures written { Keeps (written (S.state out.old).held self.old) (written (S.state out.new).held self.new) }
         ensures none_waits { OnOk result (self.new ≡ []) }
@@ -116,7 +117,7 @@ impl Text {
         flush(&mut self.buffer, out)
     }
 
-    /// Makes room for a piece of this many bytes.
+    /// Makes room in the buffer for `len` bytes.
     #[inline(always)]
     pub(crate) fn make_room<S: Sink>(&mut self, out: &mut S, len: usize) -> Result<(), Failed>
         requires { len ≤ ROOM }
@@ -128,7 +129,7 @@ impl Text {
         make_room(&mut self.buffer, out, len)
     }
 
-    /// Adds a piece of text. There must be room for it.
+    /// Appends a piece of text to the buffer, which must have room for the piece.
     #[inline(always)]
     pub(crate) fn push(&mut self, piece: &[u8])
         requires { length self.old + length piece.now ≤ ROOM }
@@ -137,7 +138,7 @@ impl Text {
         self.buffer.push(piece);
     }
 
-    /// Adds the line of an AAF packet. There must be room for a line.
+    /// Appends the line of an AAF packet to the buffer, which must have room for a line.
     #[inline(always)]
     pub(crate) fn push_aaf(&mut self, number: u64, arrival: i64, view: &AafView<'_>)
         requires { length self.old + LONGEST ≤ ROOM }
@@ -147,7 +148,7 @@ impl Text {
         self.buffer.push(self.aaf.as_slice());
     }
 
-    /// Adds a piece of text of at most [`ROOM`] bytes, whole, or nothing if the sink fails.
+    /// Appends a piece of text of at most [`ROOM`] bytes: all of it, or nothing if the sink fails.
     #[inline(always)]
     pub fn print<S: Sink>(&mut self, out: &mut S, piece: &[u8]) -> Result<(), Failed>
         requires { length piece.now ≤ ROOM }

@@ -10,13 +10,13 @@ use avtp_base::{Failed, Refusal};
 use avtp_files::Sink;
 use sequence_track::Findings;
 
-/// Room for the line of a finding in a packet, in bytes.
+/// The room for the line of a finding in a packet, in bytes.
 const FINDING: usize = 80;
 
-/// Room for the five findings that a packet may have.
+/// The room for the lines of the five findings that a packet may have, in bytes.
 const FINDINGS: usize = 5 * FINDING;
 
-/// Puts the number of a finding's frame before the line.
+/// Prepends the number of a finding's frame to the line.
 #[tactic(auto, unfolding(crate::specs::Check::finding_start))]
 fn prepend_finding(line: &mut Line, number: u64)
     requires { 35 + length line.old ≤ LONGEST }
@@ -27,7 +27,7 @@ fn prepend_finding(line: &mut Line, number: u64)
     line.prepend_u64("finding frame ", number);
 }
 
-/// Puts the frame's number and the stream id of a finding's packet before the line.
+/// Prepends the number of a packet's frame and the ID of its stream to the line.
 #[tactic(auto, unfolding(crate::specs::Check::packet_start))]
 fn prepend_packet(line: &mut Line, number: u64, id: u64)
     requires { 55 + length line.old ≤ LONGEST }
@@ -40,7 +40,7 @@ fn prepend_packet(line: &mut Line, number: u64, id: u64)
 }
 
 impl Text {
-    /// Adds the line of a finding in a packet if `is_found`. There must be room for the line.
+    /// Appends the line of a finding in a packet if `is_found` is true. There must be room for the line.
     fn push_found(&mut self, number: u64, id: u64, is_found: bool, name: &str)
         requires short { length name.now ≤ 8 }
         requires room { length self.old + FINDING ≤ ROOM }
@@ -55,7 +55,8 @@ impl Text {
         }
     }
 
-    /// Adds the line of a finding that has a number, if there is one. There must be room for the line.
+    /// Appends the line of a finding that has the number `count`, if there is such a number. There must be room for the
+    /// line.
     fn push_counted(&mut self, number: u64, id: u64, count: Option<u32>, label: &str)
         requires short { length label.now ≤ 8 }
         requires room { length self.old + FINDING ≤ ROOM }
@@ -70,7 +71,7 @@ impl Text {
         }
     }
 
-    /// Adds a line for each finding in a packet. There must be room for the lines.
+    /// Appends a line for each finding in a packet. There must be room for these lines.
     fn push_findings(&mut self, number: u64, id: u64, findings: &Findings)
         requires { length self.old + FINDINGS ≤ ROOM }
         ensures { self.new ≡ self.old ++ findings_lines number id findings.now }
@@ -82,7 +83,7 @@ impl Text {
         self.push_found(number, id, findings.stamp, "stamp");
     }
 
-    /// Prints the findings in a packet of the stream with this id, one a line.
+    /// Prints the findings in a packet of the stream `id`, one on each line.
     pub fn findings<S: Sink>(
         &mut self,
         out: &mut S,
@@ -97,7 +98,7 @@ impl Text {
         Ok(())
     }
 
-    /// Prints that a frame or its packet is malformed at a field. The offset is in the frame.
+    /// Prints at which field a frame or its packet is malformed. The offset is counted from the start of the frame.
     #[tactic(auto, unfolding(crate::specs::Check::malformed_line))]
     pub fn finding_malformed<S: Sink>(
         &mut self,

@@ -11,7 +11,7 @@ use avtp_base::Failed;
 use avtp_files::Sink;
 
 impl Text {
-    /// Prints which packet keeps a stream from being converted, and what is wrong with it.
+    /// Prints why a stream cannot be converted: what is wrong with a packet, and the number of the packet's frame.
     #[tactic(auto, unfolding(crate::specs::Gateway::gateway_input_line))]
     pub fn gateway_input<S: Sink>(
         &mut self,

@@ -9,7 +9,7 @@ use crate::pairs::{write_bytes, write_hex};
 use avtp_base::Refusal;
 use std::marker::Model;
 
-/// The room of a line, in bytes.
+/// The most bytes that a line can have.
 pub const LONGEST: usize = 256;
 
 /// A line of bounded length. Contracts see it as the list of its bytes. It is built from its end, because the digits of a
@@ -55,7 +55,7 @@ impl Line {
         }
     }
 
-    /// Clears the line down to the newline.
+    /// Makes the line only a newline.
     #[inline(always)]
     pub fn restart(&mut self)
         ensures { self.new ≡ newline }
@@ -64,7 +64,7 @@ impl Line {
         self.start = LONGEST - 1;
     }
 
-    /// Keeps the last `len` bytes of the line.
+    /// Keeps only the last `len` bytes of the line.
     #[inline(always)]
     pub fn keep_last(&mut self, len: usize)
         requires { len ≤ length self.old }
@@ -90,7 +90,7 @@ impl Line {
         &self.scratch[self.start..]
     }
 
-    /// Puts bytes of text before the line.
+    /// Prepends the bytes of a text to the line.
     #[inline(always)]
     pub fn prepend_bytes(&mut self, piece: &[u8])
         requires { length piece.now + length self.old ≤ LONGEST }
@@ -102,7 +102,7 @@ impl Line {
         self.start = start;
     }
 
-    /// Puts a text before the line. This is fastest for a text that the compiler knows, such as a label.
+    /// Prepends a text to the line. This is fastest for a text that the compiler knows, such as a label.
     #[inline(always)]
     pub fn prepend(&mut self, piece: &str)
         requires { length piece.now + length self.old ≤ LONGEST }
@@ -123,7 +123,7 @@ impl Line {
         self.start = itoa::write_digits(number, &mut self.scratch, self.start);
     }
 
-    /// Puts a label and a number before the line, in decimal.
+    /// Prepends `label` and, after it, `number` in decimal digits.
     #[tactic(auto, using(crate::proofs::Digits::digits_of_u64))]
     #[inline(always)]
     pub fn prepend_u64(&mut self, label: &str, number: u64)
@@ -135,7 +135,7 @@ impl Line {
         self.prepend(label);
     }
 
-    /// Puts a label and a number before the line, in decimal.
+    /// Prepends `label` and, after it, `number` in decimal digits.
     #[tactic(auto, using(crate::proofs::Digits::digits_of_u32))]
     #[inline(always)]
     pub fn prepend_u32(&mut self, label: &str, number: u32)
@@ -147,7 +147,7 @@ impl Line {
         self.prepend(label);
     }
 
-    /// Puts a label and a number before the line, in decimal, with a minus sign if it is negative.
+    /// Prepends `label` and, after it, `number` in decimal digits, with a minus sign if it is negative.
     #[tactic(auto, using(crate::proofs::Digits::digits_of_u64))]
     #[inline(always)]
     pub fn prepend_i64(&mut self, label: &str, number: i64)
@@ -162,7 +162,7 @@ impl Line {
         self.prepend(label);
     }
 
-    /// Puts a label and a flag before the line: 0 or 1.
+    /// Prepends `label` and, after it, a flag as 0 or 1.
     #[inline(always)]
     pub fn prepend_flag(&mut self, label: &str, flag: bool)
         requires { length label.now + 1 + length self.old ≤ LONGEST }
@@ -173,7 +173,7 @@ impl Line {
         self.prepend(label);
     }
 
-    /// Puts a label and a stream id before the line: 16 hexadecimal digits in lower case.
+    /// Prepends `label` and, after it, a stream ID in 16 lower-case hexadecimal digits.
     #[tactic(auto, unfolding(crate::specs::Pieces::id_text))]
     #[inline(always)]
     pub fn prepend_id(&mut self, label: &str, id: u64)
@@ -185,7 +185,7 @@ impl Line {
         self.prepend(label);
     }
 
-    /// Puts bytes before the line, in hexadecimal digits of lower case.
+    /// Prepends the lower-case hexadecimal digits of `bytes`.
     #[inline(always)]
     pub fn prepend_hex(&mut self, bytes: &[u8])
         requires { 2 * length bytes.now + length self.old ≤ LONGEST }
@@ -197,7 +197,8 @@ impl Line {
         self.start = start;
     }
 
-    /// Puts a refusal before the line: the field, its offset, and whether the part that should hold it is too short.
+    /// Prepends a refusal: the field's name, its offset, and `short` if the part that should hold the field is too
+    /// short.
     #[tactic(auto, using(crate::proofs::Names::name_fits), unfolding(crate::specs::Pieces::refusal_text))]
     pub fn prepend_refusal(&mut self, refusal: Refusal)
         requires { 48 + length self.old ≤ LONGEST }

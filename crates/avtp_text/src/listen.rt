@@ -17,10 +17,10 @@ use avtp_files::Sink;
 use listener::Counts;
 use sample_schedule::{Batch, Instant, Reason, Shown};
 
-/// A sample that is longer than a line is printed in pieces of this many bytes.
+/// The bytes of a sample that is too long for a [`Line`] are printed in pieces of this many bytes.
 const PIECE: usize = 2_048;
 
-/// Puts the due time of a sample, and the frame that it came in, before the line.
+/// Prepends the presentation time of a sample and the number of its packet's frame to the line.
 #[tactic(auto, unfolding(crate::specs::Listen::due_text))]
 #[inline(always)]
 fn prepend_due(line: &mut Line, instant: i64, frame: u64)
@@ -31,7 +31,7 @@ fn prepend_due(line: &mut Line, instant: i64, frame: u64)
     line.prepend_i64("at ", instant);
 }
 
-/// Puts the reason of a flag before the line.
+/// Prepends the reason for a flag to the line.
 #[tactic(auto, using(crate::proofs::Names::name_fits))]
 fn prepend_reason(line: &mut Line, reason: Reason)
     requires { 40 + length line.old ≤ LONGEST }
@@ -56,7 +56,7 @@ fn prepend_reason(line: &mut Line, reason: Reason)
     }
 }
 
-/// Adds the line of a sample to a buffer.
+/// Appends the line of a sample to a buffer.
 #[inline(always)]
 fn print_sample<S: Sink>(
     buffer: &mut Buffer,
@@ -76,7 +76,7 @@ fn print_sample<S: Sink>(
     Ok(())
 }
 
-/// Adds the line of a sample of a batch to a buffer. `line` is for the batch's packet.
+/// Appends the line of a sample of a batch to a buffer. `line` is for the batch's packet.
 #[inline(always)]
 fn short_sample<S: Sink>(
     buffer: &mut Buffer,
@@ -98,7 +98,7 @@ fn short_sample<S: Sink>(
     print_sample(buffer, line, out, instant.nanoseconds, instant.j, bytes)
 }
 
-/// Adds the lines of a batch to a buffer. Its samples are short enough that each line fits a [`Line`].
+/// Appends the lines of a batch to a buffer. Each sample is short enough that its line fits a [`Line`].
 fn short_samples<S: Sink>(
     buffer: &mut Buffer,
     line: &mut SampleLine,
@@ -129,7 +129,7 @@ fn short_samples<S: Sink>(
 }
 
 impl Text {
-    /// Adds a text of any length. If the sink fails, a prefix of the text was added.
+    /// Prints a text of any length. If the sink fails, a prefix of the text was printed.
     #[tactic(auto, using(crate::proofs::Printing::part_of))]
     fn print_all<S: Sink>(&mut self, out: &mut S, text: &[u8]) -> Result<(), Failed>
         ensures { PrintsPart (S.state out.old) (S.state out.new) self.old self.new result text.now }
@@ -142,7 +142,7 @@ impl Text {
         self.print_all(out, rest)
     }
 
-    /// Adds the hexadecimal digits of bytes, in lower case.
+    /// Prints the lower-case hexadecimal digits of `bytes`.
     fn print_hex<S: Sink>(&mut self, out: &mut S, bytes: &[u8]) -> Result<(), Failed>
         ensures { PrintsPart (S.state out.old) (S.state out.new) self.old self.new result (encode_lower bytes.now) }
     {
@@ -166,7 +166,7 @@ impl Text {
         self.print(out, digits)
     }
 
-    /// Prints which capture was opened.
+    /// Prints the name of the capture that was opened.
     #[tactic(auto, unfolding(crate::specs::Listen::capture_line))]
     pub fn capture<S: Sink>(&mut self, out: &mut S, name: &str) -> Result<(), Failed>
         ensures { PrintsPart (S.state out.old) (S.state out.new) self.old self.new result (capture_line name.now) }
@@ -230,7 +230,7 @@ impl Text {
         self.print(out, b"\n")
     }
 
-    /// Prints the samples of a batch, of any length.
+    /// Prints the samples of a batch, which may have any length.
     fn long_samples<S: Sink>(
         &mut self,
         out: &mut S,
@@ -270,7 +270,7 @@ impl Text {
         }
     }
 
-    /// Prints all items that a schedule shows, in their order.
+    /// Prints all items that a schedule shows, in order.
     pub fn shown_list<S: Sink>(&mut self, out: &mut S, list: &[Shown]) -> Result<(), Failed>
         ensures { PrintsPart (S.state out.old) (S.state out.new) self.old self.new result (list_lines list.now) }
     {
@@ -280,7 +280,8 @@ impl Text {
         Ok(())
     }
 
-    /// Prints that a capture ended, and what it held of the stream.
+    /// Prints that a capture ended, and counts its records, the stream's packets, and the items that were presented or
+    /// flagged.
     #[tactic(auto, unfolding(crate::specs::Listen::end_listen_line))]
     pub fn end_listen<S: Sink>(&mut self, out: &mut S, counts: &Counts) -> Result<(), Failed>
         ensures { Prints (S.state out.old) (S.state out.new) self.old self.new result (end_listen_line counts.now) }

@@ -9,7 +9,7 @@ use avtp_base::{Failed, Refusal};
 use avtp_files::Sink;
 
 impl Text {
-    /// Prints that a capture was refused at a field. The offset is in the file.
+    /// Prints at which field a capture was refused. The offset is counted from the start of the file.
     #[tactic(auto, unfolding(crate::specs::Notices::capture_refused_line))]
     pub fn capture_refused<S: Sink>(&mut self, out: &mut S, refusal: Refusal) -> Result<(), Failed>
         ensures { Prints (S.state out.old) (S.state out.new) self.old self.new result (capture_refused_line refusal) }
@@ -28,7 +28,7 @@ impl Text {
         self.print(out, b"read fault\n")
     }
 
-    /// Prints that a device failed to take an item.
+    /// Prints that a device failed to accept an item.
     #[tactic(auto, unfolding(crate::specs::Notices::device_fault_line))]
     pub fn device_fault<S: Sink>(&mut self, out: &mut S) -> Result<(), Failed>
         ensures { Prints (S.state out.old) (S.state out.new) self.old self.new result device_fault_line }

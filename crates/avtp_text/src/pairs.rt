@@ -1,4 +1,4 @@
-//! Digits written two at a time, from tables.
+//! Writes digits two at a time, from tables.
 
 ghost use Rattle.std.specs.Prelude.{◌≡◌, ◌+◌, ◌*◌, ◌/◌, ◌%◌, ◌<◌, ◌≤◌, length, set, slice_index};
 ghost use Rattle.hex.specs.Hex.{encode_lower, lower_digits};
@@ -25,7 +25,7 @@ fn write_decimal_pair(pair: u32, out: &mut [u8], at: usize)
     out[at + 1] = ones;
 }
 
-/// Writes the last eight decimal digits of a number.
+/// Writes a number as eight decimal digits, with leading zeros.
 #[inline(always)]
 pub fn write_eight_digits(number: u32, out: &mut [u8])
     requires number { number < 100000000 }
@@ -75,7 +75,8 @@ fn write_hex_of_each(bytes: &[u8], out: &mut [u8])
     }
 }
 
-/// Writes the hexadecimal digits of bytes, in lower case. Most samples have two channels of two bytes, which need no loop.
+/// Writes the lower-case hexadecimal digits of bytes. Most samples have two channels of two bytes, whose digits need no
+/// loop.
 #[inline(always)]
 pub fn write_hex(bytes: &[u8], out: &mut [u8])
     requires { length out.old ≡ 2 * length bytes.now }
@@ -88,7 +89,8 @@ pub fn write_hex(bytes: &[u8], out: &mut [u8])
     }
 }
 
-/// Writes a piece of text. If the compiler knows its length, it becomes a few moves; a copy would test for an overlap first.
+/// Writes a piece of text. If the compiler knows its length, the loop becomes a few moves. A copy of slices would test
+/// for an overlap first.
 #[inline(always)]
 pub fn write_bytes(piece: &[u8], out: &mut [u8])
     requires { length out.old ≡ length piece.now }

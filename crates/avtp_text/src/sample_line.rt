@@ -12,16 +12,16 @@ use crate::overwrite::{overwrite_decimal, overwrite_eight_digits, overwrite_hex}
 use avtp_base::Buffer;
 use std::marker::Model;
 
-/// The most bytes of a sample whose line fits a [`Line`]: 64.
+/// The line of a sample of at most this many bytes fits a [`Line`].
 pub const SHORT: usize = 64;
 
-/// How many instants have equal digits except for the last eight: a tenth of a second.
+/// How many instants differ only in their last eight digits: those of a tenth of a second.
 const INSTANTS: i64 = 100_000_000;
 
 /// The longest line that is kept, in bytes. A longer line is built anew for each sample.
 const KEPT: usize = 128;
 
-/// Puts the packet, and the number of the sample in it, before the line.
+/// Prepends the sequence number of a packet and the number of a sample in it to the line.
 #[tactic(auto, unfolding(crate::specs::Listen::place_text))]
 #[inline(always)]
 pub fn prepend_place(line: &mut Line, seq: u8, j: u32)
@@ -44,7 +44,7 @@ struct Numbers {
 impl Numbers {
     const NONE: Self = Numbers { least: 0, limit: 0 };
 
-    /// Numbers that all have as many digits as `number`; an empty range if that has more than three digits.
+    /// A range of numbers that have as many digits as `number`. It is empty if `number` has more than three digits.
     #[tactic(auto, using(crate::proofs::Digits::as_long_one, crate::proofs::Digits::as_long_two, crate::proofs::Digits::as_long_three))]
     fn as_long_as(number: u32) -> Self
         ensures { (n : ℕ) → result.least ≤ n → n < result.limit → length (decimal n) ≡ length (decimal number) }
@@ -59,7 +59,8 @@ impl Numbers {
     }
 }
 
-/// The first instant that has the digits of this one except for its last eight, if it has more than eight.
+/// The instant that has the digits of `instant`, except that the last eight are 0. `None` if `instant` has at most
+/// eight digits.
 fn start_of(instant: i64) -> Option<i64>
     ensures { IfSome result (StartsAt instant) }
 {
@@ -70,8 +71,7 @@ fn start_of(instant: i64) -> Option<i64>
     Some((high * INSTANTS as u64) as i64)
 }
 
-/// How many bytes of a line come after the instant, after the digits of the frame, and after those of the sequence
-/// number.
+/// How many bytes of a line follow the instant, the number of the frame, and the sequence number.
 #[derive(Clone, Copy)]
 struct Behind {
     instant: usize,
@@ -79,7 +79,7 @@ struct Behind {
     seq: usize,
 }
 
-/// The whole line of a sample.
+/// The whole line of a sample, and how many bytes follow the numbers in it.
 #[tactic(auto, unfolding(crate::specs::state::SampleLines::behind_instant))]
 fn whole_line(instant: i64, frame: u64, seq: u8, j: u32, bytes: &[u8]) -> (Line, Behind)
     requires { length bytes.now ≤ SHORT }
@@ -106,8 +106,8 @@ fn whole_line(instant: i64, frame: u64, seq: u8, j: u32, bytes: &[u8]) -> (Line,
     (line, behind)
 }
 
-/// The last eight digits of an instant, if a kept line differs from the sample's only in these, in the sample's number and in
-/// its bytes.
+/// The last eight digits of `instant`, if the kept line differs from the sample's line only in these digits, in the
+/// sample's number, and in the sample's bytes.
 #[inline(always)]
 fn low_of(from: i64, numbers: Numbers, instant: i64, j: u32) -> Option<u32>
     ensures { IfSome result (λ low. Fits from numbers instant j low) }
@@ -115,7 +115,7 @@ fn low_of(from: i64, numbers: Numbers, instant: i64, j: u32) -> Option<u32>
     if instant < from {
         return None;
     }
-    // A difference that does not fit 64 bits is negative here.
+    // If the difference overflows 64 bits, it is negative here.
     let low = instant.wrapping_sub(from);
     if low < 0 || low >= INSTANTS {
         return None;
@@ -126,21 +126,22 @@ fn low_of(from: i64, numbers: Numbers, instant: i64, j: u32) -> Option<u32>
     Some(low as u32)
 }
 
-/// A line that is kept for later samples, if it is short enough.
+/// The line that is kept for later samples. A line that is too long is not kept.
 #[derive(Clone, Copy)]
 struct KeptLine {
-    /// The line's bytes, and unused bytes after them: all are copied, which needs no call.
+    /// The line's bytes, then unused bytes. All are copied, because a copy of constant size needs no call.
     bytes: [u8; KEPT],
     len: usize,
     behind: Behind,
-    /// The first instant whose digits are the line's except for the last eight.
+    /// The instant that has the digits of the line's instant, except that the last eight are 0.
     from: i64,
-    /// The sample numbers that have as many digits as the line's; an empty range if no line is kept.
+    /// The sample numbers that have as many digits as the number in the line. Empty if no line is kept.
     numbers: Numbers,
 }
 
 impl KeptLine {
-    /// Overwrites the numbers in the line with another packet's, and returns whether these have equally many digits.
+    /// Overwrites the number of the frame and the sequence number in the line. Returns whether each has as many digits
+    /// as the number that it replaces.
     #[tactic(auto, using(crate::proofs::Digits::digits_of_u64))]
     fn turn_to(&mut self, frame: u64, seq: u8) -> bool
         ensures { IsTrue result → (packet : SamplePacket) → KnowsGaps self.old packet → KnowsGaps self.new (seen_as frame seq packet.size) }
@@ -156,16 +157,17 @@ impl KeptLine {
     }
 }
 
-/// The line of a sample. Contracts see it as the packet whose samples it is for. If the line of the next sample differs from the
-/// last one only in the last eight digits of the instant, the sample's number and its bytes, only these are written, over a copy
-/// of the last line. The line is built anew when the number gains a digit or other digits of the instant change.
+/// The line of a sample, which is kept for the next one. Contracts see it as the packet whose samples it is for.
+/// Usually the next line differs only in the last eight digits of the instant, the sample's number, and the sample's
+/// bytes. Then only these are written, over a copy of the kept line. The line is built anew when the number gains a
+/// digit or other digits of the instant change.
 #[derive(Drop)]
 pub struct SampleLine {
     line: KeptLine,
-    /// The packet: the number of its frame, and its sequence number.
+    /// The number of the packet's frame. `seq` is the packet's sequence number.
     frame: u64,
     seq: u8,
-    /// How many bytes a sample has.
+    /// The size of a sample in bytes.
     size: usize,
 }
 
@@ -181,7 +183,7 @@ impl Model for SampleLine {
 }
 
 impl SampleLine {
-    /// No line yet.
+    /// A state in which no line is kept.
     pub fn new() -> Self {
         let line = KeptLine {
             bytes: [0; KEPT],
@@ -202,7 +204,7 @@ impl SampleLine {
         }
     }
 
-    /// Changes to another packet. The line is kept if only digits have to be overwritten.
+    /// Changes to another packet. The kept line stays in use if only digits in it have to be overwritten.
     pub fn turn_to(&mut self, frame: u64, seq: u8, size: usize)
         ensures { self.new ≡ seen_as frame seq size }
     {
@@ -214,7 +216,7 @@ impl SampleLine {
         self.size = size;
     }
 
-    /// Adds the line of a sample to a buffer, which has room for a line, and keeps it if it is short enough.
+    /// Appends the line of a sample to a buffer, which has room for a line. Keeps the line if it is short enough.
     #[inline(never)]
     fn add_anew(&mut self, buffer: &mut Buffer, instant: i64, j: u32, bytes: &[u8])
         requires short { length bytes.now ≤ SHORT }
@@ -238,7 +240,7 @@ impl SampleLine {
         }
     }
 
-    /// Adds the line of a sample to a buffer, which has room for a line.
+    /// Appends the line of a sample to a buffer, which has room for a line.
     #[inline(always)]
     pub fn add_to(&mut self, buffer: &mut Buffer, instant: i64, j: u32, bytes: &[u8])
         requires short { length bytes.now ≤ SHORT }

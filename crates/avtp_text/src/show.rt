@@ -21,7 +21,7 @@ use cvf_format::{CvfView, NalPart};
 use iec61883_format::IecView;
 use pcap_frames::FrameView;
 
-/// Puts the number and the arrival of a record before its line.
+/// Prepends the number and the arrival of a record to its line.
 #[tactic(auto, unfolding(crate::specs::Show::frame_start))]
 #[inline(always)]
 pub fn prepend_frame(line: &mut Line, number: u64, arrival: i64)
@@ -33,7 +33,7 @@ pub fn prepend_frame(line: &mut Line, number: u64, arrival: i64)
     line.prepend_u64("frame ", number);
 }
 
-/// The name of a format of samples.
+/// The name of a sample format.
 pub fn format_name(format: AafFormat) -> &'static str
     ensures name { result.now ≡ format_text format }
     ensures short { length result.now ≤ 7 }
@@ -46,7 +46,7 @@ pub fn format_name(format: AafFormat) -> &'static str
     }
 }
 
-/// Puts the stream header of an AAF, IEC 61883 or CVF packet before the line.
+/// Prepends the stream header of an AAF, IEC 61883 or CVF packet to the line.
 #[tactic(auto, unfolding(crate::specs::Show::header_text))]
 #[inline(always)]
 fn prepend_header(line: &mut Line, header: &StreamHeader)
@@ -62,7 +62,7 @@ fn prepend_header(line: &mut Line, header: &StreamHeader)
     line.prepend_id("id ", header.stream_id);
 }
 
-/// Puts the fields of an IEC 61883-6 packet before the line.
+/// Prepends the fields of an IEC 61883-6 packet to the line.
 #[inline(always)]
 fn prepend_iec(line: &mut Line, view: &IecView<'_>)
     requires { 146 + length line.old ≤ LONGEST }
@@ -97,7 +97,7 @@ fn nal_type(nal: u8) -> u32
     u32::from(nal % 32)
 }
 
-/// Puts the fields of an H.264 packet before the line.
+/// Prepends the fields of an H.264 packet to the line.
 #[inline(always)]
 fn prepend_h264(line: &mut Line, view: &CvfView<'_>)
     requires { 144 + length line.old ≤ LONGEST }
@@ -115,7 +115,7 @@ fn prepend_h264(line: &mut Line, view: &CvfView<'_>)
     line.prepend("h264 ");
 }
 
-/// Puts the number of timestamps in a CRF packet, and the first of them, before the line.
+/// Prepends the number of timestamps in a CRF packet and the first timestamp to the line.
 fn prepend_points(line: &mut Line, view: &CrfView<'_>)
     requires some { 8 ≤ length view.now.payload.now }
     requires room { 55 + length line.old ≤ LONGEST }
@@ -126,7 +126,7 @@ fn prepend_points(line: &mut Line, view: &CrfView<'_>)
     line.prepend_u64(" points ", (view.payload.len() / 8) as u64);
 }
 
-/// Puts the fields of a CRF packet before the line.
+/// Prepends the fields of a CRF packet to the line.
 #[inline(always)]
 fn prepend_crf(line: &mut Line, view: &CrfView<'_>)
     requires some { 8 ≤ length view.now.payload.now }
@@ -146,7 +146,7 @@ fn prepend_crf(line: &mut Line, view: &CrfView<'_>)
 }
 
 impl Text {
-    /// Prints that a frame or its packet was refused at a field. The offset is in the frame.
+    /// Prints at which field a frame or its packet was refused. The offset is counted from the start of the frame.
     #[tactic(auto, unfolding(crate::specs::Show::refused_content))]
     pub fn frame_refused<S: Sink>(
         &mut self,
@@ -182,7 +182,7 @@ impl Text {
         self.print(out, line.as_slice())
     }
 
-    /// Prints the AVTP subtype of a packet whose format is not read.
+    /// Prints the AVTP subtype of a packet whose format is not supported.
     #[tactic(auto, unfolding(crate::specs::Show::other_content))]
     pub fn frame_other<S: Sink>(
         &mut self,

@@ -1,4 +1,4 @@
-//! The line of `soak`: what became of the packets of a stream that were sent over a bad network.
+//! The line of `soak`: what became of the packets that were sent over a bad network.
 
 ghost use Rattle.avtp_text.specs.Soak.{soak_line};
 ghost use Rattle.avtp_text.specs.Written.{Prints};

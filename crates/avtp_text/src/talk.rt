@@ -10,7 +10,7 @@ use avtp_base::Failed;
 use avtp_files::Sink;
 use talker::TalkFault;
 
-/// Puts a fault before the line.
+/// Prepends a fault to the line.
 fn prepend_fault(line: &mut Line, fault: TalkFault)
     requires { 10 + length line.old ≤ LONGEST }
     ensures text { line.new ≡ fault_text fault ++ line.old }
@@ -27,7 +27,7 @@ fn prepend_fault(line: &mut Line, fault: TalkFault)
 }
 
 impl Text {
-    /// Prints how many packets of a stream and of its media clock are in a capture that was made.
+    /// Prints how many packets of the stream are in the capture that was made, and how many of its media clock.
     #[tactic(auto, unfolding(crate::specs::Talk::talk_line))]
     pub fn talk<S: Sink>(&mut self, out: &mut S, packets: u64, clocks: u64) -> Result<(), Failed>
         ensures { Prints (S.state out.old) (S.state out.new) self.old self.new result (talk_line packets clocks) }
@@ -38,7 +38,7 @@ impl Text {
         self.print(out, line.as_slice())
     }
 
-    /// Prints why an input makes no stream.
+    /// Prints why an input cannot be made into a stream.
     #[tactic(auto, unfolding(crate::specs::Talk::talk_input_line))]
     pub fn talk_input<S: Sink>(&mut self, out: &mut S, fault: TalkFault) -> Result<(), Failed>
         ensures { Prints (S.state out.old) (S.state out.new) self.old self.new result (talk_input_line fault) }

@@ -6,11 +6,11 @@ use Rattle.avtp_text.specs.declared.aaf_line.AafEnd.{AafEnd}
 use Rattle.avtp_text.specs.Pieces.{newline, id_text}
 use Rattle.avtp_text.specs.Show.{aaf_content}
 
--- what a line shows of a packet up to its timestamp
+-- the text of a packet's line from the word `aaf` to the timestamp
 unfoldable pub aaf_start : Aaf → List ℕ
 aaf_start v = codes "aaf " ++ (codes "id " ++ id_text v.header.stream_id ++ codes " seq " ++ decimal v.header.seq ++ codes " ts " ++ decimal v.header.timestamp)
 
--- what a line shows of a packet after the timestamp
+-- the fields that a packet's line shows after the timestamp
 abbrev pub end_of : Aaf → AafEnd
 end_of v = record {
   tv = v.header.tv;
@@ -26,6 +26,6 @@ end_of v = record {
   data_length = v.header.data_length;
 }
 
--- the line of each packet with this end has this text as its end
+-- `text` is what follows the timestamp in the line of each packet with these fields
 abbrev pub IsEnd : AafEnd → List ℕ → Type 0
 IsEnd end text = (v : Aaf) → end_of v ≡ end → aaf_content v ++ newline ≡ aaf_start v ++ text

@@ -2,6 +2,6 @@
 -- overwritten.
 use Rattle.std.specs.Prelude.{◌≡◌, ℕ, List, ◌++◌, length}
 
--- the piece replaces equally many bytes of the text, right before the text's last `behind` bytes
+-- `piece` replaces equally many bytes of the text `old`, after which `old` has `behind` more bytes
 abbrev pub Overwrites : List ℕ → List ℕ → List ℕ → ℕ → Type 0
 Overwrites old new piece behind = (before was after : List ℕ) → old ≡ before ++ was ++ after → length was ≡ length piece → length after ≡ behind → new ≡ before ++ piece ++ after

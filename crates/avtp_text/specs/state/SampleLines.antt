@@ -10,32 +10,32 @@ use Rattle.avtp_text.specs.SampleLines.{SamplePacket}
 abbrev pub seen_as : ℕ → ℕ → ℕ → SamplePacket
 seen_as frame seq size = record { frame = frame; seq = seq; size = size }
 
--- the packet of a batch, whose samples have this many bytes
+-- the packet of a batch whose samples have `size` bytes
 abbrev pub packet_of : Presented → ℕ → SamplePacket
 packet_of batch size = seen_as batch.frame batch.seq size
 
--- how a line ends, with its hexadecimal digits
+-- how a line ends: with the hexadecimal digits of a sample's bytes
 abbrev pub hex_end : List ℕ → List ℕ
 hex_end hex = codes " " ++ hex ++ newline
 
--- the rest of a line after the sequence number, with a sample's number
+-- the part of a line after the sequence number: the sample's number, and the sample's bytes
 abbrev pub behind_seq : List ℕ → List ℕ → List ℕ
 behind_seq number hex = codes " sample " ++ number ++ hex_end hex
 
--- the rest of a line after the frame's number
+-- the part of a line after the number of the frame
 abbrev pub behind_frame : ℕ → List ℕ → List ℕ → List ℕ
 behind_frame seq number hex = codes " seq " ++ decimal seq ++ behind_seq number hex
 
--- the rest of a line after the instant
+-- the part of a line after the instant
 unfoldable pub behind_instant : ℕ → ℕ → List ℕ → List ℕ → List ℕ
 behind_instant frame seq number hex = codes " frame " ++ decimal frame ++ behind_frame seq number hex
 
--- a line whose instant has these first digits, and this number as its last eight
+-- a line whose instant has the digits of `high` and then the digits `low`
 abbrev pub gapped : ℕ → List ℕ → ℕ → ℕ → List ℕ → List ℕ → List ℕ
 gapped high low frame seq number hex = codes "at " ++ decimal high ++ low ++ behind_instant frame seq number hex
 
--- A kept line is that of a sample of this packet: all of it is known except the instant's last eight digits, the sample's
--- number and its bytes.
+-- The kept line is the line of a sample of this packet. Everything in it is known but the last eight digits of the
+-- instant, the sample's number, and the sample's bytes.
 pub record HasGaps (line : KeptLine) (packet : SamplePacket) : Type 0 where
   pub high : ℕ
   pub low : List ℕ
@@ -53,11 +53,11 @@ pub record HasGaps (line : KeptLine) (packet : SamplePacket) : Type 0 where
   pub frame : line.behind.frame ≡ length (behind_frame packet.seq number hex)
   pub seq : line.behind.seq ≡ length (behind_seq number hex)
 
--- if a line is kept, its gaps are known
+-- if a line is kept, it is one of this packet, with known gaps
 abbrev pub KnowsGaps : KeptLine → SamplePacket → Type 0
 KnowsGaps line packet = line.numbers.least < line.numbers.limit → HasGaps line packet
 
--- the instant has the digits of the start, except for the last eight
+-- `start` has the digits of `instant`, except that the last eight are 0
 pub record StartsAt (instant start : ℤ) : Type 0 where
   pub high : ℕ
   pub low : ℕ
@@ -66,7 +66,8 @@ pub record StartsAt (instant start : ℤ) : Type 0 where
   pub small : low < 100000000
   pub at : instant ≡ pos (high * 100000000 + low)
 
--- the line of this sample differs from a kept one only in the instant's last eight digits, the sample's number and its bytes
+-- The line of sample `j` differs from the kept line only in the instant's last eight digits, which are `low`, in the
+-- sample's number, and in the sample's bytes.
 pub record Fits (from : ℤ) (numbers : Numbers) (instant : ℤ) (j low : ℕ) : Type 0 where
   pub small : low < 100000000
   pub at : instant ≡ from +ℤ pos low
