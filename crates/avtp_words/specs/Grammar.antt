@@ -360,7 +360,7 @@ pub record SaysGateway (words : List (List ℕ)) (asked : Turning) : Type 0 wher
   pub to_given : value_in (codes "--to") settings ≡ Some (gateway_format_name asked.to)
   pub id_given : IsGivenId (codes "--id") asked.listener.stream settings asked.id
 
--- `words` ask for an AAF stream in this sample format. It is sparse exactly if `sparse` is true.
+-- `words` ask for an AAF stream in this sample format. The stream is sparse exactly if `sparse` is true.
 pub record SaysAaf (words : List (List ℕ)) (settings : List Setting) (format : AafFormat) (sparse : Bool) : Type 0 where
   pub kind : IfSome (value_in (codes "--kind") settings) (λ word. word ≡ codes "aaf")
   pub format_given : IsGivenFormat (codes "--format") Int16 settings format

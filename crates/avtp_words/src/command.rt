@@ -65,7 +65,7 @@ pub fn parse(words: &[String]) -> Result<Command<'_>, Offence>
     // The words are a command line that asks for the result.
     ensures found { IfOk result (λ command. IsCommandLine (texts words.now) (request_of command)) }
 
-    // If the words are a command line, the result is what it asks for. A command line therefore asks for only one
+    // If the words are a command line, the result is the command that they ask for. Words therefore ask for only one
     // command.
     ensures only { (request : Request) → IsCommandLine (texts words.now) request →
         IsOkAnd result (λ command. request_of command ≡ request) }

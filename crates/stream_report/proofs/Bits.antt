@@ -1,4 +1,4 @@
--- Bits that are moved up, and the lowest one.
+-- Bits that are shifted up, and the lowest bit.
 use Rattle.std.proofs.Common.{◌≡◌, ℕ, ◌+◌, ◌-◌, ◌*◌, ◌/◌, ◌%◌, ◌^◌, ◌<◌, ◌≤◌, max, bit_or, refl, sym, ap, ◌∙◌, subst, arith, w64}
 use Rattle.std.specs.Int.{bit_at}
 use Rattle.std.proofs.lemmas.Nat.Bits.{bit_at-lt, bit_at_or, bit_at-pow_other, bit_at-zero, bit_at_cat_low, bit_at_set_same, bit_at_set_other}

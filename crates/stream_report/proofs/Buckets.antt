@@ -28,7 +28,6 @@ wide shift top least most = subst (λ (s : ℕ). (64 * shift + top - 64 * s) * 2
     rest : (shift top : ℕ) → 64 * shift + top - 64 * shift ≡ top
     rest shift top = omega arith
 
--- the next bucket begins where this one ends
 next-wide : (shift top : ℕ) → 64 ≤ top → top < 128 → first_in (64 * shift + top + 1) ≡ (top + 1) * 2 ^ shift
 next-wide shift top least most =
     elim (cases_lt (top + 1) 128) [
@@ -48,7 +47,7 @@ next-wide shift top least most =
         last-top : (t : ℕ) → t < 129 → 128 ≤ t → 128 ≡ t
         last-top t lt le = omega arith
 
--- a bucket begins below the next, and is at most a 64th of its values wide
+-- a bucket begins below the next one, and its width is at most a 64th of its values
 pub record Width (bucket : ℕ) : Type 0 where
   pub rises : first_in bucket < first_in (bucket + 1)
   pub wide : 64 * (first_in (bucket + 1) - 1 - first_in bucket) ≤ first_in bucket
@@ -134,7 +133,6 @@ in-wide m shift top least most near first next = record {
   within = omega (arith, most, near);
 }
 
--- the exponent of a magnitude that shares its bucket with others
 pub shifted : (m k : ℕ) → 128 ≤ m → m < 2 * 2 ^ k → 6 ≤ k
 shifted m k wide next =
     elim (cases_lt k 6) [
@@ -299,7 +297,7 @@ high-core m f g least most wide = rw (apart m g most) (omega (arith, least, most
     apart : (m g : ℕ) → m < g → pos g -ℤ pos 1 -ℤ pos m ≡ pos (g - 1 - m)
     apart m g lt = omega (arith, ints, lt)
 
--- the last value of a bucket is above any value of the bucket by at most a 64th of that value's magnitude
+-- the greatest value of a bucket exceeds any value of the bucket by at most a 64th of the latter's magnitude
 pub near-edge : (v : ℤ) (p : ℕ) → p < 2 * side → edge p ≤ℤ v → v <ℤ edge (p + 1) → 64 * unsigned_abs (edge (p + 1) -ℤ pos 1 -ℤ v) ≤ unsigned_abs v
 near-edge (negsuc m) p within first next =
     elim (cases_lt p 3712) [

@@ -5,11 +5,11 @@ use Rattle.stream_report.specs.declared.sequence.Place.TheVariants.{Late, Early,
 use Rattle.stream_report.specs.Sequence.{greatest, has_come, missing_among, lost, lost_with, place_of}
 use Rattle.stream_report.proofs.Numbers.{first-least, none-above, come-same, come-other}
 
--- 1 if a number has not come, otherwise 0
+-- 1 if a number has not arrived, otherwise 0
 one : Bool → ℕ
 one come = if come then 0 else 1
 
--- if the same numbers have come, equally many are missing
+-- if the same numbers have arrived, equally many are missing
 among-same : (first : ℕ) (old new : List ℕ) (count : ℕ) → ((i : ℕ) → i < count → has_come first new (first + i) ≡ has_come first old (first + i))
     → missing_among first new count ≡ missing_among first old count
 among-same first old new zero same = refl
@@ -17,7 +17,7 @@ among-same first old new (suc count) same =
     ap (λ (m : ℕ). m + (if has_come first new (first + count) then 0 else 1)) (among-same first old new count (λ i lt. same i (omega (arith, lt))))
     ∙ ap (λ (b : Bool). missing_among first old count + (if b then 0 else 1)) (same count (omega arith))
 
--- one number that was missing has come
+-- if a missing number arrives, one number fewer is missing
 among-one : (first : ℕ) (later : List ℕ) (number place count : ℕ) → number ≡ first + place → place < count → has_come first later number ≡ false
     → missing_among first later count ≡ suc (missing_among first (number ∷ later) count)
 among-one first later number place zero at lt missing = absurd (none place lt)
@@ -46,7 +46,7 @@ among-one first later number place (suc count) at lt missing =
     step : (m n : ℕ) (was now : Bool) → m ≡ suc n → now ≡ was → m + (if was then 0 else 1) ≡ suc (n + (if now then 0 else 1))
     step m n was now e f = rw (f, e) (omega arith)
 
--- the greatest number has come
+-- the greatest number has arrived
 greatest-come : (first : ℕ) (later : List ℕ) → has_come first later (greatest first later) ≡ true
 greatest-come first [] = rw (eq-eqb first first refl) refl
 greatest-come first (come ∷ later) =
@@ -60,7 +60,7 @@ greatest-come first (come ∷ later) =
     other : (a b : ℕ) → a ≢ max a b → max a b ≡ b
     other a b ne = omega (arith, ne)
 
--- numbers that are passed over are missing
+-- the numbers that a packet skips are missing
 among-gap : (first : ℕ) (later : List ℕ) (number gap : ℕ) → greatest first later + gap < number
     → missing_among first (number ∷ later) (greatest first later - first + suc gap) ≡ lost first later + gap
 among-gap first later number zero lt =
@@ -94,7 +94,6 @@ among-gap first later number (suc gap) lt =
     end : (m n gap : ℕ) (now : Bool) → m ≡ n + gap → now ≡ false → m + (if now then 0 else 1) ≡ n + suc gap
     end m n gap now e f = rw (f, e) (omega arith)
 
--- a number that is at most the greatest does not change it
 stays : (n g : ℕ) → n ≤ g → max n g ≡ g
 stays n g le = omega arith
 

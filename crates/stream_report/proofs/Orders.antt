@@ -41,7 +41,7 @@ late-le first (number ∷ later) = more (late first later) (length later) (nat_l
 
 -- ---- what the place of a packet says
 
--- a packet that is not ahead of all others, and whether its number has come
+-- A packet that is not ahead of all others. `come` says whether its number has arrived.
 pub record Behind (first : ℕ) (later : List ℕ) (number : ℕ) (come : Bool) : Type 0 where
   pub within : number ≤ greatest first later
   pub is : has_come first later number ≡ come
@@ -70,7 +70,7 @@ missing-read first later number missing e = same (e ∙ ap (λ (b : Bool). if b 
         missing-of Early = 0
         missing-of Repeat = 0
 
--- whether the number of a packet at this place, which is not ahead, has come before
+-- whether a packet with this place has a number that arrived before, if the packet is not ahead
 abbrev pub come-in : Place → Bool
 come-in (Ahead missing) = false
 come-in Late = false
@@ -121,7 +121,7 @@ counts-ahead old new first later number missing counts ahead is passed window fe
     lost-now : {l g a b m d n : ℕ} → l ≤ g → g < 2 ^ 64 → l ≡ a + d → n ≡ min (b + m) (2 ^ 64 - 1) → b ≡ a → m ≡ d → n ≡ l
     lost-now le small e f h i = omega (arith, le, small, e, f, h, i)
 
--- a packet that comes late, or again
+-- if a packet is late or repeated, the counts stay right
 pub counts-behind : (old new : Order) (first : ℕ) (later : List ℕ) (number : ℕ) (come : Bool) → CountsOf old first later → Behind first later number come
     → new.lost.count ≡ lost first (number ∷ later) → new.most_lost ≡ old.most_lost
     → new.repeated.count ≡ old.repeated.count + (if come then 1 else 0) → new.late.count ≡ old.late.count + (if come then 0 else 1)
@@ -137,6 +137,6 @@ counts-behind old new first later number come counts behind lost most repeated l
     none : (m n g : ℕ) → n ≤ g → m ≡ max m (n - g - 1)
     none m n g le = omega (arith, le)
 
--- a count of packets that does not wrap
+-- the count of packets does not overflow
 pub one-more : (n l : ℕ) → n ≤ l → suc l < 2 ^ 64 → min (n + 1) (2 ^ 64 - 1) ≡ n + 1
 one-more n l le small = omega (arith, le, small)

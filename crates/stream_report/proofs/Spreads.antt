@@ -1,4 +1,4 @@
--- What a spread tells of the values that were noted.
+-- What a spread says about the values that were noted.
 use Rattle.std.proofs.Common.{◌≡◌, ℕ, suc, ◌+◌, ◌-◌, ◌*◌, ◌/◌, ◌%◌, ◌^◌, ◌<◌, ◌≤◌, max, min, inl, inr, List, [], ◌∷◌, length, get_or, set, take, refl, sym, ap, ◌∙◌, subst, arith, ℤ, pos, negsuc, ◌≤ℤ◌, ◌<ℤ◌, ◌+ℤ◌, ◌-ℤ◌, sum}
 use Rattle.std.specs.Prelude.{unsigned_abs}
 use Rattle.std.specs.Int.{int_max, int_min, div_ceil}
@@ -17,7 +17,7 @@ use Rattle.stream_report.proofs.Counting.{Crossing, below-length, below-no, belo
 
 -- ---- the counts of the buckets
 
--- one more value in a bucket counts in each sum that includes the bucket
+-- one more value in the bucket at index `k` adds to each sum that includes this bucket
 sum-past : (xs : List ℕ) (k y p : ℕ) → k < length xs → k < p → sum (take p (set xs k y)) + get_or xs k 0 ≡ sum (take p xs) + y
 sum-past xs k y p inside before =
     ap (λ (l : List ℕ). sum l + get_or xs k 0) (take-set-lt p xs k y before)
@@ -47,7 +47,7 @@ tells-none spread empty first count least greatest = record {
 
 -- ---- one more value
 
--- the counts of the buckets from the one at place `from` on, with one more at place k
+-- if one value is added in the bucket at index `k`, the counts of the buckets from index `from` on are still right
 counts-more : (from : ℕ) (xs : List ℕ) (v : ℤ) (values : List ℤ) (k p : ℕ) → from ≤ k → k < from + length xs → length values < most_values → p ≤ 2 * side → HasPlace v k
     → ((place : ℕ) → place ≤ 2 * side → sum (take (place - from) xs) ≡ number_below (edge place) values)
     → sum (take (p - from) (set xs (k - from) (min (get_or xs (k - from) 0 + 1) (2 ^ 32 - 1)))) ≡ number_below (edge p) (v ∷ values)
@@ -126,7 +126,7 @@ rank-within n h some le = within (mul-le-mul_left n le)
         part : (x : ℕ) → x ≤ 100 * n → max 1 (x / 100 + min 1 (x % 100)) ≤ n
         part x most = omega (arith, most, some)
 
--- all values are below the end of the last bucket
+-- each value is below the end of the last bucket
 pub all-below : (spread : Spread) (values : List ℤ) → TellsOf spread values → spread.greatest ≤ℤ pos (2 ^ 63 - 1) → number_below (edge 7424) values ≡ length values
 all-below spread values tells most = omega (arith, all-up values, below-up (greatest_of values) (edge 7424) values under, below-length (edge 7424) values)
   where

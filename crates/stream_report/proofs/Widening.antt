@@ -1,4 +1,4 @@
--- Counts of buckets that are widened: the sums up to a place stay the same.
+-- If the counts of buckets are widened, the sums below each bucket stay the same.
 use Rattle.std.proofs.Common.{◌≡◌, ℕ, ◌+◌, ◌-◌, ◌*◌, ◌<◌, ◌≤◌, inl, inr, List, [], ◌∷◌, ◌++◌, length, take, replicate, sum, refl, sym, ap, ◌∙◌, subst, arith}
 use Rattle.std.proofs.lemmas.Bool.{cases_lt}
 use Rattle.std.proofs.lemmas.List.{length-append, length-replicate, take-append-le, take_all}
@@ -14,7 +14,7 @@ sum-zeros p n = none (sum_by-take-le (λ (m : ℕ). m) (replicate n 0) p) (sum_b
     none : {a b : ℕ} → a ≤ b → b ≡ n * 0 → a ≡ 0
     none le e = omega (arith, le, e)
 
--- counts of 0 put before others
+-- counts of 0 before the others do not change the sums
 sum-before : (n : ℕ) (xs : List ℕ) (m : ℕ) → sum (take m (replicate n 0 ++ xs)) ≡ sum (take (m - n) xs)
 sum-before n xs m =
     elim (cases_lt n m) [
@@ -41,7 +41,7 @@ sum-before n xs m =
     none : m ≤ n → m - n ≡ 0
     none le = omega (arith, le)
 
--- counts of 0 put after others
+-- counts of 0 after the others do not change the sums
 sum-after : (n : ℕ) (xs : List ℕ) (m : ℕ) → sum (take m (xs ++ replicate n 0)) ≡ sum (take m xs)
 sum-after n xs m =
     elim (cases_lt (length xs) m) [
@@ -64,7 +64,7 @@ sum-after n xs m =
     more : (s : ℕ) → s + 0 ≡ s
     more s = omega arith
 
--- no counts became one of 0
+-- no counts are widened to one count of 0
 pub begun : (first place : ℕ) (old new : List ℕ) → place < 2 * side → old ≡ [] → new ≡ 0 ∷ [] → Widens first old place new place
 begun first place old new within none one = record {
   same = λ to. ap (λ (l : List ℕ). sum (take (to - place) l)) one ∙ sum-zeros (to - place) 1 ∙ sym (ap (λ (l : List ℕ). sum (take (to - first) l)) none ∙ empty (to - first));
@@ -76,7 +76,7 @@ begun first place old new within none one = record {
     empty : (n : ℕ) → sum (take n []) ≡ 0
     empty n = sum-zeros n 0
 
--- counts were put before
+-- counts are widened by counts of 0 before them
 pub lower : (first place : ℕ) (old new : List ℕ) → place < first → new ≡ replicate (first - place) 0 ++ old → Widens first old place new place
 lower first place old new lt is = record {
   same = λ to. ap (λ (l : List ℕ). sum (take (to - place) l)) is ∙ sum-before (first - place) old (to - place) ∙ ap (λ (n : ℕ). sum (take n old)) (rest to);
@@ -91,7 +91,7 @@ lower first place old new lt is = record {
     size : length new ≡ first - place + length old
     size = ap (λ (l : List ℕ). length l) is ∙ length-append (replicate (first - place) 0) old ∙ ap (λ (n : ℕ). n + length old) (length-replicate {A = ℕ} (first - place) 0)
 
--- counts were put after
+-- counts are widened by counts of 0 after them
 pub higher : (first place more : ℕ) (old new : List ℕ) → first ≤ place → place < 2 * side → length old + more ≡ place - first + 1
     → new ≡ take (place - first + 1) old ++ replicate more 0 → Widens first old place new first
 higher first place more old new le inside enough is = record {
@@ -107,7 +107,7 @@ higher first place more old new le inside enough is = record {
     size : length new ≡ length old + more
     size = ap (λ (l : List ℕ). length l) appended ∙ length-append old (replicate more 0) ∙ ap (λ (n : ℕ). length old + n) (length-replicate {A = ℕ} more 0)
 
--- counts that reach the place already
+-- counts that already include the bucket stay as they are
 pub kept : (first place : ℕ) (old : List ℕ) → first ≤ place → place - first + 1 ≤ length old → Widens first old place old first
 kept first place old le reached = record {
   same = λ to. refl;

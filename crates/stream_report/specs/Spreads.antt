@@ -1,46 +1,49 @@
--- How values spread: their nearest-rank percentiles, and the buckets in which a spread counts them. The values are a list, in
--- any order.
+-- The nearest-rank percentiles of values, and the buckets in which a spread counts the values. The values are a list,
+-- in any order.
 use Rattle.std.specs.Prelude.{◌≡◌, ℕ, ◌+◌, ◌-◌, ◌*◌, ◌/◌, ◌^◌, ◌<◌, ◌≤◌, max, nat_lt, if◌then◌else◌, List, [], ◌∷◌, length, sum, take, ℤ, pos, negsuc, neg_ℤ, ◌-ℤ◌, ◌≤ℤ◌, int_lt, int_le, unsigned_abs}
 use Rattle.std.specs.Int.{div_ceil, int_max, int_min}
 use Rattle.stream_report.specs.declared.spread.Spread.{Spread}
 
--- how many of the values are less than a limit
+-- how many of the values are less than `limit`
 abbrev pub number_below : ℤ → List ℤ → ℕ
 number_below limit [] = 0
 number_below limit (value ∷ values) = number_below limit values + (if int_lt value limit then 1 else 0)
 
--- how many of the values are at most this one
+-- how many of the values are at most `limit`
 abbrev pub number_up_to : ℤ → List ℤ → ℕ
 number_up_to limit [] = 0
 number_up_to limit (value ∷ values) = number_up_to limit values + (if int_le value limit then 1 else 0)
 
--- the rank of a percentile of `count` values: how many of them must be at most the percentile, and at least 1
+-- The rank of a percentile of `count` values: how many of the values must be at most the percentile. The rank is at
+-- least 1.
 abbrev pub rank : ℕ → ℕ → ℕ
 rank count hundredths = max 1 (div_ceil (count * hundredths) 100)
 
--- The nearest-rank percentile: the value at this rank in order of size. Fewer values than the rank are less than the
--- percentile, and at least as many values as the rank are at most the percentile.
+-- The nearest-rank percentile: the value with this rank in order of size. Fewer values than the rank are less than the
+-- percentile. At least as many values as the rank are at most the percentile.
 pub record NearestRank (values : List ℤ) (hundredths : ℕ) (value : ℤ) : Type 0 where
   pub less : number_below value values < rank (length values) hundredths
   pub enough : rank (length values) hundredths ≤ number_up_to value values
 
--- A percentile that is given is the exact one, rounded up by at most a 64th of its magnitude.
+-- The percentile `told` is the exact one, rounded up by at most a 64th of its magnitude.
 pub record RoundedUp (values : List ℤ) (hundredths : ℕ) (told : ℤ) : Type 0 where
   pub exact : ℤ
   pub percentile : NearestRank values hundredths exact
   pub least : exact ≤ℤ told
   pub most : 64 * unsigned_abs (told -ℤ exact) ≤ unsigned_abs exact
 
--- the buckets of one sign: one for each of the first 64 magnitudes, and 64 for each power of two from 2^6 to 2^62
+-- the number of buckets of one sign: one for each of the first 64 magnitudes, and 64 for each power of two from 2^6 to
+-- 2^62
 abbrev pub side : ℕ
 side = 3712
 
--- The least magnitude of a bucket. The magnitudes below 128 have a bucket each. From any higher power of two to the next, there
--- are 64 buckets of equal width.
+-- The least magnitude in a bucket. Each magnitude below 128 has its own bucket. From any higher power of two to the
+-- next, there are 64 buckets of equal width.
 unfoldable pub first_in : ℕ → ℕ
 first_in bucket = (bucket - 64 * (bucket / 64 - 1)) * 2 ^ (bucket / 64 - 1)
 
--- the least value of the bucket at a place: first come the buckets of negative values, from the lowest on
+-- The least value in the bucket at index `place`. The buckets of negative values precede the others, and the lowest
+-- bucket has index 0.
 unfoldable pub edge : ℕ → ℤ
 edge place = if nat_lt place side then neg_ℤ (pos (first_in (side - place))) else pos (first_in (place - side))
 
@@ -48,18 +51,18 @@ edge place = if nat_lt place side then neg_ℤ (pos (first_in (side - place))) e
 abbrev pub most_values : ℕ
 most_values = 2 ^ 32 - 1
 
--- the least of the values, or the greatest number of 64 bits if there are none
+-- the least of the values, or the greatest signed 64-bit number if there are no values
 abbrev pub least_of : List ℤ → ℤ
 least_of [] = pos (2 ^ 63 - 1)
 least_of (value ∷ values) = int_min (least_of values) value
 
--- the greatest of the values, or the least number of 64 bits if there are none
+-- the greatest of the values, or the least signed 64-bit number if there are no values
 abbrev pub greatest_of : List ℤ → ℤ
 greatest_of [] = negsuc (2 ^ 63 - 1)
 greatest_of (value ∷ values) = int_max (greatest_of values) value
 
--- A spread describes these values: it has their number, the least and the greatest, and for each edge, the buckets below it
--- hold as many values as are less than it.
+-- A spread describes these values. It has their number, the least and the greatest. For each edge, the buckets below
+-- the edge hold as many values as are less than the edge.
 pub record TellsOf (spread : Spread) (values : List ℤ) : Type 0 where
   pub count : spread.count ≡ length values
   pub few : length values ≤ most_values

@@ -20,15 +20,15 @@ pub enum Format {
         depth: u8,
         sparse: bool,
     },
-    /// AM824 data blocks of IEC 61883-6, with the number of quadlets in each. A packet without data has no rate.
+    /// AM824 data blocks of IEC 61883-6, with the number of quadlets in each block. A packet without data has no rate.
     Iec {
         rate: Option<u32>,
         quadlets: u16,
     },
     /// H.264.
     H264,
-    /// A media clock: the type of its events, its base frequency, the code of its factor, the events between two timestamps,
-    /// and the number of timestamps in a packet.
+    /// A media clock: the type of its events, its base frequency, the code of its pull factor, the number of events
+    /// from one timestamp to the next, and the number of timestamps in a packet.
     Crf {
         kind: u8,
         base: u32,
@@ -51,12 +51,12 @@ impl Format {
     }
 }
 
-/// The labels of a packet's AM824 quadlets.
+/// Counts of the labels of a packet's AM824 quadlets.
 #[derive(Clone, Copy)]
 pub struct Labels {
     /// The number of labels other than 0x40.
     pub other: u32,
-    /// The number of labels that IEC 61883-6 reserves, and the first of these.
+    /// The number of labels that IEC 61883-6 reserves. `first_reserved` is the first of them.
     pub reserved: u32,
     pub first_reserved: u8,
 }
@@ -65,22 +65,22 @@ pub struct Labels {
 #[derive(Clone, Copy)]
 pub struct Facts {
     pub key: StreamKey,
-    /// The stream id is valid.
+    /// Whether the stream ID is valid.
     pub sv: bool,
     pub seq: u8,
     pub mr: bool,
     pub tu: bool,
-    /// A reserved bit is set.
+    /// Whether a reserved bit is set.
     pub reserved: bool,
-    /// The packet has a timestamp that it should not have, or lacks one that it should have.
+    /// Whether the packet has a timestamp that it should not have, or lacks one that it should have.
     pub stamp_wrong: bool,
     pub format: Format,
-    /// The number of the packet's sample frames, data blocks, or events of a media clock; 0 for H.264.
+    /// The number of sample frames, data blocks or media clock events in the packet; 0 for H.264.
     pub count: u32,
-    /// The event that the timestamp belongs to, counted from the packet's first event.
+    /// The index, among the packet's events, of the event that the timestamp belongs to.
     pub anchor: u32,
     pub stamp: Option<Stamp>,
-    /// The block count, modulo 256, of the packet's first data block.
+    /// The block count (DBC) of the packet's first data block, modulo 256.
     pub dbc: Option<u8>,
     pub labels: Labels,
 }
@@ -91,7 +91,7 @@ const NO_LABELS: Labels = Labels {
     first_reserved: 0,
 };
 
-/// The facts that are in the common header.
+/// The facts that the common header holds.
 fn header_facts(header: &StreamHeader, format: Format) -> Facts {
     Facts {
         key: StreamKey {

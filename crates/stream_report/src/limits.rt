@@ -1,16 +1,18 @@
-//! The limits from which a verdict is given.
+//! The limits that decide whether a verdict is given.
 
-/// A reading of the timestamps explains a stream if at most one in this many timestamps does not fit it.
+/// A way to read the timestamps, such as with swapped bytes, explains a stream if at most one in this many timestamps
+/// does not fit.
 pub const FEW: u64 = 100;
 
-/// Presentation times further than a quarter of a second after their arrivals mean that the clocks differ. The longest max
-/// transit time of a class is 50 ms (IEEE 1722-2016, table 4), and few players ask for five times that.
+/// If presentation times are more than a quarter of a second after the arrivals, the clocks differ. The longest max
+/// transit time of a class is 50 ms (IEEE 1722-2016, table 4), and few players ask for five times as much.
 pub const MOST_LEAD: i64 = 250_000_000;
 
-/// By how much TAI, the time of gPTP, is ahead of UTC since 2017: 37 s.
+/// How far TAI, the time of gPTP, has been ahead of UTC since 2017: 37 s.
 pub const TAI_AHEAD: i64 = 37_000_000_000;
 
-/// If a lead exceeds 37 s, or -37 s, by at most this much, the clocks differ by 37 s: the rest is a transit time.
+/// If a lead is above 37 s or above -37 s by at most this much, the clocks differ by 37 s. The excess is a transit
+/// time.
 pub const MOST_TRANSIT: i64 = 250_000_000;
 
 /// The max transit times of the classes A and B: 2 ms and 50 ms (IEEE 1722-2016, table 4).
@@ -18,23 +20,24 @@ pub const CLASS_A: i64 = 2_000_000;
 
 pub const CLASS_B: i64 = 50_000_000;
 
-/// A drift below 10 ppm, in parts of 10^9, is not reported: quartz is off by up to 100 ppm, and a clock that follows gPTP by
-/// far less than one.
+/// A drift below 10 ppm, given in parts of 10^9, is not reported. A free quartz is off by up to 100 ppm, and a clock
+/// that follows gPTP by far less than 1 ppm.
 pub const LEAST_DRIFT: u64 = 10_000;
 
-/// A drift is reported only if a capture lasts at least half a second: in less time jitter looks the same.
+/// A drift is reported only if a capture lasts at least half a second. In a shorter capture, jitter looks like drift.
 pub const LEAST_DRIFT_TIME: u64 = 500_000_000;
 
-/// A drift is reported only if it adds up, over the capture, to at least a quarter of the range of the leads; otherwise it is
-/// jitter.
+/// A drift is reported only if, over the capture, it adds up to at least a quarter of the range of the leads. A smaller
+/// drift may be jitter.
 pub const DRIFT_PART: u64 = 4;
 
-/// An arrival is uneven if it is off its packet's time by more than half of that time and by more than 50 microseconds. Capture
-/// timestamps that are not made by hardware are themselves off by up to 50 microseconds.
+/// An arrival is uneven if the time since the previous arrival differs from the packet's duration by more than half of
+/// this duration and by more than 50 microseconds. Capture timestamps that are not made by hardware may themselves be
+/// wrong by 50 microseconds.
 pub const LEAST_UNEVEN: u64 = 50_000;
 
-/// If more than one arrival in this many is uneven, that is jitter.
+/// If more than one arrival in this many is uneven, the stream has jitter.
 pub const UNEVEN_PART: u64 = 100;
 
-/// If a lead changes by more than 100 ms from one packet to the next, the timestamps step; that is no drift.
+/// If a lead changes by more than 100 ms from one packet to the next, the timestamps step. Such a step is not drift.
 pub const LEAST_STEP: u64 = 100_000_000;

@@ -1,4 +1,4 @@
-//! How many packets of a stream are lost, how many came more than once, and how many came after later ones.
+//! How many packets of a stream are lost, how many arrived more than once, and how many arrived after later packets.
 
 ghost use Rattle.std.specs.Prelude.{◌≡◌, ◌-◌, ◌%◌, ◌≤◌, ℕ, List, [], ◌∷◌};
 ghost use Rattle.stream_report.specs.Sequence.{CountsOf, Few, Follows, Passes, StandsFor, greatest, place_of};
@@ -11,12 +11,12 @@ use crate::tally::{At, Tally};
 #[derive(Clone, Copy)]
 pub struct Order {
     window: Window,
-    /// Packets that are missing, and the most of them in a row.
+    /// Packets that are missing. `most_lost` is the most of them in a row.
     pub lost: Tally,
     pub most_lost: u64,
-    /// Packets whose number had come before.
+    /// Packets with a number that had arrived before.
     pub repeated: Tally,
-    /// Packets that came after later ones.
+    /// Packets that arrived after later packets.
     pub late: Tally,
 }
 
@@ -61,7 +61,8 @@ impl Order {
         place
     }
 
-    /// Counts the next packet as one that is ahead, by at most 256, and returns how many are missing before it.
+    /// Counts the next packet as one that is ahead of the newest by at most 256. Returns how many packets are missing
+    /// before it.
     pub fn resume(&mut self, seq: u8, at: At) -> u64
         ensures counts { (first : ℕ) → (later : List ℕ) → (number : ℕ) → CountsOf self.old first later → Passes first later number → number % 256 ≡ seq
             → Few first (number ∷ later) → CountsOf self.new first (number ∷ later) }
@@ -73,7 +74,7 @@ impl Order {
         missing
     }
 
-    /// Counts a packet that is ahead, with `missing` packets missing before it.
+    /// Counts a packet that is ahead of the newest. `missing` packets are missing before it.
     fn pass(&mut self, seq: u8, missing: u64, at: At)
         ensures stands { (first : ℕ) → (later : List ℕ) → (number : ℕ) → StandsFor self.old.window first later → Passes first later number → number % 256 ≡ seq
             → StandsFor self.new.window first (number ∷ later) }

@@ -1,4 +1,4 @@
-//! What else a capture holds, with names and numbers.
+//! What a capture holds besides the packets of supported streams, with names and numbers.
 
 use crate::facts::subtype_name;
 use avtp_base::{Field, NoMemory};
@@ -6,7 +6,7 @@ use pcap_frames::FrameView;
 use std::alloc::Global;
 use std::fmt;
 
-/// Something that is not a packet of a stream that is read.
+/// A kind of frame other than a packet of a supported stream.
 #[derive(Clone, Copy, PartialEq, Eq)]
 pub enum Other {
     /// A frame of another EtherType.
@@ -15,38 +15,38 @@ pub enum Other {
     Udp,
     /// Two VLAN tags, of which the outer one was read.
     TwoTags,
-    /// An AVTP packet of a subtype that is not read.
+    /// An AVTP packet of an unsupported subtype.
     Subtype(u8),
     /// An AAF packet of AES3 or of a user-specified format.
     AafFormat(u8),
-    /// A CVF packet of a format other than H.264, with the format's two codes.
+    /// A CVF packet of a format other than H.264, with the two codes of its format.
     CvfFormat { format: u8, subtype: u8 },
-    /// An IEC 61883 packet of a part other than 6, with its code FMT.
+    /// An IEC 61883 packet of a part other than IEC 61883-6, with its code FMT.
     IecFormat(u8),
-    /// A stream packet whose stream id is not valid.
+    /// A stream packet whose stream ID is not valid, with its subtype.
     NoStream(u8),
     /// A frame that is cut off, or an AVTP packet that is refused before its stream is known.
     Malformed(Field),
-    /// A packet of a stream after the first 1,024 streams.
+    /// A packet of a stream that is not tracked, because 1,024 other streams are.
     Untracked,
 }
 
-/// How often something was seen.
+/// How often a kind of frame was seen.
 #[derive(Clone, Copy)]
 pub struct OtherCount {
     pub other: Other,
     pub count: u64,
 }
 
-/// What was seen. At most 256 kinds are counted apart.
+/// How often each kind of frame was seen. At most 256 kinds are counted separately.
 #[derive(Drop)]
 pub struct Others {
     pub counts: Vec<OtherCount>,
-    /// The number of frames of further kinds.
+    /// The number of frames of all further kinds.
     pub further: u64,
 }
 
-/// The most kinds that are counted apart.
+/// The most kinds that are counted separately.
 const MOST_KINDS: usize = 256;
 
 impl Others {
@@ -84,7 +84,7 @@ const OLD_SERVICE_TAG: u16 = 0x9100;
 
 const CUSTOMER_TAG: u16 = 0x8100;
 
-/// The UDP ports of AVTP, of streams and of control (IEEE 1722-2016, annex J).
+/// The UDP ports of AVTP streams and of AVTP control (IEEE 1722-2016, annex J).
 const STREAM_PORT: u16 = 17220;
 
 const CONTROL_PORT: u16 = 17221;
@@ -92,7 +92,7 @@ const CONTROL_PORT: u16 = 17221;
 /// The protocol number of UDP in IP.
 const UDP: u8 = 17;
 
-/// What a frame is if no AVTP packet follows directly after its header.
+/// The kind of a frame if no AVTP packet follows directly after its header.
 pub fn other_frame(frame: &FrameView<'_>) -> Other {
     match frame.ethertype {
         SERVICE_TAG | OLD_SERVICE_TAG | CUSTOMER_TAG => Other::TwoTags,
@@ -123,10 +123,10 @@ fn is_avtp_port(port: u16) -> bool {
     port == STREAM_PORT || port == CONTROL_PORT
 }
 
-/// The code of IEC 61883-6 in FMT.
+/// The code FMT of IEC 61883-6.
 const AM824: u8 = 0x10;
 
-/// What a refused packet of this subtype is, if it is of a format that is not read, rather than malformed.
+/// The kind of a refused packet of this subtype, if its format is not supported. `None` if the packet is malformed.
 pub fn unread_format(subtype: u8, field: Field, pdu: &[u8]) -> Option<Other> {
     match field {
         Field::Format => Some(Other::AafFormat(byte_at(pdu, 16))),
@@ -141,8 +141,8 @@ pub fn unread_format(subtype: u8, field: Field, pdu: &[u8]) -> Option<Other> {
     }
 }
 
-/// Whether an IEC 61883 packet is of a part other than 6: its header is whole, and it was refused at a field that differs
-/// between parts.
+/// Whether an IEC 61883 packet is of a part other than IEC 61883-6. If it is, its header is whole, and it was refused
+/// at a field that differs between parts.
 fn is_other_part(field: Field, pdu: &[u8]) -> bool {
     let differs = matches!(field, Field::FnBits | Field::Qpc | Field::Sph | Field::Fmt);
     differs && pdu.len() >= 32 && byte_at(pdu, 28) % 64 != AM824

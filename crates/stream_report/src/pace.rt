@@ -1,29 +1,30 @@
-//! Whether the timestamps of a stream advance as its packets do.
+//! Whether the timestamps of a stream advance by the durations of its packets.
 
 use crate::rate::Beat;
 use crate::tally::At;
 
-/// A timestamp may be off by one part in this many of its packet's time, and by one part in `PART_OF_ADVANCE` of the time since
-/// the timestamp before, because a talker rounds and its media clock is not exactly at its nominal speed.
+/// A timestamp may be wrong by one part in this many of a packet's duration, plus one part in `PART_OF_ADVANCE` of the
+/// time since the previous timestamp. The reasons are that a talker rounds, and that its media clock does not run
+/// exactly at its nominal speed.
 const PART_OF_PACKET: u64 = 8;
 
 const PART_OF_ADVANCE: u64 = 1024;
 
-/// The most, in nanoseconds, that timestamps may advance by in a stream without a rate, whose packets share a timestamp or
-/// follow at an unknown distance.
+/// The most that a timestamp may advance in a stream without a rate, in nanoseconds. In such a stream, successive
+/// packets share a timestamp or are an unknown time apart.
 const MOST_ADVANCE: i64 = 1_000_000_000;
 
 /// A timestamp of 32 or 64 bits.
 #[derive(Clone, Copy)]
 pub enum Stamp {
-    /// AVTP's: nanoseconds modulo 2^32.
+    /// A timestamp of an AVTP stream: nanoseconds modulo 2^32.
     Short(u32),
-    /// A media clock's: nanoseconds.
+    /// A timestamp of a media clock: nanoseconds.
     Long(u64),
 }
 
 impl Stamp {
-    /// How long this timestamp is after another one, modulo 2^32 or 2^64; negative if it is before.
+    /// How long this timestamp is after `other`, modulo 2^32 or 2^64. Negative if it is before `other`.
     fn since(self, other: Stamp) -> i64 {
         match (self, other) {
             (Stamp::Short(now), Stamp::Short(then)) => {
@@ -42,7 +43,8 @@ impl Stamp {
         }
     }
 
-    /// The difference of two leads, which for AVTP is known modulo 2^32, as the number nearest to 0.
+    /// The difference of two leads. For AVTP streams it is known only modulo 2^32, and the result is the number nearest
+    /// to 0.
     pub fn wrapped(self, difference: i64) -> i64 {
         match self {
             Stamp::Short(_) => {
@@ -53,7 +55,7 @@ impl Stamp {
         }
     }
 
-    /// How long this timestamp is after an arrival, modulo 2^32 or 2^64.
+    /// How long this timestamp is after `arrival`, modulo 2^32 or 2^64.
     pub fn lead(self, arrival: i64) -> i64 {
         let arrival = arrival.cast_unsigned();
         match self {
@@ -71,9 +73,9 @@ impl Stamp {
 pub struct Stamped {
     pub at: At,
     pub stamp: Stamp,
-    /// The number of the packet's first event in the stream, without the events of missing packets.
+    /// The index of the packet's first event in the stream. Events of missing packets are not counted.
     pub first: u64,
-    /// The event that the timestamp belongs to by the standard, counted from the packet's first.
+    /// The index, among the packet's events, of the event that the timestamp belongs to by the standard.
     pub anchor: u32,
     /// The number of the packet's events.
     pub count: u32,
@@ -83,7 +85,7 @@ pub struct Stamped {
 #[derive(Clone, Copy)]
 pub struct Miss {
     pub at: At,
-    /// By how many nanoseconds the timestamp should have advanced, and by how many it did.
+    /// By how many nanoseconds the timestamp should have advanced. `found` is by how many it did.
     pub wanted: u64,
     pub found: i64,
 }
@@ -94,7 +96,7 @@ pub struct Misses {
     pub count: u64,
     pub first: Option<Miss>,
     pub second: Option<Miss>,
-    /// The first timestamp is off those that follow: the first comparison missed.
+    /// Whether the first comparison missed: the first timestamp does not fit those that follow.
     pub at_begin: bool,
 }
 
@@ -117,28 +119,31 @@ impl Misses {
     }
 }
 
-/// How the timestamps of a stream advance, if they are read unchanged and if their bytes are swapped.
+/// How the timestamps of a stream advance if they are read unchanged, and how they advance if their bytes are swapped.
 #[derive(Clone, Copy)]
 pub struct Pace {
     last: Option<Stamped>,
-    /// The number of timestamps that were compared with the one before.
+    /// The number of timestamps that were compared with the previous one.
     pub compared: u64,
-    /// The time that passed over the timestamps that advanced as they should: by the nominal rate, and by the timestamps.
+    /// The total advance of all timestamps that advanced as they should. `nominal` is the advance by the nominal rate,
+    /// and `told` is the advance by the timestamps.
     pub nominal: u64,
     pub told: u64,
     /// The misses if each timestamp belongs to the event that the standard says.
     pub by_anchor: Misses,
     /// The misses if each timestamp belongs to the packet's first event, as some talkers stamp.
     pub by_first: Misses,
-    /// Like `by_anchor` and `by_first`, but with the bytes swapped. Only timestamps that miss unswapped are compared.
+    /// The misses with swapped bytes, if each timestamp belongs to the event that the standard says. `swapped_by_first`
+    /// are those if it belongs to the packet's first event. Only timestamps that miss with unchanged bytes are
+    /// compared.
     pub swapped_by_anchor: Misses,
     pub swapped_by_first: Misses,
 }
 
-/// How a timestamp compares with the one before.
+/// How a timestamp compares with the previous one.
 #[derive(Clone, Copy, PartialEq, Eq)]
 pub enum Advance {
-    /// It was the first, or could not be compared.
+    /// It is the first, or could not be compared.
     Begun,
     /// It advanced as it should.
     Even,
@@ -158,22 +163,23 @@ impl Pace {
         told: 0,
     };
 
-    /// The next timestamp is not compared with earlier ones, as after a restart of the media clock.
+    /// From here on, timestamps are not compared with earlier ones. This is for a restart of the media clock.
     pub fn restart(&mut self) {
         self.last = None;
     }
 
-    /// The misses of the reading that has fewer, with the bytes of each timestamp unchanged.
+    /// `by_anchor` or `by_first`, whichever has fewer misses.
     pub fn misses(&self) -> &Misses {
         better(&self.by_anchor, &self.by_first)
     }
 
-    /// The misses of the reading that has fewer, with the bytes of each timestamp swapped.
+    /// `swapped_by_anchor` or `swapped_by_first`, whichever has fewer misses.
     pub fn swapped_misses(&self) -> &Misses {
         better(&self.swapped_by_anchor, &self.swapped_by_first)
     }
 
-    /// The first timestamp that missed, in the reading that has fewer misses if the bytes are swapped.
+    /// The first timestamp that missed with unchanged bytes. Whether anchors or first events are compared depends on
+    /// which has fewer misses with swapped bytes.
     pub fn first_miss(&self) -> Option<Miss> {
         if self.swapped_by_first.count < self.swapped_by_anchor.count {
             self.by_first.first
@@ -190,7 +196,7 @@ impl Pace {
             .checked_div(i128::from(self.told))
     }
 
-    /// Notes a timestamp, after the one that was noted before.
+    /// Notes the next timestamp, and compares it with the previous one.
     pub fn note(&mut self, stamped: &Stamped, beat: Option<Beat>) -> Advance {
         let advance = match self.last {
             Some(last) => self.compare(&last, stamped, beat),
@@ -209,7 +215,8 @@ impl Pace {
         }
     }
 
-    /// Notes a timestamp of a stream with a rate. If both readings want the same advance, one comparison is enough.
+    /// Notes a timestamp of a stream with a rate. If `by_anchor` and `by_first` want the same advance, one comparison
+    /// is enough.
     fn note_paced(
         &mut self,
         last: &Stamped,
@@ -253,7 +260,8 @@ impl Pace {
         Advance::Missed
     }
 
-    /// Notes a timestamp of a stream without a rate: it may be equal to the one before, or advance by a limited amount.
+    /// Notes a timestamp of a stream without a rate. It may equal the previous timestamp or advance by a limited
+    /// amount.
     fn note_unpaced(&mut self, last: &Stamped, stamped: &Stamped, is_first: bool) -> Advance {
         let plain = stamped.stamp.since(last.stamp);
         if is_advance(plain) {
@@ -289,7 +297,7 @@ fn better<'a>(one: &'a Misses, other: &'a Misses) -> &'a Misses {
 }
 
 impl Misses {
-    /// Whether a timestamp advanced as it should; if not, the miss is noted.
+    /// Whether a timestamp advanced as it should. If it did not, the miss is noted.
     fn compare(&mut self, at: At, wanted: u64, found: i64, slack: u64, is_first: bool) -> bool {
         let slack = slack.saturating_add(wanted / PART_OF_ADVANCE);
         let wanted_signed = i64::try_from(wanted).unwrap_or(i64::MAX);

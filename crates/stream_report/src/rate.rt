@@ -1,17 +1,17 @@
-//! The number of events a second in a stream, and how long they take.
+//! How many events a stream has per second, and how long a number of events takes.
 
-/// Events a second, as a fraction: sample frames, data blocks or events of a media clock.
+/// Events per second, as a fraction. Events are sample frames, data blocks, or events of a media clock.
 #[derive(Clone, Copy)]
 pub struct Rate {
     pub events: u64,
     pub seconds: u64,
 }
 
-/// The nanoseconds of a second.
+/// The number of nanoseconds in a second.
 const SECOND: u64 = 1_000_000_000;
 
 impl Rate {
-    /// This many events each second.
+    /// The rate of `events` events per second.
     pub fn of(events: u32) -> Rate {
         Rate {
             events: u64::from(events),
@@ -49,7 +49,8 @@ impl Rate {
     }
 }
 
-/// A rate, and the time of as many events as most packets have, so that this is not computed anew for each packet.
+/// A rate, with the duration of as many events as most packets have. This duration is then not computed anew for each
+/// packet.
 #[derive(Clone, Copy)]
 pub struct Beat {
     pub rate: Rate,
@@ -58,7 +59,7 @@ pub struct Beat {
 }
 
 impl Beat {
-    /// The beat of packets most of which have this many events.
+    /// The beat of a stream in which most packets have `events` events.
     pub fn new(rate: Rate, events: u32) -> Beat {
         let events = u64::from(events);
         Beat {

@@ -1,42 +1,44 @@
-//! The place of a packet among those of its stream, by its sequence number.
+//! How a packet's sequence number relates to those that have arrived before.
 
 ghost use Rattle.std.specs.Prelude.{◌≡◌, ◌==◌, ◌%◌, ◌≤◌, ◌<◌, ℕ, List, [], ◌∷◌};
 ghost use Rattle.std.specs.Int.{bit_at};
 ghost use Rattle.stream_report.specs.Sequence.{Follows, Passes, Returns, StandsFor, ahead_of, greatest, lost, lost_with, place_of};
 ghost use Rattle.stream_report.specs.state.Bits.{Moves, Marks};
 
-/// A sequence number that is at most this far ahead of the newest belongs to a later packet; one that is further ahead belongs
-/// to an earlier packet.
+/// A sequence number that is at most this far ahead of the newest belongs to a later packet. A number that is further
+/// ahead belongs to an earlier packet.
 const FARTHEST: u8 = 192;
 
-/// The number of packets, up to and including the newest, of which the window knows whether they have come.
+/// How many sequence numbers the window knows of, up to and including the newest: whether each has arrived.
 const KNOWN: u64 = 64;
 
-/// The newest sequence number of a stream, and which of the 64 up to it have come.
+/// The newest sequence number of a stream, and which of the 64 numbers up to the newest have arrived.
 #[derive(Clone, Copy)]
 pub struct Window {
     newest: u8,
-    /// Bit `i` is set if the number `i` before the newest has come.
+    /// Bit `i` is set if the number `i` before the newest has arrived.
     came: u64,
-    /// How far the number of the first packet is before the newest, at most 64.
+    /// How far the number of the first packet is before the newest, or 64 if it is further.
     begin: u64,
 }
 
-/// The place of a packet.
+/// How a packet's number relates to those that have arrived before.
 #[derive(Clone, Copy)]
 pub enum Place {
-    /// Directly after the newest packet, or further ahead, with packets missing between.
+    /// The packet follows the newest one, and `missing` packets are missing between them.
     Ahead { missing: u8 },
-    /// Between the first packet and the newest, with a number that had not come: it is late, and was counted as missing.
+    /// The number is between those of the first packet and the newest, and had not arrived. The packet is late, and was
+    /// counted as missing.
     Late,
-    /// Before the first packet, with a number that had not come: it is late, and was not counted as missing.
+    /// The number is before that of the first packet, and had not arrived. The packet is late, but was not counted as
+    /// missing.
     Early,
-    /// With a number that has come already.
+    /// The number has arrived already.
     Repeat,
 }
 
 impl Window {
-    /// The window of a stream whose first packet has this number.
+    /// The window of a stream whose first packet has the sequence number `seq`.
     pub fn first(seq: u8) -> Self
         ensures stands { (first : ℕ) → first % 256 ≡ seq → StandsFor result first [] }
     {
@@ -47,7 +49,7 @@ impl Window {
         }
     }
 
-    /// The place of a packet with this number.
+    /// The place of a packet with the sequence number `seq`.
     pub fn place(&self, seq: u8) -> Place
         ensures place { (first : ℕ) → (later : List ℕ) → (number : ℕ) → StandsFor self.now first later → Follows first later number → number % 256 ≡ seq
             → result ≡ place_of first later number }
@@ -61,7 +63,7 @@ impl Window {
         self.place_behind(self.newest.wrapping_sub(seq))
     }
 
-    /// The place of a packet this far before the newest.
+    /// The place of a packet whose number is `behind` before the newest.
     fn place_behind(&self, behind: u8) -> Place
         ensures place { (first : ℕ) → (later : List ℕ) → (number : ℕ) → StandsFor self.now first later → Returns first later number behind
             → result ≡ place_of first later number }
@@ -75,21 +77,21 @@ impl Window {
         }
     }
 
-    /// Whether the number this far before the newest has come.
+    /// Whether the number that is `behind` before the newest has arrived.
     fn has_come(&self, behind: u8) -> bool
         ensures { behind < 64 → result ≡ (bit_at self.now.came behind == 1) }
     {
         self.came.checked_shr(u32::from(behind)).unwrap_or(1) % 2 == 1
     }
 
-    /// How far the number is ahead of the newest, from 1 to 256.
+    /// How far `seq` is ahead of the newest number, from 1 to 256.
     pub fn ahead(&self, seq: u8) -> u64
         ensures { result ≡ ahead_of self.now.newest seq }
     {
         u64::from(seq.wrapping_sub(self.newest).wrapping_sub(1)).saturating_add(1)
     }
 
-    /// Notes a packet that is ahead.
+    /// Notes a packet that is ahead of the newest.
     pub fn pass(&mut self, seq: u8)
         ensures stands { (first : ℕ) → (later : List ℕ) → (number : ℕ) → StandsFor self.old first later → Passes first later number → number % 256 ≡ seq
             → StandsFor self.new first (number ∷ later) }
@@ -100,7 +102,7 @@ impl Window {
         self.newest = seq;
     }
 
-    /// Notes a packet that came late, or again.
+    /// Notes a packet that is late or repeated.
     pub fn fill(&mut self, seq: u8)
         ensures stands { (first : ℕ) → (later : List ℕ) → (number : ℕ) → StandsFor self.old first later → Follows first later number
             → number ≤ greatest first later → number % 256 ≡ seq → StandsFor self.new first (number ∷ later) }
@@ -109,21 +111,21 @@ impl Window {
     }
 }
 
-/// A law: if each packet is counted by its place as it comes, the count is always the number of lost packets. Packets that came
-/// late or twice do not count as lost.
+/// A law: if each packet is counted by its place when it arrives, the count is always the number of lost packets.
+/// Packets that arrived late or twice do not count as lost.
 pub fn places_tell_what_is_lost()
     ensures { (first : ℕ) → (later : List ℕ) → (number : ℕ)
         → lost first (number ∷ later) ≡ lost_with (lost first later) (place_of first later number) }
 {}
 
-/// The bits of the numbers that have come, after a packet this far ahead of the newest.
+/// The next value of `came`, after a packet that is ahead of the newest by `ahead`.
 fn moved(came: u64, ahead: u64) -> u64
     ensures { 1 ≤ ahead → Moves came ahead result }
 {
     if ahead < KNOWN { came << ahead | 1 } else { 1 }
 }
 
-/// The bits of the numbers that have come, after the packet with the number this far before the newest.
+/// The next value of `came`, after a packet whose number is `behind` before the newest.
 fn marked(came: u64, behind: u8) -> u64
     ensures { behind < 64 → Marks came behind result }
 {

@@ -7,25 +7,27 @@ ghost use Rattle.stream_report.specs.state.Places.{HasPlace, InBucket, Reaches, 
 use avtp_base::NoMemory;
 use std::alloc::Global;
 
-/// The buckets of one sign: one for each of the first 64 magnitudes, and 64 for each power of two from 2^6 to 2^62.
+/// The number of buckets of one sign: one for each of the first 64 magnitudes, and 64 for each power of two from 2^6 to
+/// 2^62.
 const SIDE: usize = 58 * 64;
 
-/// The magnitudes below this have a bucket each.
+/// Each magnitude below this has its own bucket.
 const NARROW: u64 = 128;
 
-/// The number of values in each bucket, from the lowest bucket in use to the highest. A bucket's width is at most a 64th of its
-/// values, so a percentile is exact to 1.6 %.
+/// The number of values in each bucket, from the lowest bucket in use to the highest. A bucket is at most as wide as a
+/// 64th of its values, so a percentile is exact to 1.6 %.
 #[derive(Drop)]
 pub struct Spread {
     counts: Vec<u32>,
-    /// The place of the lowest bucket in use among all: first come those of negative values, from the lowest on.
+    /// The index of the lowest bucket in use, among all buckets. The buckets of negative values precede the others, and
+    /// the lowest bucket has index 0.
     first: usize,
     pub count: u64,
     pub least: i64,
     pub greatest: i64,
 }
 
-/// The bucket of a magnitude.
+/// The index of the bucket of a magnitude, among the buckets of one sign.
 fn bucket_of(magnitude: u64) -> usize
     requires { magnitude < 2 ^ 63 }
     ensures { InBucket magnitude result }
@@ -37,7 +39,7 @@ fn bucket_of(magnitude: u64) -> usize
     64 * shift as usize + (magnitude >> shift) as usize
 }
 
-/// The least magnitude of a bucket.
+/// The least magnitude in a bucket.
 fn first_in(bucket: usize) -> u64
     requires { bucket ≤ side }
     ensures { result ≡ first_in bucket }
@@ -46,7 +48,7 @@ fn first_in(bucket: usize) -> u64
     ((bucket - 64 * shift) as u64) << shift
 }
 
-/// The place of a value's bucket among all.
+/// The index of a value's bucket, among all buckets.
 fn place_of(value: i64) -> usize
     ensures { HasPlace value result }
 {
@@ -57,8 +59,8 @@ fn place_of(value: i64) -> usize
     }
 }
 
-/// Makes counts that begin with the bucket at `first` reach the bucket at `place`, if they do not yet. Returns the place of the
-/// bucket with which they begin now.
+/// Makes `counts`, whose first bucket is at index `first`, include the bucket at index `place`. Returns the index of
+/// their first bucket after that.
 fn reach(counts: &mut Vec<u32>, first: usize, place: usize) -> Result<usize, NoMemory>
     requires { place < 2 * side }
     ensures { IfOk result (Widens first counts.old.items place counts.new.items) }
@@ -69,8 +71,8 @@ fn reach(counts: &mut Vec<u32>, first: usize, place: usize) -> Result<usize, NoM
     widen(counts, first, place)
 }
 
-/// Widens counts that begin with the bucket at `first` until they reach the bucket at `place`. Returns the place of the bucket
-/// with which they begin now.
+/// Widens `counts`, whose first bucket is at index `first`, until they include the bucket at index `place`. Returns the
+/// index of their first bucket after that.
 #[inline(never)]
 fn widen(counts: &mut Vec<u32>, first: usize, place: usize) -> Result<usize, NoMemory>
     requires { place < 2 * side }
@@ -91,7 +93,7 @@ fn widen(counts: &mut Vec<u32>, first: usize, place: usize) -> Result<usize, NoM
     Ok(first)
 }
 
-/// Puts counts of 0 before the others.
+/// Inserts `more` counts of 0 before the others.
 fn put_before(counts: &mut Vec<u32>, more: usize) -> Result<(), NoMemory>
     ensures { OnOk result (counts.new.items ≡ replicate more 0 ++ counts.old.items) }
 {
@@ -102,7 +104,7 @@ fn put_before(counts: &mut Vec<u32>, more: usize) -> Result<(), NoMemory>
     Ok(())
 }
 
-/// Counts one more value in the bucket at a place.
+/// Counts one more value at index `place` of `counts`.
 fn count_at(counts: &mut Vec<u32>, place: usize)
     ensures { counts.new.items ≡ set counts.old.items place (min (get_or counts.old.items place 0 + 1) (2 ^ 32 - 1)) }
 {
@@ -111,7 +113,7 @@ fn count_at(counts: &mut Vec<u32>, place: usize)
     }
 }
 
-/// The greatest value of the bucket at a place.
+/// The greatest value in the bucket at index `place`.
 fn last_at(place: usize) -> i64
     requires { place < 2 * side }
     ensures { result ≡ edge (place + 1) -ℤ pos 1 }
@@ -133,7 +135,7 @@ fn rank_of(count: u64, hundredths: u64) -> u128
 }
 
 impl Spread {
-    /// No values yet.
+    /// A spread of no values.
     pub fn new(alloc: Global) -> Self
         ensures { TellsOf result [] }
     {
@@ -160,7 +162,7 @@ impl Spread {
         Ok(())
     }
 
-    /// The number of values in the bucket at a place.
+    /// The number of values in the bucket at index `place`.
     fn count_in(&self, place: usize) -> u32
         ensures { sum (take (place - self.now.first) self.now.counts.items) + result ≡ sum (take (place + 1 - self.now.first) self.now.counts.items) }
     {
@@ -170,7 +172,8 @@ impl Spread {
         self.counts.get(place - self.first).copied().unwrap_or(0)
     }
 
-    /// The nearest-rank percentile, rounded up by at most a 64th of its magnitude. `None` if no value was noted.
+    /// The nearest-rank percentile `hundredths`, rounded up by at most a 64th of its magnitude. `None` if no value was
+    /// noted.
     pub fn percentile(&self, hundredths: u64) -> Option<i64>
         ensures none { IsNone result ↔ (self.now.count ≡ 0) }
         ensures told { (values : List ℤ) → TellsOf self.now values → hundredths ≤ 100 → IfSome result (RoundedUp values hundredths) }
@@ -182,7 +185,7 @@ impl Spread {
         Some(last_at(place).max(self.least).min(self.greatest))
     }
 
-    /// The place of the bucket that holds the value of a rank.
+    /// The index of the bucket that holds the value with this rank.
     fn place_of_rank(&self, rank: u128) -> usize
         requires { 0 < rank }
         ensures within { result < 2 * side }

@@ -14,10 +14,10 @@ use avtp_base::{Field, NoMemory};
 use pcap_frames::Tag;
 use std::alloc::Global;
 
-/// A stream: its packets have one subtype and one stream id.
+/// What identifies a stream: the subtype and the stream ID of its packets.
 #[derive(Clone, Copy, PartialEq, Eq, Hash)]
 pub struct StreamKey {
-    /// The subtype of its packets (IEEE 1722-2016, table 6).
+    /// The subtype of the stream's packets (IEEE 1722-2016, table 6).
     pub subtype: u8,
     pub id: u64,
 }
@@ -25,23 +25,23 @@ pub struct StreamKey {
 /// The sender and the destination of a stream, from the Ethernet header.
 #[derive(Clone, Copy, PartialEq, Eq)]
 pub struct Sender {
-    /// The source and the destination address, 48 bits each.
+    /// The source address and the destination address, 48 bits each.
     pub source: u64,
     pub destination: u64,
     pub tag: Option<Tag>,
 }
 
-/// Where and when a frame came.
+/// Where in the capture a frame is, and when it arrived.
 #[derive(Clone, Copy)]
 pub struct Came {
     pub at: At,
-    /// In nanoseconds of the capture's clock.
+    /// When the frame arrived, in nanoseconds of the capture's clock.
     pub arrival: i64,
-    /// How long after the capture's first frame, in nanoseconds.
+    /// How long after the capture's first frame the frame arrived, in nanoseconds.
     pub since: u64,
 }
 
-/// The number of packets that were refused by a field.
+/// The number of packets that were refused at `field`.
 #[derive(Clone, Copy)]
 pub struct FieldCount {
     pub field: Field,
@@ -54,17 +54,18 @@ struct Last {
     count: u32,
     dbc: Option<u8>,
     mr: bool,
-    /// The number of packets since `mr` last changed, if it did.
+    /// The number of packets since `mr` last changed. `None` if it has not changed.
     held: Option<u64>,
 }
 
-/// A media clock restart must last for at least this many packets (IEEE 1722-2016, 4.4.4).
+/// After a restart of the media clock, `mr` keeps its value for at least this many packets (IEEE 1722-2016, 4.4.4).
 const LEAST_HOLD: u64 = 8;
 
-/// If no packet comes for this many packets' times, the next one is a later one, whatever its sequence number is.
+/// If no packet arrives for this many packet durations, the next one counts as a later packet, whatever its sequence
+/// number is.
 const LONG_PAUSE: u64 = 64;
 
-/// What is counted for a stream. What each packet changes comes first.
+/// What is counted for a stream. The fields that each packet changes are the first ones.
 #[derive(Drop)]
 pub struct Stream {
     pub key: StreamKey,
@@ -72,27 +73,27 @@ pub struct Stream {
     pub format: Format,
     /// `None` before the first packet with a rate.
     beat: Option<Beat>,
-    /// The time of the first packet that has any events, at the nominal rate, in nanoseconds; 0 if it is not known.
+    /// The duration of the first packet that has any events, at the nominal rate, in nanoseconds. 0 if it is not known.
     pub packet_time: u64,
-    /// The number of packets that are not refused.
+    /// The number of packets that were not refused.
     pub packets: u64,
-    /// When the first and the last packet that is not refused arrived.
+    /// When the first packet that was not refused arrived. `last_arrival` is when the last one did.
     pub first_arrival: i64,
     pub last_arrival: i64,
     last: Option<Last>,
-    /// The events of the packets that came in order, before the newest.
+    /// The number of events in the packets that arrived in order, without the newest.
     events: u64,
     last_lead: Option<i64>,
-    /// The number of packets that came directly after another of the stream, and whose arrival was compared with that packet's
-    /// time.
+    /// The number of arrivals that were compared with the duration of the packet directly before.
     pub compared: u64,
-    /// The time from each packet to the next in the capture, in nanoseconds.
+    /// The times between the arrivals of successive packets in the capture, in nanoseconds.
     pub distances: Spread,
-    /// Timestamp minus arrival, in nanoseconds: for a media clock exactly; otherwise modulo 2^32, from -2^31 on.
+    /// Timestamp minus arrival, in nanoseconds. For a media clock it is exact. Otherwise it is known modulo 2^32, and
+    /// is at least -2^31 and below 2^31.
     pub leads: Spread,
     /// `None` if no pictures are wanted.
     pub trace: Option<Trace>,
-    /// None before its first packet that is not refused.
+    /// `None` before the first packet that is not refused.
     order: Option<Order>,
     pub trend: Trend,
     pub pace: Pace,
@@ -101,7 +102,7 @@ pub struct Stream {
     pub count: u32,
     /// The leads below 0.
     pub late: Tally,
-    /// Arrivals whose distance from the packet before is not that packet's time.
+    /// Arrivals whose distance from the previous arrival differs too much from the duration of the packet before.
     pub uneven: Tally,
     pub restarts: Tally,
     pub flapping: Tally,
@@ -109,35 +110,36 @@ pub struct Stream {
     pub missing: Tally,
     pub unwanted: Tally,
     pub reserved: Tally,
-    /// Block counts that do not continue.
+    /// Block counts (DBC) that do not continue that of the packet before.
     pub blocks: Tally,
-    /// Quadlets with a label other than 0x40, and those with a reserved label.
+    /// Quadlets with a label other than 0x40. `reserved_labels` are those with a reserved label.
     pub labels: Tally,
     pub reserved_labels: Tally,
     pub first_label: u8,
     pub malformed: Tally,
     pub fields: Vec<FieldCount>,
-    /// Packets whose sender differs from the first packet's, and packets whose format does.
+    /// Packets whose sender differs from the first packet's. `formats` are those whose format differs from the first
+    /// packet's.
     pub senders: Tally,
     pub formats: Tally,
 }
 
-/// How a packet follows the ones before it.
+/// How a packet follows the packets before it.
 #[derive(Clone, Copy, PartialEq, Eq)]
 enum Step {
     First,
     Next,
-    /// This many packets are missing before it.
+    /// This many packets are missing before the packet.
     After(u64),
-    /// It came after later ones, and was counted as missing.
+    /// The packet arrived after later ones, and was counted as missing.
     Late,
-    /// It is from before the first one.
+    /// The packet is from before the first one.
     Early,
     Repeat,
 }
 
 impl Step {
-    /// How many packets are missing before it.
+    /// How many packets are missing before the packet.
     fn missing(self) -> u64 {
         match self {
             Step::After(missing) => missing,
@@ -147,7 +149,8 @@ impl Step {
 }
 
 impl Stream {
-    /// A stream for which nothing is counted yet, given its first packet, and a trace if pictures of it are wanted.
+    /// A stream whose first packet is in the frame `first`, with nothing counted yet. It has a `trace` if pictures of
+    /// it are wanted.
     pub fn new(
         alloc: Global,
         key: StreamKey,
@@ -195,7 +198,7 @@ impl Stream {
         }
     }
 
-    /// Counts a packet that its format refuses at this field.
+    /// Counts a packet that is refused at `field`.
     pub fn note_malformed(&mut self, at: At, field: Field) -> Result<(), NoMemory> {
         self.malformed.note(at);
         for known in self.fields.iter_mut() {
@@ -208,7 +211,7 @@ impl Stream {
         Ok(())
     }
 
-    /// Counts a packet.
+    /// Counts a packet that is not refused.
     pub fn note(&mut self, came: &Came, sender: &Sender, facts: &Facts) -> Result<(), NoMemory> {
         let distance = self.note_arrival(came.arrival)?;
         self.note_kind(came.at, sender, facts);
@@ -236,7 +239,7 @@ impl Stream {
         trace.note(came.since, column)
     }
 
-    /// Counts the arrival of a packet. Returns how long after the packet before it came, if there is one.
+    /// Counts the arrival of a packet. Returns how long after the previous packet it arrived, if there was one.
     fn note_arrival(&mut self, arrival: i64) -> Result<Option<i64>, NoMemory> {
         let before = self.last_arrival;
         self.last_arrival = arrival;
@@ -283,7 +286,7 @@ impl Stream {
         self.reserved_labels.add(u64::from(labels.reserved), at);
     }
 
-    /// Keeps the rate and the events of the first packet that has them.
+    /// Keeps the rate and the number of events of the first packet that has them.
     fn note_time(&mut self, facts: &Facts) {
         if self.count == 0 {
             self.count = facts.count;
@@ -298,7 +301,7 @@ impl Stream {
         }
     }
 
-    /// What is counted by sequence numbers: nothing before the first packet.
+    /// What is counted by sequence numbers. All counts are 0 before the first packet.
     fn counted(&self) -> Order {
         match self.order {
             Some(order) => order,
@@ -306,8 +309,8 @@ impl Stream {
         }
     }
 
-    /// Packets that are missing. Unless the stream paused, more than 191 in a row are not recognized: the next packet is taken
-    /// for an earlier one.
+    /// Packets that are missing. A gap of more than 191 packets is recognized only if the stream paused. Otherwise the
+    /// packet after the gap counts as an earlier one.
     pub fn lost(&self) -> Tally {
         self.counted().lost
     }
@@ -317,17 +320,17 @@ impl Stream {
         self.counted().most_lost
     }
 
-    /// Packets that came more than once.
+    /// Packets that arrived more than once.
     pub fn repeated(&self) -> Tally {
         self.counted().repeated
     }
 
-    /// Packets that came after later ones.
+    /// Packets that arrived after later ones.
     pub fn reordered(&self) -> Tally {
         self.counted().late
     }
 
-    /// Counts a packet by its sequence number, and returns how it follows those before.
+    /// Counts a packet by its sequence number, and returns how it follows the packets before it.
     fn note_order(&mut self, at: At, seq: u8, distance: Option<i64>) -> Step {
         let pause = self.packet_time.saturating_mul(LONG_PAUSE);
         let paused = pause > 0 && distance.unwrap_or(0).unsigned_abs() >= pause;
@@ -346,7 +349,7 @@ impl Stream {
         }
     }
 
-    /// Counts what a packet and the one before it in the stream show together.
+    /// Counts what a packet shows together with the packet before it in the stream.
     fn note_next(&mut self, came: &Came, facts: &Facts, step: Step, distance: Option<i64>) {
         let last = self.last;
         let restarted = self.note_restart(came.at, facts, step.missing());
@@ -365,7 +368,8 @@ impl Stream {
         }
     }
 
-    /// Counts a restart of the media clock, and keeps the packet as the last one. Returns whether it is a restart.
+    /// Counts a restart of the media clock, if `mr` has changed, and keeps the packet as the last one. Returns whether
+    /// there was a restart.
     fn note_restart(&mut self, at: At, facts: &Facts, missing: u64) -> bool {
         let (restarted, held) = match &self.last {
             Some(last) => (last.mr != facts.mr, last.held),
@@ -390,7 +394,8 @@ impl Stream {
         restarted
     }
 
-    /// Counts a block count that does not continue that of the packet directly before. Returns false only in that case.
+    /// Counts a block count that does not continue that of the packet directly before. Returns false only for such a
+    /// block count.
     fn note_block_count(&mut self, at: At, facts: &Facts, last: Option<Last>) -> bool {
         let Some(last) = last else {
             return true;
@@ -406,7 +411,8 @@ impl Stream {
         false
     }
 
-    /// Counts an arrival whose distance from the packet before is not that packet's time.
+    /// Counts an arrival whose distance from the previous arrival differs too much from the duration of the packet
+    /// before.
     fn note_evenness(&mut self, at: At, last: Option<Last>, distance: Option<i64>) {
         let (Some(beat), Some(last), Some(distance)) = (self.beat, last, distance) else {
             return;
@@ -419,7 +425,7 @@ impl Stream {
         }
     }
 
-    /// Counts a timestamp that is missing or unwanted, and compares a timestamp with the one before.
+    /// Counts a timestamp that is missing or unwanted. Compares a timestamp with the previous one.
     fn note_stamp(&mut self, came: &Came, facts: &Facts, restarted: bool) {
         if facts.stamp_wrong {
             match facts.stamp {
@@ -445,8 +451,9 @@ impl Stream {
         self.note_trend(came.arrival, &stamped, advance);
     }
 
-    /// Adds a timestamp to the line of the drift, given the lead of its packet's first event. If the timestamps step, the line
-    /// goes on unchanged. A timestamp that advances by its packets' time is not a step, however late its packet arrives.
+    /// Adds a timestamp to the trend, by the lead of its packet's first event. If the timestamps step, the lead counts
+    /// as unchanged. A timestamp that advances by its packets' durations is not a step, however late its packet
+    /// arrives.
     fn note_trend(&mut self, arrival: i64, stamped: &Stamped, advance: Advance) {
         let before_anchor = match self.beat {
             Some(beat) => beat.time_of(u64::from(stamped.anchor)),
@@ -471,7 +478,7 @@ impl Stream {
         self.trend.note(since.cast_unsigned(), change);
     }
 
-    /// Counts the lead of a packet, if it has one.
+    /// Counts the lead of a packet, if the packet has one.
     fn note_lead(&mut self, came: &Came, facts: &Facts) -> Result<Option<i64>, NoMemory> {
         let Some(stamp) = facts.stamp else {
             return Ok(None);
@@ -488,7 +495,7 @@ impl Stream {
     }
 }
 
-/// The step to a packet, given how many are missing before it.
+/// How a packet follows the packet before it, if `missing` packets are missing between them.
 fn after(missing: u64) -> Step {
     if missing == 0 {
         Step::Next
@@ -497,8 +504,8 @@ fn after(missing: u64) -> Step {
     }
 }
 
-/// Whether a packet has another format than the stream. A packet without data has no rate, and a packet of a media clock may
-/// have fewer timestamps.
+/// Whether a packet has another format than the stream. A missing rate is no change, because a packet without data has
+/// none. Neither is another number of timestamps in a packet of a media clock.
 fn is_change(was: &Format, now: &Format) -> bool {
     if was == now {
         return false;

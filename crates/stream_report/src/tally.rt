@@ -3,7 +3,7 @@
 ghost use Rattle.std.specs.Prelude.{◌≡◌, ◌==◌, ◌+◌, ◌-◌, ◌^◌, min, None, Some, if◌then◌else◌};
 ghost use Rattle.std.specs.Option.{option_or};
 
-/// A frame: the number of its file, and its number in the file, both from 1.
+/// A frame: the number of its file, and its number in the file, both counted from 1.
 #[derive(Clone, Copy, PartialEq, Eq)]
 pub struct At {
     pub file: u32,
@@ -24,7 +24,7 @@ impl Tally {
         first: None,
     };
 
-    /// Counts one more, in this frame.
+    /// Counts one more, in the frame `at`.
     pub fn note(&mut self, at: At)
         ensures count { self.new.count ≡ min (self.old.count + 1) (2 ^ 64 - 1) }
         ensures first { self.new.first ≡ option_or self.old.first (Some at) }
@@ -32,7 +32,7 @@ impl Tally {
         self.add(1, at);
     }
 
-    /// Adds to the count, in this frame.
+    /// Adds `more` to the count, in the frame `at`.
     pub fn add(&mut self, more: u64, at: At)
         ensures count { self.new.count ≡ min (self.old.count + more) (2 ^ 64 - 1) }
         ensures first { self.new.first ≡ (if more == 0 then self.old.first else option_or self.old.first (Some at)) }
@@ -43,7 +43,7 @@ impl Tally {
         }
     }
 
-    /// Takes back one that was counted too early, because the packet was only late.
+    /// Takes one back from the count: a packet that was counted as missing is only late.
     pub fn take_back(&mut self)
         ensures count { self.new.count ≡ self.old.count - 1 }
         ensures first { self.new.first ≡ (if self.new.count == 0 then None else self.old.first) }

@@ -4,7 +4,7 @@ use avtp_base::NoMemory;
 use std::alloc::Global;
 use std::mem;
 
-/// The most columns of a stream. If one more is needed, each two are merged into one.
+/// The most columns of a stream. If one more is needed, each pair of columns is merged into one.
 const MOST_COLUMNS: usize = 512;
 
 /// The first columns are 2^16 ns wide, some 66 microseconds.
@@ -28,7 +28,7 @@ impl Range {
         }
     }
 
-    /// The range of the values in both ranges.
+    /// The smallest range that includes both ranges.
     pub fn with(self, other: Range) -> Range {
         Range {
             least: self.least.min(other.least),
@@ -45,14 +45,14 @@ fn either(one: Option<Range>, other: Option<Range>) -> Option<Range> {
     }
 }
 
-/// The packets of a stretch of time.
+/// The packets of one interval of time.
 #[derive(Clone, Copy)]
 pub struct Column {
-    /// The number of the stretch, which begins `slot` times the columns' width after the capture's first packet.
+    /// The index of the interval, which begins `slot` column widths after the capture's first packet.
     pub slot: u64,
     pub lead: Option<Range>,
     pub distance: Option<Range>,
-    /// The packets that are missing before one of these, and did not come late.
+    /// The number of packets that are missing before a packet of the interval, and did not arrive late.
     pub lost: u64,
 }
 
@@ -64,7 +64,7 @@ impl Column {
     }
 }
 
-/// A stream over time. Each value is within the range of its column, so no peak is lost when columns are merged.
+/// A stream over time. The range of a column includes each of its values, so no peak is lost when columns are merged.
 #[derive(Drop)]
 pub struct Trace {
     columns: Vec<Column>,
@@ -89,7 +89,7 @@ impl Trace {
         1u64.checked_shl(self.shift).unwrap_or(u64::MAX)
     }
 
-    /// Notes a packet, given how long after the capture's first packet it came, in nanoseconds.
+    /// Notes a packet that arrived `since` nanoseconds after the capture's first packet.
     pub fn note(&mut self, since: u64, mut added: Column) -> Result<(), NoMemory> {
         for _ in FIRST_SHIFT..LAST_SHIFT {
             if self.columns.len() < MOST_COLUMNS {
@@ -101,7 +101,7 @@ impl Trace {
         self.add(added)
     }
 
-    /// Takes back one missing packet, which came late, in the newest column that has any.
+    /// Takes back one missing packet, which arrived late, in the newest column that has a missing packet.
     pub fn take_back(&mut self) {
         for column in self.columns.iter_mut().rev() {
             if column.lost > 0 {
@@ -111,7 +111,7 @@ impl Trace {
         }
     }
 
-    /// Makes columns twice as wide.
+    /// Makes the columns twice as wide.
     fn halve(&mut self) -> Result<(), NoMemory> {
         let alloc = *self.columns.allocator();
         let old = mem::replace(&mut self.columns, Vec::with_capacity(alloc, MOST_COLUMNS)?);
@@ -124,7 +124,7 @@ impl Trace {
         Ok(())
     }
 
-    /// Adds a new last column, or adds to the last one.
+    /// Appends a column, or joins it to the last one if it is not later.
     fn add(&mut self, column: Column) -> Result<(), NoMemory> {
         if let Some(last) = self.columns.last_mut() {
             if last.slot >= column.slot {

@@ -1,20 +1,20 @@
 //! How fast the lead of a stream changes: the drift of its timestamps against their arrivals.
 
-/// The time of an arrival is counted in units of 2^20 ns, about a millisecond.
+/// Arrival times are counted in units of 2^20 ns, about a millisecond.
 const UNIT: u32 = 20;
 
-/// If a lead moves further than this, some 18 minutes, that is no drift.
+/// A lead that moves further than this, some 18 minutes, is not drift.
 const FARTHEST: i64 = 1 << 40;
 
 /// The most packets that are summed up: times are less than 2^44 and leads at most 2^40, so no sum reaches 2^127.
 const MOST: u64 = 1 << 32;
 
-/// Sums over packets of their time and lead, for the straight line through them (least squares). Steps of the timestamps, as at
-/// a restart of the media clock, are left out, so that the line goes on.
+/// Sums of the times and leads of packets, for the straight line through them (least squares). Steps of the timestamps,
+/// such as those at restarts of the media clock, are left out.
 #[derive(Clone, Copy)]
 pub struct Trend {
     count: u64,
-    /// The lead of the last packet, without steps.
+    /// The lead of the last packet, with steps left out.
     lead: i64,
     least: i64,
     greatest: i64,
@@ -26,7 +26,7 @@ pub struct Trend {
 }
 
 impl Trend {
-    /// No packet yet. The times and leads are counted from those of the first.
+    /// No packet yet. Times and leads are counted from those of the first packet.
     pub const NONE: Trend = Trend {
         count: 0,
         lead: 0,
@@ -39,7 +39,7 @@ impl Trend {
         products: 0,
     };
 
-    /// Notes a packet that came this many nanoseconds after the first, and whose lead exceeds that of the packet before by
+    /// Notes a packet that arrived `since` nanoseconds after the first. Its lead exceeds that of the previous packet by
     /// `change`.
     pub fn note(&mut self, since: u64, change: i64) {
         let lead = self.lead.saturating_add(change);
@@ -59,8 +59,8 @@ impl Trend {
         self.products = self.products.wrapping_add(time.wrapping_mul(lead));
     }
 
-    /// The drift in parts of 10^9: by how many nanoseconds a second the lead grows. `None` if there are too few packets to
-    /// tell, or the sums are too great.
+    /// The drift in parts of 10^9: by how many nanoseconds the lead grows in a second. `None` if there are too few
+    /// packets to tell, or the sums are too great.
     pub fn drift(&self) -> Option<i64> {
         let count = i128::from(self.count);
         let rise = count
@@ -72,7 +72,7 @@ impl Trend {
         quotient(rise, run)
     }
 
-    /// The difference of the greatest and the least lead, without steps.
+    /// The difference between the greatest and the least lead, with steps left out.
     pub fn spread(&self) -> u64 {
         self.greatest.abs_diff(self.least)
     }
@@ -83,7 +83,8 @@ impl Trend {
     }
 }
 
-/// `rise` nanoseconds as parts of 10^9 of `run` units. If a product would not fit, both are divided by the same power of two.
+/// `rise` nanoseconds per `run` units, in parts of 10^9. If a product would not fit, `rise` and `run` are divided by
+/// the same power of two.
 fn quotient(rise: i128, run: i128) -> Option<i64> {
     let cut = bits_of(rise)
         .saturating_sub(96)
@@ -94,7 +95,7 @@ fn quotient(rise: i128, run: i128) -> Option<i64> {
     i64::try_from(up.checked_div(down)?).ok()
 }
 
-/// The bits of a number's magnitude.
+/// The number of bits of a number's magnitude.
 fn bits_of(number: i128) -> u32 {
     128u32.saturating_sub(number.unsigned_abs().leading_zeros())
 }

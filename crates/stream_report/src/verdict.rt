@@ -3,35 +3,35 @@
 use crate::pace::Miss;
 use crate::tally::Tally;
 
-/// How the clocks may differ, if the lead is their difference.
+/// A guess at how the clocks of the capture and the talker differ.
 #[derive(Clone, Copy)]
 pub enum ClockGuess {
-    /// Presentation times are 37 s after their arrivals: the capture's clock is UTC, and the talker's TAI.
+    /// Presentation times are 37 s after their arrivals: the capture's clock is on UTC, and the talker's on TAI.
     CaptureBehind,
     /// Presentation times are 37 s before their arrivals.
     CaptureAhead,
-    /// Any other distance.
+    /// The clocks differ by some other time.
     Apart,
 }
 
-/// A verdict, the worst first. Times are in nanoseconds.
+/// A verdict. The worst verdict is the first. Times are in nanoseconds.
 #[derive(Clone, Copy)]
 pub enum Verdict {
-    /// Most timestamps do not advance as their packets do; with swapped bytes they would if `swapped` is set.
+    /// Most timestamps do not advance by their packets' durations. If `swapped` is true, they would with swapped bytes.
     NotInOrder {
         off: u64,
         compared: u64,
         first: Miss,
         swapped: bool,
     },
-    /// Presentation times are far from their arrivals: `lead` is the median distance. It is exact if `exact` is set; otherwise
-    /// it is known modulo 2^32.
+    /// Presentation times are far from their arrivals. `lead` is the median distance. It is exact if `exact` is true,
+    /// and otherwise known modulo 2^32.
     Clocks {
         lead: i64,
         guess: ClockGuess,
         exact: bool,
     },
-    /// Packets that their format refuses.
+    /// Packets that were refused as malformed.
     Malformed {
         packets: Tally,
     },
@@ -39,12 +39,12 @@ pub enum Verdict {
     Senders {
         packets: Tally,
     },
-    /// Packets that are missing, and the most in a row.
+    /// Packets that are missing, and the most of them in a row.
     Lost {
         packets: Tally,
         most: u64,
     },
-    /// Packets that came after their presentation time, and by how much at most.
+    /// Packets that arrived after their presentation time, and by how much at most.
     Late {
         packets: Tally,
         stamped: u64,
@@ -55,25 +55,25 @@ pub enum Verdict {
         found: i64,
         wanted: u64,
     },
-    /// Timestamps that do not advance as their packets do.
+    /// Timestamps that do not advance by their packets' durations.
     Steps {
         off: u64,
         compared: u64,
         first: Miss,
     },
-    /// Block counts that do not continue.
+    /// Block counts (DBC) that do not continue that of the packet before.
     Blocks {
         packets: Tally,
     },
-    /// Packets that came more than once.
+    /// Packets that arrived more than once.
     Repeated {
         packets: Tally,
     },
-    /// Packets that came after later ones.
+    /// Packets that arrived after later ones.
     Reordered {
         packets: Tally,
     },
-    /// Restarts of the media clock that lasted for fewer than 8 packets.
+    /// Restarts of the media clock that follow the previous restart within fewer than 8 packets.
     Flapping {
         restarts: Tally,
     },
@@ -85,11 +85,11 @@ pub enum Verdict {
     Unwanted {
         packets: Tally,
     },
-    /// Timestamps drift against their arrivals, by parts of 10^9.
+    /// Timestamps drift against their arrivals, by `parts` parts of 10^9.
     Drift {
         parts: i64,
     },
-    /// Arrivals that are off their packets' time. In a burst most packets come directly after the one before.
+    /// Uneven arrivals. If `bursts` is true, most packets arrive directly after the one before.
     Jitter {
         packets: Tally,
         compared: u64,
@@ -115,7 +115,7 @@ pub enum Verdict {
 }
 
 impl Verdict {
-    /// How bad it is; 0 is the worst.
+    /// How bad the verdict is. 0 is the worst.
     pub fn rank(&self) -> u8 {
         match self {
             Verdict::NotInOrder { .. } => 0,

@@ -11,20 +11,20 @@ use avtp_base::NoMemory;
 use avtp_header::subtype;
 use std::alloc::Global;
 
-/// The stream class, according to the leads: the first one whose max transit time the median lead does not exceed.
+/// The class of a stream, by its leads: the first class whose max transit time is at least the median lead.
 #[derive(Clone, Copy, PartialEq, Eq)]
 pub enum Class {
-    /// 2 ms.
+    /// The max transit time is 2 ms.
     A,
-    /// 50 ms.
+    /// The max transit time is 50 ms.
     B,
-    /// Longer.
+    /// The max transit time is longer than 50 ms.
     Longer,
     /// Most presentation times are before their arrivals or far after them, so the lead is no transit time.
     Unknown,
 }
 
-/// The class of a stream, according to its leads. `None` if no packet has a timestamp.
+/// The class of a stream, by its leads. `None` if no packet has a timestamp.
 pub fn class_of(stream: &Stream) -> Option<Class> {
     let median = stream.leads.percentile(50)?;
     Some(match median {
@@ -67,12 +67,12 @@ fn add(verdicts: &mut Vec<Verdict>, verdict: Option<Verdict>) -> Result<(), NoMe
     Ok(())
 }
 
-/// Whether `some` is more than one in `part` of all.
+/// Whether `some` is more than one in `part` of `of`.
 fn is_more(some: u64, of: u64, part: u64) -> bool {
     some.saturating_mul(part) > of
 }
 
-/// Most timestamps do not advance as their packets do.
+/// The verdict that most timestamps do not advance by their packets' durations, if they do not.
 fn order_verdict(stream: &Stream) -> Option<Verdict> {
     let pace = &stream.pace;
     let compared = pace.compared;
@@ -88,7 +88,8 @@ fn order_verdict(stream: &Stream) -> Option<Verdict> {
     })
 }
 
-/// Presentation times are far from arrivals. The timestamps of a media clock are those of its events, which may be in the past.
+/// The verdict that presentation times are far from arrivals, if they are. The timestamps of a media clock may be in
+/// the past, because they are those of its events.
 fn clocks_verdict(stream: &Stream) -> Option<Verdict> {
     let lead = stream.leads.percentile(50)?;
     let exact = stream.key.subtype == subtype::CRF;
@@ -103,7 +104,7 @@ fn clocks_verdict(stream: &Stream) -> Option<Verdict> {
     })
 }
 
-/// What a lead says of the clocks.
+/// A guess, from the lead, at how the clocks differ.
 fn guess_of(lead: i64, exact: bool) -> ClockGuess {
     if is_transit(lead, TAI_AHEAD, exact) {
         ClockGuess::CaptureBehind
@@ -114,20 +115,21 @@ fn guess_of(lead: i64, exact: bool) -> ClockGuess {
     }
 }
 
-/// Whether the lead is a transit time if the clocks differ by `apart`.
+/// Whether the lead is a transit time once the difference `apart` of the clocks is subtracted.
 fn is_transit(lead: i64, apart: i64, exact: bool) -> bool {
     let rest = lead.saturating_sub(apart);
     let rest = if exact { rest } else { near_zero(rest) };
     rest >= 0 && rest <= MOST_TRANSIT
 }
 
-/// The number nearest to 0 that differs from this one by a multiple of 2^32.
+/// The number nearest to 0 that differs from `number` by a multiple of 2^32.
 fn near_zero(number: i64) -> i64 {
     let low = number.cast_unsigned() & 0xffff_ffff;
     i64::from(u32::try_from(low).unwrap_or(0).cast_signed())
 }
 
-/// More packets came after their presentation time than there are timestamps that do not advance as they should.
+/// The verdict that packets arrived after their presentation time. It is given if there are more such packets than
+/// timestamps that do not advance as they should.
 fn late_verdict(stream: &Stream) -> Option<Verdict> {
     let explained = stream.pace.misses().count;
     if stream.key.subtype == subtype::CRF || stream.late.count <= explained {
@@ -152,7 +154,7 @@ fn first_stamp_verdict(stream: &Stream) -> Option<Verdict> {
     })
 }
 
-/// Some timestamps do not advance as their packets do; the first comparison does not count.
+/// The verdict that some timestamps do not advance by their packets' durations. The first comparison does not count.
 fn steps_verdict(stream: &Stream) -> Option<Verdict> {
     let misses = stream.pace.misses();
     let first = if misses.at_begin {
@@ -175,7 +177,7 @@ pub fn drift_of(stream: &Stream) -> Option<i64> {
     stream.trend.drift()
 }
 
-/// The leads drift, and the drift is more than jitter.
+/// The verdict that the leads drift, if the drift is more than jitter.
 fn drift_verdict(stream: &Stream) -> Option<Verdict> {
     let trend = &stream.trend;
     let parts = drift_of(stream)?;

@@ -3,25 +3,25 @@
 use Rattle.std.specs.Prelude.{◌≡◌, ℕ, ◌+◌, ◌-◌, ◌*◌, ◌<◌, ◌≤◌, ℤ, ◌≤ℤ◌, ◌<ℤ◌, List, length, sum, take}
 use Rattle.stream_report.specs.Spreads.{edge, first_in, number_below, side}
 
--- a magnitude lies in this bucket
+-- the magnitude is in the bucket at index `bucket`
 pub record InBucket (magnitude bucket : ℕ) : Type 0 where
   pub first : first_in bucket ≤ magnitude
   pub next : magnitude < first_in (bucket + 1)
   pub within : bucket < side
 
--- a value lies in the bucket at this place
+-- the value is in the bucket at index `place`
 pub record HasPlace (value : ℤ) (place : ℕ) : Type 0 where
   pub first : edge place ≤ℤ value
   pub next : value <ℤ edge (place + 1)
   pub within : place < 2 * side
 
--- the value of this rank lies in the bucket at this place
+-- the value with this rank is in the bucket at index `place`
 pub record Reaches (values : List ℤ) (rank place : ℕ) : Type 0 where
   pub before : number_below (edge place) values < rank
   pub reached : rank ≤ number_below (edge (place + 1)) values
 
--- Counts that began with the bucket at `first` now begin with the bucket at `now`, and reach the bucket at `place`. Below any
--- bucket they count as many values as before.
+-- Counts whose first bucket was at index `first` now have their first bucket at index `now`, and include the bucket at
+-- index `place`. Below any bucket they count as many values as before.
 pub record Widens (first : ℕ) (old : List ℕ) (place : ℕ) (new : List ℕ) (now : ℕ) : Type 0 where
   pub same : (to : ℕ) → sum (take (to - now) new) ≡ sum (take (to - first) old)
   pub from : now ≤ place
