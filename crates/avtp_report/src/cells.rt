@@ -12,7 +12,7 @@ pub struct Heading {
     pub meaning: &'static str,
 }
 
-/// How many columns there are. The last holds words with spaces between them.
+/// The number of columns. The last column holds words with spaces between them.
 pub const COLUMNS: usize = 34;
 
 /// The columns.
@@ -158,7 +158,7 @@ pub static HEADINGS: [Heading; COLUMNS] = [
 /// The cell of an unknown value.
 const NONE: &str = "-";
 
-/// The cells of a stream's row.
+/// The cells of a stream's row in the table.
 pub fn cells_of(alloc: Global, stream: &Stream) -> Result<Vec<String>, AllocError> {
     let mut cells = Vec::new(alloc);
     add_sender(alloc, &mut cells, stream)?;
@@ -233,7 +233,7 @@ fn add_rates(alloc: Global, cells: &mut Vec<String>, stream: &Stream) -> Result<
     add_rate(alloc, cells, 1, i128::from(stream.packet_time))
 }
 
-/// Adds a rate in events a second, given a number of events and the nanoseconds they took.
+/// Adds a rate in events per second: `count` events took `time` nanoseconds.
 fn add_rate(
     alloc: Global,
     cells: &mut Vec<String>,

@@ -1,4 +1,4 @@
-//! The pictures of a stream: each stretch of time is a line from its least to its greatest value.
+//! The pictures of a stream. In a picture, each interval of time is a line from its least to its greatest value.
 
 use crate::units::Signed;
 use std::io::{self, Write};
@@ -9,7 +9,7 @@ const WIDTH: u64 = 10_000;
 
 const HEIGHT: u64 = 1_000;
 
-/// What a picture shows of a column.
+/// Which values of the columns a picture shows.
 #[derive(Clone, Copy)]
 pub enum Shown {
     Lead,
@@ -23,7 +23,7 @@ struct Scale {
     high: i64,
 }
 
-/// Writes a picture of a stream over the capture's time.
+/// Writes a picture of a stream over the duration of the capture.
 pub fn write_chart<W: Write>(
     out: &mut W,
     stream: &Stream,
@@ -63,8 +63,8 @@ pub fn write_chart<W: Write>(
     )
 }
 
-/// A scale for most values: from the 1st percentile to the 99th, with a quarter of that range below and above, but not below 0 if
-/// no value is. Values outside are drawn at the edge.
+/// A scale for most values: from the 1st percentile to the 99th, with a margin of at least a quarter of that range. If
+/// no value is negative, the scale does not go below 0. Values outside the scale are drawn at its edge.
 fn scale_of(spread: &Spread) -> Option<Scale> {
     let low = spread.percentile(1)?;
     let high = spread.percentile(99)?;
@@ -84,19 +84,19 @@ fn scale_of(spread: &Spread) -> Option<Scale> {
     })
 }
 
-/// How far down a value is in the picture.
+/// How far a value is from the top of the picture.
 fn down(scale: Scale, value: i64) -> u64 {
     let value = value.max(scale.low).min(scale.high);
     let all = scale.high.abs_diff(scale.low);
     part_of(HEIGHT, scale.high.abs_diff(value), all)
 }
 
-/// How far right a time is in the picture.
+/// How far a time is from the left edge of the picture.
 fn right(since: u64, duration: u64) -> u64 {
     part_of(WIDTH, since, duration)
 }
 
-/// `part / all` of a whole length: at most all of it, and 0 if `all` is 0.
+/// The fraction `part / all` of `length`: at most `length`, and 0 if `all` is 0.
 fn part_of(length: u64, part: u64, all: u64) -> u64 {
     let product = u128::from(part).saturating_mul(u128::from(length));
     let scaled = product.checked_div(u128::from(all)).unwrap_or(0);
@@ -108,7 +108,7 @@ fn begin_of(trace: &Trace, column: &Column) -> u64 {
     column.slot.saturating_mul(trace.width())
 }
 
-/// Draws three lines across the picture, and one at 0 if that is in it.
+/// Draws three lines across the picture, and one more at 0 if the scale includes negative and positive values.
 fn write_rules<W: Write>(out: &mut W, scale: Scale) -> io::Result<()> {
     write!(
         out,
@@ -121,7 +121,7 @@ fn write_rules<W: Write>(out: &mut W, scale: Scale) -> io::Result<()> {
     write!(out, "\"/>")
 }
 
-/// Draws a line from top to bottom at each place where packets are missing.
+/// Draws a line from top to bottom where a column with missing packets begins.
 fn write_losses<W: Write>(out: &mut W, trace: &Trace, duration: u64) -> io::Result<()> {
     write!(out, "<path class=\"loss\" d=\"")?;
     for column in trace.columns().iter() {

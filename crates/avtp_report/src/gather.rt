@@ -1,4 +1,4 @@
-//! The streams of a capture, and what else it holds.
+//! The streams of the captures, and what else the captures hold.
 
 use avtp_base::{Field, NoMemory};
 use avtp_header::{ETHERTYPE, peek};
@@ -11,29 +11,29 @@ use stream_report::{
     h264_facts, iec_facts, other_frame, unread_format,
 };
 
-/// The most streams that are counted apart.
+/// The most streams that are counted separately.
 pub const MOST_STREAMS: usize = 1024;
 
-/// The counts of all captures, which are read as if they were one.
+/// The counts of all captures, which are read as if they were one capture.
 #[derive(Drop)]
 pub struct Report {
     alloc: Global,
     /// Whether pictures of the streams are wanted.
     pictured: bool,
     places: HashMap<StreamKey, usize>,
-    /// The place of the last packet's stream.
+    /// The index of the last packet's stream.
     last: usize,
-    /// For each stream, the place of the stream whose packet followed its last one. It is tried first, because streams mostly
-    /// take turns.
+    /// For each stream, the index of the stream whose packet last followed one of its packets. That stream is tried
+    /// first, because streams mostly take turns.
     followers: Vec<usize>,
     /// The streams, in the order in which they were first seen.
     pub streams: Vec<Stream>,
     pub others: Others,
-    /// The number of frames of all files.
+    /// The number of frames in all files.
     pub frames: u64,
     /// When the first frame arrived.
     first_arrival: Option<i64>,
-    /// How long after the first frame the last one came, in nanoseconds.
+    /// How long after the first frame the last frame arrived, in nanoseconds.
     pub duration: u64,
 }
 
@@ -105,7 +105,7 @@ impl Report {
         }
     }
 
-    /// Counts a packet that is refused at this field.
+    /// Counts a packet that is refused at `field`.
     fn note_refused(
         &mut self,
         came: &Came,
@@ -131,7 +131,8 @@ impl Report {
         }
     }
 
-    /// The stream with this key, which begins here if it is new. `None` if it is new and 1,024 streams are tracked already.
+    /// The stream with this key. If it is new, it begins here. `None` if it is new and 1,024 streams are tracked
+    /// already.
     fn stream(
         &mut self,
         key: StreamKey,
@@ -146,7 +147,7 @@ impl Report {
         Ok(self.streams.get_mut(place))
     }
 
-    /// The place of the stream with this key, if it is that of the last packet, or the one that followed it before.
+    /// The index of the stream with this key, if it is the stream of the last packet or that stream's follower.
     fn expected(&self, key: StreamKey) -> Option<usize> {
         if self.is_at(self.last, key) {
             return Some(self.last);
@@ -155,7 +156,7 @@ impl Report {
         self.is_at(follower, key).then_some(follower)
     }
 
-    /// Whether the stream at this place has this key.
+    /// Whether the stream at index `place` has this key.
     fn is_at(&self, place: usize, key: StreamKey) -> bool {
         match self.streams.get(place) {
             Some(stream) => stream.key == key,
@@ -163,7 +164,8 @@ impl Report {
         }
     }
 
-    /// Finds the place of the stream with this key, which begins here if it is new, and keeps it as the follower of the last one.
+    /// Finds the index of the stream with this key, and keeps it as the follower of the last packet's stream. If the
+    /// stream is new, it begins here.
     #[inline(never)]
     fn find(&mut self, key: StreamKey, sender: &Sender, at: At) -> Result<usize, NoMemory> {
         let place = match self.places.get(&key).copied() {
@@ -176,8 +178,8 @@ impl Report {
         Ok(place)
     }
 
-    /// Begins a stream, and returns its place. If 1,024 streams are tracked already, it begins none, and the place is past the
-    /// end.
+    /// Begins a stream, and returns its index. If 1,024 streams are tracked already, no stream begins, and the index is
+    /// past the end.
     fn begin(&mut self, key: StreamKey, sender: &Sender, at: At) -> Result<usize, NoMemory> {
         let place = self.streams.len();
         if place < MOST_STREAMS {

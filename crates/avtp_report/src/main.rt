@@ -1,4 +1,5 @@
-//! `avtp-report`: what is wrong with each AVTP stream of captures, as a table, and as a page that can be sent to somebody.
+//! `avtp-report`: what is wrong with each AVTP stream of captures. It prints a table, and can write a page to send to
+//! somebody.
 #![tactic(auto)]
 
 mod cells;
@@ -93,7 +94,7 @@ fn run(rt: &HostRuntime) -> Status {
     }
 }
 
-/// The arguments. Arguments that are not UTF-8 are a bad command line.
+/// The arguments. If one of them is not UTF-8, the command line is bad.
 fn words_of(rt: &HostRuntime) -> Result<Vec<String>, Status> {
     let arguments = match env::args(rt) {
         Ok(arguments) => arguments,
@@ -113,7 +114,8 @@ fn print_status(rt: &HostRuntime, written: io::Result<()>) -> Status {
     }
 }
 
-/// How a run ends that could not print. Standard error says why, unless memory ran out or the reader of a pipe is gone.
+/// The status of a run that could not print. Standard error says why, unless memory ran out or the reader of a pipe is
+/// gone.
 fn unprinted(rt: &HostRuntime, error: &io::Error) -> Status {
     if error.kind() == ErrorKind::OutOfMemory {
         return Status::Memory;
@@ -164,7 +166,7 @@ pub struct Told<'a> {
     pub reading: &'a Reading,
     /// The verdicts on each stream.
     pub verdicts: &'a Vec<Vec<Verdict>>,
-    /// The places of the streams, the worst first.
+    /// The indices of the streams, with the worst stream first.
     pub order: &'a Vec<usize>,
 }
 
@@ -189,8 +191,8 @@ fn all_verdicts(alloc: Global, reading: &Reading) -> Result<Vec<Vec<Verdict>>, N
     Ok(all)
 }
 
-/// The places of the streams in the order of their worst verdicts. Streams without a verdict come last. Streams whose worst
-/// verdicts have equal ranks stay in order.
+/// The indices of the streams in the order of their worst verdicts. Streams without a verdict are last. Streams whose
+/// worst verdicts have equal ranks stay in order.
 fn worst_first(alloc: Global, verdicts: &[Vec<Verdict>]) -> Result<Vec<usize>, NoMemory> {
     let mut order = Vec::new(alloc);
     for (place, of) in verdicts.iter().enumerate() {
@@ -214,7 +216,7 @@ fn print_table(rt: &HostRuntime, told: &Told<'_>) -> io::Result<()> {
     out.flush()
 }
 
-/// Writes the page to a file that is none of those that were read. Standard error says why if it cannot be written.
+/// Writes the page to a file that is not one of the captures. If it cannot be written, standard error says why.
 fn make_page(rt: &HostRuntime, name: &str, told: &Told<'_>) -> io::Result<()> {
     let alloc = rt.alloc();
     let mut captures = Vec::new(alloc);
@@ -227,7 +229,7 @@ fn make_page(rt: &HostRuntime, name: &str, told: &Told<'_>) -> io::Result<()> {
     out.flush()
 }
 
-/// The status of a run after its table and page were written.
+/// The status of a run whose table and page have been written.
 fn ended(told: &Told<'_>) -> Status {
     for file in told.reading.files.iter() {
         match file.ending {

@@ -13,7 +13,7 @@ use std::alloc::Global;
 use std::io::{self, Write};
 use stream_report::{Stream, Verdict};
 
-/// Writes the page. It is complete in itself: a browser fetches nothing for it.
+/// Writes the page. A browser needs no other file to show it.
 pub fn write_page<W: Write>(alloc: Global, out: &mut W, told: &Told<'_>) -> io::Result<()> {
     write_head(out, told)?;
     write_summary(out, told)?;
@@ -139,7 +139,7 @@ fn write_streams<W: Write>(out: &mut W, told: &Told<'_>) -> io::Result<()> {
     Ok(())
 }
 
-/// With more streams than these, the pictures of those without a verdict are folded.
+/// If there are more streams than this, the pictures of streams without a verdict are folded.
 const MOST_UNFOLDED: usize = 16;
 
 fn write_stream<W: Write>(
@@ -222,7 +222,7 @@ fn write_others<W: Write>(out: &mut W, reading: &Reading) -> io::Result<()> {
     writeln!(out, "</dl>")
 }
 
-/// Writes what each column of the table holds.
+/// Writes what each column of the table means.
 fn write_columns<W: Write>(out: &mut W) -> io::Result<()> {
     writeln!(out, "<details><summary>What the columns hold</summary><dl>")?;
     for heading in HEADINGS.iter() {

@@ -24,7 +24,7 @@ pub enum Ending {
 #[derive(Drop)]
 pub struct File {
     pub name: String,
-    /// The number of frames that were read of it.
+    /// The number of frames that were read of the capture.
     pub frames: u64,
     pub ending: Ending,
 }
@@ -36,11 +36,11 @@ pub struct Reading {
     pub report: Report,
 }
 
-/// The most bytes of a file that are read.
+/// At most this many bytes of a file are read.
 const LIMIT: u64 = 1 << 62;
 
-/// Reads the captures that the words name. The word at `html`, if given, names the page instead. The first capture that is not
-/// read to its end is the last one read, and standard error says why.
+/// Reads the captures that the words name. If `html` is given, the word at this index names the page instead. After a
+/// capture that cannot be read to its end, no other capture is read, and standard error says why.
 pub fn read_files(
     rt: &HostRuntime,
     alloc: Global,
@@ -76,7 +76,7 @@ pub fn read_files(
     Ok(Reading { files, report })
 }
 
-/// Says at which field a capture is refused.
+/// Says on standard error at which field a capture is refused.
 fn say_refusal(rt: &HostRuntime, name: &str, refusal: &Refusal) {
     let field = refusal.field.name();
     let at = refusal.at;
@@ -84,7 +84,7 @@ fn say_refusal(rt: &HostRuntime, name: &str, refusal: &Refusal) {
     let _ = eprintln!(rt; "{PROGRAM}: {name}: capture refused: {field} at {at}{short}");
 }
 
-/// How much of a file was read.
+/// How much of a file was read, and how the reading ended.
 #[derive(Clone, Copy)]
 struct Read {
     frames: u64,

@@ -4,11 +4,11 @@ use crate::units::{Grouped, Packets, Signed, Span, Thousandths};
 use std::fmt;
 use stream_report::{At, ClockGuess, FieldCount, Tally, Verdict};
 
-/// A verdict on a stream in words. If there are several files, a frame is given with its file's number.
+/// A verdict on a stream, in words. If there are several files, each frame is given with the number of its file.
 #[derive(Clone, Copy)]
 pub struct Said<'a> {
     pub verdict: Verdict,
-    /// By which fields the stream's malformed packets are refused.
+    /// The fields at which the stream's malformed packets are refused.
     pub fields: &'a [FieldCount],
     pub many_files: bool,
 }
@@ -32,7 +32,7 @@ impl fmt::Display for Said<'_> {
     }
 }
 
-/// A frame in words: its number, with that of its file if there are several files.
+/// A frame in words: its number, and the number of its file if there are several files.
 #[derive(Clone, Copy)]
 struct Place {
     word: &'static str,
@@ -290,7 +290,7 @@ fn say_first<W: fmt::Write>(found: i64, wanted: u64, f: &mut fmt::Formatter<W>) 
     )
 }
 
-/// A clock is off by at most this much, in parts of 10^9: 1,000 ppm.
+/// A drift of at most this much is called a drift of the clock, in parts of 10^9: 1,000 ppm.
 const MOST_DRIFT: u64 = 1_000_000;
 
 fn say_drift<W: fmt::Write>(parts: i64, f: &mut fmt::Formatter<W>) -> fmt::Result {

@@ -15,7 +15,7 @@ struct Rows {
     widths: Vec<usize>,
 }
 
-/// Writes a row for each stream, the verdicts on each, and what else was seen.
+/// Writes a row for each stream, the verdicts on each stream, and what else was seen.
 pub fn write_table<W: Write>(alloc: Global, out: &mut W, told: &Told<'_>) -> io::Result<()> {
     let rows = rows_of(alloc, told)?;
     if !rows.rows.is_empty() {
@@ -62,7 +62,7 @@ fn write_row<W: Write>(out: &mut W, widths: &[usize], row: &[String]) -> io::Res
     writeln!(out, "")
 }
 
-/// The columns that are words: the first four and the last.
+/// Writes a cell. Words are in the first four columns and the last, and begin at the left. Numbers end at the right.
 fn write_cell<W: Write>(out: &mut W, place: usize, text: &str, width: usize) -> io::Result<()> {
     if place > 0 {
         write!(out, "  ")?;
@@ -107,7 +107,7 @@ fn write_verdicts<W: Write>(out: &mut W, told: &Told<'_>) -> io::Result<()> {
     Ok(())
 }
 
-/// What else was seen, by name and number.
+/// Writes what else was seen, by name and number.
 fn write_others<W: Write>(out: &mut W, told: &Told<'_>) -> io::Result<()> {
     let others = &told.reading.report.others;
     for seen in others.counts.iter() {

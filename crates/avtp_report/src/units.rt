@@ -1,4 +1,4 @@
-//! Numbers as they are easiest to read.
+//! Numbers in the form that is easiest to read.
 
 use std::fmt;
 
@@ -25,7 +25,7 @@ impl fmt::Display for Grouped {
     }
 }
 
-/// Nanoseconds, in microseconds with three decimals.
+/// A number of nanoseconds, written in microseconds with three decimals.
 #[derive(Clone, Copy)]
 pub struct Micros(pub i64);
 
@@ -40,7 +40,7 @@ impl fmt::Display for Micros {
     }
 }
 
-/// A number of thousandths, with three decimals.
+/// A number of thousandths, written as a number with three decimals.
 #[derive(Clone, Copy)]
 pub struct Thousandths(pub i128);
 
@@ -55,7 +55,7 @@ impl fmt::Display for Thousandths {
     }
 }
 
-/// Nanoseconds, in the unit that is easiest to read, without a sign.
+/// A number of nanoseconds, written in the unit that is easiest to read. It has no sign.
 #[derive(Clone, Copy)]
 pub struct Span(pub u64);
 
@@ -74,7 +74,7 @@ impl fmt::Display for Span {
     }
 }
 
-/// Writes a number of thousandths as units, with at most three decimals.
+/// Writes a number of thousandths of `unit` as a number of units with at most three decimals.
 fn write_decimals<W: fmt::Write>(
     f: &mut fmt::Formatter<W>,
     thousandths: u64,
@@ -95,7 +95,7 @@ fn write_decimals<W: fmt::Write>(
     }
 }
 
-/// Nanoseconds as `Span` writes them, with a sign if they are below 0.
+/// A number of nanoseconds, written as `Span` does, with a `-` if it is below 0.
 #[derive(Clone, Copy)]
 pub struct Signed(pub i64);
 
@@ -133,7 +133,7 @@ impl fmt::Display for Address {
     }
 }
 
-/// Text in HTML.
+/// A text, escaped for HTML.
 #[derive(Clone, Copy)]
 pub struct Escaped<'a>(pub &'a str);
 

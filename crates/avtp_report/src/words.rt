@@ -5,12 +5,12 @@
 pub enum Words {
     Help,
     Version,
-    /// A report on the captures that the words name, and a page if `html` is the place of its name.
+    /// A report on the captures that the words name. If a page is wanted, `html` is the index of the page's name.
     Report { html: Option<usize> },
     Faulty,
 }
 
-/// The option before the name of a page.
+/// The option that precedes the name of the page.
 const HTML: &str = "--html";
 
 /// What the words ask for.
@@ -64,7 +64,7 @@ fn is_also_read(words: &[String], html: Option<usize>) -> bool {
     false
 }
 
-/// Whether the word at `place` names a capture: it is neither `--html`, just before the page's name, nor the page's name.
+/// Whether the word at index `place` names a capture. The page's name and the `--html` directly before it do not.
 pub fn is_capture(html: Option<usize>, place: usize) -> bool {
     match html {
         Some(page) => place != page && place.saturating_add(1) != page,

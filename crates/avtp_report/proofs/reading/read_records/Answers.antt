@@ -4,7 +4,7 @@ use Rattle.avtp_base.specs.States.{ShelfState}
 use Rattle.capture_io.specs.Reads.{ReadsSlot}
 use Rattle.avtp_report.proofs.reading.read_records.Goals as goal
 
--- the slot that was read is live under its present number
+-- after a read, the slot that was read is still open, at its new index `j`
 live_now : {s t : ShelfState} {k j : ℕ} → ReadsSlot s t k j → IsSome (t.slots j)
 live_now {t = t} reads = subst (λ (n : ℕ). IsSome (t.slots n)) (sym reads.slot) reads.live
 
