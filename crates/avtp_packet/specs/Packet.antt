@@ -1,4 +1,4 @@
--- A packet of AVTP by the format that its subtype names (IEEE 1722-2016, table 6).
+-- An AVTP packet in the format that its subtype names (IEEE 1722-2016, table 6).
 use Rattle.std.specs.Prelude.{ℕ, ◌==◌, ◌≤◌, ⊤, true, nat_lt, List, length, Option, Some, None, if◌then◌else◌}
 use Rattle.avtp_base.specs.declared.field.Field.TheVariants.{Subtype}
 use Rattle.avtp_base.specs.declared.refusal.Refusal.{Refusal}
@@ -11,7 +11,7 @@ use Rattle.crf_format.specs.Crf.{Crf, crf_subtype, crf_refusal, crf_of, crf_shap
 use Rattle.avtp_packet.specs.declared.packet.Packet.{Packet as PacketView}
 use Rattle.avtp_packet.specs.declared.packet.Packet.TheVariants as view
 
--- a packet of one of the formats that are read, or a packet of another format, of which only the subtype is known
+-- a packet of a supported format, or a packet of another format, of which only the subtype is known
 pub data AnyPacket : Type 0 where
   OfIec : Iec → AnyPacket
   OfAaf : Aaf → AnyPacket
@@ -19,7 +19,7 @@ pub data AnyPacket : Type 0 where
   OfCrf : Crf → AnyPacket
   OfOther : ℕ → AnyPacket
 
--- the packet that a view shows, without its payload's location in memory
+-- the packet that a view shows, with plain bytes in place of its borrowed payload
 abbrev pub packet_shape : PacketView → AnyPacket
 packet_shape (view.Iec v) = OfIec (iec_shape v)
 packet_shape (view.Aaf v) = OfAaf (aaf_shape v)
@@ -29,7 +29,7 @@ packet_shape (view.Other subtype) = OfOther subtype
 
 -- ---- by the subtype
 
--- the packet that bytes of this subtype spell
+-- the packet that the bytes `pdu` spell, given their subtype
 unfoldable pub kind_of : ℕ → List ℕ → AnyPacket
 kind_of subtype pdu =
     if subtype == iec_subtype then OfIec (iec_of pdu) else
@@ -38,7 +38,7 @@ kind_of subtype pdu =
     if subtype == crf_subtype then OfCrf (crf_of pdu) else
     OfOther subtype
 
--- why bytes of this subtype are not a packet; `None` for a format that is not read
+-- why the bytes `pdu` are not a packet of this subtype; `None` for an unsupported format
 unfoldable pub kind_refusal : ℕ → List ℕ → Option Refusal
 kind_refusal subtype pdu =
     if subtype == iec_subtype then iec_refusal pdu else
@@ -49,19 +49,19 @@ kind_refusal subtype pdu =
 
 -- ---- by the bytes alone
 
--- the refusal of a packet without bytes, which has no subtype
+-- the refusal of an empty packet, which has no subtype
 abbrev pub subtype_refusal : List ℕ → Option Refusal
 subtype_refusal pdu = if nat_lt (length pdu) 1 then Some (record { field = Subtype; at = 0; short = true }) else None
 
--- the packet that bytes spell, given the subtype in their first byte
+-- the packet that the bytes `pdu` spell, with the subtype in their first byte
 abbrev pub packet_of : List ℕ → AnyPacket
 packet_of pdu = kind_of (bits 0 0 8 pdu) pdu
 
--- why bytes are not a packet: they have no subtype, or the format of their subtype refuses them
+-- why the bytes `pdu` are not a packet: they are empty, or the format of their subtype refuses them
 abbrev pub packet_refusal : List ℕ → Option Refusal
 packet_refusal pdu = or_else (subtype_refusal pdu) (kind_refusal (bits 0 0 8 pdu) pdu)
 
--- a clock reference packet has at least one timestamp; other packets have no such condition
+-- a clock reference packet has at least one timestamp; for other packets there is no condition
 abbrev pub HasPoint : PacketView → Type 0
 HasPoint (view.Crf v) = 8 ≤ length v.payload.now
 HasPoint packet = ⊤

@@ -1,4 +1,4 @@
--- The stream that a packet belongs to, and its place in it.
+-- The stream that a packet belongs to, with the packet's sequence number and media clock restart bit.
 use Rattle.std.specs.Prelude.{ℕ, Bool, false, Option, Some, None}
 use Rattle.avtp_header.specs.declared.header.StreamHeader.{StreamHeader}
 use Rattle.avtp_header.specs.Numbers.{aaf_subtype, crf_subtype, cvf_subtype, iec_subtype}
@@ -6,15 +6,15 @@ use Rattle.crf_format.specs.Crf.{Crf}
 use Rattle.avtp_packet.specs.declared.packet_stream.PacketStream.{PacketStream}
 use Rattle.avtp_packet.specs.Packet.{AnyPacket, OfAaf, OfCrf, OfH264, OfIec, OfOther}
 
--- the stream of a packet of this subtype that has a stream header, and its place in it
+-- the stream, sequence number and media clock restart bit of a packet with this subtype and stream header
 abbrev pub header_stream : ℕ → StreamHeader → PacketStream
 header_stream subtype header = record { subtype = subtype; id = header.stream_id; sv = header.sv; seq = header.seq; mr = header.mr }
 
--- the stream of a clock reference packet, and its place in it
+-- the stream, sequence number and media clock restart bit of a clock reference packet
 abbrev pub clock_stream : Crf → PacketStream
 clock_stream v = record { subtype = crf_subtype; id = v.stream_id; sv = v.sv; seq = v.seq; mr = v.mr }
 
--- the stream of a packet, and its place in it; `None` for a format that is not read
+-- the stream, sequence number and media clock restart bit of a packet; `None` for an unsupported format
 abbrev pub stream_of : AnyPacket → Option PacketStream
 stream_of (OfIec v) = Some (header_stream iec_subtype v.header)
 stream_of (OfAaf v) = Some (header_stream aaf_subtype v.header)
@@ -22,7 +22,8 @@ stream_of (OfH264 v) = Some (header_stream cvf_subtype v.header)
 stream_of (OfCrf v) = Some (clock_stream v)
 stream_of (OfOther subtype) = None
 
--- a reserved bit of a packet is set; those of a format that is not read are not known
+-- A reserved bit of the packet is set. For an unsupported format, reserved bits are not known, and the answer is
+-- `false`.
 abbrev pub has_reserved : AnyPacket → Bool
 has_reserved (OfIec v) = v.reserved
 has_reserved (OfAaf v) = v.reserved

@@ -1,5 +1,5 @@
--- Which packets of a stream must have a timestamp. The rule of sparse PCM is that of IEEE 1722-2016, 7; the rest is
--- this project's own.
+-- Which packets of a stream must have a timestamp. The rule for sparse PCM is that of IEEE 1722-2016, 7. The other
+-- rules are this project's own.
 use Rattle.std.specs.Prelude.{ℕ, ◌%◌, ◌==◌, Bool, true, false, not, ◌&&◌, nat_lt, Option, Some, None, if◌then◌else◌}
 use Rattle.std.specs.Bool.{beq}
 use Rattle.aaf_format.specs.Aaf.{Aaf}
@@ -9,12 +9,12 @@ use Rattle.cvf_format.specs.Cvf.{Cvf}
 use Rattle.iec61883_format.specs.Iec.{Iec, anchor_index, syt_interval}
 use Rattle.avtp_packet.specs.Packet.{AnyPacket, OfAaf, OfCrf, OfH264, OfIec, OfOther}
 
--- A packet with `count` samples has a timestamp that it must not have, or lacks one that it must have. A packet without samples
--- may have one or not.
+-- A packet with `count` samples has a timestamp that it must not have, or lacks one that it must have. A packet without
+-- samples may have a timestamp or not.
 abbrev pub is_off : ℕ → Bool → Bool → Bool
 is_off count stamped must = nat_lt 0 count && not (beq stamped must)
 
--- a PCM packet must have a timestamp: always, or in a sparse stream if its sequence number is a multiple of 8
+-- the PCM packet must have a timestamp: its stream is not sparse, or its sequence number is a multiple of 8
 abbrev pub must_stamp_aaf : Aaf → Bool
 must_stamp_aaf v = if v.sparse then v.header.seq % 8 == 0 else true
 
@@ -22,9 +22,9 @@ must_stamp_aaf v = if v.sparse then v.header.seq % 8 == 0 else true
 abbrev pub aaf_is_off : Aaf → Bool
 aaf_is_off v = is_off v.count v.header.tv (must_stamp_aaf v)
 
--- An AM824 packet with this SYT_INTERVAL has a timestamp that it must not have, or lacks one that it must have. It must have
--- one if it has the data block that a timestamp belongs to. A no-data packet has no interval and no block, and may have one or
--- not.
+-- An AM824 packet with this SYT_INTERVAL has a timestamp that it must not have, or lacks one that it must have. It must
+-- have one exactly if it has the data block that a timestamp belongs to. A packet without data has no interval, and may
+-- have a timestamp or not.
 abbrev pub iec_is_off_by : Option ℕ → Iec → Bool
 iec_is_off_by None v = false
 iec_is_off_by (Some interval) v = is_off v.count v.header.tv (nat_lt (anchor_index v.cip.dbc interval) v.count)
@@ -40,12 +40,12 @@ ends_unit First = false
 ends_unit Middle = false
 ends_unit Last = true
 
--- an H.264 packet ends a NAL unit and lacks a timestamp, which it must have; other packets may have one or not
+-- The H.264 packet ends a NAL unit, but lacks a timestamp. Any other H.264 packet may have a timestamp or not.
 abbrev pub h264_is_off : Cvf → Bool
 h264_is_off v = ends_unit v.part && not v.header.tv
 
--- a packet has a timestamp that it must not have, or lacks one that it must have; there is no rule for a clock
--- reference packet
+-- The packet has a timestamp that it must not have, or lacks one that it must have. There is no rule for clock
+-- reference packets and unsupported formats.
 abbrev pub stamp_is_off : AnyPacket → Bool
 stamp_is_off (OfIec v) = iec_is_off v
 stamp_is_off (OfAaf v) = aaf_is_off v

@@ -1,4 +1,4 @@
-//! A packet of AVTP, of whichever format its subtype names (IEEE 1722-2016, table 6).
+//! An AVTP packet, in the format that its subtype names (IEEE 1722-2016, table 6).
 #![tactic(auto)]
 
 mod packet;

@@ -1,4 +1,4 @@
-//! The packet of a frame.
+//! The AVTP packet in a frame.
 
 ghost use Rattle.std.specs.Prelude.{◌≡◌, ◌<◌, ◌^◌, IfErr, IfOk};
 ghost use Rattle.avtp_base.specs.Rows.{Reads};
@@ -15,7 +15,7 @@ use crf_format::{CrfView, read_crf};
 use cvf_format::{CvfView, read_cvf};
 use iec61883_format::{IecView, read_iec};
 
-/// A packet of one of the formats that are read, or of another format.
+/// A packet of a supported format, or a packet of another format.
 #[derive(Clone, Copy, Debug)]
 pub enum Packet<'a> {
     /// AM824 data blocks (IEC 61883-6).
@@ -26,14 +26,14 @@ pub enum Packet<'a> {
     H264(CvfView<'a>),
     /// Timestamps of a media clock (IEEE 1722-2016, 10).
     Crf(CrfView<'a>),
-    /// A packet of another format, which has this subtype.
+    /// A packet of another format, with this subtype.
     Other(u8),
 }
 
-/// Reads a packet by the format that its subtype names.
+/// Reads a packet in the format that its subtype names.
 ///
-/// An empty slice is refused by `subtype`, short. A slice of a format that is read is refused exactly if that format refuses
-/// it. A packet of another format is never refused. A clock reference packet has at least one timestamp.
+/// An empty slice is refused at `subtype`, as short. A slice of a supported format is refused exactly if that format
+/// refuses it. A packet of another format is never refused. A clock reference packet has at least one timestamp.
 #[inline(always)]
 pub fn read_packet(pdu: &[u8]) -> Result<Packet<'_>, Refusal>
     ensures exact { Reads packet_shape (packet_refusal pdu.now) (packet_of pdu.now) result }

@@ -7,18 +7,18 @@ ghost use Rattle.avtp_packet.specs.PacketStream.{has_reserved, header_stream, st
 use crate::packet::Packet;
 use avtp_header::{StreamHeader, subtype};
 
-/// The stream that a packet belongs to, and the packet's place in it.
+/// The stream that a packet belongs to, with the packet's sequence number and media clock restart bit.
 #[derive(Clone, Copy, Debug, PartialEq, Eq)]
 pub struct PacketStream {
     /// The subtype of the packet (IEEE 1722-2016, table 6).
     pub subtype: u8,
-    /// The stream id.
+    /// The stream ID.
     pub id: u64,
-    /// The stream id is valid.
+    /// Whether the stream ID is valid.
     pub sv: bool,
     /// The sequence number.
     pub seq: u8,
-    /// The media clock restart.
+    /// The media clock restart bit.
     pub mr: bool,
 }
 
@@ -34,7 +34,7 @@ fn stream_by(subtype: u8, header: &StreamHeader) -> PacketStream
     }
 }
 
-/// The stream of a packet. It is `None` exactly for packets of a format that is not read.
+/// The stream of a packet. `None` exactly for packets of an unsupported format.
 pub fn stream_of(packet: &Packet<'_>) -> Option<PacketStream>
     ensures { result ≡ stream_of_packet (packet_shape packet.now) }
 {
@@ -53,8 +53,8 @@ pub fn stream_of(packet: &Packet<'_>) -> Option<PacketStream>
     })
 }
 
-/// Whether a reserved bit of the packet is set. `false` for packets of a format that is not read, whose reserved bits are not
-/// known.
+/// Whether a reserved bit of the packet is set. `false` for a packet of an unsupported format, whose reserved bits are
+/// not known.
 pub fn reserved(packet: &Packet<'_>) -> bool
     ensures { result ≡ has_reserved (packet_shape packet.now) }
 {
