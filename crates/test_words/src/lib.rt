@@ -1,4 +1,4 @@
-//! Tests of the words and the texts: which command each command line asks for, and how each line is printed.
+//! Tests of command lines and of printed lines: which command each command line asks for, and how each line is printed.
 #![tactic(auto)]
 
 #[cfg(test)]

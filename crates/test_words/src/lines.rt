@@ -1,4 +1,4 @@
-//! Each printed line once, in the order of `EVERY_LINE`, with short numbers and with the longest.
+//! Prints each kind of line, in the order of `EVERY_LINE`, with short numbers and with the longest.
 
 use crate::packets::{CRF, DENSE, H264, IEC, OTHER, SPARSE};
 use aaf_format::{AafFormat, AafView};
@@ -192,7 +192,7 @@ fn print_talk(text: &mut Text, out: &mut MemorySink) -> Result<(), Failed> {
     text.soak(out, 1_000, &counts)
 }
 
-/// Each finding alone, no finding, and all findings with the longest numbers.
+/// Prints each finding alone, no finding, and all findings with the longest numbers.
 fn print_findings(text: &mut Text, out: &mut MemorySink) -> Result<(), Failed> {
     let alone = [
         NOTHING,

@@ -1,6 +1,6 @@
-//! Command lines. In a word `_` is a space, and `''` is an empty word.
+//! Command lines. In a word, `_` stands for a space, and `''` is an empty word.
 
-/// Command lines, and what each asks for: its options that are not at their default, and its names.
+/// Command lines, and what each of them asks for: the options that are not at their default, and the names.
 pub const COMMANDS: &str = "\
 show c.pcap => show (c.pcap)
 show --limit 1 c.pcap => show limit 1 (c.pcap)
@@ -142,7 +142,7 @@ talk --kind h264 --start 0 a b => talk H264 { last_stamp: false } rate 30 start 
 talk --kind h264 --lead 1 a b => talk H264 { last_stamp: false } rate 30 lead 1 (a) (b)
 ";
 
-/// Bad command lines, and the position of the first argument that is not accepted there, or is missing.
+/// Bad command lines, and the position of the first argument that is wrong or missing.
 pub const OFFENCES: &str = "\
 => 1
 '' => 1
@@ -270,7 +270,7 @@ talk --sparse a b c => 5
 talk --channels 500 a => 5
 ";
 
-/// An option of a command, with a value that it accepts and values that it does not.
+/// Options of commands, each with a value that it accepts, and then with values that it does not accept.
 pub const VALUES: &str = "\
 show --limit 1 : '' 0 01 +1 1099511627777
 check --limit 1 : 0 1099511627777
@@ -319,7 +319,7 @@ talk --crf-rate 1 : 0 200000001
 talk --crf-pull 0 : 6
 ";
 
-/// Words that are each accepted, but contradict one another.
+/// Command lines in which each word is accepted, but the words contradict one another.
 pub const RULES: &str = "\
 listen --silence zero 0200000000010001 c.pcap
 listen --silence am824 0200000000010001 c.pcap

@@ -7,7 +7,7 @@ use avtp_words::{
 use std::alloc::{AllocError, Global};
 use std::fmt::Display;
 
-/// A word of a row: `_` is a space, and quotes are left out, so that `''` is an empty word.
+/// Reads a word of a row. `_` is a space. Quotes are left out, so `''` is an empty word.
 fn word_of(alloc: Global, spelled: &str) -> Result<String, AllocError> {
     let mut word = String::new(alloc);
     for letter in spelled.chars() {
@@ -80,7 +80,7 @@ fn add_names(text: &mut String, names: &[String]) -> Result<(), AllocError> {
     Ok(())
 }
 
-/// The command's name, the stream, and the options of its listener.
+/// Adds the command's name, the stream, and the options of the stream's listener.
 fn add_listener(
     text: &mut String,
     command: &str,
@@ -104,7 +104,7 @@ fn add_agree(text: &mut String, asked: &Agree<'_>) -> Result<(), AllocError> {
     add_name(text, asked.b)
 }
 
-/// The format and the stream ID of the capture that is written follow the options of the listener.
+/// Adds what `gateway` is asked for: the options of its listener, then the format and the stream ID of the output.
 fn add_gateway(text: &mut String, asked: &Gateway<'_>) -> Result<(), AllocError> {
     let to = match asked.to {
         GatewayFormat::Am824 => "am824",
@@ -126,7 +126,7 @@ fn add_listen(text: &mut String, asked: &Listen<'_>) -> Result<(), AllocError> {
     add_names(text, asked.files)
 }
 
-/// The files that are written, each with the position of its name among the words, from 0.
+/// Adds the files that are written, each with the position of its name among the words, from 0.
 fn add_devices(text: &mut String, asked: &Listen<'_>) -> Result<(), AllocError> {
     if let Some(raw) = asked.raw {
         let silence = match raw.silence {
@@ -164,7 +164,7 @@ fn add_talk(text: &mut String, asked: &Talk<'_>) -> Result<(), AllocError> {
     add_name(text, asked.output)
 }
 
-/// The media clock. Its rate is the stream's if none is given.
+/// Adds the media clock. Its default rate is that of the stream.
 fn add_crf(text: &mut String, crf: &Crf, rate: u32) -> Result<(), AllocError> {
     write!(text, " crf {:016x}", crf.id)?;
     add(text, "crf-rate", crf.rate, rate)?;

@@ -1,11 +1,11 @@
-//! Reads each row and compares it.
+//! Reads the words of each row, and compares the answer.
 
 use crate::rows::{COMMANDS, OFFENCES, RULES, VALUES};
 use crate::told::answer;
 use std::alloc::{AllocError, Global};
 use std::process::Abort;
 
-/// Reads the words of each row, and compares the command or the position of the offence.
+/// Reads the words of each row, and compares the command, or the position of the offence.
 fn assert_rows(rt: &impl Abort, alloc: Global, rows: &str) -> Result<(), AllocError> {
     for row in rows.lines() {
         let (line, stated) = row.split_once("=> ").unwrap_or((row, "no answer"));
@@ -53,7 +53,7 @@ fn assert_offence(
     Ok(())
 }
 
-/// An option with each value that it does not accept, without a value, twice, and after the names.
+/// Tries an option with each value that it does not accept, without a value, twice, and after the names.
 fn assert_option(
     rt: &impl Abort,
     alloc: Global,
