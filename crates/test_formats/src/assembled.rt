@@ -7,7 +7,7 @@ use std::alloc::Global;
 use std::test::Fail;
 use vectors_avtp::{bytes_of, row_of};
 
-/// Pushes a packet with its own timestamp as its instant, if it may be pushed.
+/// Pushes a packet, if it may be pushed. Its instant is its own timestamp.
 fn push(assembler: &mut Assembler, frame: u64, packet: &[u8]) -> Option<Pushed>
     ensures { IfSome result (λ pushed. pushed.lost ≡ length assembler.new.lost) }
 {
@@ -30,7 +30,7 @@ fn push(assembler: &mut Assembler, frame: u64, packet: &[u8]) -> Option<Pushed>
     Some(assembler.push(mark, instant, &view))
 }
 
-/// The frames that were given up last.
+/// The numbers of the `lost` frames that were given up last.
 fn given_up(alloc: Global, assembler: &Assembler, lost: u32) -> Result<String, Fail>
     requires { lost ≤ length assembler.now.lost }
 {
@@ -42,7 +42,8 @@ fn given_up(alloc: Global, assembler: &Assembler, lost: u32) -> Result<String, F
     Ok(text)
 }
 
-/// What becomes of a packet: the frames that it gives up, and then its part, with the unit if it is complete.
+/// What becomes of a packet: the frames that are given up because of it, then its piece, then the unit if that is
+/// complete.
 fn outcome(
     alloc: Global,
     assembler: &mut Assembler,
@@ -60,8 +61,8 @@ fn outcome(
     Ok(format!(in alloc; "{lost}{:?} {unit}", pushed.piece)?)
 }
 
-/// Packets and cuts, which are counted from 1, and what becomes of each. `7c85`, `7c05` and `7c45` begin the first, a middle and
-/// the last fragment of a unit of the first byte `65`.
+/// Packets and cuts, numbered from 1, and what becomes of each. `7c85`, `7c05` and `7c45` begin the first, a middle and
+/// the last fragment of a unit whose first byte is `65`.
 const ROWS: &str = "\
 28=65000a => Whole 65000a0a;
 2=00 28=7c850102, 2=01 28=7c050304, 2=02 28=7c450506, 2=03 28=7c45 => Held ; Held ; Whole 65010203040506; Lost(Broken) ;
@@ -100,7 +101,8 @@ fn a_unit_is_whole_if_its_fragments_go_on_with_each_other(rt: HostRuntime) -> Re
     Ok(())
 }
 
-/// Pushes many fragments of one unit with equal bodies, and returns what becomes of the last, whose body differs.
+/// Pushes `fragments` fragments of one unit. All but the last have equal bodies. Returns what becomes of the last
+/// fragment.
 fn push_long(
     assembler: &mut Assembler,
     fragments: u64,
@@ -116,7 +118,7 @@ fn push_long(
     push(assembler, fragments, last)
 }
 
-/// How many fragments there are, one of them and the last one, and what becomes of the last.
+/// The number of fragments, a fragment before the last, the last fragment, and what becomes of the last fragment.
 const LONG: [(u64, &str, &str, &str); 5] = [
     (
         4_096,
@@ -150,7 +152,7 @@ const LONG: [(u64, &str, &str, &str); 5] = [
     ),
 ];
 
-/// A unit that is too long is lost with all its fragments, and the fragments after it continue nothing.
+/// A unit that is too long is lost with all its fragments. Fragments that follow are lost, too.
 #[test]
 fn a_unit_has_at_most_4096_fragments_and_4194304_bytes(rt: HostRuntime) -> Result<(), Fail> {
     let mut assembler = Assembler::new(rt.alloc())?;

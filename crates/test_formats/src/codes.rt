@@ -8,7 +8,7 @@ use iec61883_format::{rate_of_fdf, syt_interval};
 use std::test::Fail;
 use vectors_avtp::bytes_of;
 
-/// A code and its rate in PCM. In AM824: its rate, and how many blocks share one timestamp.
+/// A code, its sample rate in PCM, its sample rate in AM824, and how many blocks share one timestamp in AM824.
 const CODES: &str = "
 0: None Some(32000) Some(8)
 1: Some(8000) Some(44100) Some(8)
@@ -35,7 +35,7 @@ fn a_code_stands_for_a_rate(rt: HostRuntime) -> Result<(), Fail> {
     Ok(())
 }
 
-/// A packet has at most 1400 bytes of a NAL unit, and a fragment at most 1398 after the unit's first byte.
+/// A packet holds at most 1400 bytes of a NAL unit. A fragment holds at most 1398 bytes after the unit's first byte.
 #[test]
 fn a_long_unit_is_sent_in_fragments(rt: HostRuntime) {
     for (len, packets) in [

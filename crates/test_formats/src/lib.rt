@@ -1,4 +1,4 @@
-//! Tests of the packet formats: what is read of packets, and NAL units from their fragments.
+//! Tests of the packet formats: what is read of packets, and how NAL units are put together from fragments.
 #![tactic(auto)]
 
 #[cfg(test)]

@@ -106,7 +106,7 @@ fn each_field_is_read_from_its_bits(rt: HostRuntime) -> Result<(), Fail> {
     Ok(())
 }
 
-/// The offset of each byte that has reserved bits, and these bits.
+/// Packets, with the offset of each byte that has reserved bits, and these bits.
 const RESERVED: &str = "\
 aaf => 1=06 3=fe 17=0c 22=e0 23=ff
 iec => 1=04 3=fe 26=03
@@ -114,7 +114,8 @@ h264 => 1=06 3=fe 18=ff 19=ff 22=c0 23=ff
 h264 28=7c85 => 1=06 3=fe 18=ff 19=ff 22=c0 23=ff 29=20
 crf => 1=04";
 
-/// The bits of the byte at this offset that each set a reserved bit when they are inverted.
+/// The reserved bits of the byte at offset `at`. A bit is reserved if the packet is still read with this bit inverted,
+/// and `reserved` is true of it.
 fn reserved_bits(packet: &mut [u8], at: usize) -> u8 {
     let mut bits = 0u8;
     for bit in [0x80u8, 0x40, 0x20, 0x10, 8, 4, 2, 1] {
@@ -150,7 +151,7 @@ fn a_reserved_bit_is_free_and_told(rt: HostRuntime) -> Result<(), Fail> {
     Ok(())
 }
 
-/// The stream of a packet of each format that is read, and of one that is not.
+/// The stream of a packet of each supported format, and of a packet of another format.
 const STREAMS: &str = "\
 aaf 1=89 2=07 => Some(PacketStream { subtype: 2, id: 144115188075921409, sv: true, seq: 7, mr: true })
 iec 1=09 => Some(PacketStream { subtype: 0, id: 144115188075921409, sv: false, seq: 0, mr: true })

@@ -11,7 +11,7 @@ use std::alloc::Global;
 use std::test::Fail;
 use vectors_avtp::{bytes_of, refusal_text, row_of};
 
-/// `read`, or the refusal.
+/// `read` if the packet is read, otherwise the refusal.
 fn answer(alloc: Global, packet: &[u8]) -> Result<String, Fail> {
     match read_packet(packet) {
         Ok(_) => Ok(String::from_str(alloc, "read")?),
@@ -19,7 +19,8 @@ fn answer(alloc: Global, packet: &[u8]) -> Result<String, Fail> {
     }
 }
 
-/// Packets on both sides of each rule's limit: the first and the last value that is refused, and the nearest that are read.
+/// Packets on both sides of the limit of each rule: the first and the last value that is refused, and the nearest
+/// values that are read.
 const REFUSALS: &str = "\
 01 => read
  => subtype at 0 short
@@ -159,15 +160,15 @@ fn the_first_row_that_holds_refuses(rt: HostRuntime) -> Result<(), Fail> {
     Ok(())
 }
 
-/// The fields of the stream header, each with the first length at which it is cut off.
+/// The refusals of a stream header that is cut off, each with the first length at which it occurs.
 const STREAM_HEADER: &str =
     "0: subtype at 0 short, 1: version at 1 short, 2: sequence_num at 2 short, 3: tu at 3 short, 4: stream_id at 4 short, 12: avtp_timestamp at 12 short, 16: format_data at 16 short, 20: stream_data_length at 20 short, 22: format_flags at 22 short, 24: stream_data_length at 20, ";
 
-/// The fields of the header of a CRF packet, each with the first length at which it is cut off.
+/// The refusals of a CRF packet's header that is cut off, each with the first length at which it occurs.
 const CRF_HEADER: &str =
     "0: subtype at 0 short, 1: version at 1 short, 2: sequence_num at 2 short, 3: crf_type at 3 short, 4: stream_id at 4 short, 12: base_frequency at 12 short, 16: crf_data_length at 16 short, 18: timestamp_interval at 18 short, 20: crf_data_length at 16, ";
 
-/// The answer to a packet that is cut off, for each length at which the answer changes.
+/// The answers to a packet that is cut off, each with the first length at which it occurs.
 fn answers_when_cut(alloc: Global, packet: &[u8]) -> Result<String, Fail> {
     let mut all = String::new(alloc);
     let mut last = String::new(alloc);
@@ -197,7 +198,7 @@ fn a_short_packet_is_refused_by_the_field_that_is_cut_off(rt: HostRuntime) -> Re
     Ok(())
 }
 
-/// Another subtype is refused before another version.
+/// A wrong subtype is reported before a wrong version.
 #[test]
 fn a_reader_of_one_format_refuses_the_others(rt: HostRuntime) -> Result<(), Fail> {
     let packet = bytes_of(rt.alloc(), "6e91 len=99")?;

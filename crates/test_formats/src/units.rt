@@ -4,7 +4,7 @@ use cvf_format::{next_unit, split_annex_b};
 use std::test::Fail;
 use vectors_avtp::{bytes_of, row_of};
 
-/// Byte streams, and for each of their units the position of its first byte and the one after its last.
+/// Byte streams. For each unit in a stream, the index of its first byte and the index after its last byte.
 const STREAMS: &str = "\
  => []
 01 => []
