@@ -1,4 +1,4 @@
--- What a tracker keeps of the packets that it noted.
+-- What a tracker keeps of the packets that it has noted.
 use Rattle.std.specs.Prelude.{◌≡◌, ℕ, nat_lt, min, if◌then◌else◌, List, [], ◌∷◌, length, Option, Some, None}
 use Rattle.std.specs.Map.{lookup}
 use Rattle.sequence_track.specs.declared.seen.Seen.{Seen}
@@ -6,11 +6,12 @@ use Rattle.sequence_track.specs.declared.stream.StreamKey.{StreamKey}
 use Rattle.sequence_track.specs.declared.stream.StreamState.{StreamState}
 use Rattle.sequence_track.specs.Findings.{same_stream, tracked, is_tracked, recent, stood, least_hold}
 
--- for how many packets a value of the media clock restart lasted, up to 8, if it came by a change
+-- For how many packets the media clock restart bit has kept its value, up to 8. `None` if the value did not begin with
+-- a change.
 abbrev pub held_of : ℕ → ℕ → Option ℕ
 held_of packets all = if nat_lt packets all then Some (min packets least_hold) else None
 
--- the state that is kept for a stream with these notes, newest first
+-- the state that is kept for a stream, given the notes of its packets, the newest first
 abbrev pub state_of : List Seen → Option StreamState
 state_of [] = None
 state_of (last ∷ older) = Some (record {
@@ -19,11 +20,11 @@ state_of (last ∷ older) = Some (record {
   held = held_of (stood last.mr (last ∷ older)) (length (last ∷ older));
 })
 
--- the state that is kept for a stream after these notes; none if it is not tracked
+-- the state that is kept for a stream after these notes; `None` if the stream is not tracked
 abbrev pub kept_of : List Seen → StreamKey → Option StreamState
 kept_of notes stream = if is_tracked stream notes then state_of (recent stream notes) else None
 
--- The tracker that keeps these states of streams has noted these packets so far.
+-- These states of streams are what a tracker keeps that has noted the packets `notes`.
 pub record StandsFor (tracker : List (StreamKey × StreamState)) (notes : List Seen) : Type 0 where
   pub states : (stream : StreamKey) → lookup (same_stream stream) tracker ≡ kept_of notes stream
   pub count : length tracker ≡ length (tracked notes)
