@@ -17,7 +17,7 @@ taken_more a b c bytes taken n first second =
     let rest : take (length bytes - taken) (drop taken bytes) ≡ drop taken bytes = take_all (length bytes - taken) (drop taken bytes) (simp length-drop (omega arith)) in
     rw (take-add taken n bytes) (Appends-trans a b c (take taken bytes) (take n (drop taken bytes)) first (subst (λ (l : List ℕ). Appends b c (take n l)) rest second))
 
--- if bytes move from the buffer to the sink, all that was written stays the same
+-- if bytes move from the buffer to the sink, the text that was written so far stays the same
 pub written_moved : (old new : Option (List ℕ)) (bytes : List ℕ) (taken : ℕ)
     → Appends old new (take taken bytes)
     → Keeps (written old bytes) (written new (drop taken bytes))

@@ -12,7 +12,7 @@ use Rattle.avtp_text.proofs.Growth.{grows_further, grows_none}
 
 -- ---- prefixes
 
--- if nothing was written, a prefix of any text was written: the empty one
+-- if nothing was written, a prefix of any text was written: the empty prefix
 pub prefix_none : (before now : Option (List ℕ)) (text : List ℕ) → Keeps before now → AppendsPrefix before now text
 prefix_none before now text keeps = record { prefix = []; rest = text; split = refl; appends = Appends-kept before before now [] (Appends-nil before) keeps }
 
@@ -51,11 +51,11 @@ part_as a b same prints = subst (PrintsPart _ _ _ _ _) same prints
 pub line_as : {s t : SinkState} {w w' : List ℕ} {result : Result Unit Failed} (a b : List ℕ) → a ≡ b → Prints s t w w' result a → Prints s t w w' result b
 line_as a b same prints = subst (Prints _ _ _ _ _) same prints
 
--- if nothing happens, the empty text is printed
+-- a call that does nothing prints the empty text
 pub part_none : (s : SinkState) (w : List ℕ) (ok : Unit) → PrintsPart s s w w (Ok ok) []
 part_none s w ok = record { written = Appends-nil (written s.held w); grows = grows_none s.held; counted = record { never_falls = omega arith; ok = refl; failed = tt } }
 
--- if `a` is printed and then `b`, whole or in part, `a ++ b` is printed, whole or in part
+-- if `a` is printed whole, and then `b` whole or in part, `a ++ b` is printed whole or in part
 pub part_then : {s t u : SinkState} {w w' w'' : List ℕ} {result : Result Unit Failed} {ok : Unit} (a b : List ℕ)
     → PrintsPart s t w w' (Ok ok) a → PrintsPart t u w' w'' result b → PrintsPart s u w w'' result (a ++ b)
 part_then {s} {t} {u} {w} {w'} {w''} {result = Ok o} a b first second = record {

@@ -1,4 +1,4 @@
-//! The line of an AAF packet, whose end is reused for the next packet.
+//! The line of an AAF packet. The line's end is reused for the next packet.
 
 ghost use Rattle.std.specs.Prelude.{◌≡◌, ◌+◌, ◌-◌, ◌≤◌, ◌++◌, length, drop};
 ghost use Rattle.aaf_format.specs.Aaf.{aaf_shape};
@@ -130,7 +130,7 @@ pub struct AafLine {
 }
 
 impl AafLine {
-    /// A line that has only its end yet.
+    /// A line that consists only of its end so far.
     pub fn new() -> Self {
         let end = AafEnd {
             tv: false,

@@ -27,7 +27,7 @@ fn prepend_finding(line: &mut Line, number: u64)
     line.prepend_u64("finding frame ", number);
 }
 
-/// Prepends the number of a packet's frame and the ID of its stream to the line.
+/// Prepends the number of a packet's frame and the ID of the packet's stream to the line.
 #[tactic(auto, unfolding(crate::specs::Check::packet_start))]
 fn prepend_packet(line: &mut Line, number: u64, id: u64)
     requires { 55 + length line.old ≤ LONGEST }

@@ -230,7 +230,7 @@ impl Text {
         self.print(out, b"\n")
     }
 
-    /// Prints the samples of a batch, which may have any length.
+    /// Prints the samples of a batch. A sample may have any length.
     fn long_samples<S: Sink>(
         &mut self,
         out: &mut S,
@@ -260,7 +260,7 @@ impl Text {
         }
     }
 
-    /// Prints an item that a schedule shows: the samples of a batch, or the reason of a flag.
+    /// Prints an item that a schedule shows: the samples of a batch, or the reason for a flag.
     pub fn shown<S: Sink>(&mut self, out: &mut S, shown: &Shown) -> Result<(), Failed>
         ensures { PrintsPart (S.state out.old) (S.state out.new) self.old self.new result (shown_lines shown.now) }
     {
@@ -280,8 +280,8 @@ impl Text {
         Ok(())
     }
 
-    /// Prints that a capture ended, and counts its records, the stream's packets, and the items that were presented or
-    /// flagged.
+    /// Prints that a capture ended, with four counts: its records, the stream's packets, the items that were presented,
+    /// and the items that were flagged.
     #[tactic(auto, unfolding(crate::specs::Listen::end_listen_line))]
     pub fn end_listen<S: Sink>(&mut self, out: &mut S, counts: &Counts) -> Result<(), Failed>
         ensures { Prints (S.state out.old) (S.state out.new) self.old self.new result (end_listen_line counts.now) }

@@ -1,4 +1,4 @@
-//! The line of a sample, which is reused for the next samples.
+//! The line of a sample. It is reused for the next samples.
 
 ghost use Rattle.std.specs.Prelude.{◌≡◌, ◌+◌, ◌^◌, ◌<◌, ◌≤◌, ℕ, ◌++◌, length, decimal, IfSome, IsTrue};
 ghost use Rattle.hex.specs.Hex.{encode_lower};

@@ -84,7 +84,7 @@ pub missing_of : (operand : Operand) (operands : List Operand) (words : List (St
 missing_of operand operands [] e = missing operand operands
 missing_of operand operands (word ∷ words) e = absurd (omega (arith, e))
 
--- the first of valid operands is valid by itself
+-- if operands are valid, the first one is valid by itself
 first_is : (operand : Operand) (operands : List Operand) (word : List ℕ) (words : List (List ℕ)) → AreOperands (operand ∷ operands) (word ∷ words) → IsOperand operand word
 first_is Id operands word words are = are.0
 first_is Name operands word words are = are.0

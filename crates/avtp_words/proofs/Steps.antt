@@ -165,7 +165,7 @@ stops_after rows gs word row more options dash e wanted bad = go more bad where
   go [] bad = λ t. none_follows [] bad t
   go (value ∷ more) bad = λ b. none_follows (value ∷ b.more) bad (subst (IsTail rows) (append_assoc (flat_map words_of gs ++ word ∷ []) (value ∷ []) b.more ∙ append_assoc (flat_map words_of gs) (word ∷ []) (value ∷ b.more)) b.whole)
 
--- the word after index `place` is the word after `word`
+-- the word at index `place + 1` is the first word of `more`
 pub after_place : (rows : List Row) (words : List (List ℕ)) (place : ℕ) (o : AreOptionsTo rows words place) (word : List ℕ) (more : List (List ℕ)) → o.rest ≡ word ∷ more → slice_get words (place + 1) ≡ slice_get more 0
 after_place rows words place o word more e =
     let place_is : place + 1 ≡ suc (length (flat_map words_of o.settings)) = rw add-one (ap suc o.here) in
@@ -185,7 +185,7 @@ stops_next rows words place o word row sound e dash is_row new lacks =
       stops = stops_after rows o.settings word row h.0 o.options dash is_row lacks.wanted (subst (λ v. IfSome v (λ value. IsValue row.takes value → ⊥)) (after_place rows words place o word h.0 h.1) lacks.none);
     }
 
--- if `more` begins with the value, it is the value and then some rest
+-- if the value, if any, is the first word of `more`, `more` is the value and then some rest
 left_after : (value : Option (List ℕ)) (more : List (List ℕ)) → IfSome value (λ word. slice_get more 0 ≡ Some word) → (rest : List (List ℕ)) × (more ≡ option_to_list value ++ rest)
 left_after None more here = (more, refl)
 left_after (Some word) [] here = absurd (cc)

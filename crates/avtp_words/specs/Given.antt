@@ -8,13 +8,13 @@ use Rattle.avtp_words.specs.Limits.{NumberOption, SignedOption}
 use Rattle.avtp_words.specs.Word.{IsId}
 use Rattle.avtp_words.specs.Options.{Setting, value_in, format_name}
 
--- `n` is what `option` gives: the number that its value spells, within the option's range, or the default if the option
--- is not given. The option must have a default.
+-- If the option is given, its value spells `n`, which is in the option's range. Otherwise `n` is the option's default,
+-- which it must have.
 abbrev pub IsGiven : NumberOption → List Setting → ℕ → Type 0
 IsGiven option settings n = MatchOption (value_in option.name settings) (IsSomeAnd option.default (λ default. n ≡ default)) (λ word. IsNumber option.low option.high word n)
 
--- `given` is what `option` gives: the number that its value spells, within the option's range, or the default if the
--- option is not given. Without a default, that is `None`.
+-- If the option is given, its value spells the number `given`, which is in the option's range. Otherwise `given` is the
+-- option's default, or `None` if it has no default.
 abbrev pub IsGivenIf : NumberOption → List Setting → Option ℕ → Type 0
 IsGivenIf option settings given = MatchOption (value_in option.name settings) (given ≡ option.default) (λ word. (n : ℕ) × (given ≡ Some n) × IsNumber option.low option.high word n)
 
@@ -26,8 +26,8 @@ IsGivenId name default settings id = MatchOption (value_in name settings) (id �
 abbrev pub IsGivenIdIf : List ℕ → List Setting → Option ℕ → Type 0
 IsGivenIdIf name settings given = MatchOption (value_in name settings) (given ≡ None) (λ word. (id : ℕ) × (given ≡ Some id) × IsId word id)
 
--- `z` is what `option` gives: the number, possibly negative, that its value spells, within the option's range, or the
--- default if the option is not given
+-- If the option is given, its value spells `z`, which may be negative and is in the option's range. Otherwise `z` is
+-- the option's default.
 abbrev pub IsGivenSigned : SignedOption → List Setting → ℤ → Type 0
 IsGivenSigned option settings z = MatchOption (value_in option.name settings) (z ≡ option.default) (λ word. IsSigned option.most word z)
 

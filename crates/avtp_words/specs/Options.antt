@@ -75,7 +75,8 @@ pub record IsSetting (rows : List Row) (s : Setting) : Type 0 where
   pub dash : BeginsWithDash s.name
   pub value : IsSomeAnd (row_named rows s.name) (λ row. IsTaken row.takes s.value)
 
--- The options are in any order, and each is given at most once. Each is in the table, and has a value that it takes.
+-- The options are in any order, and each is given at most once. Each is in the table, with a value that it takes, or
+-- without a value if it takes none.
 pub record AreSettings (rows : List Row) (settings : List Setting) : Type 0 where
   pub each : All (IsSetting rows) settings
   pub once : AllPairs (λ s t. s.name ≢ t.name) settings

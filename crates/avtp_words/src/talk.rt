@@ -78,9 +78,9 @@ const TALK_OPERANDS: [Operand; 2] = [Operand::Name, Operand::Name];
 /// The codes of AAF that name a nominal sample rate.
 const RATE_CODES: [u8; 10] = [1, 2, 3, 4, 5, 6, 7, 8, 9, 10];
 
-/// Reads the words after `talk`. If a word is missing, that is the offence. If each word is valid but the words
-/// contradict one another, the offence is at the command. More than 240 access units a second for H.264 count as a
-/// contradiction, because `--kind` can follow `--rate`.
+/// Reads the words after `talk`. If a word is missing, the offence is one past the last word. If each word is valid but
+/// the words contradict one another, the offence is at the command. More than 240 access units a second for H.264 count
+/// as a contradiction, because `--kind` can follow `--rate`.
 pub fn read_talk(words: &[String]) -> Result<Command<'_>, Offence>
     ensures ok { IfOk result (λ command. IsCommandLine (codes "talk" ∷ texts words.now) (request_of command)) }
     ensures err { IfErr result (λ offence. IsOffence (codes "talk" ∷ texts words.now) offence.position) }

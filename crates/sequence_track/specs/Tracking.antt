@@ -24,7 +24,7 @@ state_of (last ∷ older) = Some (record {
 abbrev pub kept_of : List Seen → StreamKey → Option StreamState
 kept_of notes stream = if is_tracked stream notes then state_of (recent stream notes) else None
 
--- These states of streams are what a tracker keeps that has noted the packets `notes`.
+-- `tracker` has the states that are kept for the streams after these notes.
 pub record StandsFor (tracker : List (StreamKey × StreamState)) (notes : List Seen) : Type 0 where
   pub states : (stream : StreamKey) → lookup (same_stream stream) tracker ≡ kept_of notes stream
   pub count : length tracker ≡ length (tracked notes)

@@ -297,7 +297,7 @@ high-core m f g least most wide = rw (apart m g most) (omega (arith, least, most
     apart : (m g : ℕ) → m < g → pos g -ℤ pos 1 -ℤ pos m ≡ pos (g - 1 - m)
     apart m g lt = omega (arith, ints, lt)
 
--- the greatest value of a bucket exceeds any value of the bucket by at most a 64th of the latter's magnitude
+-- the greatest value of a bucket exceeds each value `v` of the bucket by at most a 64th of the magnitude of `v`
 pub near-edge : (v : ℤ) (p : ℕ) → p < 2 * side → edge p ≤ℤ v → v <ℤ edge (p + 1) → 64 * unsigned_abs (edge (p + 1) -ℤ pos 1 -ℤ v) ≤ unsigned_abs v
 near-edge (negsuc m) p within first next =
     elim (cases_lt p 3712) [

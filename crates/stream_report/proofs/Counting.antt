@@ -31,7 +31,7 @@ up-yes limit v values h = rw (le-true v limit h) refl
 pub up-no : (limit v : ℤ) (values : List ℤ) → limit <ℤ v → number_up_to limit (v ∷ values) ≡ number_up_to limit values
 up-no limit v values h = rw (le-false v limit h) (omega arith)
 
--- ---- more of the values are less than a higher limit
+-- ---- at least as many values are below a higher limit
 
 pub below-ordered : (a b : ℤ) (values : List ℤ) → a ≤ℤ b → number_below a values ≤ number_below b values
 below-ordered a b [] le = omega arith

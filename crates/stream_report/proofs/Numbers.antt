@@ -9,7 +9,7 @@ use Rattle.stream_report.specs.Sequence.{greatest, has_come, place_of, Passes, R
 use Rattle.stream_report.specs.state.Bits.{Moves, Marks}
 use Rattle.stream_report.proofs.Bits.{one-other}
 
--- ---- which have come
+-- ---- which numbers have arrived
 
 pub first-least : (first : ℕ) (later : List ℕ) → first ≤ greatest first later
 first-least first [] = omega arith

@@ -70,7 +70,7 @@ missing-read first later number missing e = same (e ∙ ap (λ (b : Bool). if b 
         missing-of Early = 0
         missing-of Repeat = 0
 
--- whether a packet with this place has a number that arrived before, if the packet is not ahead
+-- whether the number of a packet with this place has arrived before; the place is not `Ahead`
 abbrev pub come-in : Place → Bool
 come-in (Ahead missing) = false
 come-in Late = false

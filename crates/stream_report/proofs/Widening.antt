@@ -64,7 +64,7 @@ sum-after n xs m =
     more : (s : ℕ) → s + 0 ≡ s
     more s = omega arith
 
--- no counts are widened to one count of 0
+-- if there are no counts, one count of 0 widens them
 pub begun : (first place : ℕ) (old new : List ℕ) → place < 2 * side → old ≡ [] → new ≡ 0 ∷ [] → Widens first old place new place
 begun first place old new within none one = record {
   same = λ to. ap (λ (l : List ℕ). sum (take (to - place) l)) one ∙ sum-zeros (to - place) 1 ∙ sym (ap (λ (l : List ℕ). sum (take (to - first) l)) none ∙ empty (to - first));
@@ -76,7 +76,7 @@ begun first place old new within none one = record {
     empty : (n : ℕ) → sum (take n []) ≡ 0
     empty n = sum-zeros n 0
 
--- counts are widened by counts of 0 before them
+-- counts of 0 before the others widen the counts
 pub lower : (first place : ℕ) (old new : List ℕ) → place < first → new ≡ replicate (first - place) 0 ++ old → Widens first old place new place
 lower first place old new lt is = record {
   same = λ to. ap (λ (l : List ℕ). sum (take (to - place) l)) is ∙ sum-before (first - place) old (to - place) ∙ ap (λ (n : ℕ). sum (take n old)) (rest to);
@@ -91,7 +91,7 @@ lower first place old new lt is = record {
     size : length new ≡ first - place + length old
     size = ap (λ (l : List ℕ). length l) is ∙ length-append (replicate (first - place) 0) old ∙ ap (λ (n : ℕ). n + length old) (length-replicate {A = ℕ} (first - place) 0)
 
--- counts are widened by counts of 0 after them
+-- counts of 0 after the others widen the counts
 pub higher : (first place more : ℕ) (old new : List ℕ) → first ≤ place → place < 2 * side → length old + more ≡ place - first + 1
     → new ≡ take (place - first + 1) old ++ replicate more 0 → Widens first old place new first
 higher first place more old new le inside enough is = record {
@@ -107,7 +107,7 @@ higher first place more old new le inside enough is = record {
     size : length new ≡ length old + more
     size = ap (λ (l : List ℕ). length l) appended ∙ length-append old (replicate more 0) ∙ ap (λ (n : ℕ). length old + n) (length-replicate {A = ℕ} more 0)
 
--- counts that already include the bucket stay as they are
+-- counts that already include the bucket need no change
 pub kept : (first place : ℕ) (old : List ℕ) → first ≤ place → place - first + 1 ≤ length old → Widens first old place old first
 kept first place old le reached = record {
   same = λ to. refl;

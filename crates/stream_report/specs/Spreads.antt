@@ -25,7 +25,7 @@ pub record NearestRank (values : List ℤ) (hundredths : ℕ) (value : ℤ) : Ty
   pub less : number_below value values < rank (length values) hundredths
   pub enough : rank (length values) hundredths ≤ number_up_to value values
 
--- The percentile `told` is the exact one, rounded up by at most a 64th of its magnitude.
+-- `told` is the exact percentile, rounded up by at most a 64th of its magnitude.
 pub record RoundedUp (values : List ℤ) (hundredths : ℕ) (told : ℤ) : Type 0 where
   pub exact : ℤ
   pub percentile : NearestRank values hundredths exact

@@ -31,9 +31,9 @@ pub const LEAST_DRIFT_TIME: u64 = 500_000_000;
 /// drift may be jitter.
 pub const DRIFT_PART: u64 = 4;
 
-/// An arrival is uneven if the time since the previous arrival differs from the packet's duration by more than half of
-/// this duration and by more than 50 microseconds. Capture timestamps that are not made by hardware may themselves be
-/// wrong by 50 microseconds.
+/// An arrival is uneven if the time since the previous arrival differs from the previous packet's duration by more than
+/// half of this duration and by more than 50 microseconds. Capture timestamps that are not made by hardware may
+/// themselves be wrong by 50 microseconds.
 pub const LEAST_UNEVEN: u64 = 50_000;
 
 /// If more than one arrival in this many is uneven, the stream has jitter.

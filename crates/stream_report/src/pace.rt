@@ -3,9 +3,9 @@
 use crate::rate::Beat;
 use crate::tally::At;
 
-/// A timestamp may be wrong by one part in this many of a packet's duration, plus one part in `PART_OF_ADVANCE` of the
-/// time since the previous timestamp. The reasons are that a talker rounds, and that its media clock does not run
-/// exactly at its nominal speed.
+/// A timestamp may be off by 1 / `PART_OF_PACKET` of a packet's duration, plus 1 / `PART_OF_ADVANCE` of the time since
+/// the previous timestamp. The reasons are that a talker rounds, and that its media clock does not run exactly at its
+/// nominal speed.
 const PART_OF_PACKET: u64 = 8;
 
 const PART_OF_ADVANCE: u64 = 1024;
@@ -134,7 +134,7 @@ pub struct Pace {
     /// The misses if each timestamp belongs to the packet's first event, as some talkers stamp.
     pub by_first: Misses,
     /// The misses with swapped bytes, if each timestamp belongs to the event that the standard says. `swapped_by_first`
-    /// are those if it belongs to the packet's first event. Only timestamps that miss with unchanged bytes are
+    /// has the misses if each belongs to the packet's first event. Only timestamps that miss with unchanged bytes are
     /// compared.
     pub swapped_by_anchor: Misses,
     pub swapped_by_first: Misses,
@@ -163,7 +163,7 @@ impl Pace {
         told: 0,
     };
 
-    /// From here on, timestamps are not compared with earlier ones. This is for a restart of the media clock.
+    /// From here on, timestamps are not compared with earlier ones. This is needed after a restart of the media clock.
     pub fn restart(&mut self) {
         self.last = None;
     }
@@ -178,8 +178,8 @@ impl Pace {
         better(&self.swapped_by_anchor, &self.swapped_by_first)
     }
 
-    /// The first timestamp that missed with unchanged bytes. Whether anchors or first events are compared depends on
-    /// which has fewer misses with swapped bytes.
+    /// The first miss with unchanged bytes. It is taken from `by_first` if `swapped_by_first` has fewer misses than
+    /// `swapped_by_anchor`, otherwise from `by_anchor`.
     pub fn first_miss(&self) -> Option<Miss> {
         if self.swapped_by_first.count < self.swapped_by_anchor.count {
             self.by_first.first

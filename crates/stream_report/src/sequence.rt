@@ -9,7 +9,7 @@ ghost use Rattle.stream_report.specs.state.Bits.{Moves, Marks};
 /// ahead belongs to an earlier packet.
 const FARTHEST: u8 = 192;
 
-/// How many sequence numbers the window knows of, up to and including the newest: whether each has arrived.
+/// For this many sequence numbers, up to and including the newest, the window knows whether they have arrived.
 const KNOWN: u64 = 64;
 
 /// The newest sequence number of a stream, and which of the 64 numbers up to the newest have arrived.

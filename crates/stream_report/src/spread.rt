@@ -14,8 +14,8 @@ const SIDE: usize = 58 * 64;
 /// Each magnitude below this has its own bucket.
 const NARROW: u64 = 128;
 
-/// The number of values in each bucket, from the lowest bucket in use to the highest. A bucket is at most as wide as a
-/// 64th of its values, so a percentile is exact to 1.6 %.
+/// The number of values in each bucket, from the lowest bucket in use to the highest. The values of a bucket differ by
+/// at most a 64th, so a percentile is exact to 1.6 %.
 #[derive(Drop)]
 pub struct Spread {
     counts: Vec<u32>,

@@ -81,7 +81,7 @@ pub struct Stream {
     pub first_arrival: i64,
     pub last_arrival: i64,
     last: Option<Last>,
-    /// The number of events in the packets that arrived in order, without the newest.
+    /// The number of events in the packets that arrived in order, without the newest packet.
     events: u64,
     last_lead: Option<i64>,
     /// The number of arrivals that were compared with the duration of the packet directly before.
@@ -102,7 +102,7 @@ pub struct Stream {
     pub count: u32,
     /// The leads below 0.
     pub late: Tally,
-    /// Arrivals whose distance from the previous arrival differs too much from the duration of the packet before.
+    /// Uneven arrivals: the time since the previous arrival differs too much from the previous packet's duration.
     pub uneven: Tally,
     pub restarts: Tally,
     pub flapping: Tally,
@@ -411,8 +411,8 @@ impl Stream {
         false
     }
 
-    /// Counts an arrival whose distance from the previous arrival differs too much from the duration of the packet
-    /// before.
+    /// Counts an arrival if it is uneven: the time since the previous arrival differs too much from the previous
+    /// packet's duration.
     fn note_evenness(&mut self, at: At, last: Option<Last>, distance: Option<i64>) {
         let (Some(beat), Some(last), Some(distance)) = (self.beat, last, distance) else {
             return;
@@ -505,7 +505,7 @@ fn after(missing: u64) -> Step {
 }
 
 /// Whether a packet has another format than the stream. A missing rate is no change, because a packet without data has
-/// none. Neither is another number of timestamps in a packet of a media clock.
+/// none. A different number of timestamps in a packet of a media clock is no change, either.
 fn is_change(was: &Format, now: &Format) -> bool {
     if was == now {
         return false;

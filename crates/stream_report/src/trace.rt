@@ -64,7 +64,8 @@ impl Column {
     }
 }
 
-/// A stream over time. The range of a column includes each of its values, so no peak is lost when columns are merged.
+/// A stream over time. The range of a column includes each value of the column, so no peak is lost when columns are
+/// merged.
 #[derive(Drop)]
 pub struct Trace {
     columns: Vec<Column>,

@@ -14,7 +14,7 @@ pub enum ClockGuess {
     Apart,
 }
 
-/// A verdict. The worst verdict is the first. Times are in nanoseconds.
+/// A verdict. The kinds are in order, the worst first. Times are in nanoseconds.
 #[derive(Clone, Copy)]
 pub enum Verdict {
     /// Most timestamps do not advance by their packets' durations. If `swapped` is true, they would with swapped bytes.

@@ -67,7 +67,7 @@ fn add(verdicts: &mut Vec<Verdict>, verdict: Option<Verdict>) -> Result<(), NoMe
     Ok(())
 }
 
-/// Whether `some` is more than one in `part` of `of`.
+/// Whether `some` is more than `of` divided by `part`.
 fn is_more(some: u64, of: u64, part: u64) -> bool {
     some.saturating_mul(part) > of
 }

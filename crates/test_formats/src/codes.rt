@@ -1,4 +1,4 @@
-//! Codes and numbers of the formats, and the stream header alone.
+//! Tests of the codes and numbers of the formats, and of the stream header alone.
 
 use aaf_format::rate_of;
 use avtp_header::{peek, read_stream_header, write_stream_header};

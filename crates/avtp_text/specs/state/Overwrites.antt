@@ -1,7 +1,7 @@
--- Kept for proofs: what the code's own parts hold and do. No clause of a public call rests on it. A piece of a text that is
--- overwritten.
+-- Kept for proofs alone: definitions about private code. No clause of a public call rests on them. A piece of a text
+-- that is overwritten.
 use Rattle.std.specs.Prelude.{◌≡◌, ℕ, List, ◌++◌, length}
 
--- `piece` replaces equally many bytes of the text `old`, after which `old` has `behind` more bytes
+-- `new` is `old` with `piece` in place of equally many bytes; the last `behind` bytes follow `piece`
 abbrev pub Overwrites : List ℕ → List ℕ → List ℕ → ℕ → Type 0
 Overwrites old new piece behind = (before was after : List ℕ) → old ≡ before ++ was ++ after → length was ≡ length piece → length after ≡ behind → new ≡ before ++ piece ++ after

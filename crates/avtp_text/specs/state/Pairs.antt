@@ -1,5 +1,5 @@
--- Kept for proofs: what the code's own parts hold and do. No clause of a public call rests on it.
--- Digits two at a time.
+-- Kept for proofs alone: definitions about private code. No clause of a public call rests on them. Digits that are
+-- written two at a time.
 use Rattle.std.specs.Prelude.{ℕ, ◌+◌, ◌/◌, ◌%◌, List, [], ◌∷◌, ◌++◌}
 
 -- the two decimal digits of a number below 100

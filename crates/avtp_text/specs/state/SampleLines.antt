@@ -1,5 +1,5 @@
--- Kept for proofs: what the code's own parts hold and do. No clause of a public call rests on it. The line of a sample, which
--- is reused for the next samples.
+-- Kept for proofs alone: definitions about private code. No clause of a public call rests on them. The line of a
+-- sample. It is reused for the next samples.
 use Rattle.std.specs.Prelude.{◌≡◌, ℕ, ◌+◌, ◌*◌, ◌^◌, ◌<◌, ◌≤◌, ℤ, pos, ◌+ℤ◌, List, ◌++◌, length, take, codes, decimal}
 use Rattle.sample_schedule.specs.Batches.{Presented}
 use Rattle.avtp_text.specs.declared.sample_line.Numbers.{Numbers}
@@ -53,7 +53,7 @@ pub record HasGaps (line : KeptLine) (packet : SamplePacket) : Type 0 where
   pub frame : line.behind.frame ≡ length (behind_frame packet.seq number hex)
   pub seq : line.behind.seq ≡ length (behind_seq number hex)
 
--- if a line is kept, it is one of this packet, with known gaps
+-- if a line is kept, it is a line of this packet, and its gaps are known
 abbrev pub KnowsGaps : KeptLine → SamplePacket → Type 0
 KnowsGaps line packet = line.numbers.least < line.numbers.limit → HasGaps line packet
 

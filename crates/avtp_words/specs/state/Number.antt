@@ -1,4 +1,4 @@
--- Kept for proofs: what the code's own parts hold and do. No clause of a public call rests on it.
+-- Kept for proofs alone: definitions about private code. No clause of a public call rests on them.
 use Rattle.std.specs.Prelude.{◌≡◌, ℕ, ◌<◌, ◌≤◌, List, length, slice_index}
 
 -- the first byte is a digit, and if the digit is 0, there is no other byte

@@ -1,5 +1,5 @@
--- Kept for proofs: what the code's own parts hold and do. No clause of a public call rests on it.
--- The bits of a window: bit i tells whether the number i before the newest has come.
+-- Kept for proofs alone: definitions about private code. No clause of a public call rests on them. The bits of a
+-- window: bit `i` says whether the number `i` before the newest has arrived.
 use Rattle.std.specs.Prelude.{◌≡◌, ◌≢◌, ℕ, ◌+◌, ◌<◌}
 use Rattle.std.specs.Int.{bit_at}
 
