@@ -19,7 +19,7 @@ pub data AnyPacket : Type 0 where
   OfCrf : Crf → AnyPacket
   OfOther : ℕ → AnyPacket
 
--- the packet that a view shows, with plain bytes in place of its borrowed payload
+-- the packet that a view shows, with plain bytes instead of its borrowed payload
 abbrev pub packet_shape : PacketView → AnyPacket
 packet_shape (view.Iec v) = OfIec (iec_shape v)
 packet_shape (view.Aaf v) = OfAaf (aaf_shape v)

@@ -121,7 +121,7 @@ fn write_rules<W: Write>(out: &mut W, scale: Scale) -> io::Result<()> {
     write!(out, "\"/>")
 }
 
-/// Draws a line from top to bottom where a column with missing packets begins.
+/// Draws a line from top to bottom at the beginning of each column that has missing packets.
 fn write_losses<W: Write>(out: &mut W, trace: &Trace, duration: u64) -> io::Result<()> {
     write!(out, "<path class=\"loss\" d=\"")?;
     for column in trace.columns().iter() {

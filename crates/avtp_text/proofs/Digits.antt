@@ -29,7 +29,7 @@ pub length_eight : (n : ℕ) → length (eight_digits n) ≡ 8
 unfolding eight_digits
 length_eight n = refl
 
--- if a number has more than eight digits, they are the digits of `n / 100000000`, then its last eight digits
+-- if a number has more than eight digits, its digits are those of `n / 100000000` and then its last eight digits
 pub last_eight : (n : ℕ) → 100000000 ≤ n → n < 2 ^ 64 → decimal n ≡ decimal (n / 100000000) ++ eight_digits (n % 100000000)
 unfolding eight_digits
 last_eight n lo hi =

@@ -8,21 +8,21 @@ use Rattle.avtp_text.specs.Pieces.{newline}
 unfoldable pub differ_start : ℕ → ℕ → ℕ → List ℕ
 differ_start a b seq = codes "differ frame " ++ decimal a ++ codes " " ++ decimal b ++ codes " seq " ++ decimal seq ++ codes " "
 
--- the line of a packet of which the listeners present different numbers of samples
+-- the line of a packet if the listeners present different numbers of its samples
 unfoldable pub differ_count_line : ℕ → ℕ → ℕ → ℕ → ℕ → List ℕ
 differ_count_line a b seq count_a count_b = differ_start a b seq ++ codes "count " ++ decimal count_a ++ codes " " ++ decimal count_b ++ newline
 
--- the line of a packet of which one sample, numbered from 0, is presented at different instants
+-- the line of a packet if one of its samples, numbered from 0, is presented at different instants
 unfoldable pub differ_at_line : ℕ → ℕ → ℕ → ℕ → ℤ → ℤ → List ℕ
 differ_at_line a b seq sample at_a at_b =
     differ_start a b seq ++ codes "sample " ++ decimal sample ++ codes " at " ++ signed_decimal at_a ++ codes " " ++ signed_decimal at_b ++ newline
 
--- the line of a packet of which one sample, numbered from 0, is presented with different bytes
+-- the line of a packet if one of its samples, numbered from 0, has different bytes
 unfoldable pub differ_bytes_line : ℕ → ℕ → ℕ → ℕ → List ℕ
 differ_bytes_line a b seq sample = differ_start a b seq ++ codes "sample " ++ decimal sample ++ codes " bytes" ++ newline
 
--- The line at the end, with four counts: packets that both listeners present, packets that only the listener to A
--- presents, packets that only the listener to B presents, and packets that both present differently.
+-- the line at the end, with four counts of packets: both listeners present them, only the listener to A does, only the
+-- listener to B does, both present them differently
 unfoldable pub end_agree_line : ℕ → ℕ → ℕ → ℕ → List ℕ
 end_agree_line matched only_a only_b differ =
     codes "end matched " ++ decimal matched

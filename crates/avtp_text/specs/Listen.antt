@@ -64,8 +64,8 @@ shown_lines (Flag frame seq reason) = flag_line frame seq reason
 abbrev pub list_lines : List Shown → List ℕ
 list_lines list = flat_map shown_lines list
 
--- the line at the end of a capture, with four counts: its records, the packets of the stream, the items that were
--- presented, and the items that were flagged
+-- the line at the end of a capture: the numbers of its records, of the stream's packets, of presented items and of
+-- flagged items
 unfoldable pub end_listen_line : Counts → List ℕ
 end_listen_line counts =
     codes "end frames " ++ decimal counts.frames

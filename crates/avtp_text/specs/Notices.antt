@@ -7,7 +7,7 @@ use Rattle.avtp_text.specs.Pieces.{newline, refusal_text}
 unfoldable pub capture_refused_line : Refusal → List ℕ
 capture_refused_line r = codes "capture refused: " ++ refusal_text r ++ newline
 
--- the line of a file of which the rest could not be read
+-- the line of a file that could not be read to its end
 unfoldable pub read_fault_line : List ℕ
 read_fault_line = codes "read fault" ++ newline
 

@@ -86,8 +86,8 @@ impl Text {
         self.print(out, line.as_slice())
     }
 
-    /// Prints four counts: packets that both listeners present, packets that only the first presents, packets that only
-    /// the second presents, and packets that both present differently.
+    /// Prints four counts of packets: both listeners present them, only the first does, only the second does, both
+    /// present them differently.
     #[tactic(auto, unfolding(crate::specs::Agree::end_agree_line))]
     pub fn end_agree<S: Sink>(
         &mut self,

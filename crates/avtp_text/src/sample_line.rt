@@ -106,8 +106,8 @@ fn whole_line(instant: i64, frame: u64, seq: u8, j: u32, bytes: &[u8]) -> (Line,
     (line, behind)
 }
 
-/// The last eight digits of `instant`, if the kept line differs from the sample's line only in these digits, in the
-/// sample's number, and in the sample's bytes.
+/// The last eight digits of `instant`, if the kept line fits the sample. It fits if it differs from the sample's line
+/// only in these digits, the sample's number, and the sample's bytes.
 #[inline(always)]
 fn low_of(from: i64, numbers: Numbers, instant: i64, j: u32) -> Option<u32>
     ensures { IfSome result (λ low. Fits from numbers instant j low) }

@@ -336,7 +336,7 @@ listen_says words place id asked r here is next read = record {
 
 -- ---- talk
 
--- The words after `talk` are options, then two names, of which the first is at index `place`.
+-- The words after `talk` are options, then two names. The first name is at index `place`.
 pub record TwoNames (words : List (List ℕ)) (place : ℕ) (settings : List Setting) : Type 0 where
   pub first : List ℕ
   pub second : List ℕ

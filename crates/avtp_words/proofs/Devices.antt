@@ -125,8 +125,7 @@ none_from (w ∷ ws) name i e = elim (cases_Bool (bytes_eq (string_bytes w) name
 pub not_named : (words : List (String Global)) (name : List ℕ) → position (is_named name) words ≡ None → value_after name (texts words) ≡ None
 not_named words name e = none_from words name 0 (sym (position_from-zero (is_named name) words) ∙ e)
 
--- The first `name` is at index `far` of `words`, and the word after it is what is read. `place` is that index, counted
--- from `i`.
+-- The first `name` in `words` is at index `far`, and the word after it is the one that is read. `place` is `i + far`.
 record FirstNamed (words : List (List ℕ)) (name : List ℕ) (i place : ℕ) : Type 0 where
   far : ℕ
   here : place ≡ i + far

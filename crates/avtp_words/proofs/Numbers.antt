@@ -162,7 +162,7 @@ signed_read word default n (Err e) small large reads = (default, omega (arith, s
   none None read = tt
   none (Some word) read = λ k below e. absurd (let same : n ≡ k = read k (omega (arith, below)) e in large (omega (arith, same, below)))
 
--- if a word spells a number below 2^32, the number that is read is that one
+-- if a word spells a number below 2^32, that number is read from the word
 pub read_if : {E : Type 0} (word : List ℕ) (n : ℕ) (r : Result ℕ E) (given : Option ℕ) → n < 2 ^ 64 → word ≡ decimal n → OkIff r (n < 2 ^ 32) n → given ≡ result_ok r → IsReadIf (2 ^ 32) (Some word) given
 read_if {E = E} word n r given small spells tried is = record { absent = tt; read = λ k below e. is ∙ go r tried k below (decimal_injective k n (omega (arith, below)) small (sym e ∙ spells)) } where
   go : (r : Result ℕ E) → OkIff r (n < 2 ^ 32) n → (k : ℕ) → k < 2 ^ 32 → k ≡ n → result_ok r ≡ Some k

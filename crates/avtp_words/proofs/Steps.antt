@@ -65,7 +65,7 @@ pub contained : (words : List (String Global)) (name : List ℕ) (tells : Bool) 
 contained words name true e = ((λ yes. present words name (sym e)), λ within. refl)
 contained words name false e = ((λ yes. absurd (cc)), λ within. absurd (absent words name (sym e) within))
 
--- if `first` is not `name`, a list contains `name` exactly if it does with `first` before it
+-- if `first` is not `name`, putting `first` before a list does not change whether the list contains `name`
 pub after_first : (first name : List ℕ) (words : List (List ℕ)) → (first ≡ name → ⊥) → Contains words name ↔ Contains (first ∷ words) name
 after_first first name words other = (
   (λ within. Contains-append_right (first ∷ []) words name within),
@@ -80,8 +80,8 @@ words_before rows words place o = sym (take-map string_bytes place words) ∙ ap
 pub here : (rows : List Row) (words : List (List ℕ)) (place : ℕ) (o : AreOptionsTo rows words place) (word : List ℕ) → slice_get words place ≡ Some word → (more : List (List ℕ)) × (o.rest ≡ word ∷ more)
 here rows words place o word e = at (flat_map words_of o.settings) o.rest word (sym (ap (λ ws. slice_get ws (length (flat_map words_of o.settings))) o.split) ∙ sym (ap (slice_get words) o.here) ∙ e)
 
--- The option `setting` can follow the options `gs`: `word` is its name, which no option of `gs` has. `after` begins
--- with its value, if it has one.
+-- The option `setting` can follow the options `gs`. Its name is `word`, which is the name of no option of `gs`. If it
+-- has a value, `after` begins with that value.
 pub record Follows (rows : List Row) (gs : List Setting) (word : List ℕ) (after : List (List ℕ)) : Type 0 where
   pub setting : Setting
   pub tail : List (List ℕ)

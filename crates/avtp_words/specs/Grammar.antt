@@ -32,7 +32,7 @@ use Rattle.avtp_words.specs.Operands.{AreOperands}
 use Rattle.avtp_words.specs.Word.{texts, IsId}
 use Rattle.avtp_words.specs.Options.{Row, Setting, words_of, AreSettings, gateway_format_name, value_in}
 
--- ---- what a command line asks for, with plain bytes in place of borrowed strings
+-- ---- what a command line asks for, with plain bytes instead of borrowed strings
 
 -- a file that is written: its name, and the name's position among the words of the command line, counted from 0
 pub record NamedFile : Type 0 where
@@ -44,8 +44,8 @@ pub record NamedRaw : Type 0 where
   pub file : NamedFile
   pub silence : Silence
 
--- what `listen` is asked for: the stream and its listener, the size of the queue between the two threads, the files to
--- write, if any, and the captures in order
+-- what `listen` is asked for: the stream and its listener, the number of items in the queue, the files to write, and
+-- the captures in order
 pub record Listening : Type 0 where
   pub listener : ListenerOptions
   pub ring : ℕ
@@ -74,7 +74,7 @@ pub record Agreeing : Type 0 where
   pub a : List ℕ
   pub b : List ℕ
 
--- what `gateway` is asked for: the stream and its listener, the format and the stream ID to write, and the names of the
+-- what `gateway` is asked for: the stream and its listener, the output's format and stream ID, and the names of the
 -- input and the output
 pub record Turning : Type 0 where
   pub listener : ListenerOptions
@@ -93,15 +93,15 @@ pub data Request : Type 0 where
   agree : Agreeing → Request
   gateway : Turning → Request
 
--- a file that is written, with plain bytes in place of its borrowed name
+-- a file that is written, with plain bytes instead of its borrowed name
 abbrev pub named_file : DeviceFile → NamedFile
 named_file file = record { name = file.name.now; place = file.place }
 
--- a file of raw audio, with plain bytes in place of its borrowed name
+-- a file of raw audio, with plain bytes instead of its borrowed name
 abbrev pub named_raw : RawFile → NamedRaw
 named_raw raw = record { file = named_file raw.file; silence = raw.silence }
 
--- what `listen` is asked for, with plain bytes in place of borrowed strings
+-- what `listen` is asked for, with plain bytes instead of borrowed strings
 abbrev pub listening_of : AskedListen → Listening
 listening_of asked = record {
   listener = asked.listener;
@@ -111,7 +111,7 @@ listening_of asked = record {
   files = texts asked.files.now;
 }
 
--- what `talk` is asked for, with plain bytes in place of borrowed strings
+-- what `talk` is asked for, with plain bytes instead of borrowed strings
 abbrev pub talking_of : AskedTalk → Talking
 talking_of asked = record {
   kind = asked.kind;
@@ -128,15 +128,15 @@ talking_of asked = record {
   output = asked.output.now;
 }
 
--- what `agree` is asked for, with plain bytes in place of borrowed strings
+-- what `agree` is asked for, with plain bytes instead of borrowed strings
 abbrev pub agreeing_of : AskedAgree → Agreeing
 agreeing_of asked = record { listener = asked.listener; a = asked.a.now; b = asked.b.now }
 
--- what `gateway` is asked for, with plain bytes in place of borrowed strings
+-- what `gateway` is asked for, with plain bytes instead of borrowed strings
 abbrev pub turning_of : AskedGateway → Turning
 turning_of asked = record { listener = asked.listener; to = asked.to; id = asked.id; input = asked.input.now; output = asked.output.now }
 
--- what a command is asked for, with plain bytes in place of borrowed strings
+-- what a command is asked for, with plain bytes instead of borrowed strings
 abbrev pub request_of : Command → Request
 request_of (Show limit file) = show limit file.now
 request_of (Check limit files) = check limit (texts files.now)
@@ -492,7 +492,7 @@ pub record FitsOptions (kind : Kind) (words : List (List ℕ)) : Type 0 where
   pub restart : Need words (codes "--restart") of_restart
   pub clock : Need words (codes "--crf") of_clock
 
--- The rules over several words after `talk`: the output's name differs from the input's, the stream fits its kind, the
+-- The rules over several words after `talk`. The output's name differs from the input's. The stream fits its kind, the
 -- clock fits the stream, and the options fit one another.
 pub record KeepsRules (words : List (List ℕ)) (asked : Talking) : Type 0 where
   pub apart : asked.input ≢ asked.output
@@ -559,8 +559,8 @@ pub record StopsAt (L : List (List ℕ) → Type 0) (words : List (List ℕ)) (p
 
 -- The position of what is wrong with the words, from 1.
 pub data IsOffence (words : List (List ℕ)) (position : ℕ) : Type 0 where
-  -- The position of the first wrong word. The words before it begin a line, but together with it they do not. If a word
-  -- is missing, the position is one past the last word.
+  -- The position of the first wrong word. The words before it begin a line, but the words up to and including it do
+  -- not. If a word is missing, the position is one past the last word.
   of_a_word : (place : ℕ) → position ≡ place + 1 → StopsAt IsLine words place → IsOffence words position
   -- The position of the command, because no word is wrong by itself, but a rule over several words fails.
   of_a_rule : position ≡ 1 → IsLine words → ((request : Request) → IsCommandLine words request → ⊥) → IsOffence words position

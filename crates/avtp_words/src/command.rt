@@ -16,10 +16,10 @@ use crate::value::number_after;
 /// The command that a command line asks for.
 #[derive(Clone, Copy, Debug, PartialEq, Eq)]
 pub enum Command<'a> {
-    /// Print what each packet of the capture `file` holds, and read at most `limit` bytes of it.
+    /// Print what each packet of the capture `file` holds. At most `limit` bytes of the capture are read.
     Show { limit: u64, file: &'a str },
-    /// Print what breaks the rules of a stream in each capture of `files`, and read at most `limit` bytes of each.
-    /// `files` has at least one name.
+    /// Print what breaks the rules of a stream in each capture of `files`, which has at least one name. At most `limit`
+    /// bytes of each capture are read.
     Check { limit: u64, files: &'a [String] },
     /// Print the presentation time of each sample of a stream.
     Listen(Listen<'a>),

@@ -352,11 +352,11 @@ pub const SOAK_OPTIONS: [OptionRow; 0] = [];
 /// The greatest number of packets that `soak` accepts.
 pub const MAX_PACKETS: u64 = 1_000_000;
 
-/// The most bytes of samples in an AAF packet: an Ethernet frame carries 1,500 bytes, of which the header takes 24.
+/// The most bytes of samples in an AAF packet. An Ethernet frame carries 1,500 bytes, and the header takes 24 of them.
 pub const MAX_SAMPLES: u64 = 1_476;
 
-/// The most bytes of data blocks in an AM824 packet: an Ethernet frame carries 1,500 bytes, of which the stream header
-/// takes 24 and the CIP header 8.
+/// The most bytes of data blocks in an AM824 packet. An Ethernet frame carries 1,500 bytes. The stream header takes 24
+/// of them, and the CIP header 8.
 pub const MAX_BLOCKS: u64 = 1_468;
 
 /// The most quadlets of a data block of AM824, one for each channel (IEC 61883-1).

@@ -120,8 +120,7 @@ fn first_unnamed(words: &[String]) -> Option<usize>
     None
 }
 
-/// The index of the first wrong word: a word that is not valid as the operand at its index, a missing word, or a word
-/// left over.
+/// The index of the first word that is wrong: not valid as the operand at its index, missing, or left over.
 fn first_wrong(operands: &[Operand], words: &[String]) -> Option<usize>
     ensures wrong { IfSome result (StopsAt (AreOperands operands.now) (texts words.now)) }
     ensures within { IfSome result (λ place. place ≤ length words.now) }

@@ -85,7 +85,7 @@ tracked_findings notes seen = record {
 abbrev pub untracked_findings : Seen → Findings
 untracked_findings seen = record { reserved = seen.reserved; step = None; hold = None; stamp = false; untracked = true }
 
--- the findings in a packet that comes after these notes
+-- the findings in a packet that follows these notes
 abbrev pub findings : List Seen → Seen → Findings
 findings notes seen =
     if is_tracked (stream_of seen) (notes ++ seen ∷ [])

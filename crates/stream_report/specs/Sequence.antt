@@ -63,8 +63,8 @@ abbrev pub most_passed : ℕ → List ℕ → ℕ
 most_passed first [] = 0
 most_passed first (number ∷ later) = max (most_passed first later) (number - greatest first later - 1)
 
--- `number` can be told from its sequence number, because it is at most 192 after the greatest number, or one of the 64
--- numbers up to the greatest.
+-- The number is at most 192 after the greatest number, or one of the 64 numbers up to the greatest. The packet's
+-- sequence number therefore determines its number.
 pub record Follows (first : ℕ) (later : List ℕ) (number : ℕ) : Type 0 where
   pub most : number ≤ greatest first later + 192
   pub least : greatest first later < number + 64

@@ -27,8 +27,8 @@ pub enum Format {
     },
     /// H.264.
     H264,
-    /// A media clock: the type of its events, its base frequency, the code of its pull factor, the number of events
-    /// from one timestamp to the next, and the number of timestamps in a packet.
+    /// A media clock: the type of its events, its base frequency, the code of its pull factor, the events per
+    /// timestamp, and the timestamps per packet.
     Crf {
         kind: u8,
         base: u32,

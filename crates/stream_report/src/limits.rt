@@ -1,7 +1,7 @@
 //! The limits that decide whether a verdict is given.
 
-/// A way to read the timestamps, such as with swapped bytes, explains a stream if at most one in this many timestamps
-/// does not fit.
+/// A reading of the timestamps, for example with swapped bytes, explains a stream if at most one in this many
+/// timestamps does not fit.
 pub const FEW: u64 = 100;
 
 /// If presentation times are more than a quarter of a second after the arrivals, the clocks differ. The longest max
@@ -31,8 +31,8 @@ pub const LEAST_DRIFT_TIME: u64 = 500_000_000;
 /// drift may be jitter.
 pub const DRIFT_PART: u64 = 4;
 
-/// An arrival is uneven if the time since the previous arrival differs from the previous packet's duration by more than
-/// half of this duration and by more than 50 microseconds. Capture timestamps that are not made by hardware may
+/// An arrival is uneven if the time since the previous arrival is far from the previous packet's duration: by more than
+/// half of the duration and by more than 50 microseconds. Capture timestamps that are not made by hardware may
 /// themselves be wrong by 50 microseconds.
 pub const LEAST_UNEVEN: u64 = 50_000;
 

@@ -178,7 +178,7 @@ impl Pace {
         better(&self.swapped_by_anchor, &self.swapped_by_first)
     }
 
-    /// The first miss with unchanged bytes. It is taken from `by_first` if `swapped_by_first` has fewer misses than
+    /// The first miss with unchanged bytes. It is from `by_first` if `swapped_by_first` has fewer misses than
     /// `swapped_by_anchor`, otherwise from `by_anchor`.
     pub fn first_miss(&self) -> Option<Miss> {
         if self.swapped_by_first.count < self.swapped_by_anchor.count {

@@ -59,8 +59,8 @@ fn place_of(value: i64) -> usize
     }
 }
 
-/// Makes `counts`, whose first bucket is at index `first`, include the bucket at index `place`. Returns the index of
-/// their first bucket after that.
+/// Makes `counts`, whose first bucket is at index `first`, include the bucket at index `place`. Returns the new index
+/// of their first bucket.
 fn reach(counts: &mut Vec<u32>, first: usize, place: usize) -> Result<usize, NoMemory>
     requires { place < 2 * side }
     ensures { IfOk result (Widens first counts.old.items place counts.new.items) }
@@ -72,7 +72,7 @@ fn reach(counts: &mut Vec<u32>, first: usize, place: usize) -> Result<usize, NoM
 }
 
 /// Widens `counts`, whose first bucket is at index `first`, until they include the bucket at index `place`. Returns the
-/// index of their first bucket after that.
+/// new index of their first bucket.
 #[inline(never)]
 fn widen(counts: &mut Vec<u32>, first: usize, place: usize) -> Result<usize, NoMemory>
     requires { place < 2 * side }

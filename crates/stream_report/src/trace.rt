@@ -125,7 +125,7 @@ impl Trace {
         Ok(())
     }
 
-    /// Appends a column, or joins it to the last one if it is not later.
+    /// Appends a column. If it is not later than the last column, joins it to that column.
     fn add(&mut self, column: Column) -> Result<(), NoMemory> {
         if let Some(last) = self.columns.last_mut() {
             if last.slot >= column.slot {

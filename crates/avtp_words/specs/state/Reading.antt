@@ -25,7 +25,7 @@ use Rattle.avtp_words.specs.Limits.{NumberOption, default_rate, with_default}
 use Rattle.avtp_words.specs.Grammar.{Begins, Stops, StopsAt, Listening, NamedFile, NamedRaw, Talking}
 use Rattle.aaf_format.specs.declared.aaf.AafFormat.TheVariants.{Int16}
 
--- a row of the code's table, with plain bytes in place of its borrowed name
+-- a row of the code's table, with plain bytes instead of its borrowed name
 abbrev pub row_of : OptionRow → Row
 row_of row = record { name = row.name.now; takes = row.takes }
 
