@@ -59,8 +59,7 @@ impl Numbers {
     }
 }
 
-/// The instant that has the digits of `instant`, except that the last eight are 0. `None` if `instant` has at most
-/// eight digits.
+/// The instant that has the digits of `instant`, except that the last eight are 0. `None` if `instant` is below 10^8.
 fn start_of(instant: i64) -> Option<i64>
     ensures { IfSome result (StartsAt instant) }
 {

@@ -42,7 +42,7 @@ one_place : (rows : List Row) (gs : List Setting) (ns : List (List ℕ)) (name :
 one_place rows [] ns name p q sound each once named dashes first second = absurd (name-dash name (All-contains IsName ns name named (contains_at ns p name first)) (one_dash name dashes))
 one_place rows (g ∷ gs) ns name p q sound each once named dashes first second =
     go p q first second (λ m n. one_place rows gs ns name m n sound (All-tail (IsSetting rows) g gs each) (later_once g gs once) named dashes) where
-      -- `name` is not among the words after the option `g`
+      -- if the option `g` has this name, the words after the name do not contain it again
       past : (v : Option (List ℕ)) (n : ℕ) → g.value ≡ v → g.name ≡ name → slice_get ((option_to_list v ++ flat_map words_of gs) ++ ns) n ≡ Some name → ⊥
       past None n e is there = not_there rows gs ns name sound (All-tail (IsSetting rows) g gs each) (later_apart g gs name once is) named dashes (contains_at (flat_map words_of gs ++ ns) n name there)
       past (Some word) zero e is there = setting-value rows g word sound (All-head (IsSetting rows) g gs each) e (let same : word ≡ name = cc in rw same dashes)

@@ -152,7 +152,7 @@ fn value_len(words: &[String], place: usize, takes: Takes) -> Option<usize>
 }
 
 /// How many of `words`, the words after a command, belong to its options, which precede the operands. The error is the
-/// index of the first word that is not accepted.
+/// index of the first word that is not accepted or is missing.
 pub fn options_len(rows: &[OptionRow], words: &[String]) -> Result<usize, usize>
     requires { IsTrue (are_sound (rows_of rows.now)) }
     ensures ok { IfOk result (EndsOptions (rows_of rows.now) (texts words.now)) }
