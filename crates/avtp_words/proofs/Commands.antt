@@ -861,7 +861,7 @@ same_request words (talk asked) (listen other) p q = absurd (omega (arith, one_m
 same_request words (talk asked) (talk other) (p, rules) (q, others) = ap talk (same_talk words asked other p q)
 same_request words (listen asked) (listen other) (p, rules) (q, others) = ap listen (same_listen words asked other p q)
 
--- words with a first wrong word are not a line
+-- words that have a first wrong word do not fit the form of their command
 stopped : (words : List (List ℕ)) (place : ℕ) → StopsAt IsLine words place → IsLine words → ⊥
 stopped words place o line = go o.rest o.split o.stops where
   go : (rest : List (List ℕ)) → words ≡ o.before ++ rest → Stops IsLine o.before rest → ⊥

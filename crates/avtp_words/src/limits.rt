@@ -33,7 +33,7 @@ pub const LISTEN_OPTIONS: [OptionRow; 11] = [
     ANNEXB,
 ];
 
-/// The options of a listener, which are all options of `agree`.
+/// The options of a listener. `agree` has no other options.
 pub const AGREE_OPTIONS: [OptionRow; 7] = [
     LIMIT,
     BUFFER,

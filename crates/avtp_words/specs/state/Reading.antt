@@ -266,7 +266,7 @@ pub record IsFirstUnnamed (words : List (List ℕ)) (place : ℕ) : Type 0 where
   pub named : All IsName (take place words)
   pub here : IsName (get_or words place []) → ⊥
 
--- `count` blocks are at least an eighth of the interval, if there is an interval
+-- there is an interval, and `count` blocks are at least an eighth of it
 abbrev pub is_long_enough : Option ℕ → ℕ → Bool
 is_long_enough None count = false
 is_long_enough (Some interval) count = nat_le interval (8 * count)
