@@ -1,4 +1,4 @@
--- A stream of audio keeps all that streams keep, whatever its format.
+-- The stream of an audio plan fulfils `IsStream`, whatever its format.
 use Rattle.std.proofs.Common.{◌≡◌, inl, inr, ℕ, suc, ◌+◌, ◌*◌, ◌^◌, ◌%◌, ◌<◌, ◌≤◌, Bool, true, false, List, [], ◌∷◌, length, Option, Some, None, is_some, pos, refl, sym}
 use Rattle.std.proofs.Common.{ap, ◌∙◌, arith}
 use Rattle.std.specs.Prelude.{◌==◌, if◌then◌else◌}
@@ -37,7 +37,7 @@ stream_in a plan input = stream_by (Some a) plan input
 
 -- ---- packet n of an input that is not too long
 
--- the events of packet n can be counted
+-- at most 2^28 sample frames precede packet n
 pub timely : (plan : TalkPlan) (a : Audio) (headers : ℕ) (input : List ℕ) (n : ℕ) → IsAudioPlan plan → IsFormatOf plan a headers → length input ≤ most_input
     → n < packets_of a plan input
     → n * plan.count ≤ 268435456
@@ -46,7 +46,7 @@ timely plan a headers input n p is limit h =
     let fewer : n * plan.count ≤ n * plan.count * a.frame = le-mul_of_pos_right (n * plan.count) is.some in
     omega (arith, mul_assoc n plan.count a.frame)
 
--- a sample frame of packet n is soon after its first
+-- each sample frame of packet n is due at most 184,500,001 ns after the first
 soon : (plan : TalkPlan) (n i : ℕ) → IsAudioPlan plan → i < plan.count
     → (first_instant plan n ≤ nominal_instant plan n i) × (nominal_instant plan n i ≤ first_instant plan n + 184500001)
 unfolding nominal_instant
@@ -59,7 +59,6 @@ soon plan n i p within =
 
 -- ---- the rules
 
--- packets are due near their nominal first instants
 apart_by : (due next x y rate time : ℕ) → due ≤ x + 1 → y ≤ next + 3 → 4 * (x * rate) + time + 16 * rate ≤ 4 * (y * rate)
     → 4 * (due * rate) + time ≤ 4 * (next * rate)
 apart_by due next x y rate time from to far =
@@ -103,7 +102,7 @@ stamp_by : (kind : Kind) (plan : TalkPlan) (n instant : ℕ) (b : Bool) → is_s
 stamp_by kind plan n instant true e h = (refl, stamp_is true (stamped_instant plan n (stamped_index (rule_of kind n))) instant (rw e at h))
 stamp_by kind plan n instant false e h = let none : stamp_of kind plan n ≡ None = rw e refl in absurd cc
 
--- a stamped packet stamps a sample frame of its own
+-- the timestamp of a stamped packet belongs to one of the packet's own sample frames
 record IsStamped (kind : Kind) (plan : TalkPlan) (n instant : ℕ) : Type 0 where
   within : stamped_index (rule_of kind n) < plan.count
   same : stamped_instant plan n (stamped_index (rule_of kind n)) ≡ instant
@@ -140,7 +139,7 @@ times_conform plan a headers input p is limit =
       clock = clock_is plan packets p (λ n h. timely plan a headers input n p is limit h);
     }
 
--- no two packets of audio are due at the same instant
+-- if packets n and m of audio are due at the same instant, each packet between them is due then, too
 due_once : (j : Journal) → IsAudio j → (n k m : ℕ) → n ≤ k → k ≤ m → m < j.packets → j.due n ≡ j.due m → j.due k ≡ j.due n
 due_once j is n k m low high known e = elim (cases_lt n m) [
   | inl before ↦ absurd (let h = due_rises j is n m before known in omega arith)
@@ -179,7 +178,7 @@ near_by arrival lead plan_lead first due rate time at from to wide soon late =
     let most : (arrival + plan_lead) * rate ≤ (due + 3) * rate = mul-le-mul_right rate (omega arith) in
     (omega arith, omega arith)
 
--- a packet without a timestamp comes near its first instant
+-- packet n arrives about `lead` before its nominal first instant
 near_due : (kind : Kind) (plan : TalkPlan) (packets lead n : ℕ) → IsAudioPlan plan → IsKindOf plan kind → IsNearLead plan lead
     → IsWithin (audio_times kind plan packets) 128 (arrival_of plan n + lead) (due_in (nominal_times kind plan packets) n)
 near_due kind plan packets lead n p k near =
@@ -219,7 +218,7 @@ on_time plan a headers input lead n p is limit expects h =
           (is.leads lead n expects (unstamped a.kind plan n (is_stamped (rule_of a.kind n) n plan.count) refl none));
     }
 
--- no packet is a fragment
+-- no packet of audio is a fragment, so any two packets are near each other
 all_near : (kind : Kind) (plan : TalkPlan) (packets : ℕ) (numbers : List ℕ) → IsKindOf plan kind → AreNear (audio_times kind plan packets) numbers
 all_near kind plan packets [] k = tt
 all_near kind plan packets (n ∷ []) k = tt

@@ -4,14 +4,14 @@ use Rattle.std.specs.Prelude.{int_le, slice_get, if◌then◌else◌}
 use Rattle.std.specs.List.{AllByRecursion, list_any, range_with_len}
 use Rattle.talker.specs.Frames.{SentFrame, by_arrival, put_in}
 
--- numbered frames of which none arrives before its predecessor are in order
+-- If no frame of `f` arrives before its predecessor, sorting the frames by arrival changes nothing.
 pub in_order : (f : ℕ → SentFrame) → ((k : ℕ) → int_le (f k).arrival (f (k + 1)).arrival ≡ true)
     → (a n : ℕ) → by_arrival (map f (range_with_len a n)) ≡ map f (range_with_len a n)
 in_order f rises a zero = refl
 in_order f rises a (suc zero) = refl
 in_order f rises a (suc (suc n)) = rw (in_order f rises (a + 1) (suc n), rises a) refl
 
--- a fact about each numbered frame holds for all
+-- if `P` holds for each frame with a number below a + n, it holds for all frames of the list
 pub each : (f : ℕ → SentFrame) (P : SentFrame → Type 0) (a n : ℕ) → ((k : ℕ) → k < a + n → P (f k)) → AllByRecursion P (map f (range_with_len a n))
 each f P a zero h = tt
 each f P a (suc n) h = (h a (omega arith), each f P (a + 1) n (λ k below. h k (omega arith)))
@@ -28,7 +28,7 @@ numbered f a (suc n) (suc k) j h e = numbered f (a + 1) n k j (omega arith) (ome
 
 -- ---- of two lists
 
--- what holds for numbered frames from a on
+-- if `P` holds for each frame with a number from a to below a + n, it holds for all frames of the list
 pub each_from : (f : ℕ → SentFrame) (P : SentFrame → Type 0) (a n : ℕ) → ((k : ℕ) → a ≤ k → k < a + n → P (f k)) → AllByRecursion P (map f (range_with_len a n))
 each_from f P a zero h = tt
 each_from f P a (suc n) h = (h a (omega arith) (omega arith), each_from f P (a + 1) n (λ k from below. h k (omega arith) (omega arith)))
@@ -46,7 +46,7 @@ put_all : (P : SentFrame → Type 0) (f : SentFrame) (xs : List SentFrame) → P
 put_all P f [] here all = (here, tt)
 put_all P f (x ∷ xs) here all = put_by P f x xs (int_le f.arrival x.arrival) here all.0 all.1 (put_all P f xs here all.1)
 
--- a fact about frames holds for them in order
+-- what holds for each frame of a list still holds for each after they are sorted by arrival
 pub sorted_all : (P : SentFrame → Type 0) (xs : List SentFrame) → AllByRecursion P xs → AllByRecursion P (by_arrival xs)
 sorted_all P [] all = tt
 sorted_all P (x ∷ xs) all = put_all P x (by_arrival xs) all.0 (sorted_all P xs all.1)
@@ -70,11 +70,11 @@ length_sorted (x ∷ xs) = length_put x (by_arrival xs) ∙ ap suc (length_sorte
 
 -- ---- which frame comes first
 
--- no frame arrives before f
+-- no frame of the list arrives before `f`
 abbrev pub NotBefore : SentFrame → List SentFrame → Type 0
 NotBefore f xs = AllByRecursion (λ g. int_le f.arrival g.arrival ≡ true) xs
 
--- each arrives later than f
+-- each frame of the list arrives later than `f`
 abbrev pub AllLater : SentFrame → List SentFrame → Type 0
 AllLater f xs = AllByRecursion (λ g. int_le g.arrival f.arrival ≡ false) xs
 

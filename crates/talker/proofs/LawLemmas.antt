@@ -26,7 +26,7 @@ use Rattle.talk_audio.proofs.PcmLemmas.{packet_again}
 use Rattle.talker.proofs.StreamLemmas.{AreCarried, all_carried, all_frames, at_number, frames_in, next_near, numbers_of, packets_in, some_carried, spelled}
 use Rattle.talker.proofs.TalkLemmas.{frames_alone, plan_keeps}
 
--- what a packet of AM824 holds, given the code of its rate
+-- if `fdf` names the plan's rate and `interval` is its SYT interval, these bounds are those of `FitsBlocks`
 pub named_blocks : (plan : TalkPlan) (fdf interval : ℕ) → rate_of_fdf fdf ≡ Some plan.rate → syt_interval fdf ≡ Some interval → plan.channels ≤ 256
     → interval ≤ 8 * plan.count
     → plan.count * block_size plan.channels ≤ 1468 → FitsBlocks plan
@@ -74,7 +74,7 @@ later f g e = grind (arith, ints)
 sooner : (f g : SentFrame) → int_le f.arrival g.arrival ≡ true → f.arrival ≤ℤ g.arrival
 sooner f g e = grind (arith, ints)
 
--- a frame that is put after one that is not sent later
+-- if `g` is not sent after `f`, inserting `f` into the frames after `g` keeps them in order of arrival
 behind : (g f : SentFrame) (frames : List SentFrame) → g.arrival ≤ℤ f.arrival → RiseByArrival (g ∷ frames) → RiseByArrival (g ∷ put_in f frames)
 behind g f [] h rise = (h, tt)
 behind g f (x ∷ frames) h rise =
@@ -97,7 +97,7 @@ all_rise (f ∷ frames) = put_rises f (by_arrival frames) (all_rise frames)
 
 -- ---- captures
 
--- the captured frames, or some of them, can be recorded
+-- each record of a plan's frames can be written to a capture
 pub records_spelled : (plan : TalkPlan) (input : List ℕ) → IsPlan plan → length input ≤ most_input
     → AllByRecursion (HasSpelling capture_style) (records plan input)
 records_spelled plan input p limit =
@@ -110,13 +110,13 @@ kept_spelled plan input places p limit =
     let s = stream_of plan input in
     spelled plan s (filter_map (slice_get (frames plan input)) places) (plan_keeps plan input p limit) (frames_in s places)
 
--- without a clock the records carry the packets of the journal, one after another
+-- without a clock, the records carry the journal's packets in order
 pub all_carry : (plan : TalkPlan) (input : List ℕ) (lead : ℕ) → IsPlan plan → plan.crf ≡ None → length input ≤ most_input → Expects plan lead
     → AllCarry (journal plan input) lead (range_with_len 0 (journal plan input).times.packets) (records plan input)
 all_carry plan input lead p none limit expects =
     rw (frames_alone plan input p none limit) (all_carried plan (stream_of plan input) lead (plan_keeps plan input p limit) expects)
 
--- the records carry packets of the journal and of its clock
+-- each record carries a packet of the journal or of its clock
 pub every_carried : (plan : TalkPlan) (input : List ℕ) (lead : ℕ) → IsPlan plan → length input ≤ most_input → Expects plan lead
     → AreCarried (journal plan input) lead (frames plan input)
 every_carried plan input lead p limit expects =
@@ -129,7 +129,7 @@ kept_carried plan input places lead p limit expects =
     let s = stream_of plan input in
     some_carried plan s lead (filter_map (slice_get (frames plan input)) places) (plan_keeps plan input p limit) expects (frames_in s places)
 
--- packets of audio are told apart in any case
+-- `StaysNearBy` asks nothing of audio
 near_as : (kind : TalkKind) (j : Journal) (numbers : List ℕ) → IsAudioKind kind → StaysNearBy kind j numbers
 near_as (Aaf format sparse) j numbers kind = tt
 near_as Am824 j numbers kind = tt
@@ -138,7 +138,7 @@ near_as (H264 last_stamp) j numbers kind = absurd kind
 pub audio_near : (plan : TalkPlan) (input : List ℕ) (given : List SentFrame) → IsAudioPlan plan → StaysNear plan input given
 audio_near plan input given p = near_as plan.kind (journal plan input).times (packet_numbers given) p.kind
 
--- packets of H.264 that are captured in their order are near
+-- if all frames of a plan are captured in order, adjacent packets of H.264 are near each other
 near_by : (kind : TalkKind) (plan : TalkPlan) (input : List ℕ) → plan.kind ≡ kind → IsPlanOf kind plan → length input ≤ most_input
     → StaysNearBy kind (journal plan input).times (packet_numbers (frames plan input))
 near_by (Aaf format sparse) plan input e p limit = tt
@@ -152,7 +152,7 @@ near_by (H264 true) plan input e p limit =
 pub whole_near : (plan : TalkPlan) (input : List ℕ) → IsPlan plan → length input ≤ most_input → StaysNear plan input (frames plan input)
 whole_near plan input p limit = near_by plan.kind plan input refl p limit
 
--- each packet is sent before it is due
+-- no packet is sent after it is due
 pub stream_in_time : (plan : TalkPlan) (input : List ℕ) (n : ℕ) → IsPlan plan → IsAhead plan.crf plan.lead → length input ≤ most_input
     → n < (journal plan input).times.packets
     → IsSomeAnd (slice_get (stream_frames plan input) n) (λ f. f.arrival ≤ℤ pos ((journal plan input).times.due n))

@@ -1,4 +1,4 @@
--- What makes the packets of a stream.
+-- Lemmas about `Source`, which makes the packets of a stream.
 use Rattle.std.proofs.Common.{◌≡◌, inl, inr, ℕ, ◌+◌, ◌*◌, ◌^◌, ◌<◌, ◌≤◌, Bool, true, false, not, List, [], ◌∷◌, ◌++◌, length, refl, sym, ap, subst, ◌∙◌, arith}
 use Rattle.std.proofs.lemmas.Bool.{cases_lt}
 use Rattle.cvf_format.specs.AnnexB.{nal_units}
@@ -34,13 +34,13 @@ use Rattle.talk_video.proofs.VideoRules.{all_sent}
 pub audio_packets : (s : AudioStream) (input : List ℕ) → IsAudio s → packets_in (stream_of s.plan input) ≡ packets_of s input
 audio_packets s input is = ap packets_in (stream_is s input is)
 
--- the sample frames of an audio source can be counted
+-- at most 2^28 sample frames precede each packet of an audio source
 pub audio_few : (s : AudioStream) (input : List ℕ) (packets : ℕ) → IsAudio s → length input ≤ most_input → packets ≡ packets_in (stream_of s.plan input)
     → AreFew s.plan packets
 audio_few s input packets is limit e n h =
     timely s.plan (audio_of s) (headers_of s) input n is.plan (format_of s is) limit (omega (arith, audio_packets s input is))
 
--- the length of its frames
+-- the length of each frame of an audio stream
 pub audio_size : (s : AudioStream) (input : List ℕ) (n : ℕ) → IsAudio s
     → length (packet_bytes ((stream_of s.plan input).journal.packet n)) ≡ headers_of s + samples_size s
 audio_size s input n is =
@@ -64,7 +64,7 @@ none_more true true c late e = refl
 none_more true false true late e = refl
 none_more true false false late e = rw e refl
 
--- no packet arrives too late for a capture
+-- the only faults of an H.264 plan and its input are those of the input's NAL units
 pub video_fault : (plan : TalkPlan) (input : List ℕ) (last_stamp : Bool) → IsVideoPlan plan → plan.kind ≡ H264 last_stamp → length input ≤ most_input
     → fault_of plan input ≡ units_fault input
 unfolding fault_of units_fault
@@ -73,15 +73,15 @@ video_fault plan input last_stamp p kind limit =
     ap (λ (k : TalkKind). first_of (faults_by (audio_by k plan) plan input)) kind
     ∙ none_more (has_start_code input) (has_other_type input) (has_long_access_unit input) (arrives_too_late plan input) (none_late plan input plan_is limit)
 
--- each packet is sent before the last time that captures can record
+-- each packet of H.264 is sent before 2^32 seconds, so a capture can record it
 pub video_early : (v : VideoStream) (n : ℕ) → IsVideo v → n < v.packets → (stream_of v.plan v.input.now).arrival n < 2 ^ 32 * 1000000000
 video_early v n is h =
     let plan_is : IsPlan v.plan = subst (λ (k : TalkKind). IsPlanOf k v.plan) (sym is.kind) is.plan in
     (plan_keeps v.plan v.input.now plan_is is.limit).sent n (omega (arith, video_packets v is))
 
--- ---- both
+-- ---- audio and H.264
 
--- their packets can be counted
+-- a source has at most 2^29 packets
 pub few_packets : (source : Source) → IsSource source → packets_in (stream_in source) ≤ 2 ^ 29
 few_packets (OfAudio s input) is =
     elim (cases_lt (2 ^ 29) (packets_in (stream_of s.plan input.now))) [

@@ -1,4 +1,4 @@
--- What every stream keeps, and what follows of its frames and their captures.
+-- What holds for the stream of every plan, and what follows for its frames and their captures.
 use Rattle.std.proofs.Common.{◌≡◌, ◌⊎◌, inl, inr, ℕ, zero, suc, ◌+◌, ◌-◌, ◌*◌, ◌^◌, ◌<◌, ◌≤◌, true, false, List, [], ◌∷◌, ◌++◌, map, length, Option, Some, None}
 use Rattle.std.proofs.Common.{pos, refl, sym, subst, ap, ◌∙◌, arith}
 use Rattle.std.specs.Prelude.{int_le, slice_get, IfSome}
@@ -36,23 +36,23 @@ packets_in s = s.journal.times.packets
 abbrev pub clocks_in : Stream → ℕ
 clocks_in s = s.journal.times.clock.packets
 
--- The stream of a plan.
+-- What holds for the stream of every plan.
 pub record IsStream (plan : TalkPlan) (s : Stream) : Type 0 where
-  -- no packet is sent before its predecessor, and each before the last time that captures can record
+  -- No packet is sent before its predecessor. Each is sent before 2^32 seconds, so a capture can record it.
   pub rising : (n : ℕ) → s.arrival n ≤ s.arrival (n + 1)
   pub sent : (n : ℕ) → n < packets_in s → s.arrival n < 2 ^ 32 * 1000000000
-  -- each packet is sent before it is due
+  -- no packet is sent after it is due
   pub early : (n : ℕ) → IsAhead plan.crf plan.lead → n < packets_in s → s.arrival n ≤ s.journal.times.due n
   -- the frame of each packet fits Ethernet
   pub size : (n : ℕ) → n < packets_in s → length (packet_bytes (s.journal.packet n)) ≤ 1518
-  -- the packets of the clock keep these limits, too
+  -- the packets of the clock are sent in order, too, before 2^32 seconds, and each fits Ethernet
   pub clock_rising : (m : ℕ) → s.clock_arrival m ≤ s.clock_arrival (m + 1)
   pub clock_sent : (m : ℕ) → m < clocks_in s → s.clock_arrival m < 2 ^ 32 * 1000000000
   pub clock_size : (m : ℕ) → m < clocks_in s → length (clock_bytes (s.journal.clock_packet m)) ≤ 1518
-  -- the talker keeps the rules
+  -- the journal keeps the rules of talkers
   pub conforms : plan.id < 2 ^ 64 → IsConforming (pos 0) s.journal
   pub regular : IsRegular s.journal.times
-  -- a capture delivers each packet
+  -- each packet is delivered to a listener that expects `lead`
   pub on_time : (lead n : ℕ) → Expects plan lead → n < packets_in s → IsDelivered s.journal.times lead (record { number = n; arrival = s.arrival n })
   pub near : (numbers : List ℕ) → StaysNearBy plan.kind s.journal.times numbers → AreNear s.journal.times numbers
 
@@ -118,7 +118,7 @@ pub record IsClockFrame (s : Stream) (f : SentFrame) : Type 0 where
   pub known : number < clocks_in s
   pub same : f ≡ clock_frame_of s number
 
--- a frame is that of some packet, of the stream or of the clock
+-- the frame is that of a packet of the stream or of the clock
 abbrev pub IsFrameOf : Stream → SentFrame → Type 0
 IsFrameOf s f = IsStreamFrame s f ⊎ IsClockFrame s f
 
@@ -164,11 +164,11 @@ kept P h (x ∷ xs) each = kept_by P (h x) (filter_map h xs) (each x) (kept P h 
     kept_by P None ys here rest = rest
     kept_by P (Some y) ys here rest = (here, rest)
 
--- frames at some places are frames of packets, too
+-- each frame at one of the indices `places` is that of a packet
 pub frames_in : (s : Stream) (places : List ℕ) → AllByRecursion (IsFrameOf s) (filter_map (slice_get (frames_of s)) places)
 frames_in s places = kept (IsFrameOf s) (slice_get (frames_of s)) places (λ k. at_place (IsFrameOf s) (frames_of s) k (all_frames s))
 
--- their records can be spelled
+-- the record of each frame can be written to a capture
 spells : (plan : TalkPlan) (s : Stream) (f : SentFrame) → IsStream plan s → IsFrameOf s f → HasSpelling capture_style (record_of f)
 spells plan s f is (inl of) =
     let P : SentFrame → Type 0 = λ f. HasSpelling capture_style (record_of f) in
@@ -223,7 +223,8 @@ clock_carried plan s m h =
       packet = record { trail = []; whole = sym (append-nil packet) };
     }
 
--- the records of frames carry packets of these origins
+-- The records of the frames `given` carry the packets that `origins` lists. The packets of the stream among them have
+-- the same numbers in `origins` as in `given`.
 pub record AreCarried (j : PacketJournal) (lead : ℕ) (given : List SentFrame) : Type 0 where
   pub origins : List Origin
   pub carry : AllCarryFrom j lead origins (map record_of given)
@@ -249,7 +250,6 @@ pub some_carried : (plan : TalkPlan) (s : Stream) (lead : ℕ) (given : List Sen
 some_carried plan s lead [] is expects all = record { origins = []; carry = tt; numbers = refl }
 some_carried plan s lead (f ∷ given) is expects all = one_more plan s lead f given is expects all.0 (some_carried plan s lead given is expects all.1)
 
--- the numbers of a stream's frames
 pub numbers_of : (s : Stream) (a n : ℕ) → packet_numbers (map (frame_of s) (range_with_len a n)) ≡ range_with_len a n
 numbers_of s a zero = refl
 numbers_of s a (suc n) = ap (λ (numbers : List ℕ). a ∷ numbers) (numbers_of s (a + 1) n)
@@ -265,7 +265,7 @@ next_near j a (suc (suc n)) = ((λ first second unstamped. (omega arith, omega a
 unrolled : (f : ℕ → SentFrame) (a n : ℕ) → a < n → map f (range_with_len a (n - a)) ≡ f a ∷ map f (range_with_len (a + 1) (n - (a + 1)))
 unrolled f a n h = let more : n - a ≡ suc (n - (a + 1)) = omega arith in rw more refl
 
--- a packet of the clock comes first
+-- if packet a of the clock is not sent after packet b of the stream or a later one, its frame is the first that is left
 pub clock_first : (plan : TalkPlan) (s : Stream) (a b : ℕ) → IsStream plan s → a < clocks_in s
     → ((k : ℕ) → b ≤ k → k < packets_in s → s.clock_arrival a ≤ s.arrival k)
     → left_of s a b ≡ clock_frame_of s a ∷ left_of s (a + 1) b
@@ -282,7 +282,8 @@ clock_first plan s a b is h sooner =
     rw (unrolled (clock_frame_of s) a (clocks_in s) h)
     (stays_first f (clocks ++ packets) (all_of (λ g. int_le f.arrival g.arrival ≡ true) clocks packets later others))
 
--- a packet of the stream comes first
+-- if packet b of the stream is sent before packet a of the clock and all later ones, its frame is the first that is
+-- left
 pub packet_first : (plan : TalkPlan) (s : Stream) (a b : ℕ) → IsStream plan s → b < packets_in s
     → ((m : ℕ) → a ≤ m → m < clocks_in s → s.arrival b < s.clock_arrival m)
     → left_of s a b ≡ frame_of s b ∷ left_of s a (b + 1)

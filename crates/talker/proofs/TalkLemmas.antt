@@ -1,4 +1,4 @@
--- The stream of each plan is one that keeps what streams keep.
+-- The stream of each plan fulfils `IsStream`.
 use Rattle.std.proofs.Common.{sym, ◌≡◌, inl, inr, pos, ℕ, zero, suc, ◌+◌, ◌-◌, ◌*◌, ◌<◌, ◌≤◌, ◌^◌, Bool, true, false, List, [], ◌∷◌, length, drop, min, Option}
 use Rattle.std.proofs.Common.{Some, None, refl, subst, ap, ◌∙◌, arith}
 use Rattle.std.specs.Prelude.{IsSome, slice_get}
@@ -41,7 +41,7 @@ use Rattle.talk_video.proofs.VideoRules.{sent_are}
 pub stream_is : (s : AudioStream) (input : List ℕ) → IsAudio s → stream_of s.plan input ≡ stream_in (audio_of s) s.plan input
 stream_is s input is = rw (audio_found s is) refl
 
--- ---- the stream of a plan keeps what streams keep
+-- ---- `IsStream` holds
 
 stream_keeps : (s : AudioStream) (input : List ℕ) → IsAudio s → length input ≤ most_input → IsStream s.plan (stream_of s.plan input)
 stream_keeps s input is limit = rw (stream_is s input is) (audio_stream s.plan (audio_of s) (headers_of s) input is.plan (format_of s is) limit)
@@ -51,7 +51,7 @@ audio_keeps plan input p limit =
     let has = has_format plan p in
     subst (λ (plan : TalkPlan). IsStream plan (stream_of plan input)) has.plan_is (stream_keeps has.stream input has.audio limit)
 
--- the stream of a plan of H.264
+-- the stream of an H.264 plan
 pub video_is : (plan : TalkPlan) (input : List ℕ) (last_stamp : Bool) → plan.kind ≡ H264 last_stamp
     → stream_of plan input ≡ video_stream last_stamp plan input (sent_units input)
 video_is plan input last_stamp kind =
@@ -80,7 +80,6 @@ plan_by (Aaf format sparse) plan kind p = p
 plan_by Am824 plan kind p = p
 plan_by (H264 last_stamp) plan kind p = absurd kind
 
--- a plan of audio is valid
 pub audio_plan : (plan : TalkPlan) → IsAudioPlan plan → IsPlan plan
 audio_plan plan p = plan_by plan.kind plan p.kind p
 
@@ -111,7 +110,7 @@ plan_heads plan input n p behind same =
 pub none_late : (plan : TalkPlan) (input : List ℕ) → IsPlan plan → length input ≤ most_input → arrives_too_late plan input ≡ false
 none_late plan input p limit = never_late plan (stream_of plan input) (plan_keeps plan input p limit)
 
--- without a media clock the frames are those of the stream
+-- without a media clock, there are no frames of a clock
 no_clock_by : (audio : Option Audio) (crf : Option CrfPlan) (plan : TalkPlan) (input : List ℕ) → plan.crf ≡ crf → crf ≡ None
     → numbered_clock (stream_by audio plan input) ≡ []
 no_clock_by None crf plan input e none = rw (e, none) refl
@@ -135,7 +134,7 @@ clock_by_kind : (audio : Option Audio) (plan : TalkPlan) (input : List ℕ) → 
 clock_by_kind None plan input = record { packets = refl; arrival = λ m. refl; packet = λ m. refl }
 clock_by_kind (Some a) plan input = record { packets = refl; arrival = λ m. refl; packet = λ m. refl }
 
--- a stream of a plan, with what it keeps
+-- what holds for the stream of a plan and for its clock
 pub record IsOf (plan : TalkPlan) (s : Stream) : Type 0 where
   pub keeps : IsStream plan s
   pub clock : HasPlanClock plan s
@@ -151,7 +150,7 @@ source_limit : (source : Source) → IsSource source → length (input_in source
 source_limit (OfAudio stream input) is = is.1
 source_limit (OfVideo v) is = is.limit
 
--- the stream of a source is one of a plan
+-- the stream of a source is that of the source's plan
 pub source_is : (source : Source) → IsSource source → IsOf (plan_in source) (stream_in_source source)
 source_is source is = is_of (plan_in source) (input_in source) (source_plan source is) (source_limit source is)
 
@@ -178,7 +177,7 @@ packet_in_is c plan packets m is =
     ∙ ap (λ (plan : TalkPlan). clock_packet_by (Some c.crf) plan packets m) (sym is.plan_is)
     ∙ ap (λ (n : ℕ). clock_packet_by (Some c.crf) c.plan n m) (sym is.stream)
 
--- the clock of a talker is that of the stream
+-- the clock `c` makes the clock packets of the stream `s`
 pub record IsBeside (c : ClockStream) (s : Stream) : Type 0 where
   pub clock : IsClockStream c
   pub count : clocks_in s ≡ clock_packets c.crf c.plan c.stream
@@ -198,7 +197,7 @@ beside c plan s packets of e clock =
 none_sent : (plan : TalkPlan) (s : Stream) → IsOf plan s → plan.crf ≡ None → clocks_in s ≡ 0
 none_sent plan s of e = of.clock.packets ∙ ap (λ (o : Option CrfPlan). (clock_by o plan (packets_in s)).packets) e
 
--- ---- packet n as it is sent, and packet m of the clock
+-- ---- packet n of the stream and packet m of the clock, as they are sent
 
 pub record IsClockSent (s : Stream) (c : ClockStream) (m : ℕ) : Type 0 where
   pub early : clock_arrival c.crf c.plan m < 2 ^ 32 * 1000000000
@@ -264,7 +263,7 @@ ended (Some c) plan s packets a b of e clock other at most =
       | inr not ↦ omega arith
     ]
 
--- the first of what is left of a list, and what is left then
+-- `f` is at index `k` of `xs`, and `rest` follows it
 pub record IsFirst (xs : List SentFrame) (k : ℕ) (f : SentFrame) (rest : List SentFrame) : Type 0 where
   pub at : slice_get xs k ≡ Some f
   pub next : drop (k + 1) xs ≡ rest

@@ -1,4 +1,4 @@
--- The stream of a plan of H.264 keeps what streams keep.
+-- The stream of each H.264 plan fulfils `IsStream`.
 use Rattle.std.proofs.Common.{◌≡◌, inl, inr, ℕ, suc, ◌+◌, ◌-◌, ◌^◌, ◌<◌, ◌≤◌, Bool, true, false, List, [], ◌∷◌, length, Option, Some, None, pos, refl, sym}
 use Rattle.std.proofs.Common.{subst, ◌∙◌, arith}
 use Rattle.avtp_base.specs.Layout.{Fits, Layout}

@@ -5,7 +5,7 @@ use Rattle.stream_journal.specs.Journal.{Journal, rule_of}
 use Rattle.talk_plan.specs.declared.plan.TalkKind.TheVariants.{Aaf, Am824}
 use Rattle.talk_plan.specs.declared.plan.TalkPlan.{TalkPlan}
 
--- Packets of 6 stereo sample frames of 16 bits at 48 kHz, in sparse mode, with a restart after every ten packets.
+-- Sparse PCM of 16 bits at 48 kHz, in packets of 6 stereo sample frames, with a restart after every ten packets.
 abbrev pub restarting : TalkPlan
 restarting = record {
   kind = Aaf Int16 true;
@@ -20,11 +20,11 @@ restarting = record {
   crf = None;
 }
 
--- Packets of 6 stereo data blocks of AM824 at some rate.
+-- AM824 at the given rate, in packets of 6 stereo data blocks.
 abbrev pub six_blocks : ℕ → TalkPlan
 six_blocks rate = record restarting { kind = Am824; rate = rate; restart = None }
 
--- packet n has the same times in two journals, and stamps the same sample
+-- packet n has the same times, restart bit and stamped sample in both journals
 pub record HasSameTimes (a b : Journal) (n : ℕ) : Type 0 where
   pub due : a.due n ≡ b.due n
   pub stamp : a.stamp n ≡ b.stamp n

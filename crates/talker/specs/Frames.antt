@@ -15,8 +15,8 @@ use Rattle.talker.specs.Journal.{Stream, journal, stream_of}
 use Rattle.talk_clock.specs.Clock.{clock_bytes}
 use Rattle.talk_plan.specs.Ethernet.{packet_bytes}
 
--- A frame as it is sent: its time, the number of its packet in the stream or in the clock, which of the two it belongs to, and
--- its bytes.
+-- A frame as it is sent: its time, the number of its packet in the stream or in the clock, whether it belongs to the
+-- clock, and its bytes.
 pub record SentFrame : Type 0 where
   pub arrival : ℤ
   pub number : ℕ
@@ -38,11 +38,11 @@ frame_of stream n = record {
   bytes = packet_bytes (stream.journal.packet n);
 }
 
--- the frames of a stream, given the numbers of their packets
+-- the frames of a stream, in the order of their packets' numbers
 abbrev pub numbered_frames : Stream → List SentFrame
 numbered_frames stream = map (frame_of stream) (range_with_len 0 stream.journal.times.packets)
 
--- the frames of a plan's stream, given the numbers of their packets
+-- the frames of a plan's stream, in the order of their packets' numbers
 abbrev pub stream_frames : TalkPlan → List ℕ → List SentFrame
 stream_frames plan input = numbered_frames (stream_of plan input)
 
@@ -57,28 +57,28 @@ clock_frame_of stream m = record {
   bytes = clock_bytes (stream.journal.clock_packet m);
 }
 
--- the frames of a clock, given the numbers of their packets
+-- the frames of a clock, in the order of their packets' numbers
 abbrev pub numbered_clock : Stream → List SentFrame
 numbered_clock stream = map (clock_frame_of stream) (range_with_len 0 stream.journal.times.clock.packets)
 
--- the frames of a plan's clock, given the numbers of their packets
+-- the frames of a plan's clock, in the order of their packets' numbers
 abbrev pub clock_frames : TalkPlan → List ℕ → List SentFrame
 clock_frames plan input = numbered_clock (stream_of plan input)
 
 -- ---- all frames
 
--- the list with one more frame, before the first that does not arrive earlier
+-- the list with a frame inserted before the first frame that does not arrive earlier
 abbrev pub put_in : SentFrame → List SentFrame → List SentFrame
 put_in f [] = f ∷ []
 put_in f (g ∷ frames) = if int_le f.arrival g.arrival then f ∷ g ∷ frames else g ∷ put_in f frames
 
--- frames sorted by arrival; those with equal arrivals keep their order
+-- the frames sorted by arrival; frames with equal arrivals keep their order
 abbrev pub by_arrival : List SentFrame → List SentFrame
 by_arrival [] = []
 by_arrival (f ∷ frames) = put_in f (by_arrival frames)
 
--- All frames, in the order in which they are sent: by arrival; at equal arrivals, those of the clock before those of the
--- stream; and then by number.
+-- All frames, sorted by arrival. At equal arrivals, frames of the clock precede those of the stream, and lower numbers
+-- precede higher ones.
 abbrev pub frames : TalkPlan → List ℕ → List SentFrame
 frames plan input = by_arrival (clock_frames plan input ++ stream_frames plan input)
 
@@ -88,33 +88,33 @@ RiseByArrival [] = ⊤
 RiseByArrival (f ∷ []) = ⊤
 RiseByArrival (f ∷ g ∷ frames) = (f.arrival ≤ℤ g.arrival) × RiseByArrival (g ∷ frames)
 
--- the frames at these places, in this order: some may be missing, come again, or be out of order
+-- the plan's frames at the indices `places`, in that order; frames may be missing, repeated or reordered
 abbrev pub frames_at : TalkPlan → List ℕ → List ℕ → List SentFrame
 frames_at plan input places = filter_map (slice_get (frames plan input)) places
 
--- ---- what is near in a capture
+-- ---- which packets are near each other
 
--- the numbers of the stream's packets among some frames
+-- the packet numbers of the frames that do not belong to the clock
 abbrev pub packet_numbers : List SentFrame → List ℕ
 packet_numbers [] = []
 packet_numbers (f ∷ frames) = if f.clock then packet_numbers frames else f.number ∷ packet_numbers frames
 
--- adjacent packets of these numbers are near each other, if the stream is H.264 that stamps only last fragments; other kinds
--- have no such condition
+-- For H.264 that stamps only last fragments: adjacent packets of these numbers are near each other. For other streams:
+-- always true.
 abbrev pub StaysNearBy : TalkKind → Journal → List ℕ → Type 0
 StaysNearBy (Aaf format sparse) j numbers = ⊤
 StaysNearBy Am824 j numbers = ⊤
 StaysNearBy (H264 false) j numbers = ⊤
 StaysNearBy (H264 true) j numbers = AreNear j numbers
 
--- Fragments without a timestamp are told apart only by their sequence numbers. So if a plan stamps only the last fragments of
--- units, adjacent captured fragments are of packets at most 254 apart, unless both are stamped.
+-- If a plan stamps only the last fragment of each NAL unit, adjacent captured packets are at most 254 numbers apart
+-- unless both are stamped. The reason: fragments without a timestamp are told apart only by their sequence numbers.
 abbrev pub StaysNear : TalkPlan → List ℕ → List SentFrame → Type 0
 StaysNear plan input frames = StaysNearBy plan.kind (journal plan input).times (packet_numbers frames)
 
 -- ---- the capture
 
--- a little-endian capture that counts nanoseconds
+-- a little-endian capture with nanoseconds
 abbrev pub capture_style : Style
 capture_style = record { order = Little; unit = Nano }
 

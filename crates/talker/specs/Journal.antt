@@ -13,7 +13,7 @@ use Rattle.talk_audio.specs.Journal.{audio_journal}
 
 -- ---- streams
 
--- A stream as it is sent: its packets and those of its clock, with their times and when each is sent.
+-- A stream as it is sent: its packets and those of its clock, their times, and the time at which each is sent.
 pub record Stream : Type 0 where
   pub journal : PacketJournal
   pub arrival : ℕ → ℕ

@@ -4,15 +4,16 @@ use Rattle.talker.specs.declared.turn.Turn.{Turn}
 use Rattle.talker.specs.Frames.{SentFrame, frames}
 use Rattle.talker.specs.Talking.{Talking}
 
--- the frame of a turn, with its bytes
+-- the frame with the turn's fields and these bytes
 abbrev pub frame_in : Turn → List ℕ → SentFrame
 frame_in turn bytes = record { arrival = turn.arrival; number = turn.number; clock = turn.clock; bytes = bytes }
 
--- the turn of a frame: the frame without its bytes, but with their number
+-- the turn of a frame: the number of its bytes instead of the bytes
 abbrev pub turn_of : SentFrame → Turn
 turn_of f = record { arrival = f.arrival; number = f.number; clock = f.clock; size = length f.bytes }
 
--- the turn is that of the next frame, and a capture can hold it: it arrives before 2^32 seconds, and has at most 1518 bytes
+-- The turn is that of the next frame. A capture can record the frame: it arrives before 2^32 seconds and has at most
+-- 1518 bytes.
 pub record IsTurn (t : Talking) (turn : Turn) : Type 0 where
   pub next : option_map turn_of (slice_get (frames t.plan t.input) t.given) ≡ Some turn
   pub begun : pos 0 ≤ℤ turn.arrival

@@ -43,9 +43,9 @@ pub fn packets_are_paced()
         → video_arrival plan input units n ≡ nat_abs plan.start + access_unit_of input units n * 1000000000 / plan.rate }
 {}
 
-/// The clock has a timestamp at the first sample frame of the stream, and at each later sample frame whose number is a multiple
-/// of the spacing. Its timestamps and its packets are counted through all runs. With restarts, the instant of a timestamp is
-/// counted anew in each run, and a packet has the restart bit of its run.
+/// The clock has a timestamp at the first sample frame of the stream, and at each later sample frame whose number is a
+/// multiple of the spacing. Its timestamps and its packets are numbered across all runs. With restarts, the instant of
+/// a timestamp is counted anew in each run, and a packet has the restart bit of its run.
 pub fn clocks_are_paced()
     ensures points { (plan : TalkPlan) (crf : CrfPlan) (packets s : ℕ) → IsPlan plan → plan.crf ≡ Some crf
         → s < points_for crf plan packets ↔ s * spacing_of crf plan.rate < packets * plan.count }
@@ -63,8 +63,8 @@ pub fn frames_rise()
     ensures { (plan : TalkPlan) (input : List ℕ) → RiseByArrival (frames plan input) }
 {}
 
-/// Each packet of the stream is sent before it is due. Without a clock, packet n is in frame n. With a clock the lead is at
-/// least 3 nanoseconds, because its timestamps can be that much before nominal instants.
+/// No packet of the stream is sent after it is due. Without a clock, packet n is in frame n. With a clock, the lead
+/// must be at least 3 nanoseconds, because a packet can be due up to 3 nanoseconds before its nominal first instant.
 pub fn packets_are_sent_in_time()
     ensures alone { (plan : TalkPlan) (input : List ℕ) (n : ℕ) → IsPlan plan → plan.crf ≡ None → length input ≤ most_input
         → n < (journal plan input).times.packets → IsSomeAnd (slice_get (frames plan input) n) (λ f. f.arrival ≤ℤ pos ((journal plan input).times.due n)) }
@@ -73,14 +73,14 @@ pub fn packets_are_sent_in_time()
         → IsSomeAnd (slice_get (stream_frames plan input) n) (λ f. f.arrival ≤ℤ pos ((journal plan input).times.due n)) }
 {}
 
-/// If there is no restart between a packet and the seventh before it, one of these eight packets is stamped, and the packet is
-/// counted from that one: it has a head in the plan's journal.
+/// If no restart lies between a packet and the seventh before it, the packet has a head in the plan's journal: one of
+/// these eight packets is stamped, and the packet is counted from it.
 pub fn packets_have_heads()
     ensures { (plan : TalkPlan) (input : List ℕ) (n : ℕ) → IsAudioPlan plan → 7 ≤ n → run_of plan (n - 7) ≡ run_of plan n
         → IsSome (head_of (journal plan input).times n) }
 {}
 
-/// The bytes of a packet's frame encode the frame, and its payload encodes the packet, of PCM, AM824 or H.264.
+/// The bytes of a packet's frame encode an Ethernet frame, whose payload encodes the packet of PCM, AM824 or H.264.
 pub fn packets_read_back()
     ensures frame { (plan : TalkPlan) (format : AafFormat) (sparse : Bool) (n : ℕ) (samples : List ℕ)
         → SpellsFrame (aaf_bytes format sparse plan n samples) (ethernet (aaf_spelling (aaf_packet format sparse plan n samples))) }
@@ -100,7 +100,7 @@ pub fn packets_read_back()
     cvf_format::laws::packet_again();
 }
 
-/// The capture of a plan holds exactly the records of its frames, so it reads back.
+/// The capture of a plan holds exactly the records of its frames, and reads back as these records.
 pub fn capture_reads_back()
     ensures capture { (plan : TalkPlan) (input : List ℕ) → IsPlan plan → length input ≤ most_input
         → IsCapture capture_style (records plan input) (capture plan input) }
@@ -108,17 +108,18 @@ pub fn capture_reads_back()
     ensures refusal { (plan : TalkPlan) (input : List ℕ) → IsPlan plan → length input ≤ most_input → first_refusal (capture plan input) ≡ None }
 {}
 
-/// The journal of a plan conforms: its talker keeps every rule that a listener relies on. It keeps the further rules of regular
-/// talkers, too.
+/// The journal of a plan conforms: its talker keeps every rule that a listener relies on, and also the further rules of
+/// regular talkers.
 pub fn journal_conforms()
     ensures conforms { (plan : TalkPlan) (input : List ℕ) → IsPlan plan → plan.id < 2 ^ 64 → length input ≤ most_input → IsConforming (pos 0) (journal plan input) }
     ensures regular { (plan : TalkPlan) (input : List ℕ) → IsPlan plan → length input ≤ most_input → IsRegular (journal plan input).times }
 {}
 
-/// The capture of a plan delivers its journal: its records carry the packets of the stream and of its clock, each once, and
-/// without a clock those of the stream in their order. If each packet is stamped, it does so to every listener. For a sparse
-/// stream, or one of AM824 with fewer data blocks in a packet than its interval, it does so to every listener that expects
-/// packets by about the plan's lead before their first instants.
+/// The capture of a plan delivers its journal: its records carry each packet of the stream and of its clock once.
+/// Without a clock, they carry the packets of the stream in order. If each packet is stamped, the capture delivers the
+/// journal to every listener. For a sparse stream, or one of AM824 with fewer data blocks in a packet than its SYT
+/// interval, the capture delivers it to every listener that expects packets by about the plan's lead before their first
+/// instants.
 pub fn capture_delivers()
     ensures carries { (plan : TalkPlan) (input : List ℕ) (lead : ℕ) → IsPlan plan → plan.crf ≡ None → length input ≤ most_input → Expects plan lead
         → AllCarry (journal plan input) lead (range_with_len 0 (journal plan input).times.packets) (records plan input) }
@@ -128,10 +129,10 @@ pub fn capture_delivers()
     records_of_both_are_delivered();
 }
 
-/// A capture may lose, repeat or reorder a plan's frames, each captured when it was sent. It still reads back as exactly the
-/// records of these frames, and delivers the plan's journal to the same listeners as `capture_delivers`, whichever packets of
-/// the stream and of the clock are lost, come again or change places. If units of H.264 are stamped only on their last
-/// fragments, adjacent captured fragments must be of packets that are at most 254 apart.
+/// A capture may lose, repeat or reorder a plan's frames, each captured when it was sent. The capture still reads back
+/// as exactly the records of the captured frames, and delivers the plan's journal to the listeners that
+/// `capture_delivers` names. If NAL units of H.264 are stamped only on their last fragments, adjacent captured
+/// fragments must be of packets that are at most 254 apart.
 pub fn losses_are_delivered()
     ensures records { (plan : TalkPlan) (input places : List ℕ) → IsPlan plan → length input ≤ most_input
         → whole_records (capture_of (frames_at plan input places)) ≡ map record_of (frames_at plan input places) }

@@ -28,7 +28,8 @@ pub(crate) enum Source<'a> {
     Video(VideoStream<'a>),
 }
 
-/// Why an input makes no audio stream. No packet arrives too late for a capture, because a plan ends well before.
+/// Why an input makes no audio stream. `Arrival` is never among the reasons, because the packets of every plan arrive
+/// well before 2^32 seconds.
 #[tactic(auto, using(talk_audio::proofs::FormatLemmas::audio_found, crate::proofs::TalkLemmas::none_late), unfolding(crate::specs::Faults::fault_of))]
 fn audio_fault(stream: &AudioStream, input: &[u8]) -> Option<TalkFault>
     requires stream { IsAudio stream.now }
@@ -155,7 +156,7 @@ impl<'a> Source<'a> {
         }
     }
 
-    /// Writes the frame of packet `n`, which is sent at this arrival.
+    /// Writes the frame of packet `n`, which is sent at `arrival`.
     #[inline(always)]
     pub fn write(&self, out: &mut [u8], n: u64, arrival: i64)
         requires packet { IsPacketOfSource self.now n }

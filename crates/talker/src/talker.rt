@@ -22,16 +22,16 @@ use std::marker::Model;
 use talk_clock::ClockStream;
 use talk_plan::{TalkFault, TalkPlan};
 
-/// Makes the frames of a plan from its input, by number or one after another. The memory of one frame, and of the list of an
-/// H.264 stream's units, is allocated at the beginning, and none later: a frame is lent until the next is made, or is written
-/// into a slice of the caller.
+/// Makes the frames of a plan from its input, by number or one after another. The memory of one frame, and of the list
+/// of an H.264 stream's NAL units, is allocated at the beginning. Nothing is allocated later: each frame is lent until
+/// the next is made, or is written into the caller's slice.
 #[derive(Debug, Drop)]
 pub struct Talker<'a> {
     source: Source<'a>,
     clock: Option<ClockStream>,
     packets: u64,
     clocks: u64,
-    /// How many packets of the stream were given in turn, and how many of the clock.
+    /// How many packets of the stream, and of the clock, were given in the order of sending.
     given_packets: u64,
     given_clocks: u64,
     /// The frame that was lent last.
@@ -59,25 +59,26 @@ impl<'a> Talker<'a> {
     ghost use Rattle.std.specs.Borrow.{sem};
     ghost use Rattle.talker.specs.Lending.{EndsAs};
 
-    /// A talker of the plan and the input. For audio, the input is sample frames, one after another: the channels of each in
-    /// order. A sample of PCM has its highest byte first; a sample of AM824 is a quadlet as it is sent, a label and 24 bits
-    /// (IEC 61883-6). For H.264, the input is a byte stream of NAL units (ITU-T H.264, annex B). The input has at most
-    /// 268,435,456 bytes.
+    /// A talker of the plan and the input. For audio, the input is a sequence of sample frames, each with its channels
+    /// in order. A sample of PCM has its highest byte first; a sample of AM824 is a quadlet as it is sent, a label and
+    /// 24 bits (IEC 61883-6). For H.264, the input is a byte stream of NAL units (ITU-T H.264, annex B). The input has
+    /// at most 268,435,456 bytes.
     ///
-    /// A plan has a start of 0 to 4 * 10^18 and a lead of 1 to 10^9. A plan of audio has no restart, or one after each 8 to
-    /// 10^9 packets with a jump of 4 to 10^9. PCM, sparse or not, has one of AAF's rates, 1 to 1023 channels, and 1 to 1476
-    /// sample frames in a packet that have at most 1476 bytes. AM824 has one of the rates of IEC 61883-6, 1 to 256 channels,
-    /// and data blocks in a packet that have at most 1468 bytes and are at least an eighth of SYT_INTERVAL. H.264 has a rate of
-    /// 1 to 240 and neither restarts nor a clock; its channels and its count are not read.
+    /// A plan has a start of 0 to 4 * 10^18 and a lead of 1 to 10^9. A plan of audio has no restart, or one after each
+    /// 8 to 10^9 packets with a jump of 4 to 10^9. PCM, sparse or not, has one of AAF's rates, 1 to 1023 channels, and
+    /// in each packet 1 to 1476 sample frames of together at most 1476 bytes. AM824 has one of the rates of IEC
+    /// 61883-6, 1 to 256 channels, and in each packet at least SYT_INTERVAL / 8 data blocks of together at most 1468
+    /// bytes. H.264 has a rate of 1 to 240 and neither restarts nor a clock; its channels and its count are not read.
     ///
-    /// A media clock has a base frequency of 1 to 200,000,000 Hz, a pull of 0 to 5, and 1 to 180 timestamps in a packet. The time
-    /// from one timestamp to the next, 1 to 65,535 events of the clock, is that of a whole number of sample frames, and with
-    /// restarts a run of the stream takes as long as a multiple of 8 packets of the clock.
+    /// A media clock has a base frequency of 1 to 200,000,000 Hz, a pull of 0 to 5, and 1 to 180 timestamps in a
+    /// packet. The time from one timestamp to the next is 1 to 65,535 events of the clock, and a whole number of sample
+    /// frames. With restarts, a run of the stream takes as long as a multiple of 8 packets of the clock.
     ///
-    /// Returns `Frames` exactly if an audio input is not whole sample frames. For H.264, returns `StartCode` exactly if the input
-    /// has no start code; else `NalType` if a NAL unit has a type other than 1 to 23; else `Packets` if an access unit needs more
-    /// than 255 packets. Returns `Arrival` exactly if none of these holds and a packet would arrive 2^32 seconds after 0 or
-    /// later, which none does with such a plan. Returns `Memory` if memory runs out.
+    /// Returns `Frames` exactly if an audio input is not a whole number of sample frames. For H.264, returns
+    /// `StartCode` exactly if the input has no start code; else `NalType` if a NAL unit has a type other than 1 to 23;
+    /// else `Packets` if an access unit needs more than 255 packets. Returns `Arrival` exactly if there is none of
+    /// these faults and a packet would arrive at 2^32 seconds or later, which no packet of a plan within these limits
+    /// does. Returns `Memory` if memory runs out.
     pub fn begin(alloc: Global, plan: TalkPlan, input: &'a [u8]) -> Result<Self, TalkFault>
         requires plan { IsPlan plan }
         requires limit { length input.now ≤ most_input }
@@ -163,7 +164,7 @@ impl<'a> Talker<'a> {
         }
     }
 
-    /// The next frame to send, in the order of sending: by arrival, those of the clock first. Returns `None` exactly if all
+    /// What is sent next: by arrival; at equal arrivals, packets of the clock first. Returns `None` exactly if all
     /// frames were given.
     #[inline(always)]
     pub fn turn(&self) -> Option<Turn>
@@ -190,7 +191,7 @@ impl<'a> Talker<'a> {
         write_frame(&self.source, &self.clock, turn, out);
     }
 
-    /// Moves on from the frame that is sent next to the one after it.
+    /// Counts the frame that is sent next as given.
     #[inline(always)]
     pub fn go_on(&mut self, turn: Turn)
         requires { IsTurn self.old turn }
@@ -203,7 +204,7 @@ impl<'a> Talker<'a> {
         }
     }
 
-    /// The next of all frames, in the order of sending: by arrival, those of the clock first. Returns `None` exactly if all
+    /// Gives the next frame: by arrival; at equal arrivals, packets of the clock first. Returns `None` exactly if all
     /// frames were given. Allocates nothing.
     #[inline(always)]
     pub fn next(&mut self) -> Option<Sent<'_>>
@@ -265,7 +266,7 @@ fn write_front(source: &Source<'_>, clock: &Option<ClockStream>, turn: Turn, out
     write_frame(source, clock, turn, &mut out[..turn.size]);
 }
 
-/// Packet `m` of the clock, if there is one, is sent before packet `n` of a stream of this many packets, or at the same time.
+/// Packet `m` of the clock exists, and is not sent after packet `n` of the stream if that exists.
 fn clock_is_first(
     clock: &Option<ClockStream>,
     source: &Source<'_>,

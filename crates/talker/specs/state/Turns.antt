@@ -11,12 +11,12 @@ use Rattle.talker.specs.state.Talking.{IsSource, plan_in, stream_in}
 
 -- ---- the packet that it sends
 
--- the number of packets of the clock, or of the stream
+-- the number of packets of the clock (`true`) or of the stream (`false`)
 abbrev pub packets_by : Bool → Stream → ℕ
 packets_by true s = s.journal.times.clock.packets
 packets_by false s = s.journal.times.packets
 
--- the frame of a packet of the clock, or of the stream
+-- the frame of a packet of the clock (`true`) or of the stream (`false`)
 abbrev pub frame_by : Bool → Stream → ℕ → SentFrame
 frame_by true s m = clock_frame_of s m
 frame_by false s n = frame_of s n
@@ -24,13 +24,13 @@ frame_by false s n = frame_of s n
 abbrev pub turn_frame : Stream → Turn → SentFrame
 turn_frame s turn = frame_by turn.clock s turn.number
 
--- the turn sends a packet that exists
+-- the packet of the turn exists, and its frame has the turn's arrival and size
 pub record SendsPacket (s : Stream) (turn : Turn) : Type 0 where
   pub known : turn.number < packets_by turn.clock s
   pub arrival : turn.arrival ≡ (turn_frame s turn).arrival
   pub size : turn.size ≡ length (turn_frame s turn).bytes
 
--- the turn sends this packet, of the clock or of the stream
+-- the turn sends packet `number` of the clock or of the stream
 pub record IsTurnOf (s : Stream) (clock : Bool) (number : ℕ) (turn : Turn) : Type 0 where
   pub sends : SendsPacket s turn
   pub number_is : turn.number ≡ number
