@@ -21,7 +21,7 @@ use Rattle.clock_track.proofs.LineFacts.{less, at_most}
 
 -- ---- the period from one point to the next
 
--- The period is `spacing` events long, within a nanosecond.
+-- `p` is the time of `spacing` events, to within a nanosecond.
 pub record IsPeriod (b : Beat) (start m p : ℕ) : Type 0 where
   pub next : point_at b start m + p ≡ point_at b start (suc m)
   pub under : p * b.rate ≤ b.spacing * 1000000000 + b.rate
@@ -93,7 +93,8 @@ steady b start m is =
       shorter = little_more (period (pair_from b start m)) (period (pair_from b start (suc m))) b.up b.down (omega (arith, q.from, p.to)) is.slow;
     }
 
--- the first point after a run that ends with point m + 1
+-- If a run starts at least 4 ns after the nominal instant of event (m + 2) * `spacing`, it starts at least 3 ns later
+-- than point m + 1 plus the last period.
 pub renewed : (b : Beat) (start m next : ℕ) → IsBeat b → start + nominal_offset b.rate (suc (suc m) * b.spacing) + 4 ≤ next
     → point_at b start (suc m) + period (pair_from b start m) + 3 ≤ next
 renewed b start m next is far =
@@ -103,7 +104,7 @@ renewed b start m next is far =
 
 -- ---- the instant with which an event is stamped
 
--- how many nanoseconds after point k + 1 its r-th event is stamped
+-- how many nanoseconds after point k + 1 the r-th event after that point is stamped
 abbrev pub part_of : Beat → ℕ → ℕ → ℕ → ℕ
 part_of b start k r = r * (point_at b start (suc k) - point_at b start k) / b.spacing
 
@@ -118,7 +119,7 @@ late_by b start e m r k false h i more =
     let back : suc k - 1 ≡ k = omega arith in
     rw (i, back) refl
 
--- the stamp from the second point on
+-- the stamp of the r-th event after point k + 1
 pub stamped_late : (b : Beat) (start e k r : ℕ) → suc k * b.spacing + r ≡ e → r < b.spacing
     → stamped_at b start e ≡ point_at b start (suc k) + part_of b start k r
 unfolding stamped_at
@@ -131,12 +132,12 @@ stamped_late b start e k r place small =
     late_by b start e (e / b.spacing) (e % b.spacing) k (nat_lt e b.spacing) refl quotient (omega arith)
     ∙ ap (λ (n : ℕ). point_at b start (suc k) + part_of b start k n) rest
 
--- the stamp before the second point
+-- an event before the second point is stamped with its nominal instant
 pub stamped_early : (b : Beat) (start e : ℕ) → e < b.spacing → stamped_at b start e ≡ start + nominal_offset b.rate e
 unfolding stamped_at
 stamped_early b start e h = rw (lt-ltb e b.spacing h) refl
 
--- a part of a period, rounded down
+-- if `f` is at most r/w of the period `p`, it is at most 1 ns longer than r events
 part_under : (w rate r p f : ℕ) → 1 ≤ w → r < w → f * w ≤ r * p → p * rate ≤ w * 1000000000 + rate → f * rate ≤ r * 1000000000 + rate
 part_under w rate r p f some small under slow = elim (cases_lt (r * 1000000000 + rate) (f * rate)) [
   | inl more ↦
@@ -159,12 +160,13 @@ part_over w rate r p f some small over fast = elim (cases_lt (f * rate + 2 * rat
   | inr not ↦ omega arith
 ]
 
--- The stamp is within a few nanoseconds of the event's nominal instant, which is start + e * 10^9 / rate.
+-- The stamp of event e is at most 1 ns after its nominal instant, start + e * 10^9 / rate, and less than 3 ns before
+-- it.
 pub record IsStamped (b : Beat) (start e instant : ℕ) : Type 0 where
   pub under : instant * b.rate ≤ start * b.rate + e * 1000000000 + b.rate
   pub over : start * b.rate + e * 1000000000 < instant * b.rate + 3 * b.rate
 
--- what is known of the time of r events after point k + 1
+-- the stamped time of r events after point k + 1 is the part r / `spacing` of the period `p`, rounded down
 pub record IsPart (b : Beat) (start k r p : ℕ) : Type 0 where
   pub under : part_of b start k r * b.spacing ≤ r * p
   pub over : r * p < part_of b start k r * b.spacing + b.spacing
@@ -186,7 +188,7 @@ late_near b start e k r is place small =
     let over = part_over b.spacing b.rate r (period (pair_from b start k)) f is.some small part.over p.over in
     record { under = omega (arith, x.under, under); over = omega (arith, x.over, over) }
 
--- an event from the second point on is this many events after a point
+-- from the second point on, event e is e % w events after a point
 placed : (e w : ℕ) → 1 ≤ w → w ≤ e → (suc (e / w - 1) * w + e % w ≡ e) × (e % w < w)
 placed e w some late =
     let split = div-add-mod' e w in
@@ -210,7 +212,7 @@ is_stamped b start e is = elim (cases_lt e b.spacing) [
 
 -- ---- which pair covers it
 
--- what `Covers` says of instants that are not before 0, in whole numbers
+-- `Covers` in natural numbers, for instants of at least 0
 record IsWithin (instant later den num p : ℕ) : Type 0 where
   from : later * (2 * den) ≤ instant * (2 * den) + num
   to : instant * (2 * den) + num < later * (2 * den) + 2 * (p * den)
@@ -230,15 +232,15 @@ within_so instant later den num p from to =
     let g = rw e at to in
     record { from = omega (arith, ints, f); to = omega (arith, ints, g) }
 
--- both sides of a bound, divided by the clock's frequency
+-- dividing both sides of a bound by the clock's frequency keeps the bound
 lower_by : (up w x y p : ℕ) → 1 ≤ up → x * (2 * (w * up)) ≤ y * (2 * (w * up)) + p * up → x * (2 * w) ≤ y * (2 * w) + p
 lower_by up w x y p some h = at_most up (x * (2 * w)) (y * (2 * w) + p) some (omega arith)
 
 upper_by : (up w x y p : ℕ) → y * (2 * (w * up)) + p * up < x * (2 * (w * up)) + 2 * (p * (w * up)) → y * (2 * w) + p < x * (2 * w) + 2 * (p * w)
 upper_by up w x y p h = less up (y * (2 * w) + p) (x * (2 * w) + 2 * (p * w)) (omega arith)
 
--- if a pair that ends with point t covers an instant near event e, point t is not after event e; it is `place` events after the
--- start
+-- If a pair that ends with point `t` covers an instant near event `e`, point `t` is not after event `e`. Point `t` is
+-- `place` events after the start.
 not_sooner : (w rate s t instant p e place : ℕ) → 1 ≤ w → rate ≤ 192000 → instant * rate ≤ s + e * 1000000000 + rate → s + place * 1000000000 < t * rate + rate
     → p * rate ≤ w * 1000000000 + rate → t * (2 * w) ≤ instant * (2 * w) + p → place ≤ e
 not_sooner w rate s t instant p e place some slow under at long covers = elim (cases_lt e place) [
@@ -278,7 +280,7 @@ covered_within b start m instant is c =
     let whole = within_so instant t (b.spacing * b.up) (p * b.up) p from to in
     (lower_by b.up b.spacing t instant p is.some_up whole.from, upper_by b.up b.spacing t instant p whole.to)
 
--- The pair that covers the instant ends with the last point before the event.
+-- If the pair of points m and m + 1 covers the stamp of event e, point m + 1 is the last point up to event e.
 pub covering : (b : Beat) (start m e : ℕ) → IsBeat b → Covers (pair_from b start m) b.rate (pos (stamped_at b start e)) → e / b.spacing ≡ suc m
 covering b start m e is c =
     let instant : ℕ = stamped_at b start e in
@@ -294,7 +296,7 @@ covering b start m e is c =
     of.over whole.1 in
     div-eq_of_lt-le b.spacing (omega arith) (omega arith)
 
--- From the second point on, the pair covers the instant.
+-- The stamp of an event from the second point on is covered by the pair that ends with the last point up to the event.
 within_then : (instant later den num p : ℕ) → later * (2 * den) ≤ instant * (2 * den) + num → instant * (2 * den) + num < later * (2 * den) + 2 * (p * den)
     → (pos 0 ≤ℤ ((pos instant -ℤ pos later) *ℤ pos (2 * den) +ℤ pos num)) × (((pos instant -ℤ pos later) *ℤ pos (2 * den) +ℤ pos num) <ℤ pos (2 * (p * den)))
 within_then instant later den num p from to =
@@ -399,7 +401,7 @@ stamped_from b start e is = elim (cases_lt e b.spacing) [
       rw (stamped_late b start e (e / b.spacing - 1) (e % b.spacing) place.0 place.1) (omega arith)
 ]
 
--- all instants of a run lie before the next one
+-- each stamp of a run is before the start of the next run
 before_by : (rate instant start next q e events : ℕ) → 1 ≤ rate → rate ≤ 192000 → instant * rate ≤ start * rate + e * 1000000000 + rate → e < events
     → events * 1000000000 < q * rate + rate → start + q + 4 ≤ next → instant < next
 before_by rate instant start next q e events some slow under within over far = elim (cases_lt instant next) [
@@ -475,6 +477,6 @@ computed b start e x y part late at before is =
     let sum : start + x + part ≡ point_at b start (e / b.spacing) + e % b.spacing * p / b.spacing = omega (arith, at, parts) in
     sum ∙ sym (stamped_if b start e (nat_lt e b.spacing) refl late)
 
--- the points rise
+-- no point is before an earlier one
 pub rising : (b : Beat) (m n : ℕ) → IsBeat b → m ≤ n → nominal_offset b.rate (m * b.spacing) ≤ nominal_offset b.rate (n * b.spacing)
 rising b m n is h = more_offset b.rate (m * b.spacing) (n * b.spacing) (omega (arith, is.rate_from)) (mul-le-mul_right b.spacing h)

@@ -1,8 +1,8 @@
--- What is counted, number by number.
+-- Lemmas about functions of natural numbers.
 use Rattle.std.proofs.Common.{◌≡◌, ℕ, zero, suc, ◌+◌, ◌-◌, ◌≤◌, List, [], ◌∷◌, ◌++◌, map, refl, ap, ◌∙◌, arith}
 use Rattle.std.specs.List.{range_with_len}
 
--- what rises from each number to the next rises from any number to any later one
+-- if `g` decreases from no number to the next, it decreases from no number to a later one
 rises_by : (g : ℕ → ℕ) → ((k : ℕ) → g k ≤ g (k + 1)) → (a k d : ℕ) → a + d ≡ k → g a ≤ g k
 rises_by g rises a k zero e = let same : a ≡ k = omega arith in rw same (omega arith)
 rises_by g rises a k (suc d) e =
@@ -15,7 +15,7 @@ rises_by g rises a k (suc d) e =
 pub rises : (g : ℕ → ℕ) → ((k : ℕ) → g k ≤ g (k + 1)) → (a k : ℕ) → a ≤ k → g a ≤ g k
 rises g each a k h = rises_by g each a k (k - a) (omega arith)
 
--- the values of one more number in a range
+-- the values over a range with one more number
 pub map_more : {X : Type 0} (f : ℕ → X) (a i : ℕ) → map f (range_with_len a (suc i)) ≡ map f (range_with_len a i) ++ (f (a + i) ∷ [])
 map_more f a zero = let here : a ≡ a + 0 = omega arith in ap (λ (n : ℕ). f n ∷ []) here
 map_more f a (suc i) =

@@ -1,4 +1,4 @@
--- AM824 is a format of audio.
+-- The codes of sample rates, their range, and the SYT interval of each AM824 rate.
 use Rattle.std.proofs.Common.{◌≡◌, ℕ, zero, suc, ◌≤◌, Some, None, refl, sym, ap, ◌∙◌, arith, Option}
 use Rattle.std.specs.Prelude.{IsSome}
 use Rattle.std.proofs.lemmas.Bool.Decides.{nat_tests}
@@ -39,7 +39,7 @@ pub record IsFdfRate (rate fdf : ℕ) : Type 0 where
 pub known_fdf : (rate fdf : ℕ) → fdf_of rate ≡ Some fdf → IsFdfRate rate fdf
 known_fdf rate fdf h = grind (arith, nat_tests)
 
--- all rates lie between these
+-- each sample rate of audio is from 8 kHz to 192 kHz
 pub record IsInRange (rate : ℕ) : Type 0 where
   pub least : 8000 ≤ rate
   pub most : rate ≤ 192000

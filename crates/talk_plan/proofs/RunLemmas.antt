@@ -38,7 +38,7 @@ begun n packets = div-mul-le_self n packets
 
 -- ---- the next packet
 
--- a packet is the first of the next run
+-- packet n + 1 is the first of the next run, which has at least 8 packets
 pub record IsRenewed (r : Option ℕ) (n : ℕ) : Type 0 where
   pub run : run_by r (suc n) ≡ suc (run_by r n)
   pub kept : (k : ℕ) → k < 8 → run_by r (suc n + k) ≡ suc (run_by r n)
@@ -66,7 +66,7 @@ later_run r jump n ok = elim (next_run r jump n ok) [ inl e ↦ omega arith | in
 one_bit : (a b : ℕ) → a ≤ b → b ≤ suc a → (a % 2 == 1) ≡ (b % 2 == 1) → a ≡ b
 one_bit a b least most e = grind (arith, nat_tests)
 
--- packets at most 7 apart are of the same run if they have the same restart bit
+-- packets at most 7 apart are of the same run if their restart bits are equal
 pub one_run : (r : Option ℕ) (jump m d n : ℕ) → Restarts r jump → d ≤ 7 → m + d ≡ n → (run_by r m % 2 == 1) ≡ (run_by r n % 2 == 1) → run_by r m ≡ run_by r n
 one_run None jump m d n ok few place e = refl
 one_run (Some packets) jump m d n ok few place e =
@@ -81,14 +81,14 @@ one_run (Some packets) jump m d n ok few place e =
           one_bit a (n / packets) (omega arith) (omega arith) e
     ]
 
--- a new restart bit comes with a new run
+-- if packet n + 1 has another restart bit than packet n, it is the first of the next run
 pub new_bit : (r : Option ℕ) (jump n : ℕ) → Restarts r jump → (run_by r (suc n) % 2 == 1) ≢ (run_by r n % 2 == 1) → IsRenewed r n
 new_bit r jump n ok other = elim (next_run r jump n ok) [
   | inl e ↦ absurd (other (rw e refl))
   | inr e ↦ e
 ]
 
--- no packet is of an earlier run than a packet before it
+-- a later packet is of the same run or of a later one
 pub no_later_run : (r : Option ℕ) (jump m n : ℕ) → Restarts r jump → m ≤ n → run_by r m ≤ run_by r n
 no_later_run None jump m n ok h = omega arith
 no_later_run (Some packets) jump m n ok h =

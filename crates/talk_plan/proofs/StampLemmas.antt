@@ -72,7 +72,8 @@ is_beat plan crf p e =
 
 -- ---- timestamps lie near nominal instants
 
--- how far a timestamp may be after its nominal instant, or before it, in nanoseconds: not at all without a clock
+-- how many nanoseconds a timestamp may be after (`late_by`) and before (`early_by`) its nominal instant; 0 without a
+-- clock
 abbrev pub late_by : Option CrfPlan → ℕ
 late_by None = 0
 late_by (Some crf) = 1

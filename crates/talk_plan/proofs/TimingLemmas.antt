@@ -27,7 +27,7 @@ short_offset rate k least =
     let under = is.under in
     omega arith
 
--- z is the sum of x and y, or a nanosecond more
+-- `z` is the sum of `x` and `y`, or a nanosecond more
 pub record IsSum (x y z : ℕ) : Type 0 where
   pub from : x + y ≤ z
   pub to : z ≤ x + y + 1
@@ -61,7 +61,7 @@ few_jumps plan n p events =
     let packets : n * 1 ≤ n * plan.count = mul-le-mul_left n p.some_count in
     omega (arith, in_its.jumps)
 
--- no instant of the packet exceeds what captures can record
+-- each instant of a packet is less than the lead plus 2^32 seconds, so a capture can record when the packet is sent
 pub in_time : (plan : TalkPlan) (n i : ℕ) → IsAudioPlan plan → n * plan.count ≤ 268435456 → i < plan.count
     → nominal_instant plan n i < plan.lead + 2 ^ 32 * 1000000000
 unfolding nominal_instant
@@ -75,20 +75,20 @@ in_time plan n i p events within =
     let start : nat_abs plan.start ≤ 4000000000000000000 = omega (arith, ints) in
     omega (arith, in_its.parts, p.count)
 
--- no packet is sent before instant 0: its lead is within its first instant
+-- packet n is sent exactly the lead before its first instant
 pub lead_within : (plan : TalkPlan) (n : ℕ) → arrival_of plan n + plan.lead ≡ first_instant plan n
 unfolding nominal_instant
 lead_within plan n = omega arith
 
 -- ---- the next packet
 
--- x, y and z, w are times of parts of n and of n + count events
+-- `x` and `y` are times of two parts of n events, `z` and `w` of two parts of n + count events
 apart_by : (s j x y k z w a b c d n count rate : ℕ) → a + b ≡ n → c + d ≡ n + count → j * rate ≤ k * rate → 24 * rate ≤ count * 1000000000
     → x * rate ≤ a * 1000000000 → y * rate ≤ b * 1000000000 → c * 1000000000 < z * rate + rate → d * 1000000000 < w * rate + rate
     → 4 * ((s + j + x + y) * rate) + 3 * (count * 1000000000) + 16 * rate ≤ 4 * ((s + k + z + w) * rate)
 apart_by s j x y k z w a b c d n count rate e f jumps wide under also over and = omega arith
 
--- first instants are at least 3/4 of a packet's time and 4 nanoseconds apart
+-- adjacent first instants are at least 3/4 of a packet's time plus 4 nanoseconds apart
 pub apart : (plan : TalkPlan) (n : ℕ) → IsAudioPlan plan
     → 4 * (first_instant plan n * plan.rate) + 3 * (plan.count * 1000000000) + 16 * plan.rate ≤ 4 * (first_instant plan (suc n) * plan.rate)
 unfolding nominal_instant

@@ -1,7 +1,7 @@
--- The points of a media clock in one run, and the timestamps of a stream on it, as plain numbers.
+-- The points of a media clock in one run, and the timestamps of a stream with that clock, as plain numbers.
 --
--- The events of a stream are its sample frames, counted from 0 in each run. The clock has a point at event 0, and at each
--- further `spacing` events.
+-- The events of a stream are its sample frames, counted from 0 in each run. The clock has a point at event 0, and a
+-- further one after every `spacing` events.
 use Rattle.std.specs.Prelude.{◌≡◌, ℕ, suc, ◌+◌, ◌-◌, ◌*◌, ◌/◌, ◌%◌, ◌≤◌, nat_lt, if◌then◌else◌, pos}
 use Rattle.clock_track.specs.declared.pair.Pair.{Pair}
 use Rattle.clock_track.specs.Pairs.{spot_by}
@@ -17,7 +17,8 @@ pub record Beat : Type 0 where
   pub up : ℕ
   pub down : ℕ
 
--- A beat whose rate is one of audio and whose clock has at most 250 MHz, and whose spacing and interval take equally long.
+-- The beat's rate is one of audio, its clock has at most 250 MHz, and `spacing` events of the stream take as long as
+-- `interval` events of the clock.
 pub record IsBeat (b : Beat) : Type 0 where
   pub rate_from : 8000 ≤ b.rate
   pub rate_to : b.rate ≤ 192000
@@ -26,19 +27,19 @@ pub record IsBeat (b : Beat) : Type 0 where
   pub same_time : b.spacing * b.up ≡ b.interval * b.rate * b.down
   pub slow : 4 * b.up ≤ 1000000000 * b.down
 
--- point m of a run that starts at an instant
+-- the instant of point m of a run that starts at `start`
 abbrev pub point_at : Beat → ℕ → ℕ → ℕ
 point_at b start m = start + nominal_offset b.rate (m * b.spacing)
 
--- The instant in the timestamp of event e of the run: before the second point it is the event's nominal instant; from then on
--- it is counted from the last point, with the period between the last two points.
+-- The instant in the timestamp of event e of the run. Before the second point, it is the event's nominal instant. From
+-- the second point on, it is counted from the last point, with the period between the last two points.
 unfoldable pub stamped_at : Beat → ℕ → ℕ → ℕ
 stamped_at b start e =
     if nat_lt e b.spacing then start + nominal_offset b.rate e else
     point_at b start (e / b.spacing)
     + e % b.spacing * (point_at b start (e / b.spacing) - point_at b start (e / b.spacing - 1)) / b.spacing
 
--- point m and the next one, as listeners pair them
+-- the pair that listeners make of points m and m + 1
 abbrev pub pair_from : Beat → ℕ → ℕ → Pair
 pair_from b start m = record {
   earlier = pos (point_at b start m);
@@ -48,11 +49,11 @@ pair_from b start m = record {
   down = b.down;
 }
 
--- The run after one of `events` events starts at least 4 nanoseconds after the time that these events take.
+-- The next run starts at `next`, at least 4 nanoseconds after the `events` events of the run that starts at `start`.
 abbrev pub IsNextStart : Beat → ℕ → ℕ → ℕ → Type 0
 IsNextStart b start events next = start + nominal_offset b.rate events + 4 ≤ next
 
--- according to this pair, the event of the clock that is nearest to the instant is at the instant, to the nanosecond
+-- counted by the pair, the event of the clock nearest to `instant` is at `instant`, to the nanosecond
 abbrev pub IsOnEvent : Pair → ℕ → ℕ → Type 0
 IsOnEvent pair rate instant =
     instant_at (spot_by pair rate (pos instant)).line (spot_by pair rate (pos instant)).from ≡ pos instant

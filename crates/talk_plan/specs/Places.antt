@@ -4,7 +4,7 @@ use Rattle.talk_plan.specs.declared.plan.TalkPlan.{TalkPlan}
 use Rattle.talk_plan.specs.Plan.{IsAudioPlan}
 use Rattle.talk_plan.specs.Timing.{arrival_of}
 
--- Packet n of a plan of audio. At most 2^28 sample frames come before it: the longest input has no more.
+-- Packet n of a plan of audio. At most 2^28 sample frames precede it, because the longest input has no more.
 pub record IsPacketOf (plan : TalkPlan) (n : ℕ) : Type 0 where
   pub talked : IsAudioPlan plan
   pub frames : n * plan.count ≤ 2 ^ 28
@@ -14,7 +14,7 @@ pub record IsFrameOf (plan : TalkPlan) (n i : ℕ) : Type 0 where
   pub packet : IsPacketOf plan n
   pub within : i < plan.count
 
--- Packet n of a plan of audio, which is sent at this arrival.
+-- Packet n of a plan of audio, which is sent at `arrival`.
 pub record IsSentAt (plan : TalkPlan) (n : ℕ) (arrival : ℤ) : Type 0 where
   pub packet : IsPacketOf plan n
   pub sent : arrival ≡ pos (arrival_of plan n)

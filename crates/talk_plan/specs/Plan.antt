@@ -9,7 +9,7 @@ use Rattle.talk_plan.specs.declared.plan.TalkKind.{TalkKind}
 use Rattle.talk_plan.specs.declared.plan.TalkKind.TheVariants.{Aaf, Am824, H264}
 use Rattle.talk_plan.specs.declared.plan.TalkPlan.{TalkPlan}
 
--- the code of a sample rate in the table of AAF (IEEE 1722-2016, 7), for each rate that it has
+-- the code that AAF gives a sample rate, if any (IEEE 1722-2016, 7)
 abbrev pub rate_code : ℕ → Option ℕ
 rate_code rate =
     if rate == 8000 then Some 1 else
@@ -23,7 +23,7 @@ rate_code rate =
     if rate == 192000 then Some 9 else
     if rate == 24000 then Some 10 else None
 
--- the code of a sample rate (FDF) in IEC 61883-6, for each rate that it has
+-- the code (FDF) that IEC 61883-6 gives a sample rate, if any
 abbrev pub fdf_of : ℕ → Option ℕ
 fdf_of rate =
     if rate == 32000 then Some 0 else
@@ -54,14 +54,14 @@ IsAudioKind (Aaf format sparse) = ⊤
 IsAudioKind Am824 = ⊤
 IsAudioKind (H264 last_stamp) = ⊥
 
--- the rate is one that the format names
+-- the format has a code for the rate
 abbrev pub HasRate : TalkKind → ℕ → Type 0
 HasRate (Aaf format sparse) rate = IsSome (rate_code rate)
 HasRate Am824 rate = IsSome (fdf_of rate)
 HasRate (H264 last_stamp) rate = ⊥
 
--- A packet of AM824 has data blocks of at most 256 quadlets, which fit an Ethernet frame. It has at least an eighth of
--- SYT_INTERVAL of them, so that a block is stamped in every 8 packets.
+-- The data blocks of an AM824 packet have at most 256 quadlets each, and fit an Ethernet frame. Their number is at
+-- least SYT_INTERVAL / 8, so that every 8 packets have a stamped block.
 pub record FitsBlocks (plan : TalkPlan) : Type 0 where
   pub quadlets : plan.channels ≤ 256
   pub some : interval_of plan.rate ≤ 8 * plan.count
@@ -81,25 +81,27 @@ pub record IsRestart (packets jump : ℕ) : Type 0 where
   pub least_jump : 4 ≤ jump
   pub most_jump : jump ≤ 1000000000
 
--- the plan has no restarts, or they are within their limits
+-- the plan has no restarts, or restarts within the limits
 abbrev pub Restarts : Option ℕ → ℕ → Type 0
 Restarts None jump = ⊤
 Restarts (Some packets) jump = IsRestart packets jump
 
 -- ---- the media clock
 
--- The sample frames from one point of the clock to the next in a stream of `rate` sample frames a second: they take as long as
--- `interval` events at the clock's frequency, which is its base frequency times the factor of its pull (IEEE 1722-2016, 10).
+-- How many sample frames a stream has from one point of the clock to the next. They take as long as `interval` events
+-- at the clock's frequency, which is its base frequency times the factor of its pull (IEEE 1722-2016, 10). `rate` is
+-- the stream's sample rate.
 unfoldable pub spacing_of : CrfPlan → ℕ → ℕ
 spacing_of crf rate = crf.interval * rate * pull_down crf.pull / (crf.rate * pull_up crf.pull)
 
--- A run of `packets` packets has as many sample frames as 8 clock packets, or a multiple of that. Without restarts there is no
--- condition.
+-- A run of `packets` packets takes as long as 8 packets of the clock, or a multiple of that. Without restarts, always
+-- true.
 abbrev pub HasWholeRuns : CrfPlan → ℕ → ℕ → Option ℕ → Type 0
 HasWholeRuns crf rate count None = ⊤
 HasWholeRuns crf rate count (Some packets) = packets * count % (8 * spacing_of crf rate * crf.points) ≡ 0
 
--- A clock with a stream of `rate` sample frames a second, with `count` in a packet, and possibly with restarts.
+-- The limits of a clock. Its stream has `rate` sample frames a second, `count` sample frames in a packet, and the
+-- restarts of `restart`.
 pub record IsClockPlan (crf : CrfPlan) (rate count : ℕ) (restart : Option ℕ) : Type 0 where
   pub id : crf.id < 2 ^ 64
   pub some_rate : 1 ≤ crf.rate
@@ -109,7 +111,7 @@ pub record IsClockPlan (crf : CrfPlan) (rate count : ℕ) (restart : Option ℕ)
   pub most_interval : crf.interval ≤ 65535
   pub some_points : 1 ≤ crf.points
   pub most_points : crf.points ≤ 180
-  -- its points are at whole sample frames
+  -- each point of the clock is at a sample frame
   pub whole : crf.interval * rate * pull_down crf.pull % (crf.rate * pull_up crf.pull) ≡ 0
   pub runs : HasWholeRuns crf rate count restart
 
@@ -118,14 +120,13 @@ abbrev pub HasClock : Option CrfPlan → ℕ → ℕ → Option ℕ → Type 0
 HasClock None rate count restart = ⊤
 HasClock (Some crf) rate count restart = IsClockPlan crf rate count restart
 
--- With a clock the lead is at least 3 ns: a timestamp on a clock can be up to 2 ns before its sample's nominal instant,
--- and a packet's first sample up to 3 ns.
+-- With a clock, the lead is at least 3 ns. The reason: a timestamp can be up to 2 ns before its sample's nominal
+-- instant, and the presentation time of a packet's first sample up to 3 ns.
 abbrev pub IsAhead : Option CrfPlan → ℕ → Type 0
 IsAhead None lead = ⊤
 IsAhead (Some crf) lead = 3 ≤ lead
 
--- A plan of audio: PCM in the AVTP audio format, sparse or not, or AM824, with restarts or without, and with a media clock
--- or without.
+-- A plan of audio: PCM in the AVTP audio format, sparse or not, or AM824. It may have restarts and a media clock.
 pub record IsAudioPlan (plan : TalkPlan) : Type 0 where
   pub kind : IsAudioKind plan.kind
   pub rate : HasRate plan.kind plan.rate
@@ -169,21 +170,22 @@ IsPlan plan = IsPlanOf plan.kind plan
 
 -- ---- listeners
 
--- The leads of a listener and of the plan differ by less than 127 packets' time.
+-- The leads of a listener and of the plan differ by less than the time of 127 packets.
 pub record IsNearLead (plan : TalkPlan) (lead : ℕ) : Type 0 where
   pub from : plan.lead * plan.rate < lead * plan.rate + 127 * (plan.count * 1000000000)
   pub to : lead * plan.rate < plan.lead * plan.rate + 127 * (plan.count * 1000000000)
 
--- the condition of a kind on the lead of a listener: it is near the plan's, if some packets have no timestamp
+-- what a stream of this kind demands of a listener's lead: it is near the plan's lead if some packets of audio have no
+-- timestamp
 abbrev pub ExpectsBy : TalkKind → TalkPlan → ℕ → Type 0
 ExpectsBy (Aaf format false) plan lead = ⊤
 ExpectsBy (Aaf format true) plan lead = IsNearLead plan lead
 ExpectsBy Am824 plan lead = plan.count < interval_of plan.rate → IsNearLead plan lead
 ExpectsBy (H264 last_stamp) plan lead = ⊤
 
--- A listener tells packets without a timestamp apart by their arrivals, so it must expect them when the plan sends them. If
--- each packet is stamped, any lead will do: in PCM that is not sparse, and in AM824 if a packet has at least as many data
--- blocks as the interval.
+-- A listener tells audio packets without a timestamp apart by their arrivals, so it must expect them about when the
+-- plan sends them. Any lead will do for PCM that is not sparse, for AM824 whose packets have at least SYT_INTERVAL data
+-- blocks, and for H.264.
 abbrev pub Expects : TalkPlan → ℕ → Type 0
 Expects plan lead = ExpectsBy plan.kind plan lead
 

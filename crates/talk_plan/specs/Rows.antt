@@ -7,7 +7,7 @@ pub record Row : Type 0 where
   pub fault : TalkFault
   pub holds : Bool
 
--- a fault, with whether it is present
+-- the row of a fault, given whether the fault is present
 abbrev pub row : TalkFault → Bool → Row
 row fault holds = record { fault = fault; holds = holds }
 

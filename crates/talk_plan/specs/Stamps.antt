@@ -7,7 +7,7 @@ use Rattle.talk_plan.specs.Beats.{Beat, stamped_at}
 use Rattle.talk_plan.specs.Plan.{spacing_of}
 use Rattle.talk_plan.specs.Timing.{event_of, nominal_instant, run_of, run_start}
 
--- a plan's stream and its clock, as rates and spacings
+-- the rates and the spacings of a plan's stream and of its clock
 abbrev pub beat_of : CrfPlan → TalkPlan → Beat
 beat_of crf plan = record {
   rate = plan.rate;
@@ -17,12 +17,12 @@ beat_of crf plan = record {
   down = pull_down crf.pull;
 }
 
--- The instant in the timestamp of sample frame i of packet n: its nominal instant without a clock; with one, the instant that
--- the clock's points in the packet's run give.
+-- The instant in the timestamp of sample frame i of packet n. Without a clock, it is the frame's nominal instant. With
+-- a clock, it follows from the clock's points in the packet's run.
 abbrev pub stamped_by : Option CrfPlan → TalkPlan → ℕ → ℕ → ℕ
 stamped_by None plan n i = nominal_instant plan n i
 stamped_by (Some crf) plan n i = stamped_at (beat_of crf plan) (run_start plan (run_of plan n)) (event_of plan n i)
 
--- the instant in the timestamp of sample frame i of packet n, with the plan's clock or without one
+-- the instant in the timestamp of sample frame i of packet n, by the plan's clock if there is one
 abbrev pub stamped_instant : TalkPlan → ℕ → ℕ → ℕ
 stamped_instant plan n i = stamped_by plan.crf plan n i

@@ -1,17 +1,17 @@
 -- When the packets of a plan are sent, and with which timestamps.
 --
--- Instants are whole nanoseconds of gPTP, and never below 0. The events of a stream are its sample frames, counted from 0 in
--- each run: a run begins with the stream, and with each restart of its media clock.
+-- Instants are whole nanoseconds of gPTP, and never below 0. The events of a stream are its sample frames, counted from
+-- 0 in each run. A run begins at the start of the stream, and at each restart of its media clock.
 use Rattle.std.specs.Prelude.{ℕ, ◌+◌, ◌-◌, ◌*◌, ◌/◌, ◌%◌, ◌^◌, ◌==◌, Bool, nat_abs, Option, Some, None}
 use Rattle.talk_plan.specs.declared.plan.TalkPlan.{TalkPlan}
 
--- how long after event 0 event k is at a nominal rate, in nanoseconds rounded down
+-- the nominal time from event 0 to event k at `rate` events a second, in nanoseconds, rounded down
 abbrev pub nominal_offset : ℕ → ℕ → ℕ
 nominal_offset rate k = k * 1000000000 / rate
 
 -- ---- runs
 
--- the run of packet n, if each has this many packets; without restarts there is one run
+-- the run of packet n, from 0, if each run has `packets` packets; without restarts, all packets are of run 0
 abbrev pub run_by : Option ℕ → ℕ → ℕ
 run_by None n = 0
 run_by (Some packets) n = n / packets
@@ -20,7 +20,7 @@ run_by (Some packets) n = n / packets
 abbrev pub run_of : TalkPlan → ℕ → ℕ
 run_of plan n = run_by plan.restart n
 
--- the first packet of run g, if each has this many packets
+-- the first packet of run g if each run has `packets` packets; without restarts, packet 0
 abbrev pub first_by : Option ℕ → ℕ → ℕ
 first_by None g = 0
 first_by (Some packets) g = g * packets

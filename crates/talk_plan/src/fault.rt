@@ -5,7 +5,7 @@ use thiserror::Error;
 /// Why a plan and its input make no stream, in the order in which the faults are tested.
 #[derive(Clone, Copy, Debug, PartialEq, Eq, Error)]
 pub enum TalkFault {
-    /// The input is not whole sample frames.
+    /// The input is not a whole number of sample frames.
     #[error("the input is not whole sample frames")]
     Frames,
     /// The input has no start code of H.264 (ITU-T H.264, annex B).

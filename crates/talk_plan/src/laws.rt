@@ -8,18 +8,18 @@ ghost use Rattle.stream_journal.specs.Regular.{IsSteady};
 ghost use Rattle.talk_plan.specs.Beats.{Beat, IsBeat, IsNextStart, IsOnEvent, pair_from, point_at, stamped_at};
 ghost use Rattle.talk_plan.specs.Plan.{fdf_of, interval_of, rate_code};
 
-/// The code of a plan's rate is the one that AAF or IEC 61883-6 gives that rate, and its interval is that of the code in IEC
-/// 61883-6.
+/// The code of each rate is the one that AAF or IEC 61883-6 gives that rate. The interval of a rate is the SYT_INTERVAL
+/// that IEC 61883-6 gives the rate's code.
 pub fn rates_are_named()
     ensures aaf { (rate code : ℕ) → rate_code rate ≡ Some code ↔ rate_of code ≡ Some rate }
     ensures iec { (rate fdf : ℕ) → fdf_of rate ≡ Some fdf ↔ rate_of_fdf fdf ≡ Some rate }
     ensures interval { (rate fdf : ℕ) → fdf_of rate ≡ Some fdf → syt_interval fdf ≡ Some (interval_of rate) }
 {}
 
-/// The arithmetic of a media clock and of a stream that is stamped with it, on plain numbers. Adjacent points in a run are
-/// joined, and their periods differ little; a new run does not begin before the last point plus the last period. The instant of
-/// an event is covered only by the pair that ends with the last point before the event, and by no pair of another run. If the
-/// clock's frequency is the stream's rate, the instant is that of an event of the clock.
+/// The arithmetic of a media clock and of a stream that is stamped with it, on plain numbers. Adjacent points in a run
+/// are joined, and adjacent periods differ little. A new run does not begin before the last point plus the last period.
+/// The stamp of an event is covered only by the pair that ends with the last point up to the event, and by no pair of
+/// another run. If the clock's frequency is the stream's rate, the stamp is the instant of an event of the clock.
 pub fn clocks_keep_time()
     ensures even { (b : Beat) (start m : ℕ) → IsBeat b → IsJoined (pair_from b start m) }
     ensures steady { (b : Beat) (start m : ℕ) → IsBeat b → IsSteady (pair_from b start m) (pair_from b start (suc m)) }

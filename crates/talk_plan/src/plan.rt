@@ -9,7 +9,7 @@ pub enum TalkKind {
     Aaf { format: AafFormat, sparse: bool },
     /// AM824 (IEC 61883-6).
     Am824,
-    /// H.264 (IEEE 1722-2016, 8; RFC 6184). A NAL unit may be stamped on its last fragment alone.
+    /// H.264 (IEEE 1722-2016, 8; RFC 6184). With `last_stamp`, a NAL unit is stamped only on its last fragment.
     H264 { last_stamp: bool },
 }
 
@@ -20,11 +20,11 @@ pub struct CrfPlan {
     pub id: u64,
     /// The base frequency in Hz.
     pub rate: u32,
-    /// The code of the factor that the base frequency is multiplied by.
+    /// The code of the factor by which the base frequency is multiplied.
     pub pull: u8,
-    /// The events of the clock from one timestamp to the next.
+    /// The number of the clock's events from one timestamp to the next.
     pub interval: u16,
-    /// The timestamps of a packet.
+    /// The number of timestamps in a packet.
     pub points: u8,
 }
 
@@ -34,9 +34,9 @@ pub struct TalkPlan {
     pub kind: TalkKind,
     /// The sample rate in Hz; for H.264 the access units in a second.
     pub rate: u32,
-    /// The channels of each sample frame.
+    /// The number of channels in a sample frame.
     pub channels: u16,
-    /// The sample frames of a packet.
+    /// The number of sample frames in a packet.
     pub count: u32,
     /// The stream id.
     pub id: u64,
@@ -44,7 +44,7 @@ pub struct TalkPlan {
     pub start: i64,
     /// How long before its first presentation time a packet is sent, in nanoseconds: the maximum transit time.
     pub lead: u32,
-    /// The packets after which the media clock restarts.
+    /// The number of packets after which the media clock restarts.
     pub restart: Option<u32>,
     /// How far a restart sets presentation times forward, in nanoseconds.
     pub jump: u32,

@@ -59,9 +59,9 @@ impl TalkPlan {
         self.run(n) * u64::from(self.jump)
     }
 
-    /// How long a number of sample frames take, in nanoseconds. At multiples of 48 kHz a sample frame takes a whole number of
-    /// thirds of a nanosecond. The compiler makes a division by 3 a multiplication; a division by a number that it does not know
-    /// takes ten times as long.
+    /// How long `frames` sample frames take, in nanoseconds. At 48, 96 and 192 kHz, a sample frame takes a whole number
+    /// of thirds of a nanosecond. The compiler turns a division by 3 into a multiplication; a division by an unknown
+    /// number takes ten times as long.
     #[tactic(auto, using(crate::proofs::RateLemmas::rate_from, crate::proofs::TimingLemmas::short_offset))]
     fn offset(&self, frames: u64) -> u64
         requires plan { IsAudioPlan self.now }
@@ -114,7 +114,7 @@ impl TalkPlan {
         self.run_start(n) + self.offset(self.event(n, i))
     }
 
-    /// The sample frames from one point of the plan's clock to the next.
+    /// The number of sample frames from one point of the plan's clock to the next.
     pub fn spacing(&self, crf: &CrfPlan) -> u64
         requires plan { IsAudioPlan self.now }
         requires clock { self.now.crf ≡ Some crf.now }
@@ -125,8 +125,8 @@ impl TalkPlan {
             / (u64::from(crf.rate) * pull_up(crf.pull))
     }
 
-    /// The instant in the timestamp of sample frame `i` of packet `n` by the plan's clock, in nanoseconds of gPTP: counted from
-    /// the last point of the clock, with the period before it.
+    /// The instant that the plan's clock gives the timestamp of sample frame `i` of packet `n`, in nanoseconds of gPTP.
+    /// It is counted from the last point of the clock, with the period before that point.
     #[cold]
     #[inline(never)]
     fn clocked_instant(&self, crf: &CrfPlan, n: u64, i: u32) -> u64
@@ -156,8 +156,8 @@ impl TalkPlan {
         }
     }
 
-    /// The instant that the timestamp of packet `n` has if it belongs to the packet's first sample frame, in nanoseconds of gPTP.
-    /// The packet is sent at this arrival.
+    /// The instant that the timestamp of packet `n` has if it belongs to the packet's first sample frame, in
+    /// nanoseconds of gPTP. The packet is sent at `arrival`.
     #[tactic(auto, using(crate::proofs::TimingLemmas::lead_within))]
     pub fn first_stamped_instant(&self, n: u64, arrival: i64) -> u64
         requires { IsSentAt self.now n arrival }
@@ -186,8 +186,8 @@ impl TalkPlan {
         self.run(n) % 2 == 1
     }
 
-    /// The stream header of packet `n` (IEEE 1722-2016, 4.4.4), stamped with an instant or not, for a payload of this many
-    /// bytes.
+    /// The stream header of packet `n` (IEEE 1722-2016, 4.4.4) with the timestamp of `stamp`, or none, for a payload of
+    /// `length` bytes.
     pub fn header(&self, subtype: u8, stamp: Option<u64>, n: u64, length: u16) -> StreamHeader
         requires { Restarts self.now.restart self.now.jump }
         ensures { result ≡ header_of subtype stamp self.now n length }
