@@ -1,4 +1,4 @@
--- Which packets carry which units, and which access units these are of.
+-- Which packets carry which NAL units, and which access units these NAL units belong to.
 use Rattle.std.proofs.Common.{◌≡◌, ◌⊎◌, inl, inr, ℕ, zero, suc, ◌+◌, ◌-◌, ◌<◌, ◌≤◌, Bool, true, false, List, length, refl, ap, arith}
 use Rattle.std.specs.Prelude.{nat_lt, if◌then◌else◌}
 use Rattle.std.proofs.lemmas.Bool.{cases_lt}
@@ -68,7 +68,7 @@ one_unit units p q n is other = elim (cases_lt p.unit q.unit) [
   ]
 ]
 
--- the place of a fragment is found by its number
+-- if n is the number of one of unit i's packets, packet n carries unit i
 pub unit_found : (units : List (ℕ × ℕ)) (i n : ℕ) → packets_before units i ≤ n → n < packets_before units (suc i) → (place_of units n).unit ≡ i
 unit_found units i n from to =
     let here : IsPlaced units (record { unit = i; fragment = n - packets_before units i }) n = record { number = omega arith; within = omega arith } in
@@ -85,7 +85,8 @@ unit_known units n h = elim (cases_lt (place_of units n).unit (length units)) [
 
 -- ---- the next packet
 
--- packet n + 1 carries the next fragment of the unit, or the first of the next one
+-- packet n + 1 carries the next fragment of packet n's unit (`GoesOn`), or the first fragment of the next unit
+-- (`Renews`)
 pub record GoesOn (units : List (ℕ × ℕ)) (n : ℕ) : Type 0 where
   pub more : suc (place_of units n).fragment < packets_at units (place_of units n).unit
   pub unit : (place_of units (suc n)).unit ≡ (place_of units n).unit
@@ -115,7 +116,7 @@ pub begun_few : (bytes : List ℕ) (units : List (ℕ × ℕ)) (i : ℕ) → beg
 begun_few bytes units zero = omega arith
 begun_few bytes units (suc i) = let flags = flag-below (begins bytes units i) in let rest = begun_few bytes units i in omega arith
 
--- there are at most as many access units as units
+-- among units 0 to i, at most i begin a new access unit
 begun_fewer : (bytes : List ℕ) (units : List (ℕ × ℕ)) (i : ℕ) → begun_before bytes units (suc i) ≤ i
 begun_fewer bytes units zero = omega arith
 begun_fewer bytes units (suc i) = let flags = flag-below (begins bytes units (suc i)) in let rest = begun_fewer bytes units i in omega arith

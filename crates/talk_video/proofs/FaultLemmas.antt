@@ -75,7 +75,7 @@ types_are bytes i e h =
     not-false (is_single_type (type_in bytes (unit_at (nal_units bytes) i)))
     (not_at (λ (unit : ℕ × ℕ). not (is_single_type (type_in bytes unit))) (nal_units bytes) i (0, 0) (accepted_is bytes e).types h)
 
--- packets this far apart are of different access units
+-- in a byte stream without a fault, packets that are 255 apart are of different access units
 pub far_apart : (bytes : List ℕ) (n : ℕ) → units_fault bytes ≡ None → n + 255 < all_packets (nal_units bytes)
     → access_unit_of bytes (nal_units bytes) n ≢ access_unit_of bytes (nal_units bytes) (n + 255)
 far_apart bytes n e h same =

@@ -137,7 +137,7 @@ long_there bytes units (suc m) i h long = elim (cases_lt i m) [
       or_right (is_long_in bytes units m) (nat_lt most_packets (packets_before units (suc m) - packets_behind bytes units (suc m))) (rw same here)
 ]
 
--- the test of two packets this far apart
+-- packets n and n + 255 are of the same access unit
 abbrev pub apart : List ℕ → List (ℕ × ℕ) → ℕ → Bool
 apart bytes units n = access_unit_of bytes units n == access_unit_of bytes units (n + most_packets)
 

@@ -23,7 +23,7 @@ pub same_or_next : (bytes : List ℕ) (units : List (ℕ × ℕ)) (i : ℕ)
     → (access_unit bytes units (suc i) ≡ access_unit bytes units i) ⊎ (access_unit bytes units (suc i) ≡ suc (access_unit bytes units i))
 same_or_next bytes units i = flag_is (begins bytes units (suc i)) (access_unit bytes units i) (access_unit bytes units (suc i)) refl
 
--- unit i + 1 is of the access unit of unit i if it does not begin one
+-- if unit i + 1 does not begin an access unit, it is in the access unit of unit i
 stays : (bytes : List ℕ) (units : List (ℕ × ℕ)) (i : ℕ) → begins bytes units (suc i) ≡ false → access_unit bytes units (suc i) ≡ access_unit bytes units i
 stays bytes units i e = rw e (omega arith)
 
@@ -111,7 +111,6 @@ place_by units n i k number within =
 
 -- ---- the fragments of a unit, put together
 
--- no bytes
 abbrev nil : List ℕ
 nil = []
 
@@ -143,7 +142,7 @@ chunks rest a (suc n) =
     ∙ ap (λ (xs : List ℕ). take (n * 1398) xs) (sym (drop_more (a * 1398) 1398 rest)))
     ∙ take_more 1398 (n * 1398) here ∙ ap (λ (k : ℕ). take k here) (sym all)
 
--- if a unit has more than one packet, each of them carries a fragment
+-- if a unit has more than one packet, packet k carries up to 1398 bytes of `rest`, from byte k * 1398 on
 not_single : (packets k : ℕ) (rest : List ℕ) → (packets == 1) ≡ false → body_by (part_by packets k) k rest ≡ take 1398 (drop (k * 1398) rest)
 unfolding part_by
 not_single packets k rest more = by (packets == 1) (k == 0) (k + 1 == packets) more

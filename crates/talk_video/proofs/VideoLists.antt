@@ -15,7 +15,7 @@ use Rattle.talk_video.specs.state.Listing.{IsCarried, place_in}
 use Rattle.talk_video.specs.Streams.{IsVideo, unit_in}
 use Rattle.talk_video.proofs.AccessLemmas.{access_few, before_rises, placed, unit_known}
 
--- unit i of the list
+-- entry i of the list is unit i of the byte stream
 pub listed_at : (v : VideoStream) (i : ℕ) (d : NalUnit) → IsVideo v → i < length (nal_units v.input.now) → get_or v.units.items i d ≡ unit_in v.input.now i
 listed_at v i d is h =
     ap (λ (us : List NalUnit). get_or us i d) is.units
@@ -24,7 +24,7 @@ listed_at v i d is h =
 pub listed_all : (v : VideoStream) → IsVideo v → length v.units.items ≡ length (nal_units v.input.now)
 listed_all v is = ap length is.units ∙ length-map-range_with_len (unit_in v.input.now) 0 (length (nal_units v.input.now))
 
--- the units whose first packet is n or an earlier one come first
+-- in the list, the units whose first packet has at most the number n precede all others
 pub parted : (v : VideoStream) (n : ℕ) → IsVideo v → IsPartitionedBy (λ (u : NalUnit). nat_le u.first n) v.units.items
 parted v n is i j d le below e =
     let all = listed_all v is in
@@ -35,7 +35,7 @@ parted v n is i j d le below e =
     let so : (get_or v.units.items i d).first ≤ n = omega arith in
     grind (arith, nat_tests)
 
--- a binary search finds the unit of packet n
+-- a binary search finds the index after that of packet n's unit
 pub searched : (v : VideoStream) (n r : ℕ) → IsVideo v → n < v.packets → r ≤ length v.units.items
     → IsPartitionPoint (λ (u : NalUnit). nat_le u.first n ≡ true) (λ (u : NalUnit). nat_le u.first n ≡ false) v.units.items r → r ≡ suc (place_in v n).unit
 searched v n r is known within point =
@@ -61,7 +61,7 @@ searched v n r is known within point =
           absurd (omega (arith, at.number))
     ]
 
--- packet n carries what its unit says
+-- packet n is one of the packets that carry its unit
 pub carried : (v : VideoStream) (n : ℕ) → IsVideo v → n < v.packets → IsCarried v.input.now (unit_in v.input.now (place_in v n).unit) n
 carried v n is known =
     let units : List (ℕ × ℕ) = nal_units v.input.now in
@@ -101,7 +101,7 @@ units_few bytes =
     let units = kept_few (unit_behind bytes) (places (is_start_code bytes) 0 (length bytes)) in
     omega arith
 
--- the unit that the code reads
+-- `unit` is the unit of packet n, and its access unit has at most the number `most_input`
 pub record IsUnitWith (v : VideoStream) (n : ℕ) (unit : NalUnit) : Type 0 where
   pub same : unit ≡ unit_in v.input.now (place_in v n).unit
   pub few : unit.access_unit ≤ most_input

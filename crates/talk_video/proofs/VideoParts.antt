@@ -1,4 +1,4 @@
--- How long a frame is.
+-- Which part of a NAL unit a packet carries, and how long its frame is.
 use Rattle.std.proofs.Common.{◌≡◌, ◌+◌, true, length, ◌∙◌, arith, ◌≢◌, ℕ, suc, ◌-◌, ◌*◌, ◌<◌, ◌≤◌, Bool, false, not, List, drop, refl, ap}
 use Rattle.std.proofs.lemmas.List.{length-append, length-take}
 use Rattle.avtp_base.specs.Layout.{spelling}
@@ -43,7 +43,7 @@ pub single_is : (packets k : ℕ) → part_by packets k ≡ Single → packets �
 unfolding part_by
 single_is packets k e = let one = single_by (packets == 1) (k == 0) (k + 1 == packets) e in grind (arith, nat_tests)
 
--- a unit that is sent whole is short
+-- a NAL unit that is sent whole has at most 1400 bytes
 pub short_single : (from to k : ℕ) → part_by (packets_for (from, to)) k ≡ Single → to - from ≤ 1400
 short_single from to k e = (size_of (to - from)).whole (single_is (packets_for (from, to)) k e)
 
@@ -59,7 +59,7 @@ short_body First k rest short = let size = length-take 1398 (drop (k * 1398) res
 short_body Middle k rest short = let size = length-take 1398 (drop (k * 1398) rest) in omega arith
 short_body Last k rest short = let size = length-take 1398 (drop (k * 1398) rest) in omega arith
 
--- what packet n carries is short
+-- the headers and the body of a packet have at most 1428 bytes
 pub short_at : (bytes : List ℕ) (units : List (ℕ × ℕ)) (p : Place) → header_size (part_at units p) + length (body_at bytes units p) ≤ 1428
 unfolding body_at
 short_at bytes units p =
@@ -89,7 +89,7 @@ body_is v n unit same =
     ∙ ap (λ (k : ℕ). body_by (part_by (packets_for (unit_at (nal_units v.input.now) (place_in v n).unit)) k) k
     (rest_in v.input.now (unit_at (nal_units v.input.now) (place_in v n).unit))) (fragment_is v n unit same)
 
--- whether it ends its access unit
+-- if packet n is not the last one, it ends its access unit exactly if packet n + 1 is of another access unit
 pub ends_is : (v : VideoStream) (n access next : ℕ) → IsVideo v → n + 1 ≢ v.packets → next ≡ access_unit_of v.input.now (nal_units v.input.now) (n + 1)
     → access ≡ access_unit_of v.input.now (nal_units v.input.now) n → not (next == access) ≡ ends_access_unit v.input.now (nal_units v.input.now) n
 ends_is v n access next is more e f =
@@ -98,7 +98,7 @@ ends_is v n access next is more e f =
     let other : (suc n == all_packets (nal_units v.input.now)) ≡ false = grind (arith, nat_tests) in
     rw (other, e, f, s) refl
 
--- all that a packet holds, from what the code makes it of
+-- the packet that the code builds of these values is packet n of the stream
 pub packet_is : (v : VideoStream) (n : ℕ) (unit : NalUnit) (part : NalPart) (body : List ℕ) (instant counted nal : ℕ) (stamp : Option ℕ) (header : StreamHeader) (marker : Bool)
     → unit ≡ unit_in v.input.now (place_in v n).unit → part ≡ part_by (packets_for (unit.from, unit.to)) (n - unit.first)
     → body ≡ body_by (part_by (packets_for (unit.from, unit.to)) (n - unit.first)) (n - unit.first) (rest_in v.input.now (unit.from, unit.to))
@@ -143,7 +143,7 @@ packet_short last_stamp plan bytes units n =
     let short = short_at bytes units (place_of units n) in
     omega arith
 
--- how long a packet's frame is, from what the code counts
+-- the length of packet n's frame, by the values from which the code builds it
 pub frame_length : (v : VideoStream) (n : ℕ) (unit : NalUnit) (part : NalPart) (body : List ℕ) (counted : ℕ)
     → unit ≡ unit_in v.input.now (place_in v n).unit → part ≡ part_by (packets_for (unit.from, unit.to)) (n - unit.first)
     → body ≡ body_by (part_by (packets_for (unit.from, unit.to)) (n - unit.first)) (n - unit.first) (rest_in v.input.now (unit.from, unit.to))

@@ -45,7 +45,7 @@ pub sent_are : (bytes : List ℕ) → AreSent bytes (sent_units bytes)
 unfolding sent_units
 sent_are bytes = sent_by bytes (units_fault bytes) refl
 
--- the units of a byte stream without a fault
+-- if a byte stream has no fault, all its units are sent
 pub all_sent : (bytes : List ℕ) → units_fault bytes ≡ None → sent_units bytes ≡ nal_units bytes
 unfolding sent_units
 all_sent bytes e = rw e refl
@@ -72,7 +72,7 @@ instant_rises plan a b p h = elim (cases_lt a b) [
   | inr not ↦ let same : a ≡ b = omega arith in rw same (omega arith)
 ]
 
--- access units with the same instant are the same access unit
+-- access units at the same instant are the same access unit
 pub one_access : (plan : TalkPlan) (a b : ℕ) → IsVideoPlan plan → access_instant plan a ≡ access_instant plan b → a ≡ b
 one_access plan a b p e = elim (cases_lt a b) [
   | inl less ↦ let later = instant_later plan a b p less in absurd (omega arith)
@@ -108,7 +108,7 @@ access_known bytes units n sent h limit =
 
 -- ---- parts
 
--- the first packet of a unit begins it, and the last one ends it
+-- fragment k begins its unit exactly if k is 0, and ends it exactly if k is the last number
 pub record IsPartOf (part : NalPart) (packets k : ℕ) : Type 0 where
   pub begins : Begins (part_of part) → k ≡ 0
   pub begun : k ≡ 0 → Begins (part_of part)

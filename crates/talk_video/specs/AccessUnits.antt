@@ -1,6 +1,6 @@
--- The NAL units of a byte stream, and which of them are of the same access unit (ITU-T H.264, 7.4.1.2). The first two bytes of a
--- unit alone tell whether it begins a new access unit; this is a choice of this project. A unit is a range of the stream's bytes,
--- as in `nal_units`; units are counted from 0.
+-- The NAL units of a byte stream, and which of them are of the same access unit (ITU-T H.264, 7.4.1.2). Only the first
+-- two bytes of each unit decide where access units begin; this is a choice of this project. A unit is a range of the
+-- stream's bytes, as in `nal_units`; units are counted from 0.
 use Rattle.std.specs.Prelude.{◌≡◌, ℕ, zero, suc, ◌+◌, ◌≤◌, ◌==◌, Bool, true, false, not, ◌&&◌, ◌||◌, nat_le, nat_lt, List, get_or}
 use Rattle.avtp_base.specs.Octets.{bits, flag, is_set}
 use Rattle.cvf_format.specs.Cvf.{type_of}
@@ -13,7 +13,7 @@ unit_at units i = get_or units i (0, 0)
 abbrev pub nal_in : List ℕ → ℕ × ℕ → ℕ
 nal_in bytes unit = bits unit.0 0 8 bytes
 
--- the type of a unit (`nal_unit_type`), which its first byte tells
+-- the type of a unit (`nal_unit_type`), from its first byte
 abbrev pub type_in : List ℕ → ℕ × ℕ → ℕ
 type_in bytes unit = type_of (nal_in bytes unit)
 
@@ -21,8 +21,8 @@ type_in bytes unit = type_of (nal_in bytes unit)
 unfoldable pub has_slice : List ℕ → ℕ × ℕ → Bool
 has_slice bytes unit = nat_le 1 (type_in bytes unit) && nat_le (type_in bytes unit) 5
 
--- the slice of the unit is the first of a picture: `first_mb_in_slice` is 0, so the top bit of its second byte is set; a unit
--- of one byte has no such bit
+-- The unit's slice is the first of a picture: `first_mb_in_slice` is 0, so the top bit of the unit's second byte is
+-- set. In a unit of one byte, it is not.
 abbrev pub is_first_slice : List ℕ → ℕ × ℕ → Bool
 is_first_slice bytes unit = nat_lt (unit.0 + 1) unit.1 && is_set (unit.0 + 1) 0 bytes
 
@@ -30,14 +30,14 @@ is_first_slice bytes unit = nat_lt (unit.0 + 1) unit.1 && is_set (unit.0 + 1) 0 
 abbrev pub is_in : ℕ → ℕ → ℕ → Bool
 is_in low high type = nat_le low type && nat_le type high
 
--- A unit that begins an access unit if an earlier unit in the current access unit has a slice: a unit of type 6 to 9 or 14 to
--- 18, or the first slice of a picture, of type 1, 2 or 5.
+-- The unit can begin an access unit: its type is 6 to 9 or 14 to 18, or it is the first slice of a picture and its type
+-- is 1, 2 or 5. It begins one exactly if an earlier unit of the current access unit has a slice.
 unfoldable pub may_begin : List ℕ → ℕ × ℕ → Bool
 may_begin bytes unit =
     is_in 6 9 (type_in bytes unit) || is_in 14 18 (type_in bytes unit)
     || ((is_in 1 2 (type_in bytes unit) || type_in bytes unit == 5) && is_first_slice bytes unit)
 
--- the access unit that is current before unit i has a slice
+-- before unit i, the current access unit has a slice
 abbrev pub is_sliced : List ℕ → List (ℕ × ℕ) → ℕ → Bool
 is_sliced bytes units zero = false
 is_sliced bytes units (suc i) = has_slice bytes (unit_at units i) || (is_sliced bytes units i && not (may_begin bytes (unit_at units i)))
@@ -55,7 +55,7 @@ begun_before bytes units (suc i) = begun_before bytes units i + flag (begins byt
 abbrev pub access_unit : List ℕ → List (ℕ × ℕ) → ℕ → ℕ
 access_unit bytes units i = begun_before bytes units (suc i)
 
--- Unit i, or a unit before it in its access unit, has a slice.
+-- Unit i, or an earlier unit of its access unit, has a slice.
 pub record HasSlice (bytes : List ℕ) (units : List (ℕ × ℕ)) (i : ℕ) : Type 0 where
   pub unit : ℕ
   pub before : unit ≤ i

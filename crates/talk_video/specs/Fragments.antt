@@ -1,12 +1,12 @@
 -- How the packets of a stream carry NAL units: each unit whole, or in fragments (RFC 6184, 5.6 and 5.8). Packets are
--- counted from 0, through all units.
+-- counted from 0, across all units.
 use Rattle.std.specs.Prelude.{ℕ, zero, suc, ◌+◌, ◌-◌, ◌*◌, ◌==◌, Bool, not, ◌||◌, nat_lt, if◌then◌else◌, List, take, drop, length}
 use Rattle.cvf_format.specs.declared.cvf.NalPart.{NalPart}
 use Rattle.cvf_format.specs.declared.cvf.NalPart.TheVariants.{Single, First, Middle, Last}
 use Rattle.cvf_format.specs.Packets.{full_body, packets_of}
 use Rattle.talk_video.specs.AccessUnits.{access_unit, unit_at}
 
--- how many packets carry a unit of this range
+-- how many packets carry a unit with this range of bytes
 abbrev pub packets_for : ℕ × ℕ → ℕ
 packets_for unit = packets_of (unit.1 - unit.0)
 
@@ -23,18 +23,18 @@ packets_before units (suc i) = packets_before units i + packets_at units i
 abbrev pub all_packets : List (ℕ × ℕ) → ℕ
 all_packets units = packets_before units (length units)
 
--- what a packet carries: a fragment of a unit, both counted from 0; a whole unit is one fragment
+-- which fragment of which unit a packet carries, both counted from 0; a unit that is sent whole is one fragment
 pub record Place : Type 0 where
   pub unit : ℕ
   pub fragment : ℕ
 
--- after a fragment comes the next one of the unit, and after the last one the first of the next unit
+-- the fragment after `p`: the next one of the same unit, or else the first one of the next unit
 abbrev pub next_place : List (ℕ × ℕ) → Place → Place
 next_place units p =
     if nat_lt (suc p.fragment) (packets_at units p.unit) then record { unit = p.unit; fragment = suc p.fragment }
     else record { unit = suc p.unit; fragment = 0 }
 
--- what packet n carries
+-- which fragment of which unit packet n carries
 abbrev pub place_of : List (ℕ × ℕ) → ℕ → Place
 place_of units zero = record { unit = 0; fragment = 0 }
 place_of units (suc n) = next_place units (place_of units n)
@@ -47,30 +47,30 @@ access_unit_of bytes units n = access_unit bytes units (place_of units n).unit
 abbrev pub ends_access_unit : List ℕ → List (ℕ × ℕ) → ℕ → Bool
 ends_access_unit bytes units n = (suc n == all_packets units) || not (access_unit_of bytes units (suc n) == access_unit_of bytes units n)
 
--- which part of a unit fragment k is, if the unit has this many
+-- which part of a unit fragment k is, if the unit has `packets` fragments
 unfoldable pub part_by : ℕ → ℕ → NalPart
 part_by packets k = if packets == 1 then Single else if k == 0 then First else if k + 1 == packets then Last else Middle
 
--- which part of its unit the fragment at a place is
+-- which part of its unit the fragment `p` is
 abbrev pub part_at : List (ℕ × ℕ) → Place → NalPart
 part_at units p = part_by (packets_at units p.unit) p.fragment
 
--- What fragment k carries of `rest`, the bytes of its unit after the first: all of them for a whole unit; for any other
--- fragment its `full_body` bytes, or as many as there are.
+-- What fragment k carries of `rest`, the bytes of its unit after the first byte. If the unit is sent whole, that is all
+-- of `rest`. Otherwise it is `full_body` bytes, or as many as are left.
 abbrev pub body_by : NalPart → ℕ → List ℕ → List ℕ
 body_by Single k rest = rest
 body_by First k rest = take full_body (drop (k * full_body) rest)
 body_by Middle k rest = take full_body (drop (k * full_body) rest)
 body_by Last k rest = take full_body (drop (k * full_body) rest)
 
--- the bytes of a unit after its first
+-- the bytes of a unit after its first byte
 abbrev pub rest_in : List ℕ → ℕ × ℕ → List ℕ
 rest_in bytes unit = take (unit.1 - (unit.0 + 1)) (drop (unit.0 + 1) bytes)
 
--- what fragment k of a unit carries of the bytes after the unit's first
+-- what fragment k of a unit carries of the bytes after the unit's first byte
 abbrev pub body_of : List ℕ → ℕ × ℕ → ℕ → List ℕ
 body_of bytes unit k = body_by (part_by (packets_for unit) k) k (rest_in bytes unit)
 
--- what the fragment at a place carries of the bytes after its unit's first
+-- what the fragment `p` carries of the bytes after its unit's first byte
 unfoldable pub body_at : List ℕ → List (ℕ × ℕ) → Place → List ℕ
 body_at bytes units p = body_of bytes (unit_at units p.unit) p.fragment

@@ -13,7 +13,7 @@ use Rattle.talk_plan.specs.Plan.{IsVideoPlan, most_input}
 use Rattle.talk_video.specs.Units.{units_fault}
 use Rattle.talk_video.specs.Video.{cvf_packet}
 
--- unit i of a byte stream, as the list has it
+-- unit i of a byte stream, as an entry of the list
 abbrev pub unit_in : List ℕ → ℕ → NalUnit
 unit_in bytes i = record {
   from = (unit_at (nal_units bytes) i).0;
@@ -35,14 +35,14 @@ pub record IsInside (bytes : List ℕ) (unit : ℕ × ℕ) : Type 0 where
 abbrev pub AreInside : List ℕ → ℕ → Type 0
 AreInside bytes number = (i : ℕ) → i < number → IsInside bytes (unit_at (nal_units bytes) i)
 
--- all units of a byte stream, with the number of packets that carry them
+-- `units` lists all units of a byte stream, and `packets` is the number of packets that carry them
 pub record HasListed (bytes : List ℕ) (units : List NalUnit) (packets : ℕ) : Type 0 where
   pub units_are : units ≡ first_units bytes (length (nal_units bytes))
   pub inside : AreInside bytes (length (nal_units bytes))
   pub packets_are : packets ≡ all_packets (nal_units bytes)
   pub few : packets ≤ most_input
 
--- a plan of H.264, with the units of a byte stream that has no fault
+-- a plan of H.264, a byte stream without a fault, and the list of its units
 pub record IsVideo (v : VideoStream) : Type 0 where
   pub plan : IsVideoPlan v.plan
   pub kind : v.plan.kind ≡ H264 v.last_stamp
@@ -53,7 +53,7 @@ pub record IsVideo (v : VideoStream) : Type 0 where
   pub packets : v.packets ≡ all_packets (nal_units v.input.now)
   pub few : v.packets ≤ most_input
 
--- a stream of H.264 of this plan and this byte stream
+-- `v` is the stream of H.264 of this plan and this byte stream
 pub record IsVideoOf (plan : TalkPlan) (input : List ℕ) (v : VideoStream) : Type 0 where
   pub video : IsVideo v
   pub plan_is : v.plan ≡ plan
@@ -63,7 +63,7 @@ pub record IsVideoOf (plan : TalkPlan) (input : List ℕ) (v : VideoStream) : Ty
 abbrev pub video_packet : VideoStream → ℕ → Cvf
 video_packet v n = cvf_packet v.last_stamp v.plan v.input.now (nal_units v.input.now) n
 
--- a stream of H.264 has a packet n
+-- the stream of H.264 has a packet n
 pub record IsPacketOfVideo (v : VideoStream) (n : ℕ) : Type 0 where
   pub video : IsVideo v
   pub known : n < v.packets

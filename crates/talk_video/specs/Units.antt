@@ -1,4 +1,4 @@
--- The NAL units that are sent of a byte stream.
+-- Which NAL units of a byte stream are sent.
 use Rattle.std.specs.Prelude.{ℕ, ◌+◌, ◌-◌, ◌==◌, Bool, not, List, [], ◌∷◌, length, Option, Some, None}
 use Rattle.std.specs.List.{list_any, range_with_len}
 use Rattle.cvf_format.specs.AnnexB.{is_start_code, nal_units}
@@ -13,15 +13,15 @@ use Rattle.talk_plan.specs.Rows.{Row, first_of, row}
 abbrev pub has_start_code : List ℕ → Bool
 has_start_code bytes = list_any (is_start_code bytes) (range_with_len 0 (length bytes))
 
--- a unit has a type that no packet carries (RFC 6184, 5.4)
+-- a unit has a type that no packet can carry (RFC 6184, 5.4)
 abbrev pub has_other_type : List ℕ → Bool
 has_other_type bytes = list_any (λ unit. not (is_single_type (type_in bytes unit))) (nal_units bytes)
 
--- the most packets of an access unit, so that no two of them have the same sequence number
+-- the most packets of an access unit; their sequence numbers all differ
 abbrev pub most_packets : ℕ
 most_packets = 255
 
--- an access unit needs more than 255 packets, so two of them would be 255 apart
+-- an access unit needs more than 255 packets: for some n, packets n and n + 255 are of the same access unit
 abbrev pub has_long_access_unit : List ℕ → Bool
 has_long_access_unit bytes =
     list_any (λ n. access_unit_of bytes (nal_units bytes) n == access_unit_of bytes (nal_units bytes) (n + most_packets))
@@ -38,11 +38,11 @@ unit_faults bytes =
 unfoldable pub units_fault : List ℕ → Option TalkFault
 units_fault bytes = first_of (unit_faults bytes)
 
--- the NAL units that are sent of a byte stream: all if it has no fault, else none
+-- the NAL units of a byte stream that are sent: all if there is no fault, else none
 abbrev pub units_by : Option TalkFault → List ℕ → List (ℕ × ℕ)
 units_by None bytes = nal_units bytes
 units_by (Some fault) bytes = []
 
--- the NAL units that are sent of a byte stream, which are none if it has a fault
+-- the NAL units of a byte stream that are sent: none if it has a fault
 unfoldable pub sent_units : List ℕ → List (ℕ × ℕ)
 sent_units bytes = units_by (units_fault bytes) bytes

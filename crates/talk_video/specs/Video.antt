@@ -27,19 +27,19 @@ video_due plan bytes units n = access_instant plan (access_unit_of bytes units n
 abbrev pub video_arrival : TalkPlan → List ℕ → List (ℕ × ℕ) → ℕ → ℕ
 video_arrival plan bytes units n = video_due plan bytes units n - plan.lead
 
--- The stamp of a packet with this part of a NAL unit: the instant of its access unit; or none, if only packets that end
--- a NAL unit are stamped and this one does not.
+-- The stamp of a packet that carries `part` of a NAL unit: the instant of the unit's access unit. If only last
+-- fragments are stamped and `part` does not complete the unit, there is no stamp.
 abbrev pub stamp_by : Bool → NalPart → ℕ → Option ℕ
 stamp_by last_stamp part instant = if last_stamp && not (completes part) then None else Some instant
 
--- the instant in the timestamp of packet n, if it is stamped
+-- the instant in the timestamp of packet n, if the packet is stamped
 abbrev pub video_stamp : Bool → TalkPlan → List ℕ → List (ℕ × ℕ) → ℕ → Option ℕ
 video_stamp last_stamp plan bytes units n = stamp_by last_stamp (part_at units (place_of units n)) (video_due plan bytes units n)
 
 -- ---- packets
 
--- packet n, which carries this part of a NAL unit: `nal` is the first byte of the unit, and `body` are the later bytes of it in
--- the packet
+-- Packet n, which carries `part` of a NAL unit. `nal` is the first byte of the unit, and `body` is what the packet
+-- carries of the unit's later bytes.
 abbrev pub cvf_by : NalPart → Option ℕ → TalkPlan → ℕ → Bool → ℕ → ℕ → List ℕ → Cvf
 cvf_by part stamp plan n marker instant nal body = record {
   header = header_of cvf_subtype stamp plan n (header_size part - 24 + length body);
@@ -53,20 +53,20 @@ cvf_by part stamp plan n marker instant nal body = record {
   reserved = false;
 }
 
--- packet n of these units of a byte stream
+-- packet n of those that carry `units` of a byte stream
 abbrev pub cvf_packet : Bool → TalkPlan → List ℕ → List (ℕ × ℕ) → ℕ → Cvf
 cvf_packet last_stamp plan bytes units n =
     let place = place_of units n in
     cvf_by (part_at units place) (video_stamp last_stamp plan bytes units n) plan n (ends_access_unit bytes units n)
     (video_due plan bytes units n) (nal_in bytes (unit_at units place.unit)) (body_at bytes units place)
 
--- packet n of what is sent of a byte stream
+-- packet n of those that are sent for a byte stream
 abbrev pub sent_packet : Bool → TalkPlan → List ℕ → ℕ → Cvf
 sent_packet last_stamp plan bytes n = cvf_packet last_stamp plan bytes (sent_units bytes) n
 
 -- ---- the journal's times
 
--- the times of the packets of these units
+-- the times of the packets that carry `units`
 abbrev pub video_times : Bool → TalkPlan → List ℕ → List (ℕ × ℕ) → Journal
 video_times last_stamp plan bytes units = record {
   kind = H264 (λ n. part_of (part_at units (place_of units n)));
@@ -81,7 +81,7 @@ video_times last_stamp plan bytes units = record {
 
 -- ---- H.264
 
--- the journal of a plan of H.264: the packets that these units of the input make
+-- the journal of a plan of H.264: the packets that carry `units` of the input
 abbrev pub video_journal : Bool → TalkPlan → List ℕ → List (ℕ × ℕ) → PacketJournal
 video_journal last_stamp plan input units = record {
   times = video_times last_stamp plan input units;

@@ -5,8 +5,9 @@ ghost use Rattle.std.specs.List.{flat_map, range_with_len};
 ghost use Rattle.talk_video.specs.AccessUnits.{HasSlice, access_unit, may_begin, unit_at};
 ghost use Rattle.talk_video.specs.Fragments.{body_of, packets_at, packets_before, packets_for, place_of, rest_in};
 
-/// The first NAL unit is in access unit 0. Each later one is in the access unit of the unit before it, or in the next: in the
-/// next exactly if that access unit has a slice already, and the unit is one of those that begin an access unit.
+/// The first NAL unit is in access unit 0. Each later unit is in the access unit of its predecessor, or in the next
+/// one. It is in the next one exactly if the predecessor's access unit has a slice already and the unit is one that can
+/// begin an access unit.
 pub fn access_units_begin()
     ensures first { (bytes : List ℕ) (units : List (ℕ × ℕ)) → access_unit bytes units 0 ≡ 0 }
     ensures further { (bytes : List ℕ) (units : List (ℕ × ℕ)) (i : ℕ)
@@ -15,8 +16,9 @@ pub fn access_units_begin()
         → access_unit bytes units (suc i) ≡ suc (access_unit bytes units i) ↔ (HasSlice bytes units i × (may_begin bytes (unit_at units (suc i)) ≡ true)) }
 {}
 
-/// Packet `n` of H.264 carries fragment `k` of unit `i` exactly if the number of packets before it is that of the units before
-/// `i` plus `k`. The first byte of a unit, followed by what its packets carry, is the unit.
+/// Packet `n` of H.264 carries fragment `k` of unit `i` exactly if unit `i` has more than `k` fragments and `n` is `k`
+/// plus the number of packets of the units before `i`. What the packets of a unit carry after the unit's first byte is,
+/// put together, all of the unit after that byte.
 pub fn units_are_carried()
     ensures place { (units : List (ℕ × ℕ)) (n i k : ℕ)
         → place_of units n ≡ record { unit = i; fragment = k } ↔ ((packets_before units i + k ≡ n) × (k < packets_at units i)) }

@@ -26,7 +26,7 @@ const MOST_PACKETS: u64 = 255;
 /// A NAL unit, and which packets of the stream carry it.
 #[derive(Clone, Copy, Debug)]
 pub struct NalUnit {
-    /// The place of its first byte, and the place after its last.
+    /// The offset of its first byte, and the offset after its last.
     pub from: usize,
     pub to: usize,
     /// Its access unit, from 0.
@@ -35,23 +35,23 @@ pub struct NalUnit {
     pub first: u64,
 }
 
-/// The NAL units of a byte stream, one after another. One walk finds faults and needs no memory, and a second one lists the
-/// units, so a fault is found even if memory runs out.
+/// A walk over the NAL units of a byte stream. A first walk finds faults and needs no memory; a second one lists the
+/// units. So a fault is found even if memory runs out.
 #[derive(Clone, Copy, Debug)]
 pub struct Units {
     /// How many units were passed, and where the last one of them ends.
     number: usize,
     at: usize,
-    /// Their last access unit has a slice.
+    /// The last access unit of the units that were passed has a slice.
     sliced: bool,
-    /// How many of them began a new access unit.
+    /// How many of the units that were passed begin a new access unit.
     begun: u64,
-    /// How many packets carry them, and how many of these come before their last access unit.
+    /// How many packets carry the units that were passed, and how many of these packets precede the last access unit.
     packets: u64,
     before: u64,
 }
 
-/// The type of the unit that begins at a place.
+/// The type of the unit from offset `from` to `to`.
 fn unit_type(bytes: &[u8], from: usize, to: usize) -> u8
     requires { IsInside bytes.now (from, to) }
     ensures { result ≡ type_in bytes.now (from, to) }
@@ -77,7 +77,7 @@ fn is_first_slice(bytes: &[u8], from: usize, to: usize) -> bool
     from + 1 < to && bit_at(bytes, from + 1, 0)
 }
 
-/// Whether a unit begins an access unit if the current one has a slice (ITU-T H.264, 7.4.1.2.3).
+/// Whether a unit begins an access unit if the current access unit has a slice (ITU-T H.264, 7.4.1.2.3).
 #[tactic(auto, unfolding(crate::specs::AccessUnits::may_begin))]
 fn may_begin(bytes: &[u8], from: usize, to: usize) -> bool
     requires { IsInside bytes.now (from, to) }
@@ -105,7 +105,7 @@ impl Units {
         }
     }
 
-    /// A unit begins a new access unit after those that were passed.
+    /// After the units that were passed, the unit from `from` to `to` begins a new access unit.
     fn is_begun(&self, bytes: &[u8], from: usize, to: usize) -> bool
         requires { IsInside bytes.now (from, to) }
         ensures { result ≡ is_begun_by bytes.now self.now (from, to) }
@@ -113,7 +113,7 @@ impl Units {
         self.sliced && may_begin(bytes, from, to)
     }
 
-    /// The walk after one more unit.
+    /// The walk after it has passed one more unit.
     fn with(&self, bytes: &[u8], from: usize, to: usize) -> Self
         requires walk { IsWalk bytes.now self.now }
         requires unit { IsInside bytes.now (from, to) }
@@ -131,7 +131,7 @@ impl Units {
         }
     }
 
-    /// The next unit. `None` if there is none.
+    /// The next unit, or `None` after the last one.
     pub fn next(&mut self, bytes: &[u8]) -> Option<NalUnit>
         requires walk { IsWalk bytes.now self.old }
         requires limit { length bytes.now ≤ most_input }
@@ -150,7 +150,7 @@ impl Units {
     }
 }
 
-/// A packet can carry the unit that begins at a place: its type is 1 to 23 (RFC 6184, 5.4).
+/// A packet can carry the unit from `from` to `to`: its type is 1 to 23 (RFC 6184, 5.4).
 fn has_single_type(bytes: &[u8], from: usize, to: usize) -> bool
     requires { IsInside bytes.now (from, to) }
     ensures { result ≡ is_single_type (type_in bytes.now (from, to)) }

@@ -25,7 +25,7 @@ use talk_plan::{ETHERNET_HEADER, TalkFault, TalkPlan, write_ethernet};
 #[derive(Debug, Drop)]
 pub struct VideoStream<'a> {
     pub plan: TalkPlan,
-    /// A NAL unit is stamped only on its last fragment.
+    /// Each NAL unit is stamped only on its last fragment.
     pub last_stamp: bool,
     pub input: &'a [u8],
     pub units: Vec<NalUnit>,
@@ -33,13 +33,13 @@ pub struct VideoStream<'a> {
     pub packets: u64,
 }
 
-/// The bytes of a NAL unit after its first byte that each of its fragments carries, except the last.
+/// How many bytes of a NAL unit each of its fragments carries, except the last. The unit's first byte is not counted.
 const FULL_BODY: usize = 1398;
 
-/// The bytes of a packet that its stated length does not count.
+/// How many bytes of a packet its stated length does not count.
 const UNCOUNTED: usize = 24;
 
-/// Which part of a unit fragment `k` is, if the unit has this many.
+/// Which part of a unit fragment `k` is, if the unit has `packets` fragments.
 #[tactic(auto, unfolding(crate::specs::Fragments::part_by))]
 fn part_by(packets: u64, k: u64) -> NalPart
     requires { k < packets }
@@ -56,7 +56,7 @@ fn part_by(packets: u64, k: u64) -> NalPart
     }
 }
 
-/// The bytes that the stated length counts before the body: the H.264 timestamp, and the headers of the part.
+/// How many bytes the stated length counts before the body: the H.264 timestamp, and the headers of the part.
 fn counted_header(part: NalPart) -> usize
     ensures { result ≡ header_size part - 24 }
 {
@@ -66,7 +66,7 @@ fn counted_header(part: NalPart) -> usize
     }
 }
 
-/// Fragment `k` of the bytes of a unit after its first.
+/// Fragment `k` of `rest`, the bytes of a unit after its first byte.
 fn fragment(rest: &[u8], k: usize) -> &[u8]
     requires { k * 1398 ≤ length rest.now }
     ensures value { result.now ≡ take 1398 (drop (k * 1398) rest.now) }
@@ -98,7 +98,7 @@ impl NalUnit {
         part_by(self.packets(), n - self.first)
     }
 
-    /// The bytes of the unit after its first that packet `n` carries.
+    /// What packet `n` carries of the unit's bytes after its first byte.
     fn body<'a>(&self, bytes: &'a [u8], n: u64) -> &'a [u8]
         requires { IsCarried bytes.now self.now n }
         ensures value { result.now
@@ -140,8 +140,7 @@ impl<'a> VideoStream<'a> {
         })
     }
 
-    /// The place of the unit that packet `n` carries, by binary search in the list of units, which has the first packet of
-    /// each.
+    /// The index of the unit that packet `n` carries: a binary search in the list of units by the first packet of each.
     fn place_of_unit(&self, n: u64) -> usize
         requires { IsPacketOfVideo self.now n }
         ensures value { result ≡ (place_in self.now n).unit }
@@ -186,7 +185,7 @@ impl<'a> VideoStream<'a> {
         (self.instant(self.unit_of(n).access_unit) - u64::from(self.plan.lead)) as i64
     }
 
-    /// The instant in the timestamp of a packet with this part of a unit.
+    /// The instant in the timestamp of a packet that carries `part` of a unit, if it is stamped.
     fn stamp(&self, part: NalPart, instant: u64) -> Option<u64>
         ensures { result ≡ stamp_by self.now.last_stamp part instant }
     {
@@ -196,7 +195,7 @@ impl<'a> VideoStream<'a> {
         }
     }
 
-    /// Packet `n`, which is of this access unit, is the last one of it.
+    /// Packet `n` is the last one of its access unit, which is `access_unit`.
     fn ends_access_unit(&self, n: u64, access_unit: u64) -> bool
         requires packet { IsPacketOfVideo self.now n }
         requires access_unit { access_unit ≡ access_unit_of self.now.input.now (nal_units self.now.input.now) n }

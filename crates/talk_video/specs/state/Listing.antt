@@ -12,12 +12,12 @@ use Rattle.talk_video.specs.Units.{most_packets}
 use Rattle.talk_video.specs.declared.video.VideoStream.{VideoStream}
 use Rattle.talk_plan.specs.Plan.{most_input}
 
--- how many packets carry the units before the access unit that is current before unit i
+-- how many packets precede the access unit of unit i - 1
 abbrev pub packets_behind : List ℕ → List (ℕ × ℕ) → ℕ → ℕ
 packets_behind bytes units zero = 0
 packets_behind bytes units (suc i) = if begins bytes units i then packets_before units i else packets_behind bytes units i
 
--- the walk has passed a number of the first units
+-- the walk `u` has passed the first `u.number` units
 pub record IsWalk (bytes : List ℕ) (u : Units) : Type 0 where
   pub known : u.number ≤ length (nal_units bytes)
   pub rest : drop u.number (nal_units bytes) ≡ units_from bytes u.at
@@ -31,11 +31,11 @@ pub record IsWalk (bytes : List ℕ) (u : Units) : Type 0 where
   pub few_packets : u.packets ≤ u.at
   pub order : u.before ≤ u.packets
 
--- a unit after those that were passed begins a new access unit
+-- after the units that the walk has passed, `unit` begins a new access unit
 abbrev pub is_begun_by : List ℕ → Units → ℕ × ℕ → Bool
 is_begun_by bytes u unit = u.sliced && may_begin bytes unit
 
--- the walk after one more unit
+-- the walk after it has passed one more unit
 abbrev pub walked : List ℕ → Units → ℕ × ℕ → Units
 walked bytes u unit = record {
   number = u.number + 1;
@@ -46,7 +46,7 @@ walked bytes u unit = record {
   before = if is_begun_by bytes u unit then u.packets else u.before;
 }
 
--- unit i is the next one of the walk
+-- `unit` is unit i of the byte stream, and `next` is i + 1
 pub record IsNext (bytes : List ℕ) (i next : ℕ) (unit : NalUnit) : Type 0 where
   pub known : i < length (nal_units bytes)
   pub is_unit : unit ≡ unit_in bytes i
@@ -54,18 +54,18 @@ pub record IsNext (bytes : List ℕ) (i next : ℕ) (unit : NalUnit) : Type 0 wh
   pub some : unit.from < unit.to
   pub inside : unit.to ≤ length bytes
 
--- all units were passed before, and the walk is unchanged
+-- the walk had passed all units before, and is unchanged
 pub record IsEnded (bytes : List ℕ) (old new : Units) : Type 0 where
   pub all : old.number ≡ length (nal_units bytes)
   pub same : new ≡ old
 
--- an access unit of the first `number` units needs too many packets
+-- an access unit of the first i units needs more than 255 packets
 abbrev pub is_long_in : List ℕ → List (ℕ × ℕ) → ℕ → Bool
 is_long_in bytes units zero = false
 is_long_in bytes units (suc i) =
     is_long_in bytes units i || nat_lt most_packets (packets_before units (suc i) - packets_behind bytes units (suc i))
 
--- packet n carries a fragment of a unit of a byte stream, or all of it
+-- packet n carries the unit or a fragment of the unit, which is within the byte stream
 pub record IsCarried (bytes : List ℕ) (unit : NalUnit) (n : ℕ) : Type 0 where
   pub some : unit.from < unit.to
   pub inside : unit.to ≤ length bytes
@@ -73,17 +73,17 @@ pub record IsCarried (bytes : List ℕ) (unit : NalUnit) (n : ℕ) : Type 0 wher
   pub begun : unit.first ≤ n
   pub within : n < unit.first + packets_for (unit.from, unit.to)
 
--- what packet n of a stream carries
+-- which fragment of which unit packet n of the stream carries
 abbrev pub place_in : VideoStream → ℕ → Place
 place_in v n = place_of (nal_units v.input.now) n
 
--- the unit that packet n of a stream carries
+-- `unit` is the unit that packet n of the stream carries, whole or in part
 pub record IsUnitAt (v : VideoStream) (n : ℕ) (unit : NalUnit) : Type 0 where
   pub value : unit ≡ unit_in v.input.now (place_in v n).unit
   pub carried : IsCarried v.input.now unit n
   pub few : unit.access_unit ≤ most_input
 
--- packet n carries a fragment of this unit, or all of it
+-- packet n carries the unit or a fragment of it
 pub record IsFragmentAt (unit : NalUnit) (n : ℕ) : Type 0 where
   pub some : unit.from < unit.to
   pub limit : unit.to ≤ most_input
