@@ -1,4 +1,4 @@
--- AM824 is a format of audio.
+-- AM824 fulfils `IsFormatOf`.
 use Rattle.std.proofs.Common.{◌≡◌, ◌⊎◌, inl, inr, ℕ, zero, suc, ◌+◌, ◌-◌, ◌*◌, ◌%◌, ◌^◌, ◌<◌, ◌≤◌, Bool, true, false, List, [], ◌++◌, length, take, replicate}
 use Rattle.std.proofs.Common.{Some, None, refl, subst, sym, ap, ◌∙◌, arith}
 use Rattle.std.specs.Prelude.{◌==◌, if◌then◌else◌, nat_lt, flat_map, unwrap_or}
@@ -64,7 +64,7 @@ some_silent size k n e few =
     let long : size ≡ length (silent_quadlets k) = e ∙ sym (length-silent k) in
     rw (whole, long) (take-append_seam (silent_quadlets k) (silent_quadlets (n - k)))
 
--- as much silence as a packet holds
+-- the start of `silent_quadlets 369` is a packet of silence
 pub packet_of_silence : (f : Am824Format) (plan : TalkPlan) → IsAudioPlan plan → IsAm824 f plan
     → take (plan.count * block_size plan.channels) (silent_quadlets 369) ≡ (am824 plan).silence
 packet_of_silence f plan p is =
@@ -90,7 +90,8 @@ standard (suc (suc (suc (suc (suc (suc (suc fdf))))))) interval few e = absurd (
 interval_is : (f : Am824Format) (plan : TalkPlan) → IsAm824 f plan → interval_of plan.rate ≡ f.interval
 interval_is f plan is = rw (is.code, is.interval) refl
 
--- x and n are the numbers of two first blocks; the later is counted from a stamped block of the earlier packet
+-- If the later packet has no stamped block and is counted from a block of the earlier one, that is the block that the
+-- earlier packet stamps.
 between : (x y n count interval : ℕ) → IsInterval interval → x + y ≡ n → count ≤ (interval - n % 256 % interval) % interval → 1 ≤ n % 256 % interval
     → n % 256 % interval ≤ y → y < n % 256 % interval + count → (interval - x % 256 % interval) % interval + n % 256 % interval ≡ y
 between x y n count interval (inl e) sum unstamped some from to = rw e (between_8 (rw e at unstamped) (rw e at some) (rw e at from) (rw e at to))
@@ -161,7 +162,7 @@ some_interval_of interval (inl e) = omega arith
 some_interval_of interval (inr (inl e)) = omega arith
 some_interval_of interval (inr (inr e)) = omega arith
 
--- a packet without a timestamp is counted from one at most 7 before it, which has one
+-- a packet without a timestamp is counted from a stamped packet at most 7 before it
 blocks_found : (plan : TalkPlan) (n : ℕ) → IsAudioPlan plan → IsInterval (interval_of plan.rate) → interval_of plan.rate ≤ 8 * plan.count
     → plan.count ≤ (interval_of plan.rate - dbc_of plan n % interval_of plan.rate) % interval_of plan.rate → 7 ≤ n → IsFound (am824_kind plan) plan.count n
 blocks_found plan n p of eighth unstamped behind =
@@ -184,7 +185,7 @@ blocks_found plan n p of eighth unstamped behind =
 goes_on : (m c : ℕ) → (m + c) % 256 ≡ (m % 256 + c) % 256
 goes_on m c = omega arith
 
--- the stream begins with block 0
+-- the stamped block of packet 0 is its first one
 first_block : (plan : TalkPlan) (interval : ℕ) → IsInterval interval → (interval - 0 * plan.count % 256 % interval) % interval ≡ 0
 first_block plan interval of = let none : 0 * plan.count ≡ 0 = omega arith in rw none (none_left interval of)
   where
@@ -228,7 +229,7 @@ fewer_than interval i count some e =
     let most = mod_below i interval some in
     omega arith
 
--- if packets have no timestamp, a packet has fewer blocks than the interval
+-- a packet without a stamped block has fewer blocks than the interval
 fewer : (dbc interval count : ℕ) → IsInterval interval → nat_lt ((interval - dbc % interval) % interval) count ≡ false → count < interval
 fewer dbc interval count (inl e) unstamped = rw e (fewer_than 8 (8 - dbc % 8) count (omega arith) (rw e at unstamped))
 fewer dbc interval count (inr (inl e)) unstamped = rw e (fewer_than 16 (16 - dbc % 16) count (omega arith) (rw e at unstamped))
@@ -299,7 +300,7 @@ packet_is f plan packets n blocks p is id size =
       count = refl;
     }
 
--- ---- all of it
+-- ---- the format
 
 pub am824_format : (f : Am824Format) (plan : TalkPlan) → IsAudioPlan plan → IsAm824 f plan → IsFormatOf plan (am824 plan) 50
 am824_format f plan p is =

@@ -27,7 +27,7 @@ use Rattle.talk_clock.proofs.ClockRules.{pair_from_at}
 
 -- ---- the timestamps of the stream on the clock
 
--- the times of a stream whose plan has this clock, or none
+-- the times of a stream whose plan has the clock `crf`, if any
 abbrev pub times_with : Option CrfPlan → Kind → TalkPlan → ℕ → Journal
 times_with crf kind plan packets = record (audio_times kind plan packets) {
   stamp = λ n. (if is_stamped (rule_of kind n) n plan.count then Some (stamped_by crf plan n (stamped_index (rule_of kind n))) else None);
@@ -49,7 +49,7 @@ stamp_by kind plan crf n instant true k e h = record {
 }
 stamp_by kind plan crf n instant false k e h = absurd cc
 
--- a run has whole points
+-- the `spacing` sample frames that begin at a point belong to the point's run
 points_in_run : (r : Option ℕ) (crf : CrfPlan) (rate count packets s : ℕ) → r ≡ Some packets → AreWhole crf rate count r
     → suc (s - first_by (points_per crf rate count r) (run_by (points_per crf rate count r) s)) * spacing_of crf rate ≤ packets * count
 points_in_run None crf rate count packets s e is = absurd cc
@@ -72,7 +72,7 @@ events_in_run (Some k) count jump packets n i ok e within =
     let times : (n - n / k * k + 1) * count ≤ k * count = mul-le-mul_right count (omega arith) in
     rw (← same) (omega arith)
 
--- the pair that covers a timestamp is of the packet's run
+-- Packet n is of the run of point s, and point s + 1 is the last point up to the event that the packet stamps.
 record IsTold (kind : Kind) (plan : TalkPlan) (crf : CrfPlan) (n s : ℕ) : Type 0 where
   run : run_at plan crf s ≡ run_of plan n
   at : stamped_event kind plan n / spacing_of crf plan.rate ≡ suc (place_of plan crf s)
@@ -108,7 +108,7 @@ told_by (Some packets) kind plan crf n s p e restart beside within covers =
       ]
     ]
 
--- what is known of a timestamp that a pair covers
+-- what follows if the pair of the clock's timestamps at `a` and `b` covers the timestamp of packet n
 record IsCoveredBy (kind : Kind) (plan : TalkPlan) (crf : CrfPlan) (packets n instant : ℕ) (a b : Place) : Type 0 where
   told : IsTold kind plan crf n (number crf a)
   stamp : IsStampOf kind plan crf n instant
@@ -151,7 +151,7 @@ one_place size a b first second same =
     let P : ℕ → ℕ → Place = λ x y. record { packet = x; at = y } in
     ap (λ (x : ℕ). P x a.at) packet ∙ ap (P b.packet) at
 
--- point s is known by its run and its place there
+-- points of the same run with the same index in the run are the same point
 one_number : (plan : TalkPlan) (crf : CrfPlan) (s t : ℕ) → run_at plan crf s ≡ run_at plan crf t → place_of plan crf s ≡ place_of plan crf t → s ≡ t
 one_number plan crf s t run place =
     let here = begun_by (per plan crf) s in

@@ -1,4 +1,4 @@
--- When the packets of a kind are due.
+-- When the packets of an audio stream are due.
 use Rattle.std.proofs.Common.{subst, zero, suc, ◌%◌, ◌≡◌, ℕ, ◌+◌, ◌-◌, ◌*◌, ◌<◌, ◌≤◌, Bool, true, false, ℤ, pos, neg_ℤ, nat_abs, ◌+ℤ◌, ◌-ℤ◌, ◌*ℤ◌, Option, Some}
 use Rattle.std.proofs.Common.{None, inl, inr, refl, ap, ◌∙◌, arith, ◌^◌, List, length}
 use Rattle.std.specs.Prelude.{IsSome, ◌==◌, if◌then◌else◌, nat_le, option_map}
@@ -36,14 +36,14 @@ use Rattle.talk_plan.proofs.TimingLemmas.{apart, is_offset, sum_of}
 use Rattle.stream_journal.proofs.TrueHeads.{flag_of, one_flag}
 use Rattle.time_unfold.proofs.Floors.{one_more}
 
--- ---- what kinds of audio keep
+-- ---- what holds for kinds of audio
 
--- an unstamped packet is counted from a sample of a packet at most 7 before it, and the numbers of events agree
+-- packet n is counted from the stamped sample of a packet at most 7 before it, at the distance `far`
 pub record IsCountedBack (kind : Kind) (count n : ℕ) (far : Distance) : Type 0 where
   pub few : far.packets ≤ 7
   pub place : stamped_index (rule_of kind (n - far.packets)) + far.samples ≡ far.packets * count
 
--- the packet that an unstamped packet is counted from is stamped
+-- packet n is counted from a stamped packet at most 7 before it
 pub record IsFound (kind : Kind) (count n : ℕ) : Type 0 where
   pub far : Distance
   pub is_far : distance (rule_of kind n) n count ≡ Some far
@@ -62,7 +62,8 @@ pub record IsKindOf (plan : TalkPlan) (kind : Kind) : Type 0 where
 
 -- ---- the head of a packet
 
--- The head is near the nominal instant of an event of the packet's run, and the packet is not due before instant 0.
+-- The head's instant is near the nominal instant of an event of packet n's run. Counted from the head, packet n is not
+-- due before instant 0.
 pub record IsCounted (plan : TalkPlan) (n : ℕ) (head : Head) : Type 0 where
   pub event : ℕ
   pub stamp : ℕ
@@ -71,7 +72,7 @@ pub record IsCounted (plan : TalkPlan) (n : ℕ) (head : Head) : Type 0 where
   pub room : run_start plan (run_of plan n) + nominal_offset plan.rate event + 1 ≤ stamp + first_instant plan n
   pub first : head.first ≡ pos (event_of plan n 0) -ℤ pos event
 
--- only the first packet can be at an instant below 3
+-- the first instant of packet n is at least 1, because the lead is
 pub some_instant : (plan : TalkPlan) (n : ℕ) → IsAudioPlan plan → 1 ≤ first_instant plan n
 unfolding nominal_instant
 some_instant plan n p = omega (arith, p.some_lead)
@@ -106,7 +107,7 @@ pub stamp_is : (b : Bool) (first instant : ℕ) → (if b then Some first else N
 stamp_is true first instant e = cc
 stamp_is false first instant e = absurd cc
 
--- the stream begins with event 0
+-- packet 0 begins with event 0
 event_none : (plan : TalkPlan) (n : ℕ) → n ≡ 0 → event_of plan n 0 ≡ 0
 event_none plan n none =
     let before : n - first_packet plan (run_of plan n) ≡ 0 = omega arith in
@@ -162,7 +163,7 @@ from_by kind plan n far head true true e f h = stamped_by (is_stamped (rule_of k
         } ≡ head = cc in
         rw (← same) (record { back = before far.packets n e; one_run = one_flag (mr_of plan (n - far.packets)) (mr_of plan n) f; instant = refl; first = refl })
 
--- d packets later in one run
+-- within a run, the number of packet n's first event is `samples` above that of sample frame i of packet m
 same_run : (plan : TalkPlan) (m d n i samples : ℕ) → IsAudioPlan plan → m + d ≡ n → run_of plan m ≡ run_of plan n → i + samples ≡ d * plan.count
     → event_of plan m i + samples ≡ event_of plan n 0
 same_run plan m d n i samples p place same sum =
@@ -224,7 +225,7 @@ record IsNearby (x : ℤ) (first : ℕ) : Type 0 where
   from : due ≤ first
   to : first ≤ due + 1
 
--- the instant that is this many samples before a stamp
+-- at the nominal rate, the instant `due` is `index` samples before `stamp`
 at_before : (due stamp index rate : ℕ) → IsBefore rate due stamp index → IsAt (nominal_line (pos stamp) rate) (neg_ℤ (pos index) +ℤ pos 0) (pos due)
 at_before due stamp index rate is =
     let z : ℤ = pos due -ℤ pos stamp in
@@ -234,7 +235,8 @@ at_before due stamp index rate is =
     let to = is.to in
     record { not_after = omega (arith, ints); last = omega (arith, ints) }
 
--- event e0 is c nanoseconds before the stamp of event e, or a nanosecond less; c is the time of i events, rounded up
+-- If `c` is the time of i events, rounded up, the nominal instants of events e0 and e0 + i are c or c - 1 nanoseconds
+-- apart.
 before_event : (start q f c e e0 i rate : ℕ) → 1 ≤ start → e0 + i ≡ e → 0 < rate → q * rate ≤ e * 1000000000 → e * 1000000000 < q * rate + rate
     → f * rate ≤ e0 * 1000000000 → e0 * 1000000000 < f * rate + rate → i * 1000000000 ≤ c * rate → c * rate < i * 1000000000 + rate
     → (c ≤ start + q) × (start + q ≤ start + f + c) × (start + f + c ≤ start + q + 1)
@@ -259,7 +261,7 @@ before_event start q f c e e0 i rate some sum some_rate under over least most fr
       | inr h ↦ omega arith
     ]
 
--- a sample that is counted b events forward from a nominal instant is near its own
+-- counted `b` events forward from a nominal instant, a sample frame is at its own nominal instant or 1 ns before it
 forward : (start e b e0 rate : ℕ) → 0 < rate → e + b ≡ e0
     → IsNearby (instant_at (nominal_line (pos (start + nominal_offset rate e)) rate) (pos b +ℤ pos 0)) (start + nominal_offset rate e0)
 forward start e b e0 rate some sum =
@@ -267,7 +269,7 @@ forward start e b e0 rate some sum =
     let none : b + 0 ≡ b = omega arith in
     record { due = start + nominal_offset rate e + nominal_offset rate b; same = rw none refl; from = omega (arith, is.from); to = omega (arith, is.to) }
 
--- a sample that is counted i events back from a nominal instant is near its own
+-- counted `i` events back from a nominal instant, a sample frame is at its own nominal instant or 1 ns before it
 backward : (start e i e0 rate : ℕ) → 1 ≤ start → 0 < rate → e0 + i ≡ e
     → IsNearby (instant_at (nominal_line (pos (start + nominal_offset rate e)) rate) (neg_ℤ (pos i) +ℤ pos 0)) (start + nominal_offset rate e0)
 backward start e i e0 rate some some_rate sum =
@@ -305,7 +307,7 @@ nearby start e e0 rate first some some_rate at = elim (cases_lt e0 e) [
       rw ahead (forward start e (e0 - e) e0 rate some_rate (omega arith))
 ]
 
--- an instant that is counted from one near the nominal one
+-- `x` is at most `late_by` after the nominal instant `first`, and at most `early_by` + 1 ns before it
 record IsNearly (crf : Option CrfPlan) (x : ℤ) (first : ℕ) : Type 0 where
   due : ℕ
   same : x ≡ pos due
@@ -341,7 +343,7 @@ head_nearby kind plan packets n head p counted =
     rw counted.instant (nearly plan.crf start counted.event (event_of plan n 0) plan.rate counted.stamp head.first (omega arith) some counted.first
     counted.near counted.room)
 
--- ---- a packet is due near its first instant, and at the first sample after its head
+-- ---- a packet is due near its first instant, and at its first sample, counted from its head
 
 pub record IsDueNear (kind : Kind) (plan : TalkPlan) (packets n : ℕ) : Type 0 where
   pub from : due_in (nominal_times kind plan packets) n ≤ first_instant plan n + late_by plan.crf
@@ -405,9 +407,9 @@ pub has_head : (kind : Kind) (plan : TalkPlan) (packets n : ℕ) → IsAudioPlan
     → IsSome (head_of (nominal_times kind plan packets) n)
 has_head kind plan packets n p k behind same = has_by kind plan packets n (is_stamped (rule_of kind n) n plan.count) p k refl behind same
 
--- ---- what a format keeps
+-- ---- what holds for a format
 
--- What a format keeps, with the bytes of the headers of its frames.
+-- What holds for an audio format of a plan. `headers` is the number of bytes before the samples in each frame.
 pub record IsFormatOf (plan : TalkPlan) (a : Audio) (headers : ℕ) : Type 0 where
   pub some : 0 < a.frame
   pub size : headers + plan.count * a.frame ≤ 1518
@@ -416,5 +418,5 @@ pub record IsFormatOf (plan : TalkPlan) (a : Audio) (headers : ℕ) : Type 0 whe
   pub bytes : (n : ℕ) (samples : List ℕ) → length samples ≡ plan.count * a.frame → length (packet_bytes (a.packet n samples)) ≡ headers + plan.count * a.frame
   pub packet : (packets n : ℕ) (samples : List ℕ) → plan.id < 2 ^ 64 → length samples ≡ plan.count * a.frame
       → IsPacket a.kind (audio_times a.kind plan packets) plan.id n (a.packet n samples)
-  -- a listener must know when packets without a timestamp come
+  -- if a packet has no timestamp, a listener must expect packets with a lead near the plan's
   pub leads : (lead n : ℕ) → Expects plan lead → is_stamped (rule_of a.kind n) n plan.count ≡ false → IsNearLead plan lead

@@ -1,4 +1,4 @@
--- A plan of audio has a format.
+-- Each plan of audio has a format.
 use Rattle.std.proofs.Common.{◌≡◌, ℕ, ◌*◌, ◌≤◌, Bool, false, List, [], length, Option, Some, None, refl, arith, take, drop, subst}
 use Rattle.std.specs.Prelude.{IsSome}
 use Rattle.talk_plan.specs.declared.plan.TalkPlan.{TalkPlan}
@@ -37,7 +37,7 @@ audio_is (OfAm824 f) plan is = rw is.kind refl
 pub audio_found : (s : AudioStream) → IsAudio s → audio_by s.plan.kind s.plan ≡ Some (audio_of s)
 audio_found s is = audio_is s.format s.plan is.format
 
--- a valid plan has a format
+-- `stream` is an audio stream of the plan
 pub record HasFormat (plan : TalkPlan) : Type 0 where
   pub stream : AudioStream
   pub audio : IsAudio stream
@@ -102,7 +102,7 @@ has_format plan p = has_by plan plan.kind refl p.kind p
 
 -- ---- all frames
 
--- the samples of a packet that the input has completely
+-- if the input has all samples of packet n, these are the packet's samples
 pub whole_of : (s : AudioStream) (input : List ℕ) (n : ℕ) → IsAudio s → samples_size s ≤ length (drop (n * samples_size s) input)
     → take (samples_size s) (drop (n * samples_size s) input) ≡ samples_in (audio_of s) s.plan input n
 whole_of s input n is whole = whole_samples (audio_of s).silence (audio_of s).frame s.plan.count n input (format_of s is).silence whole

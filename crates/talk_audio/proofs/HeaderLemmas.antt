@@ -14,7 +14,7 @@ use Rattle.iec61883_format.specs.Iec.{Iec, iec_layout}
 use Rattle.talk_plan.specs.Ethernet.{packet_bytes}
 use Rattle.avtp_base.proofs.OnlySpelling.{length-spelling}
 
--- the header is that of the journal's packet
+-- the header of packet n agrees with the journal
 pub header_is : (kind : Kind) (plan : TalkPlan) (packets subtype n length : ℕ)
     → IsHeader (audio_times kind plan packets) plan.id n (header_of subtype (stamp_of kind plan n) plan n length)
 header_is kind plan packets subtype n length = record {

@@ -1,4 +1,4 @@
--- PCM is a format of audio.
+-- PCM fulfils `IsFormatOf`.
 use Rattle.std.proofs.Common.{◌∷◌, ◌-◌, ◌≡◌, ℕ, ◌+◌, ◌*◌, ◌^◌, ◌<◌, ◌≤◌, Bool, true, false, ◌%◌, List, [], ◌++◌, length, take, drop, append_assoc, replicate}
 use Rattle.std.proofs.Common.{Some, None, refl, sym, ap, ◌∙◌, arith}
 use Rattle.std.specs.Prelude.{◌==◌, if◌then◌else◌, is_some, unwrap_or}
@@ -53,7 +53,7 @@ zeros f plan p is = take-replicate (plan.count * frame_size plan.channels f.form
 
 -- ---- headers
 
--- the header of packet n, made from that of packet 0
+-- packet 0's header with its first four bytes and its timestamp replaced is packet n's header
 over_header : (format : AafFormat) (sparse : Bool) (plan : TalkPlan) (n : ℕ) (samples first : List ℕ) (h : StreamHeader)
     → first ≡ spelling aaf_layout (aaf_packet format sparse plan 0 [])
     → h ≡ (aaf_packet format sparse plan n samples).header
@@ -66,7 +66,7 @@ over_header format sparse plan n samples first h first_is h_is =
     let third : n % 256 % 256 ≡ n % 256 = omega arith in
     rw (h_is, first_is, second, third) refl
 
--- the frame of packet n, made from both headers of packet 0
+-- the frame of packet n, made from the headers of packet 0's frame
 pub over_first : (format : AafFormat) (sparse : Bool) (plan : TalkPlan) (n : ℕ) (samples headers : List ℕ) (h : StreamHeader)
     → HasHeaders headers (aaf_packet format sparse plan 0 [])
     → h ≡ (aaf_packet format sparse plan n samples).header
@@ -75,7 +75,7 @@ unfolding packet_bytes
 over_first format sparse plan n samples headers h has h_is =
     rw (has.frame, over_header format sparse plan n samples (drop 18 headers) h has.packet h_is) refl
 
--- in a steady stream only the sequence number and the timestamp differ
+-- in a steady stream, packet n's header differs from packet 0's only in the sequence number and the timestamp
 steady_header : (format : AafFormat) (plan : TalkPlan) (n : ℕ) (samples first : List ℕ) (instant : ℕ) → plan.restart ≡ None
     → first ≡ spelling aaf_layout (aaf_packet format false plan 0 []) → instant ≡ stamped_instant plan n 0
     → patched first 2 (n % 256 ∷ []) (instant % 2 ^ 32) ++ samples ≡ aaf_spelling (aaf_packet format false plan n samples)
@@ -94,7 +94,7 @@ over_steady format true plan n samples headers instant steady has stamp =
 over_steady format false plan n samples headers instant steady has stamp =
     rw (has.frame, steady_header format plan n samples (drop 18 headers) instant steady.once has.packet stamp) refl
 
--- both headers of a packet's frame
+-- both headers of a packet's frame, Ethernet's and the packet's
 abbrev pub both_headers : Packet → List ℕ
 both_headers v = spelling (frame_layout true) (ethernet []) ++ spelling aaf_layout v
 
@@ -106,7 +106,7 @@ has_both v =
     let parts = parted (spelling (frame_layout true) (ethernet [])) (spelling aaf_layout v) 18 (length-spelling (frame_layout true) (ethernet [])) in
     record { frame = parts.0; packet = parts.1 }
 
--- a whole header with a part from p to q and four bytes at 12 overwritten
+-- a header of 24 bytes with the bytes from p to q and four bytes at 12 overwritten
 patched_is : (h a t : List ℕ) (p q : ℕ) → length h ≡ 24 → p + length a ≡ q → q ≤ 12
     → take 12 (take p h ++ (a ++ drop q h)) ++ (t ++ drop 16 (take p h ++ (a ++ drop q h)))
     ≡ take p h ++ (a ++ (take (12 - q) (drop q h) ++ (t ++ take 8 (drop 16 h))))
@@ -121,7 +121,7 @@ patched_is h a t p q lh la few =
     ∙ sym (take_all 8 (drop 16 h) (omega (arith, length-drop 16 h, lh))) in
     rw (whole, front, end) simp append_assoc
 
--- both headers of a frame with the packet's overwritten; Ethernet's stays
+-- both headers of a frame, with parts of the packet's header overwritten and Ethernet's header unchanged
 pub patched_behind : (o o1 o2 o3 all a t : List ℕ) (p n : ℕ) → length o ≡ 42 → length all ≡ 42 → length a ≡ n → p + n ≤ 12
     → o1 ≡ take 0 o ++ (all ++ drop (0 + 42) o) → o2 ≡ take (18 + p) o1 ++ (a ++ drop (18 + p + n) o1) → o3 ≡ take (18 + 12) o2 ++ (t ++ drop (18 + 12 + 4) o2)
     → o3 ≡ take 18 all ++ (take p (drop 18 all) ++ (a ++ (take (12 - (p + length a)) (drop (p + length a) (drop 18 all)) ++ (t ++ take 8 (drop 16 (drop 18 all))))))
@@ -140,7 +140,7 @@ patched_behind o o1 o2 o3 all a t p n lo lall la few h1 h2 h3 =
     h3 ∙ rw (second, front, end, la) (append_assoc e (take 12 x) (t ++ drop 16 x)
     ∙ ap (λ (y : List ℕ). e ++ y) (patched_is h a t p (p + n) (omega (arith, length-drop 18 all, lall)) (omega (arith, la)) few))
 
--- what was written in two parts, which may overlap
+-- samples that are written in two parts, which may overlap, are all written
 pub in_parts : (o o1 o2 samples first last : List ℕ) (k : ℕ) → length o ≡ length samples → k ≤ 16 → k + 16 ≡ length samples → first ≡ take 16 samples
     → last ≡ drop k samples
     → o1 ≡ take 0 o ++ (first ++ drop (0 + 16) o) → o2 ≡ take k o1 ++ (last ++ drop (k + 16) o1)
@@ -251,7 +251,7 @@ packet_again f plan n samples p is id size =
     let v = aaf_packet f.format f.sparse plan n samples in
     rw append-nil at (aaf_again v [] (writable f plan n samples p is size) (fits f plan n samples p is id size))
 
--- ---- all of it
+-- ---- the format
 
 pub pcm_format : (f : PcmFormat) (plan : TalkPlan) → IsAudioPlan plan → IsPcm f plan → IsFormatOf plan (pcm f.format f.sparse plan) 42
 pcm_format f plan p is =

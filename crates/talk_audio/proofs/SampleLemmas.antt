@@ -1,4 +1,4 @@
--- Which packets a list of sample frames fills, and with what.
+-- How many packets a list of sample frames fills, and which samples each packet has.
 use Rattle.std.proofs.Common.{◌≡◌, ℕ, ◌+◌, ◌-◌, ◌*◌, ◌/◌, ◌<◌, ◌≤◌, List, [], ◌++◌, length, take, drop, length-drop, refl, sym, ap, ◌∙◌, arith}
 use Rattle.std.proofs.Math.Nat.{mul_assoc, mul-le-mul_right, div-mul-le_self}
 use Rattle.std.proofs.Math.Seq.{take-append-add}
@@ -8,7 +8,7 @@ use Rattle.std.proofs.lemmas.List.{append-nil, drop-take, length-append, length-
 use Rattle.std.specs.Int.{div_ceil}
 use Rattle.talk_audio.specs.Samples.{filled_up, packets_for, samples_of}
 
--- each packet has a sample frame of its own
+-- each packet has at least one of the sample frames
 pub begun : (frames count n : ℕ) → 0 < count → n < div_ceil frames count → n * count < frames
 begun frames count n some h =
     let whole : (n + 1) * count ≤ div_ceil frames count * count = mul-le-mul_right count (omega arith) in
@@ -24,7 +24,7 @@ begun_within frame count n input some_frame some_count h =
     let within = div-mul-le_self (length input) frame in
     omega (arith, whole, within, mul_assoc n count frame)
 
--- a part of a packet's samples, laid over silence
+-- writing `rest` over the start of silence gives `rest` filled up with silence
 pub laid_over : (size : ℕ) (rest whole : List ℕ) → length rest ≤ size → take size (rest ++ drop (length rest) whole) ≡ filled_up (take size whole) rest
 laid_over size rest whole part =
     let k : ℕ = size - length rest in
@@ -33,7 +33,7 @@ laid_over size rest whole part =
     (drop (length rest) whole) k in
     rw split (over ∙ ap (λ (xs : List ℕ). rest ++ xs) (sym (drop-take (length rest) k whole)))
 
--- the samples of a packet that the input's end cuts off
+-- the samples of a packet if the input ends with them or within them
 pub last_samples : (silence : List ℕ) (frame count n : ℕ) (input : List ℕ) → length (drop (n * (count * frame)) input) ≤ count * frame
     → filled_up silence (drop (n * (count * frame)) input) ≡ samples_of silence frame count input n
 unfolding samples_of
@@ -42,7 +42,7 @@ last_samples silence frame count n input part =
     let all = take_all (count * frame) (drop (n * (count * frame)) input) part in
     rw (← moved, all) refl
 
--- the samples of any other packet
+-- the samples of a packet if the input has all of them
 pub whole_samples : (silence : List ℕ) (frame count n : ℕ) (input : List ℕ) → length silence ≡ count * frame
     → count * frame ≤ length (drop (n * (count * frame)) input)
     → take (count * frame) (drop (n * (count * frame)) input) ≡ samples_of silence frame count input n
@@ -54,7 +54,7 @@ whole_samples silence frame count n input same whole =
     let none : drop (length part) silence ≡ [] = drop_of_length-le silence {i = length part} (omega arith) in
     rw (← moved, none) (sym (append-nil part))
 
--- a packet's samples are whole
+-- each packet has `count` whole sample frames
 pub samples_whole : (silence : List ℕ) (frame count n : ℕ) (input : List ℕ) → length silence ≡ count * frame
     → length (samples_of silence frame count input n) ≡ count * frame
 unfolding samples_of

@@ -11,19 +11,19 @@ use Rattle.talk_plan.specs.declared.plan.TalkKind.TheVariants.{Aaf, Am824, H264}
 use Rattle.talk_plan.specs.declared.plan.TalkPlan.{TalkPlan}
 use Rattle.talk_audio.specs.Packets.{aaf_packet, am824_kind, iec_packet, kind_of}
 
--- what an audio format defines: how its packets are stamped, the bytes of a sample frame, a packet of silence, and packet n
--- with given samples
+-- what an audio format defines: how its packets are stamped, the size of a sample frame, a packet of silence, and
+-- packet n with given samples
 pub record Audio : Type 0 where
-  -- how its packets are stamped
+  -- how the format's packets are stamped
   pub kind : Kind
-  -- the bytes of a sample frame
+  -- the number of bytes in a sample frame
   pub frame : ℕ
   -- the samples of a packet of silence, which fill up the last packet
   pub silence : List ℕ
   -- packet n, with these samples
   pub packet : ℕ → List ℕ → PacketView
 
--- silence of a number of quadlets: each has the label of linear audio of 24 bits, and the value 0 (IEC 61883-6)
+-- this many quadlets of silence: each has the label of linear audio of 24 bits, and the value 0 (IEC 61883-6)
 unfoldable pub silent_quadlets : ℕ → List ℕ
 silent_quadlets quadlets = flat_map (big_bytes 4) (replicate quadlets 0x40000000)
 
@@ -36,7 +36,7 @@ pcm format sparse plan = record {
   packet = λ n samples. Pcm (aaf_packet format sparse plan n samples);
 }
 
--- AM824: a sample frame is a data block of a quadlet for each channel, and silence is quadlets 40 00 00 00
+-- AM824: a sample frame is a data block with one quadlet for each channel; silence is quadlets 40 00 00 00
 abbrev pub am824 : TalkPlan → Audio
 am824 plan = record {
   kind = am824_kind plan;
@@ -45,7 +45,7 @@ am824 plan = record {
   packet = λ n blocks. Am824Data (iec_packet plan n blocks);
 }
 
--- the format of a plan, if it is one of audio
+-- the audio format of a plan, if the plan is one of audio
 abbrev pub audio_by : TalkKind → TalkPlan → Option Audio
 audio_by (Aaf format sparse) plan = Some (pcm format sparse plan)
 audio_by Am824 plan = Some (am824 plan)

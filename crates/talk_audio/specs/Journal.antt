@@ -10,7 +10,7 @@ use Rattle.talk_audio.specs.Packets.{stamp_of}
 use Rattle.talk_audio.specs.Samples.{packets_for, samples_of}
 use Rattle.talk_plan.specs.Timing.{first_instant, mr_of}
 
--- the times of this many packets of a kind, as if each were due at its nominal first instant
+-- the times of `packets` packets of a kind, as if each were due at its nominal first instant
 abbrev pub nominal_times : Kind → TalkPlan → ℕ → Journal
 nominal_times kind plan packets = record {
   kind = kind;
@@ -23,24 +23,25 @@ nominal_times kind plan packets = record {
   clock = clock_by plan.crf plan packets;
 }
 
--- When packet n is due: at its first sample, counted from its head. A packet without a head is due when the journal says.
+-- When packet n is due: at the instant of its first sample, counted from its head. If it has no head, at the time that
+-- `j` lists for it.
 abbrev pub due_by : Journal → ℕ → Option Head → ℕ
 due_by j n None = j.due n
 due_by j n (Some head) = nat_abs (nominal_instant j head 0)
 
--- when packet n is due, counted from its head in this journal
+-- when packet n is due, counted from its head in the journal `j`
 abbrev pub due_in : Journal → ℕ → ℕ
 due_in j n = due_by j n (head_of j n)
 
--- the times of this many packets of audio, each due at its first sample
+-- the times of `packets` packets of audio, each due at its first sample, counted from its head
 abbrev pub audio_times : Kind → TalkPlan → ℕ → Journal
 audio_times kind plan packets = record (nominal_times kind plan packets) { due = λ n. due_in (nominal_times kind plan packets) n }
 
--- how many packets of a format hold the input
+-- how many packets hold the input
 abbrev pub packets_of : Audio → TalkPlan → List ℕ → ℕ
 packets_of audio plan input = packets_for audio.frame plan.count input
 
--- the samples of packet n, with silence after the last of the input
+-- the samples of packet n, with silence after the end of the input
 abbrev pub samples_in : Audio → TalkPlan → List ℕ → ℕ → List ℕ
 samples_in audio plan input n = samples_of audio.silence audio.frame plan.count input n
 

@@ -13,15 +13,16 @@ use Rattle.talk_plan.specs.Headers.{header_of}
 use Rattle.packet_journal.specs.Packets.{Pcm}
 use Rattle.talk_plan.specs.Ethernet.{packet_bytes}
 
--- The instant in the timestamp of packet n of a stream of this kind: that of the sample frame that the kind stamps, if the
--- packet has it.
+-- The instant in the timestamp of packet n of a stream of this kind: that of the sample frame that the kind stamps, if
+-- the packet has that frame.
 abbrev pub stamp_of : Kind → TalkPlan → ℕ → Option ℕ
 stamp_of kind plan n =
     if is_stamped (rule_of kind n) n plan.count then Some (stamped_instant plan n (stamped_index (rule_of kind n))) else None
 
 -- ---- PCM (IEEE 1722-2016, 7)
 
--- the kind of a stream of PCM: sparse, with one packet in eight stamped, or with each packet stamped
+-- the kind of a stream of PCM: sparse (`true`), with one packet in eight stamped, or dense (`false`), with each packet
+-- stamped
 abbrev pub kind_of : Bool → Kind
 kind_of false = DenseAaf
 kind_of true = SparseAaf
@@ -43,7 +44,7 @@ aaf_packet format sparse plan n samples = record {
 
 -- ---- AM824 (IEC 61883-6, in AVTP by IEEE 1722-2016, 5)
 
--- the block count, modulo 256, of packet n's first data block: blocks are counted from 0, over all restarts
+-- the block count, modulo 256, of packet n's first data block; blocks are counted from 0, across all restarts
 abbrev pub dbc_of : TalkPlan → ℕ → ℕ
 dbc_of plan n = n * plan.count % 256
 

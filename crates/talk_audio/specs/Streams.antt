@@ -1,4 +1,4 @@
--- A stream of audio, as it is sent: the format of its plan, with the values that the code keeps of it.
+-- A stream of audio, as the code holds it: its plan, with the values that depend on the plan's format.
 use Rattle.std.specs.Prelude.{Bool, false, ◌≡◌, ℕ, ℤ, ◌*◌, ◌<◌, ◌≤◌, List, [], length, take, drop, true, Some, None}
 use Rattle.avtp_base.specs.Layout.{spelling}
 use Rattle.aaf_format.specs.Aaf.{Aaf as Packet, aaf_layout}
@@ -18,12 +18,12 @@ use Rattle.talk_audio.specs.Packets.{aaf_packet}
 use Rattle.talk_plan.specs.Places.{IsSentAt}
 use Rattle.talk_plan.specs.Plan.{IsAudioPlan, fdf_of, most_input, rate_code}
 
--- the format of a plan: PCM, sparse or not, with the code of its sample rate
+-- `pcm` is the format of a plan of PCM, sparse or not, with the code of its sample rate
 pub record IsPcm (pcm : PcmFormat) (plan : TalkPlan) : Type 0 where
   pub kind : plan.kind ≡ Aaf pcm.format pcm.sparse
   pub code : rate_code plan.rate ≡ Some pcm.code
 
--- these bytes are the Ethernet header and the packet header of the frame of a packet of PCM
+-- these bytes are the Ethernet header, then the packet header, of the frame of a packet of PCM
 pub record HasHeaders (headers : List ℕ) (v : Packet) : Type 0 where
   pub frame : take 18 headers ≡ spelling (frame_layout true) (ethernet [])
   pub packet : drop 18 headers ≡ spelling aaf_layout v
@@ -33,24 +33,25 @@ pub record IsSteady (sparse : Bool) (plan : TalkPlan) : Type 0 where
   pub dense : sparse ≡ false
   pub once : plan.restart ≡ None
 
--- the format of a plan of PCM, with the headers of packet 0's frame, from which those of all frames are made
+-- `pcm` is the format of a plan of PCM, with the headers of packet 0's frame, from which the headers of all frames are
+-- made
 pub record IsPcmStream (pcm : PcmFormat) (plan : TalkPlan) : Type 0 where
   pub format : IsPcm pcm plan
   pub headers : HasHeaders pcm.headers (aaf_packet pcm.format pcm.sparse plan 0 [])
   pub steady : pcm.steady ≡ true → IsSteady pcm.sparse plan
 
--- the format of a plan of AM824, with the code of its rate and the interval
+-- `am824` is the format of a plan of AM824, with the code of its rate and the SYT interval
 pub record IsAm824 (am824 : Am824Format) (plan : TalkPlan) : Type 0 where
   pub kind : plan.kind ≡ Am824
   pub code : fdf_of plan.rate ≡ Some am824.fdf
   pub interval : syt_interval am824.fdf ≡ Some am824.interval
 
--- a format is that of a plan, with the values that the code keeps of it
+-- the format, as the code holds it, is that of the plan
 abbrev pub IsFormat : Format → TalkPlan → Type 0
 IsFormat (OfPcm p) plan = IsPcmStream p plan
 IsFormat (OfAm824 a) plan = IsAm824 a plan
 
--- the audio format of a format in the code and a plan
+-- the audio format of a plan, given the format as the code holds it
 abbrev pub audio_in : Format → TalkPlan → Audio
 audio_in (OfPcm p) plan = pcm p.format p.sparse plan
 audio_in (OfAm824 a) plan = am824 plan
@@ -59,36 +60,36 @@ audio_in (OfAm824 a) plan = am824 plan
 abbrev pub audio_of : AudioStream → Audio
 audio_of stream = audio_in stream.format stream.plan
 
--- the bytes of the samples of a packet
+-- how many bytes the samples of a packet have
 abbrev pub samples_size : AudioStream → ℕ
 samples_size stream = stream.plan.count * (audio_of stream).frame
 
--- a valid plan with its format and the size of a packet's samples
+-- a valid plan of audio, with its format and the size of a packet's samples
 pub record IsAudio (stream : AudioStream) : Type 0 where
   pub plan : IsAudioPlan stream.plan
   pub format : IsFormat stream.format stream.plan
   pub size : stream.size ≡ samples_size stream
   pub fits : stream.size ≤ 1476
 
--- the bytes of a frame's headers: Ethernet's with its tag, and those of the format
+-- how many bytes the headers of a frame have: the tagged Ethernet header and that of the format
 abbrev pub headers_by : Format → ℕ
 headers_by (OfPcm p) = 42
 headers_by (OfAm824 a) = 50
 
--- the bytes of the headers of each frame of a stream
+-- how many bytes the headers of each frame of a stream have
 abbrev pub headers_of : AudioStream → ℕ
 headers_of stream = headers_by stream.format
 
--- how many packets of a stream hold an input
+-- how many packets of the stream hold the input
 abbrev pub packets_of : AudioStream → List ℕ → ℕ
 packets_of stream input = audio_packets (audio_of stream) stream.plan input
 
--- packet n of a stream, which is sent at this arrival
+-- packet n of a stream, which is sent at `arrival`
 pub record IsSentOf (stream : AudioStream) (n : ℕ) (arrival : ℤ) : Type 0 where
   pub audio : IsAudio stream
   pub sent : IsSentAt stream.plan n arrival
 
--- The stream is one of audio, the input is not too long, and packet n is one of those that the input fills.
+-- The stream is one of audio, the input is not too long, and it fills more than n packets.
 pub record IsPacketOfInput (stream : AudioStream) (input : List ℕ) (n : ℕ) : Type 0 where
   pub audio : IsAudio stream
   pub limit : length input ≤ most_input

@@ -48,7 +48,7 @@ fn fdf_of(rate: u32) -> Option<u8>
     })
 }
 
-/// The bytes of a data block of one quadlet for each channel.
+/// The number of bytes in a data block, which has one quadlet for each channel.
 pub(crate) fn block_size(channels: u16) -> usize
     ensures { result ≡ block_size_of channels }
 {
@@ -89,8 +89,8 @@ impl Am824Format {
         Am824Format { fdf, interval }
     }
 
-    /// The instant in the timestamp of packet `n`: that of the first block whose count is a multiple of the interval, if the
-    /// packet has it (IEC 61883-6).
+    /// The instant in the timestamp of packet `n`: that of the first block whose count is a multiple of the interval,
+    /// if the packet has such a block (IEC 61883-6).
     fn stamp(&self, plan: &TalkPlan, n: u64) -> Option<u64>
         requires packet { IsPacketOf plan.now n }
         requires format { IsAm824 self.now plan.now }

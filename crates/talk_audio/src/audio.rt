@@ -25,11 +25,11 @@ pub enum Format {
 pub struct AudioStream {
     pub plan: TalkPlan,
     pub format: Format,
-    /// The bytes of a packet's samples.
+    /// The number of bytes in a packet's samples.
     pub size: usize,
 }
 
-/// The most bytes of samples in a packet.
+/// The most bytes that a packet's samples have.
 pub(crate) const SAMPLES_LIMIT: usize = 1476;
 
 impl AudioStream {
@@ -56,7 +56,7 @@ impl AudioStream {
         }
     }
 
-    /// The bytes of a sample frame.
+    /// The number of bytes in a sample frame.
     fn frame_size(&self) -> usize
         requires { IsAudio self.now }
         ensures value { result ≡ (audio_of self.now).frame }
@@ -68,7 +68,7 @@ impl AudioStream {
         }
     }
 
-    /// The bytes of a frame's headers.
+    /// The number of bytes in a frame's headers.
     fn headers(&self) -> usize
         ensures value { result ≡ headers_of self.now }
         ensures least { 18 ≤ result }
@@ -89,7 +89,7 @@ impl AudioStream {
         frames.div_ceil(self.plan.count as usize) as u64
     }
 
-    /// The input is whole sample frames.
+    /// The input is a whole number of sample frames.
     pub fn is_whole(&self, input: &[u8]) -> bool
         requires { IsAudio self.now }
         ensures { result ≡ is_whole_by (audio_of self.now).frame input.now }
@@ -116,7 +116,7 @@ impl AudioStream {
         self.plan.arrival(n)
     }
 
-    /// The samples of a packet of silence, and more. The samples of the last packet are copied over it in an array of its own,
+    /// Silence, at least as much as a packet holds. The last packet's samples are copied over the start of this array,
     /// so the talker reserves only one frame's buffer.
     #[tactic(auto, using(crate::proofs::Am824Lemmas::packet_of_silence, crate::proofs::PcmLemmas::zeros))]
     fn silence(&self) -> [u8; SAMPLES_LIMIT]
@@ -129,7 +129,7 @@ impl AudioStream {
         }
     }
 
-    /// Writes the frame of packet `n`, which is sent at this arrival, with these samples.
+    /// Writes the frame of packet `n`, which is sent at `arrival`, with these samples.
     #[inline(always)]
     fn write_samples(&self, out: &mut [u8], n: u64, arrival: i64, samples: &[u8])
         requires sent { IsSentOf self.now n arrival }
@@ -143,9 +143,10 @@ impl AudioStream {
         }
     }
 
-    /// Writes the frame of the packet whose samples end the input, which is sent at this arrival, filled up with silence.
-    // Code that seldom runs while audio is sent is marked cold, here and for clock packets, stamps on a clock and H.264, so
-    // that it takes no registers from the rest.
+    /// Writes the frame of packet `n`, which is sent at `arrival`. Its samples are `rest`, the end of the input, filled
+    /// up with silence.
+    // This code seldom runs while audio is sent. It is marked cold, like that for clock packets, stamps on a clock and
+    // H.264, so that it takes no registers from the code that runs often.
     #[cold]
     #[inline(never)]
     fn write_last(&self, out: &mut [u8], n: u64, arrival: i64, rest: &[u8])
@@ -159,7 +160,7 @@ impl AudioStream {
         self.write_samples(out, n, arrival, &filled[..self.size]);
     }
 
-    /// The input from the samples of packet `n` on.
+    /// The input from the first sample of packet `n` on.
     #[tactic(auto, using(crate::proofs::SampleLemmas::begun_within))]
     fn samples_from<'a>(&self, input: &'a [u8], n: u64) -> &'a [u8]
         requires { IsPacketOfInput self.now input.now n }
@@ -168,7 +169,7 @@ impl AudioStream {
         &input[n as usize * self.size..]
     }
 
-    /// Writes the frame of packet `n` of the input, which is sent at this arrival.
+    /// Writes the frame of packet `n` of the input, which is sent at `arrival`.
     #[tactic(auto, using(crate::proofs::SampleLemmas::last_samples, crate::proofs::FormatLemmas::whole_of))]
     #[inline(always)]
     pub fn write(&self, out: &mut [u8], input: &[u8], n: u64, arrival: i64)

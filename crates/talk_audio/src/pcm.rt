@@ -23,9 +23,9 @@ pub struct PcmFormat {
     pub steady: bool,
     /// The code of the sample rate.
     pub code: u8,
-    /// The headers of packet 0's frame, Ethernet's and the packet's, which are encoded once and adapted for each frame. Other
-    /// frames differ from them only in the packet's first four bytes and in its timestamp, and in a steady stream only in its
-    /// sequence number and its timestamp.
+    /// The Ethernet header and the packet header of packet 0's frame, which are encoded once and adapted for each
+    /// frame. The headers of other frames differ from these only in the packet's first four bytes and in its timestamp.
+    /// In a steady stream, they differ only in the sequence number and the timestamp.
     pub headers: [u8; HEADERS],
 }
 
@@ -54,7 +54,8 @@ fn rate_code(rate: u32) -> Option<u8>
     })
 }
 
-/// The first four bytes of a packet's header: its subtype, its flag bits, and its sequence number.
+/// The first four bytes of a packet's header: its subtype, its flag bits, its sequence number, and whether its
+/// timestamp is uncertain.
 fn front_bytes(header: &StreamHeader) -> [u8; 4]
     ensures { result ≡ front_of header.now }
 {
@@ -66,7 +67,7 @@ fn front_bytes(header: &StreamHeader) -> [u8; 4]
     ]
 }
 
-/// Writes bytes at an offset. The compiler knows how many there are, so they are moved without a call.
+/// Writes `N` bytes at an offset. The compiler knows `N`, so it moves the bytes without a call.
 #[inline(always)]
 fn put_bytes<const N: usize>(out: &mut [u8], offset: usize, bytes: &[u8; N])
     requires { offset + N ≤ length out.old }
@@ -79,11 +80,11 @@ fn put_bytes<const N: usize>(out: &mut [u8], offset: usize, bytes: &[u8; N])
     *place = *bytes;
 }
 
-/// The size of each of the two parts in which samples are moved, in bytes.
+/// The size in bytes of each of the two parts in which samples are moved.
 const PART: usize = 16;
 
-/// Copies samples to a slice of the same length. The 16 to 32 bytes of most packets are two parts, which may overlap and are
-/// moved without a call. A move whose length the compiler does not know becomes a call.
+/// Copies samples to a slice of the same length. The 16 to 32 bytes of most packets are moved as two parts, which may
+/// overlap, without a call. A move whose length the compiler does not know becomes a call.
 #[inline(always)]
 fn copy_samples(out: &mut [u8], samples: &[u8])
     requires { length out.old ≡ length samples.now }
@@ -141,15 +142,15 @@ impl PcmFormat {
         headers
     }
 
-    /// The bytes of a sample frame.
+    /// The number of bytes in a sample frame.
     pub fn frame_size(&self, channels: u16) -> usize
         ensures { result ≡ frame_size_of channels self.now.format }
     {
         usize::from(channels) * width_of(self.format) as usize
     }
 
-    /// The instant in the timestamp of packet `n`, which is sent at this arrival. In sparse mode one packet in eight has a
-    /// timestamp (IEEE 1722-2016, 7).
+    /// The instant in the timestamp of packet `n`, which is sent at `arrival`. In sparse mode, one packet in eight has
+    /// a timestamp (IEEE 1722-2016, 7).
     fn stamp(&self, plan: &TalkPlan, n: u64, arrival: i64) -> Option<u64>
         requires { IsSentAt plan.now n arrival }
         ensures { result ≡ stamp_of (kind_of self.now.sparse) plan.now n }
@@ -161,7 +162,7 @@ impl PcmFormat {
         }
     }
 
-    /// Packet `n`, which is sent at this arrival, with its samples.
+    /// Packet `n`, which is sent at `arrival`, with its samples.
     fn packet<'a>(&self, plan: &TalkPlan, n: u64, arrival: i64, samples: &'a [u8]) -> AafView<'a>
         requires sent { IsSentAt plan.now n arrival }
         requires format { IsPcm self.now plan.now }
@@ -187,7 +188,7 @@ impl PcmFormat {
         }
     }
 
-    /// Writes the frame of packet `n`, which is sent at this arrival, with its samples.
+    /// Writes the frame of packet `n`, which is sent at `arrival`, with its samples.
     #[inline(always)]
     pub fn write(&self, plan: &TalkPlan, out: &mut [u8], n: u64, arrival: i64, samples: &[u8])
         requires packet { IsPcmPacket self.now plan.now n arrival samples.now }
@@ -221,8 +222,8 @@ impl PcmFormat {
         self.write_over(out, 0, &front_bytes(&header), header.timestamp, samples);
     }
 
-    /// Writes a frame from the headers of packet 0's: a part of the packet's header, at this offset in it; the timestamp; and
-    /// the samples.
+    /// Writes a frame: the headers of packet 0's frame, with `part` written at offset `at` of the packet's header and
+    /// with this timestamp; then the samples.
     #[inline(always)]
     fn write_over<const N: usize>(
         &self,

@@ -12,17 +12,18 @@ use Rattle.talk_audio.specs.Streams.{IsAm824, IsPcmStream}
 use Rattle.talk_plan.specs.declared.plan.TalkPlan.{TalkPlan}
 use Rattle.talk_plan.specs.Places.{IsPacketOf, IsSentAt}
 
--- the first four bytes of a packet with such a header: its subtype, its flag bits, and its sequence number
+-- the first four bytes of a packet with this header: its subtype, its flag bits, its sequence number, and whether its
+-- timestamp is uncertain
 abbrev pub front_of : StreamHeader → List ℕ
 front_of header = header.subtype ∷ ((128 * flag header.sv + 8 * flag header.mr + flag header.tv) ∷ (header.seq ∷ (flag header.tu ∷ [])))
 
--- the 24 bytes of a header made from those of another, which differs from it only in this part, at this offset within the first
--- twelve bytes, and in the timestamp
+-- A header of 24 bytes with two changes: `part` is at offset `at`, within the first twelve bytes, and the timestamp is
+-- another one.
 abbrev pub patched : List ℕ → ℕ → List ℕ → ℕ → List ℕ
 patched header at part timestamp =
     take at header ++ (part ++ (take (12 - (at + length part)) (drop (at + length part) header) ++ (big_bytes 4 timestamp ++ take 8 (drop 16 header))))
 
--- packet n of a plan of PCM, which is sent at this arrival, and its samples
+-- packet n of a plan of PCM, which is sent at `arrival`, and its samples
 pub record IsPcmPacket (pcm : PcmFormat) (plan : TalkPlan) (n : ℕ) (arrival : ℤ) (samples : List ℕ) : Type 0 where
   pub format : IsPcmStream pcm plan
   pub sent : IsSentAt plan n arrival
