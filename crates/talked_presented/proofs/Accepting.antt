@@ -16,7 +16,7 @@ use Rattle.sample_schedule.proofs.LawLemmas.{accepted-presented}
 use Rattle.sample_schedule.proofs.OrderLemmas.{lt_false}
 use Rattle.sample_schedule.proofs.StageLemmas.{accepted-next, map-after, shown-presents, step-is}
 
--- what P says of each accepted item by its number, counted from k
+-- `P` holds for each accepted item and its number, counted from `k`
 abbrev pub AreOf : (ℕ → Accepted → Type 0) → ℕ → List Accepted → Type 0
 AreOf P k [] = ⊤
 AreOf P k (a ∷ rest) = P k a × AreOf P (k + 1) rest
@@ -27,7 +27,7 @@ one_more P k n (x ∷ xs) a e are is = (are.0, one_more P (k + 1) n xs a (omega 
 
 -- ---- one item after another
 
--- The item at place n is accepted.
+-- Entry n is an item that is accepted, and `P` holds for n and the accepted item.
 pub record IsAcceptedAt (clock : Clock) (plan : SchedulePlan) (es : List Entry) (P : ℕ → Accepted → Type 0) (n : ℕ) : Type 0 where
   pub item : Item
   pub there : slice_get es n ≡ Some (OfItem item)
@@ -35,7 +35,7 @@ pub record IsAcceptedAt (clock : Clock) (plan : SchedulePlan) (es : List Entry) 
   pub ok : verdict_in clock plan es n item ≡ Ok a
   pub is : P n a
 
--- Each item is accepted, if all items before it were, and instants rise.
+-- Each item is accepted if all earlier items were. The instants of accepted items never decrease.
 pub record AcceptsEach (clock : Clock) (plan : SchedulePlan) (es : List Entry) (P : ℕ → Accepted → Type 0) : Type 0 where
   pub next : (n : ℕ) → n < length es → length (accepted clock plan es n) ≡ n → AreOf P 0 (accepted clock plan es n) → IsAcceptedAt clock plan es P n
   pub rise : (k n : ℕ) (a b : Accepted) → k < n → P k a → P n b → a.instant ≤ℤ b.instant
@@ -55,7 +55,7 @@ no_later : (P : ℕ → Accepted → Type 0) → ((k n : ℕ) (a b : Accepted) �
 no_later P rise k n [] a e are is = tt
 no_later P rise k n (x ∷ xs) a e are is = (rise k n x a (omega arith) are.0 is, no_later P rise (k + 1) n xs a (omega arith) are.1 is)
 
--- ---- all up to a place
+-- ---- the first n items
 
 -- The first n items are accepted, in order, and none is flagged.
 pub record AreAccepted (clock : Clock) (plan : SchedulePlan) (es : List Entry) (P : ℕ → Accepted → Type 0) (n : ℕ) : Type 0 where
@@ -121,7 +121,7 @@ all_present gs xs ys e f =
     let same : xs ≡ ys = sym (presented_again xs) ∙ (ap presented (sym e) ∙ f) in
     ap (map shown_of) e ∙ (shown-presents xs ∙ ap (map present) same)
 
--- what is shown is the accepted items, in their order, and nothing is flagged
+-- exactly the accepted items are shown, in their order, and nothing is flagged
 pub shown_all : (clock : Clock) (plan : SchedulePlan) (es : List Entry) (P : ℕ → Accepted → Type 0) → AreAccepted clock plan es P (length es) → shown clock plan es ≡ map present (accepted clock plan es (length es))
 shown_all clock plan es P all =
     let n = length es in

@@ -1,4 +1,4 @@
--- A copy of a talker's packet that must be presented without a clock, wherever it is in a capture.
+-- Which copies of a talker's packets must be presented without a clock, wherever they are in a capture.
 use Rattle.std.proofs.Common.{◌≡◌, ◌≢◌, ℕ, zero, suc, ◌+◌, ◌-◌, ◌<◌, ◌≤◌, Bool, false, pos, List, [], ◌∷◌, ◌++◌, All, length, map, take, Some, None, is_some, refl, sym, ap, ◌∙◌, subst, inl, inr, arith}
 use Rattle.std.specs.Prelude.{IsSome, nat_le, slice_get}
 use Rattle.std.specs.List.{AllByRecursion}
@@ -71,7 +71,7 @@ pub caught_video : (plan : TalkPlan) (input ks : List ℕ) (listen : ListenPlan)
     → captured plan input ks ≡ map record_of (frames_at plan input ks) → AreRead (journal plan input) listen.lead → IsCaught plan input listen (captured plan input ks) (map OfStream ks)
 caught_video plan input ks listen l = caught_of plan input ks listen (video_plan plan l.last_stamp l.kind l.talked) l.limit (video_expects plan l.last_stamp listen.lead l.kind) l.talked.crf
 
--- ---- it comes in time
+-- ---- it arrives in time
 
 counted_head : (j : Journal) (lead room : ℕ) (c : Copy) (came : List ℕ) → IsCounted j lead room c came → IsSome (head_of j c.number)
 counted_head j lead room c came k =
@@ -83,7 +83,7 @@ timed_head : (j : Journal) (lead room : ℕ) (c : Copy) (came : List ℕ) → Is
 timed_head j lead room c came (inl own) = stamped_head j c.number own
 timed_head j lead room c came (inr k) = counted_head j lead room c came k
 
--- no packet up to a place was sent after an instant
+-- if neither packet n nor a packet before it is sent after `due`, the packet at index `j` is not sent after `due`
 all_early : (plan : TalkPlan) (input before after : List ℕ) (n due j : ℕ) (o : Origin) → All (λ (m : ℕ). (stream_of plan input).arrival m ≤ due) before → (stream_of plan input).arrival n ≤ due → j ≤ length before → slice_get (map OfStream (before ++ n ∷ after)) j ≡ Some o → sent_by (stream_of plan input) o ≤ due
 all_early plan input [] after n due zero o all own le at = let same : OfStream n ≡ o = cc in subst (λ (x : Origin). sent_by (stream_of plan input) x ≤ due) same own
 all_early plan input [] after n due (suc j) o all own le at = absurd (omega arith)
@@ -92,7 +92,7 @@ all_early plan input (x ∷ before) after n due zero o all own le at =
     subst (λ (y : Origin). sent_by (stream_of plan input) y ≤ due) same (All-head (λ (m : ℕ). (stream_of plan input).arrival m ≤ due) x before all)
 all_early plan input (x ∷ before) after n due (suc j) o all own le at = all_early plan input before after n due j o (All-tail (λ (m : ℕ). (stream_of plan input).arrival m ≤ due) x before all) own (omega arith) at
 
--- the copy that is captured after these packets
+-- `d` is the delivery of packet n after the packets `before`, and it arrives in time
 pub record IsCopyAfter (plan : TalkPlan) (input : List ℕ) (listen : ListenPlan) (before : List ℕ) (n : ℕ) (after : List ℕ) : Type 0 where
   pub d : Delivery
   pub comes : CopyComesInTime (journal plan input) listen (captured plan input (before ++ n ∷ after)) (length before) n d

@@ -28,14 +28,14 @@ use Rattle.talker.specs.Journal.{Stream, journal, stream_of}
 use Rattle.talker.proofs.StreamLemmas.{IsStream}
 use Rattle.talked_presented.proofs.Merged.{IsSent, all_by, frame_by, sent_by}
 
--- delivery i is a copy of an origin's packet, captured when it was sent
+-- Delivery i is a copy of the packet that `o` names, captured when that packet was sent.
 pub record IsCaughtAt (p : PacketJournal) (s : Stream) (listen : ListenPlan) (rs : List Record) (i : ℕ) (o : Origin) : Type 0 where
   pub d : Delivery
   pub there : slice_get (deliveries_of listen rs) i ≡ Some d
   pub arrived : d.arrival ≡ pos (sent_by s o)
   pub copy : IsFrom p listen.lead o d
 
--- the listener has copies of just these packets
+-- The listener hears the talker, and its deliveries are copies of the packets that `os` names, in that order.
 pub record IsCaught (plan : TalkPlan) (input : List ℕ) (listen : ListenPlan) (rs : List Record) (os : List Origin) : Type 0 where
   pub heard : HearsTalker (pos 0) (journal plan input) listen rs
   pub stream : IsStream plan (stream_of plan input)
@@ -60,7 +60,7 @@ arrives_at : (s : Stream) (i : ℕ) (o : Origin) → (delivery i (record_of (fra
 arrives_at s i (OfStream n) = refl
 arrives_at s i (OfClock m) = refl
 
--- packets of the stream are heard with any clock
+-- a listener with any clock hears the packets of the stream
 pub stream_heard : (p : PacketJournal) (clock : Option ℕ) (ks : List ℕ) → AllByRecursion (HearsOrigin p clock) (map OfStream ks)
 stream_heard p clock [] = tt
 stream_heard p clock (k ∷ ks) = (tt, stream_heard p clock ks)
@@ -113,7 +113,7 @@ not_before plan input listen rs os (suc i) o w kind at =
 same_delivery : (a b : Delivery) → Some a ≡ Some b → a ≡ b
 same_delivery a b e = cc
 
--- a delivery comes when its packet was sent
+-- if the packet of delivery `e` is sent by the time `last`, the delivery arrives by then
 pub came_by : (plan : TalkPlan) (input : List ℕ) (listen : ListenPlan) (rs : List Record) (os : List Origin) (k last : ℕ) (e : Delivery) → IsCaught plan input listen rs os → slice_get (deliveries_of listen rs) k ≡ Some e → ((o : Origin) → slice_get os k ≡ Some o → sent_by (stream_of plan input) o ≤ last) → e.arrival ≤ℤ pos last
 came_by plan input listen rs os k last e w at before =
     let o = origin_at (journal plan input) listen.lead os (deliveries_of listen rs) k e w.from at in

@@ -130,7 +130,8 @@ sent_is plan n r =
 clock_sent_is : (plan : TalkPlan) (crf : CrfPlan) (m : ℕ) → IsAudioPlan plan → plan.crf ≡ Some crf → plan.restart ≡ None → clock_arrival crf plan m ≡ run_start plan 0 + nominal_offset plan.rate (m * crf.points * spacing_of crf plan.rate) - plan.lead
 clock_sent_is plan crf m p e r = ap (λ (x : ℕ). x - plan.lead) (steady_points plan crf (first_point crf m) p e r)
 
--- packet m of the clock is sent by the time of packet n exactly if its first point is at the packet's first sample or before
+-- packet m of the clock is sent by the time packet n is sent exactly if its first point is at or before packet n's
+-- first sample
 sent_by_then : (plan : TalkPlan) (crf : CrfPlan) (input : List ℕ) (m n : ℕ) → IsClocked plan crf (journal plan input).times → ((m : ℕ) → (stream_of plan input).clock_arrival m ≡ clock_arrival crf plan m)
     → (m * crf.points * spacing_of crf plan.rate ≤ n * plan.count → (stream_of plan input).clock_arrival m ≤ (stream_of plan input).arrival n) × ((stream_of plan input).clock_arrival m ≤ (stream_of plan input).arrival n → m * crf.points * spacing_of crf plan.rate ≤ n * plan.count)
 sent_by_then plan crf input m n c sent =
@@ -141,9 +142,10 @@ sent_by_then plan crf input m n c sent =
       (λ le. before_next plan.rate (n * plan.count) (m * crf.points * spacing_of crf plan.rate) range.least range.most (omega (arith, here, there, le))),
     )
 
--- ---- which packets of the clock came by the time of a packet
+-- ---- which packets of the clock arrived by the time of a packet
 
--- exactly the packets of the clock came that have a point up to the packet's first sample
+-- when packet n is sent, exactly those packets of the clock have arrived that have a point at or before packet n's
+-- first sample
 came_upto : (plan : TalkPlan) (crf : CrfPlan) (input : List ℕ) (os : List Origin) (i n s : ℕ) → IsClocked plan crf (journal plan input).times → ((m : ℕ) → (stream_of plan input).clock_arrival m ≡ clock_arrival crf plan m) → IsOverStamp plan crf (journal plan input).times n s
     → n * plan.count / spacing_of crf plan.rate ≡ suc s → (q : IsPlaced (stream_of plan input) 0 0 os i n) → (suc s / crf.points < q.clocks) × (q.clocks ≤ suc s / crf.points + 1)
 came_upto plan crf input os i n s c sent over at q =
@@ -197,7 +199,7 @@ by_clock_at SparseAaf j n k x audio at = at
 by_clock_at (Am824 interval dbc) j n k x audio at = at
 by_clock_at (H264 part) j n k x audio at = absurd audio
 
--- the points around a timestamp from the second point on
+-- point s + 1 of the clock is the last one at or before packet n's first sample
 record IsLate (plan : TalkPlan) (crf : CrfPlan) (n : ℕ) : Type 0 where
   s : ℕ
   at : n * plan.count / spacing_of crf plan.rate ≡ suc s
@@ -284,7 +286,7 @@ comes plan crf input listen rs os i n d w at there copy le =
       in_time = λ k e before there. came_by plan input listen rs os k (stamp_at plan crf n) e w.caught there (λ o at. let sent = q.before k o before at in omega (arith, sent, early));
     }
 
--- the instant of a packet that waits
+-- if packet k still waits when packet n is judged, n is below k + `buffer`
 waits_by : (plan : TalkPlan) (crf : CrfPlan) (input : List ℕ) (listen : ListenPlan) (rs : List Record) (os : List Origin) (i n k : ℕ) (x : ℤ) → HasWhole plan crf input listen rs os → slice_get os i ≡ Some (OfStream n) → n < (journal plan input).times.packets
     → IsAt (by_clock listen) (journal plan input).times k 0 x → time_of listen rs i ≤ℤ x → n < k + listen.buffer
 waits_by plan crf input listen rs os i n k x w at known is late = elim (cases_lt n k) [

@@ -58,7 +58,7 @@ stamp_is plan crf n e r =
     ap (λ (o : Option CrfPlan). stamped_by o plan n 0) e
     ∙ (ap (λ (g : ℕ). stamped_at (beat_of crf plan) (run_start plan g) (event_of plan n 0)) run ∙ ap (stamped_at (beat_of crf plan) (run_start plan 0)) events)
 
--- blocks that begin at a multiple of the interval begin with a stamped one
+-- if each packet has whole SYT intervals of blocks, each packet stamps its first block
 first_index : (interval n count : ℕ) → IsInterval interval → count % interval ≡ 0 → (interval - n * count % 256 % interval) % interval ≡ 0
 first_index interval n count (inl e) whole =
     let times : count ≡ 8 * (count / 8) = let w = rw e at whole in omega arith in
@@ -82,7 +82,7 @@ first_index interval n count (inr (inr e)) whole =
 is_some_count : (n : ℕ) → 1 ≤ n → nat_lt 0 n ≡ true
 is_some_count n some = grind (arith, nat_tests)
 
--- what the journal of a plan has, if the plan is of this kind and each of its packets stamps its first sample
+-- what the journal holds if each packet of a plan of this kind stamps its first sample
 record HasFirst (kind : TalkKind) (plan : TalkPlan) (crf : CrfPlan) (input : List ℕ) : Type 0 where
   first : (n : ℕ) → stamped_index (rule_of (stream_by (audio_by kind plan) plan input).journal.times.kind n) ≡ 0
   stamp : (n : ℕ) → (stream_by (audio_by kind plan) plan input).journal.times.stamp n ≡ Some (stamped_by plan.crf plan n 0)

@@ -25,9 +25,9 @@ use Rattle.listener.specs.Heard.{deliveries_of}
 use Rattle.listener.specs.Known.{IsKnownCopy}
 use Rattle.listener.specs.Laws.{by_clock}
 
--- ---- the packet that it is counted from
+-- ---- the packet that a packet is counted from
 
--- Packet n is counted from the stamped packet `far.packets` before it, and there is no restart between the two.
+-- Packet n is counted from the stamped packet `far.packets` before it, and no restart lies between these packets.
 pub record IsBack (j : Journal) (n : ℕ) : Type 0 where
   pub far : Distance
   pub back : distance (rule_of j.kind n) n j.count ≡ Some far
@@ -110,7 +110,7 @@ stamp_kept j room k m instant e below few =
     subst (λ (l : List Stamp). Contains (last_of room l) (stamp_at j k instant)) (sym split)
     (last_has room (filter_map f (range_with_len 0 k)) (filter_map f (range_with_len (0 + k) (suc c))) (stamp_at j k instant) (omega (arith, few_stamps f (0 + k) (suc c), parts, few)) has)
 
--- ---- what came
+-- ---- what arrived
 
 -- In a capture of `count` packets from packet a on, the first `size` packets are packets a to a + m - 1.
 record IsFront (size a count : ℕ) : Type 0 where

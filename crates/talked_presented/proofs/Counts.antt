@@ -1,4 +1,4 @@
--- How many items are presented and flagged, if exactly some packets are presented.
+-- How many items are presented and flagged, if exactly the packets of a list are presented.
 use Rattle.std.proofs.Common.{◌≡◌, ℕ, Bool, List, [], ◌∷◌, length, refl, arith}
 use Rattle.std.specs.Prelude.{cond, count_by}
 use Rattle.std.proofs.lemmas.List.Sums.{sum_by-cons}

@@ -1,4 +1,4 @@
--- Which timestamps of a plan without restarts its clock covers, and where.
+-- Which timestamps of a plan without restarts the plan's clock covers, and by which of its points.
 use Rattle.std.proofs.Common.{◌≡◌, ℕ, zero, suc, ◌+◌, ◌-◌, ◌*◌, ◌/◌, ◌%◌, ◌^◌, ◌<◌, ◌≤◌, Bool, true, false, ℤ, pos, neg_ℤ, ◌+ℤ◌, List, drop, Some, None, zero-mul, refl, sym, ap, ◌∙◌, subst, inl, inr, arith}
 use Rattle.std.specs.Prelude.{Contains, if◌then◌else◌, ◌==◌}
 use Rattle.std.specs.List.{range_with_len}
@@ -31,7 +31,7 @@ use Rattle.talk_clock.specs.Clock.{AreFew, clock_mr, clock_packets, clock_times,
 use Rattle.talk_clock.proofs.ClockPoints.{beside, known as known_place, number, pair_is, place_of, run_at, size_is}
 use Rattle.talk_clock.proofs.ClockRules.{point_small}
 
--- The journal of a plan with a clock and without restarts, as plain numbers: packet n stamps its first sample.
+-- The journal of a plan with a clock and without restarts, in which each packet stamps its first sample.
 pub record IsClocked (plan : TalkPlan) (crf : CrfPlan) (j : Journal) : Type 0 where
   pub talked : IsAudioPlan plan
   pub crf_is : plan.crf ≡ Some crf
@@ -43,11 +43,11 @@ pub record IsClocked (plan : TalkPlan) (crf : CrfPlan) (j : Journal) : Type 0 wh
   pub clock : j.clock ≡ clock_times crf plan j.packets
   pub stamp : (n : ℕ) → j.stamp n ≡ Some (stamped_at (beat_of crf plan) (run_start plan 0) (n * plan.count))
 
--- the timestamp of packet n
+-- the instant in the timestamp of packet n
 abbrev pub stamp_at : TalkPlan → CrfPlan → ℕ → ℕ
 stamp_at plan crf n = stamped_at (beat_of crf plan) (run_start plan 0) (n * plan.count)
 
--- the place of point s
+-- the packet of the clock that holds point s, and the index of point s in it
 abbrev pub place_at : CrfPlan → ℕ → Place
 place_at crf s = record { packet = s / crf.points; at = s % crf.points }
 
@@ -199,7 +199,7 @@ at_start instant num den = rw (zero-mul num, zero-div den) (omega (arith, ints))
 no_more : (z : ℤ) → (z +ℤ neg_ℤ (pos 0)) +ℤ pos 0 ≡ z
 no_more z = omega (arith, ints)
 
--- the first sample of a packet that is covered is at its timestamp
+-- the first sample of a covered packet is at the packet's timestamp
 first_on : (j : Journal) (n x : ℕ) (a b : Place) → AgreesWithClock j → IsCovered j n x a b → instant_by (pair_at j.clock a b) j (first_head x) 0 ≡ pos x
 first_on j n x a b agrees over = cases (pair.up == j.rate * pair.down) refl
   where
@@ -226,7 +226,7 @@ at_stamp plan crf j n s c clock agrees lt over =
       at = sym (first_on j n (stamp_at plan crf n) (place_at crf s) (place_at crf (suc s)) agrees (record { known = lt; stamped = c.stamp n; joined = joined; covers = over.covers }));
     }
 
--- ---- which points came
+-- ---- which points arrived
 
 drop_range : (a k n : ℕ) → drop n (range_with_len a k) ≡ range_with_len (a + n) (k - n)
 drop_range a k zero = let e : a + 0 ≡ a = omega arith in let f : k - 0 ≡ k = omega arith in rw (e, f) refl
@@ -245,7 +245,8 @@ last_in count m lt near =
     let last : last_of 64 (range_with_len 0 count) ≡ range_with_len (0 + (count - 64)) (count - (count - 64)) = ap (λ (k : ℕ). drop (k - 64) (range_with_len 0 count)) (length-range_with_len 0 count) ∙ drop_range 0 count (count - 64) in
     subst (λ (l : List ℕ). Contains l m) (sym last) (in_range (0 + (count - 64)) (count - (count - 64)) m (omega arith) (omega arith))
 
--- if exactly the packets of the clock came that have a point up to the timestamp, the two points around it came
+-- if exactly those packets of the clock arrived that have a point up to the timestamp, the two points around the
+-- timestamp arrived
 pub covered_here : (plan : TalkPlan) (crf : CrfPlan) (j : Journal) (n s count : ℕ) → IsOverStamp plan crf j n s → 1 ≤ crf.points → suc s / crf.points < count → count ≤ suc s / crf.points + 1 → IsCoveredBy j.clock (pos 0) j.rate (range_with_len 0 count) (pos (stamp_at plan crf n))
 covered_here plan crf j n s count over some low high =
     let here = div-add-mod' s crf.points in

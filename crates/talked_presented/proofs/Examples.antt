@@ -134,7 +134,7 @@ video_fits input last_stamp limit = record {
   lead = refl;
 }
 
--- packets are due at most 3 ns before the instant of the plan
+-- a packet is due at most 3 ns before its nominal first instant
 due_later : (n : ℕ) → first_instant (plain false) n ≤ (journal (plain false) silence).times.due n + 3
 due_later n = due_before (plain false) silence n (plain_plan false)
 
@@ -176,7 +176,7 @@ repeated_fits =
       bytes = omega arith;
     }
 
--- a byte stream of one unit: its one packet must be presented, though it comes again
+-- the only unit of a byte stream, which one packet carries, must be presented, although the packet is captured twice
 pub unit_fits : UnitMustBePresented (thirty false) one_unit (default_listener 0x0200000000010001) [] 0 0 (0 ∷ [])
 unfolding sent_units units_fault part_by units_from bits
 unit_fits =

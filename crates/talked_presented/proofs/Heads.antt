@@ -1,4 +1,4 @@
--- Each packet of a plan without restarts has a timestamp, or one that it is counted from.
+-- Each packet of a plan without restarts has a timestamp or is counted from one.
 use Rattle.std.proofs.Common.{◌≡◌, ℕ, ◌+◌, ◌-◌, ◌*◌, ◌%◌, ◌<◌, ◌≤◌, Bool, true, false, List, None, refl, inl, inr, arith}
 use Rattle.std.specs.Prelude.{◌==◌, IsSome, nat_le, nat_lt}
 use Rattle.std.specs.Int.{div_ceil}
@@ -24,7 +24,7 @@ use Rattle.talked_presented.specs.Whole.{HasEachHead}
 use Rattle.talked_presented.proofs.Known.{IsInterval, interval_is, not_below}
 use Rattle.talked_presented.proofs.Sent.{stamped_head}
 
--- Packet n is counted from a stamped packet of the stream, and not from one before its first.
+-- Packet n is counted from a stamped packet, and has at least as many predecessors as this packet is far away.
 record IsFoundBefore (kind : Kind) (count n : ℕ) : Type 0 where
   is : IsFound kind count n
   before : is.far.packets ≤ n
@@ -59,8 +59,8 @@ eighth_found count n e =
 
 -- ---- AM824
 
--- the distance from the stamped block of an earlier packet to the first block of a later one, if x and n are the numbers of
--- their first blocks
+-- If the later packet has no stamped block and is counted from a block of the earlier one, that is the block that the
+-- earlier packet stamps.
 between : (x y n count interval : ℕ) → IsInterval interval → x + y ≡ n → count ≤ (interval - n % 256 % interval) % interval → 1 ≤ n % 256 % interval
     → n % 256 % interval ≤ y → y < n % 256 % interval + count → (interval - x % 256 % interval) % interval + n % 256 % interval ≡ y
 between x y n count interval (inl e) sum unstamped some from to = rw e (between_8 (rw e at unstamped) (rw e at some) (rw e at from) (rw e at to))
@@ -76,7 +76,7 @@ between x y n count interval (inr (inr e)) sum unstamped some from to = rw e (be
     between_32 : count ≤ (32 - n % 256 % 32) % 32 → 1 ≤ n % 256 % 32 → n % 256 % 32 ≤ y → y < n % 256 % 32 + count → (32 - x % 256 % 32) % 32 + n % 256 % 32 ≡ y
     between_32 unstamped some from to = omega arith
 
--- the distance in blocks is at least 1, at most 7 packets, and does not reach back before the first block
+-- the distance `r` in blocks is at least 1, at most that of 7 packets, and at most `m`
 back_few : (r interval m count : ℕ) → IsInterval interval → r ≡ m % 256 % interval → interval ≤ 8 * count → count ≤ (interval - r) % interval → (1 ≤ r) × ((r ≤ 7 * count) × (r ≤ m))
 back_few r interval m count (inl e) is eighth unstamped = back_few_8 (rw e at is) (rw e at eighth) (rw e at unstamped)
   where

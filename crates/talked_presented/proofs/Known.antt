@@ -1,4 +1,4 @@
--- Each packet of a whole capture is known: by its own timestamp, or by the one that it is counted from.
+-- Each packet of a whole capture is known: by its own timestamp, or by the timestamp that it is counted from.
 use Rattle.std.proofs.Common.{◌≡◌, ℕ, zero, suc, ◌+◌, ◌-◌, ◌*◌, ◌%◌, ◌<◌, ◌≤◌, ◌⊎◌, Bool, true, false, ℤ, pos, List, Option, Some, None, is_some, refl, ap, ◌∙◌, subst, inl, inr, arith}
 use Rattle.std.specs.Prelude.{nat_lt, if◌then◌else◌}
 use Rattle.std.proofs.lemmas.Bool.Decides.{nat_tests}
@@ -40,7 +40,7 @@ few_blocks interval x count (inl e) most = rw e (let h = rw e at most in omega a
 few_blocks interval x count (inr (inl e)) most = rw e (let h = rw e at most in omega arith)
 few_blocks interval x count (inr (inr e)) most = rw e (let h = rw e at most in omega arith)
 
--- the SYT_INTERVAL of a rate is one of the standard's
+-- the SYT_INTERVAL of each rate is one that the standard has
 pub interval_is : (rate : ℕ) → IsInterval (interval_of rate)
 interval_is rate = by (fdf_of rate) refl
   where

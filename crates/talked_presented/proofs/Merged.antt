@@ -1,4 +1,4 @@
--- The frames of a plan, those of its stream and of its clock in turn.
+-- The frames of a plan: those of its stream and of its clock, merged in the order of sending.
 use Rattle.std.proofs.Common.{◌≡◌, ℕ, zero, suc, ◌+◌, ◌-◌, ◌<◌, ◌≤◌, List, [], ◌∷◌, map, take, Some, inl, inr, refl, sym, ap, ◌∙◌, subst, arith, append-nil}
 use Rattle.std.specs.Prelude.{slice_get}
 use Rattle.std.specs.List.{AllByRecursion, range_with_len}
@@ -18,7 +18,7 @@ use Rattle.talker.specs.Journal.{Stream}
 use Rattle.talker.specs.state.Frames.{left_of}
 use Rattle.talker.proofs.StreamLemmas.{IsStream, clock_first, clocks_in, packet_first, packets_in, writable_frame}
 
--- the frame of an origin
+-- the frame of the packet that an origin names
 abbrev pub frame_by : Stream → Origin → SentFrame
 frame_by s (OfStream n) = frame_of s n
 frame_by s (OfClock m) = clock_frame_of s m
@@ -27,12 +27,12 @@ pub stream_frames_are : (s : Stream) (ks : List ℕ) → map (frame_by s) (map O
 stream_frames_are s [] = refl
 stream_frames_are s (k ∷ ks) = ap (λ (l : List SentFrame). frame_of s k ∷ l) (stream_frames_are s ks)
 
--- when the frame of an origin is sent
+-- when the packet that an origin names is sent
 abbrev pub sent_by : Stream → Origin → ℕ
 sent_by s (OfStream n) = s.arrival n
 sent_by s (OfClock m) = s.clock_arrival m
 
--- the origin is a packet of the stream or of its clock
+-- the stream or its clock has the packet that an origin names
 abbrev pub IsSent : Stream → Origin → Type 0
 IsSent s (OfStream n) = n < packets_in s
 IsSent s (OfClock m) = m < clocks_in s
@@ -68,21 +68,21 @@ pub all_by : (plan : TalkPlan) (s : Stream) (lead : ℕ) (os : List Origin) → 
 all_by plan s lead [] is expects all = tt
 all_by plan s lead (o ∷ os) is expects all = (carried_by plan s lead o is expects all.0, all_by plan s lead os is expects all.1)
 
--- ---- in turn
+-- ---- in the order of sending
 
--- the next frame is packet m of the clock
+-- after `a` packets of the clock and `b` packets of the stream, packet m of the clock is sent next
 pub record IsClockNext (s : Stream) (a b m : ℕ) : Type 0 where
   pub same : m ≡ a
   pub known : a < clocks_in s
   pub first : (k : ℕ) → b ≤ k → k < packets_in s → s.clock_arrival a ≤ s.arrival k
 
--- the next frame is packet n of the stream
+-- after `a` packets of the clock and `b` packets of the stream, packet n of the stream is sent next
 pub record IsStreamNext (s : Stream) (a b n : ℕ) : Type 0 where
   pub same : n ≡ b
   pub known : b < packets_in s
   pub first : (m : ℕ) → a ≤ m → m < clocks_in s → s.arrival b < s.clock_arrival m
 
--- these frames are left once `a` packets of the clock and `b` of the stream were sent
+-- after `a` packets of the clock and `b` packets of the stream, these packets are left, in the order of sending
 abbrev pub AreMerged : Stream → ℕ → ℕ → List Origin → Type 0
 AreMerged s a b [] = (clocks_in s ≤ a) × (packets_in s ≤ b)
 AreMerged s a b (OfClock m ∷ os) = IsClockNext s a b m × AreMerged s (a + 1) b os
@@ -136,10 +136,10 @@ merge (suc fuel) plan s a b is e = elim (cases_lt a (clocks_in s)) [
 pub all_merged : (plan : TalkPlan) (s : Stream) → IsStream plan s → HasMerged s 0 0
 all_merged plan s is = merge (clocks_in s - 0 + (packets_in s - 0)) plan s 0 0 is refl
 
--- ---- the place of a packet of the stream
+-- ---- the index of a packet of the stream
 
--- Packet n of the stream is at a place: before it came all packets of the stream before it, and all packets of the clock that
--- were sent by then, in order.
+-- What precedes packet n of the stream, at index `i` of `os`: in order, the earlier packets of the stream from `b` on,
+-- and the packets of the clock from `a` on that are sent by then.
 pub record IsPlaced (s : Stream) (a b : ℕ) (os : List Origin) (i n : ℕ) : Type 0 where
   pub low : b ≤ n
   pub known : n < packets_in s
@@ -223,7 +223,7 @@ placed plan s a b (OfStream k ∷ os) (suc i) n is least merged at =
     before e rest zero o le there = let same : OfStream k ≡ o = cc in subst (λ (x : Origin). sent_by s x ≤ s.arrival n) same (rises s.arrival is.rising k n e)
     before e rest (suc j) o le there = rest j o (omega arith) there
 
--- each packet of the stream has a place
+-- each packet of the stream has an index
 pub has_place : (s : Stream) (a b : ℕ) (os : List Origin) (n : ℕ) → AreMerged s a b os → b ≤ n → n < packets_in s → (i : ℕ) × (slice_get os i ≡ Some (OfStream n))
 has_place s a b [] n merged low lt = absurd (omega (arith, merged.1))
 has_place s a b (OfClock m ∷ os) n merged low lt = let rest = has_place s (a + 1) b os n merged.1 low lt in (suc rest.0, rest.1)

@@ -1,4 +1,5 @@
--- What a listener gets of a whole capture of an audio plan without a clock: packet n in record n, in order and in time.
+-- What a listener gets from a whole capture of an audio plan without a clock: packet n in record n, in order and in
+-- time.
 use Rattle.std.proofs.Common.{◌≡◌, ℕ, zero, suc, ◌+◌, ◌-◌, ◌*◌, ◌<◌, ◌≤◌, Bool, true, false, ℤ, pos, ◌≤ℤ◌, List, All, length, map, Option, Some, None, is_some, refl, sym, ap, ◌∙◌, subst, inl, inr, arith, length-append}
 use Rattle.std.specs.Prelude.{IsSome, slice_get}
 use Rattle.std.specs.Int.{int_max}
@@ -71,7 +72,7 @@ times_by (H264 last_stamp) plan input kind = absurd kind
 pub has_times : (plan : TalkPlan) (input : List ℕ) → IsAudioPlan plan → HasTimes plan (stream_of plan input)
 has_times plan input p = times_by plan.kind plan input p.kind
 
--- a packet is due at most a nanosecond later than the plan's lead after it was sent
+-- a packet is due at most 1 ns after its nominal first instant
 pub due_after : (plan : TalkPlan) (input : List ℕ) (n : ℕ) → IsAudioPlan plan → (journal plan input).times.due n ≤ first_instant plan n + 1
 due_after plan input n p =
     let has = has_format plan p in
@@ -142,7 +143,7 @@ packet_size plan input n is known =
 pub later_one : (x y : ℕ) → x ≤ y → int_max (pos x) (pos y) ≡ pos y
 later_one x y le = grind (arith, ints)
 
--- deliveries that come in the order of their arrivals are judged when they come
+-- if deliveries are in the order of their arrivals, each is judged at its arrival
 judged_at : (plan : ListenPlan) (rs : List Record) (at : ℕ → ℕ) (n : ℕ) → All IsOther (deliveries_of plan rs) → ((m : ℕ) → at m ≤ at (m + 1)) → ((m : ℕ) → m ≤ n → (d : Delivery) × ((slice_get (deliveries_of plan rs) m ≡ Some d) × (d.arrival ≡ pos (at m))))
     → time_of plan rs n ≡ pos (at n)
 judged_at plan rs at zero all rises each =
@@ -158,13 +159,13 @@ judged_at plan rs at (suc n) all rises each =
     ∙ (ap (int_max (time_of plan rs n)) (arrives here.0 ∙ here.1.1)
     ∙ (ap (λ (z : ℤ). int_max z (pos (at (suc n)))) before ∙ later_one (at n) (at (suc n)) rise))
 
--- ---- a packet that is known and came in time
+-- ---- a packet that is known and arrives in time
 
 pub due_head : (j : Journal) (n : ℕ) (o : Option Head) → IsAudioKind j.kind → IsAudio j → n < j.packets → head_of j n ≡ o → IsSome o → IsAt false j n 0 (pos (j.due n))
 due_head j n None kind is known e some = absurd cc
 due_head j n (Some head) kind is known e some = at_nominal j.kind j n 0 _ kind (record { head = head; is_head = e; at = is.first_instants n head known e })
 
--- the item of a copy that has a head is timely if it is known and came no later than the packet is due
+-- If a copy has a head, is known, and is judged no later than its packet is due, its item is timely.
 timely_of : (shift : ℤ) (p : PacketJournal) (plan : ListenPlan) (records : List Record) (place n : ℕ) (d : Delivery) → HearsTalker shift p plan records → IsAudioKind p.times.kind → plan.clock ≡ None → slice_get (deliveries_of plan records) place ≡ Some d
     → (copy : IsCopyOf p plan.lead n d) → IsSome (head_of p.times n) → IsKnownCopy p plan records place (record { number = n; arrival = copy.arrival }) → time_of plan records place ≤ℤ pos (p.times.due n) → IsTimely p plan records place n (made_of_one d)
 timely_of shift p plan records place n d h kind off at copy some known early =
@@ -181,7 +182,7 @@ timely_of shift p plan records place n d h kind off at copy some known early =
 pub not_both : (b : Bool) → b ≡ false → b ≡ true → ⊥
 not_both b e f = cc
 
--- a stamped copy is known without a clock
+-- a listener without a clock knows each stamped copy
 pub known_stamped : (shift : ℤ) (p : PacketJournal) (plan : ListenPlan) (records : List Record) (place : ℕ) (c : Copy) → HearsTalker shift p plan records → plan.clock ≡ None → is_some (p.times.stamp c.number) ≡ true → IsKnownCopy p plan records place c
 known_stamped shift p plan records place c h off stamped =
     let by_is : by_clock plan ≡ false = rw off refl in
@@ -225,7 +226,7 @@ whole_caught plan input listen p none limit expects h are =
     is_caught plan input listen (records plan input) (map OfStream (range_with_len 0 N)) h (plan_keeps plan input plan_is limit) expects are (all_sent s 0 N (omega arith)) (stream_heard (journal plan input) listen.clock (range_with_len 0 N))
     (ap (map record_of) (frames_alone plan input plan_is none limit ∙ sym (stream_frames_are s (range_with_len 0 N))))
 
--- the delivery of packet n
+-- delivery n is that of packet n
 pub caught_at : (plan : TalkPlan) (input : List ℕ) (listen : ListenPlan) (rs : List Record) (n : ℕ) → IsWhole plan input listen rs → n < (journal plan input).times.packets → IsCaughtAt (journal plan input) (stream_of plan input) listen rs n (OfStream n)
 caught_at plan input listen rs n w lt = w.each n (OfStream n) (packet_at 0 (journal plan input).times.packets n n lt (omega arith))
 

@@ -71,7 +71,7 @@ parted d m k =
 
 -- ---- one unit
 
--- The item is the unit of packets s to n.
+-- The item `made` is the unit of packets `s` to `n`.
 pub record IsUnitMade (p : PacketJournal) (part : ℕ → Part) (lead : ℕ) (d : ℕ → Delivery) (s n : ℕ) (made : MadeItem) : Type 0 where
   pub known : n < p.times.packets
   pub packets : AreUnit part s n
@@ -80,7 +80,7 @@ pub record IsUnitMade (p : PacketJournal) (part : ℕ → Part) (lead : ℕ) (d 
   pub last : made.last ≡ d n
   pub arrival : arrival_of made.entry ≡ (d n).arrival
 
--- the items are the units of packets s to m - 1, which end with these packets
+-- the items are the units of packets `s` to m - 1, and the list of numbers names the last packet of each unit
 abbrev pub AreUnitsFrom : PacketJournal → (ℕ → Part) → ℕ → (ℕ → Delivery) → ℕ → ℕ → List ℕ → List MadeItem → Type 0
 AreUnitsFrom p part lead d s m [] [] = s ≡ m
 AreUnitsFrom p part lead d s m [] (x ∷ xs) = ⊥
@@ -200,6 +200,6 @@ first_made : (p : PacketJournal) (part : ℕ → Part) (plan : ListenPlan) (d : 
 unfolding is_within last_stretch is_complete
 first_made p part plan d = record { ends = []; items = []; so_far = refl; none = refl; frames = tt; units = refl; last_ones = refl }
 
--- the packets of a whole capture make all its units
+-- the packets of a whole capture make up all units of the stream
 pub all_units : (p : PacketJournal) (part : ℕ → Part) (plan : ListenPlan) (d : ℕ → Delivery) → IsVideoCapture p part plan d → AreMade p part plan d p.times.packets
 all_units p part plan d w = all_from p.times.packets p part plan d 0 w (first_made p part plan d) (omega arith) (omega arith) (inl refl)

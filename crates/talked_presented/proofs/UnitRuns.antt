@@ -9,7 +9,7 @@ use Rattle.packet_journal.specs.Units.{AreUnit}
 use Rattle.talked_presented.specs.Whole.{ends_unit}
 use Rattle.talked_presented.proofs.Counted.{more_range}
 
--- A unit begins with packet m, and ends with this packet.
+-- A unit begins with packet m, and ends with packet `n`.
 pub record HasEnd (j : Journal) (part : ℕ → Part) (m : ℕ) : Type 0 where
   pub n : ℕ
   pub known : n < j.packets
@@ -37,7 +37,7 @@ one_more_middle part m j middle e i from to = elim (cases_lt j i) [
   | inr before ↦ middle i from before
 ]
 
--- a unit that begins with packet m, whose packets up to k do not end it, ends with a later packet
+-- if a unit begins with packet m and does not end with a packet up to k, it ends with a later one
 scan : (fuel : ℕ) (j : Journal) (part : ℕ → Part) (m k : ℕ) → IsVideo j part → m ≤ k → suc k + fuel ≡ j.packets → part m ≡ First → AreMiddle part m k → HasEnd j part m
 scan zero j part m k is le sum first middle =
     let all : j.packets ≡ suc k = omega arith in

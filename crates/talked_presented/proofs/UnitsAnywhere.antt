@@ -1,4 +1,4 @@
--- A unit of a plan of H.264 that must be presented, wherever it is in a capture.
+-- Which units of a plan of H.264 must be presented, wherever they are in a capture.
 use Rattle.std.proofs.Common.{◌≡◌, ◌≢◌, ℕ, zero, suc, ◌+◌, ◌-◌, ◌<◌, ◌≤◌, Bool, true, false, pos, ◌≤ℤ◌, List, [], ◌∷◌, ◌++◌, All, length, map, filter, Some, refl, sym, ap, ◌∙◌, subst, arith, append_assoc, length-append}
 use Rattle.std.specs.Prelude.{cond, slice_get}
 use Rattle.std.specs.List.{range_with_len, slice_index_or}
@@ -34,7 +34,7 @@ use Rattle.talked_presented.proofs.UnitRuns.{ends_so, inside_unit, unit_ends}
 
 -- ---- the deliveries before, of and after the unit
 
--- the deliveries of two lists of packets
+-- the deliveries `ds` are those of the packets `xs`, followed by those of the packets `ys`
 record IsParted (p : PacketJournal) (lead : ℕ) (xs ys : List ℕ) (ds : List Delivery) : Type 0 where
   front : List Delivery
   back : List Delivery
@@ -55,7 +55,7 @@ copies_of p lead a zero (d ∷ ds) from = absurd from
 copies_of p lead a (suc k) [] from = tt
 copies_of p lead a (suc k) (d ∷ ds) from = let next : a + 1 ≡ suc a = omega arith in (from.0, subst (λ (b : ℕ). AreCopiesFrom p lead b ds) next (copies_of p lead (a + 1) k ds from.1))
 
--- what is known of the journal and of the deliveries
+-- the journal `p` is one of H.264 and conforms
 record IsHeard (p : PacketJournal) (part : ℕ → Part) (lead : ℕ) : Type 0 where
   conforming : IsConforming (pos 0) p
   kind : p.times.kind ≡ OfParts part
@@ -68,7 +68,7 @@ all_streamed p part lead (k ∷ ks) (d ∷ ds) h shows from =
     let here = video_streamed d (video_copy (pos 0) p part lead k d h.conforming h.kind from.0 (All-head Shows d ds shows)).subtype in
     rw here (ap (λ (l : List Delivery). d ∷ l) (all_streamed p part lead ks ds h (All-tail Shows d ds shows) from.1))
 
--- there are as many deliveries that end a unit as packets that do
+-- as many deliveries end a unit as packets do
 counted : (p : PacketJournal) (part : ℕ → Part) (lead : ℕ) (ks : List ℕ) (ds : List Delivery) → IsHeard p part lead → All Shows ds → AreFrom p lead (map OfStream ks) ds
     → length (filter (λ (d : Delivery). ends_unit (part_in d)) ds) ≡ length (filter (λ (k : ℕ). ends_unit (part k)) ks)
 counted p part lead [] [] h shows from = refl
@@ -87,7 +87,7 @@ none_ends : (part : ℕ → Part) (m n a k : ℕ) → AreUnit part m n → m ≤
 none_ends part m n a zero unit low high = refl
 none_ends part m n a (suc k) unit low high = rw (inside_unit part m n a unit low (omega arith)) (none_ends part m n (a + 1) k unit (omega arith) (omega arith))
 
--- none is a copy of packet n
+-- if n is not among the numbers `ks`, none of the deliveries is a copy of packet n
 never : (p : PacketJournal) (part : ℕ → Part) (lead n : ℕ) (ks : List ℕ) (ds : List Delivery) → IsHeard p part lead → Ends (part n) → All Shows ds → AreFrom p lead (map OfStream ks) ds → All (λ (k : ℕ). k ≢ n) ks → All (λ (d : Delivery). ¬ IsCopyOf p lead n d) ds
 never p part lead n [] [] h ends shows from other = All-nil (λ (d : Delivery). ¬ IsCopyOf p lead n d)
 never p part lead n [] (d ∷ ds) h ends shows from other = absurd from
@@ -101,13 +101,13 @@ others_in : (n a k : ℕ) → a + k ≤ n → All (λ (m : ℕ). m ≢ n) (range
 others_in n a zero le = All-nil (λ (m : ℕ). m ≢ n)
 others_in n a (suc k) le = All-cons (λ (m : ℕ). m ≢ n) a (range_with_len (a + 1) k) (λ e. absurd (omega arith)) (others_in n (a + 1) k (omega arith))
 
--- ---- when they came
+-- ---- when they arrived
 
 all_in : (Q : ℕ → Type 0) (a k : ℕ) → ((m : ℕ) → a ≤ m → m < a + k → Q m) → All Q (range_with_len a k)
 all_in Q a zero each = All-nil Q
 all_in Q a (suc k) each = All-cons Q a (range_with_len (a + 1) k) (each a (omega arith) (omega arith)) (all_in Q (a + 1) k (λ m low high. each m (omega arith) (omega arith)))
 
--- a packet up to a place is one of the first ones
+-- an origin at an index within `xs` names a packet of `xs`, for which `Q` holds
 first_of : (Q : ℕ → Type 0) (xs rest : List ℕ) (j : ℕ) (o : Origin) → All Q xs → j < length xs → slice_get (map OfStream (xs ++ rest)) j ≡ Some o → (k : ℕ) × ((o ≡ OfStream k) × Q k)
 first_of Q [] rest j o all lt at = absurd (omega arith)
 first_of Q (x ∷ xs) rest zero o all lt at = let same : OfStream x ≡ o = cc in (x, (sym same, All-head Q x xs all))
@@ -127,7 +127,7 @@ came_before plan input listen rs ks rest xs ys due w split long early =
 
 -- ---- it must be presented
 
--- the deliveries before the unit's last one, and that one
+-- `last` is the delivery that ends the unit, and `before` are the deliveries before it
 pub record IsUnitAfter (plan : TalkPlan) (input : List ℕ) (listen : ListenPlan) (places : List ℕ) (from n : ℕ) : Type 0 where
   pub before : List Delivery
   pub last : Delivery

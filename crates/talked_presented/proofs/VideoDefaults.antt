@@ -1,5 +1,5 @@
--- The listener with the default options of `listen` has room for all of a plan of H.264 with the default lead of `talk`: when a
--- packet is sent, only packets of its own access unit are not yet due.
+-- A listener with the default options of `listen` has room for all of an H.264 plan with the default lead of `talk`.
+-- When a packet is sent, only packets of its own access unit are not yet due.
 use Rattle.std.proofs.Common.{◌≡◌, ℕ, ◌+◌, ◌-◌, ◌*◌, ◌<◌, ◌≤◌, Bool, List, refl, ap, inl, inr, arith}
 use Rattle.std.proofs.lemmas.Bool.{cases_lt}
 use Rattle.std.proofs.Math.Nat.{mul-le-mul_right}
@@ -26,7 +26,7 @@ far_by x y rate a b few lt over under above = elim (cases_lt (x + 2000000) y) [
       absurd (omega arith)
 ]
 
--- no access unit is sent before the earlier ones are due
+-- with the default lead, each access unit is sent after all earlier ones are due
 next_far : (plan : TalkPlan) (a b : ℕ) → IsVideoPlan plan → plan.lead ≡ 2000000 → a < b → access_instant plan a + 2000000 < access_instant plan b
 unfolding access_instant
 next_far plan a b p lead lt =

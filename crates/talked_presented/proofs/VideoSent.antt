@@ -1,4 +1,4 @@
--- What a listener gets of a whole capture of a plan of H.264: packet n in record n, in order and in time.
+-- What a listener gets from a whole capture of an H.264 plan: packet n in record n, in order and in time.
 use Rattle.std.proofs.Common.{◌≡◌, ℕ, zero, suc, ◌+◌, ◌<◌, ◌≤◌, Bool, pos, List, ◌∷◌, length, map, refl, sym, ap, ◌∙◌, subst, arith}
 use Rattle.std.specs.List.{range_with_len}
 use Rattle.pcap_frames.specs.Capture.{Record}

@@ -1,4 +1,4 @@
--- If each packet of an audio stream comes in time and in order, and there is room, each is presented.
+-- If the packets of an audio stream arrive in time and in order, and there is room, each packet is presented.
 use Rattle.std.proofs.Common.{◌≡◌, ℕ, ◌+◌, ◌*◌, ◌<◌, ◌≤◌, Bool, false, ℤ, pos, ◌≤ℤ◌, List, [], ◌∷◌, All, length, map, Option, Some, None, is_some, refl, sym, ap, ◌∙◌, subst, arith}
 use Rattle.std.specs.List.{range_with_len}
 use Rattle.std.proofs.lemmas.Int.{ints, by_lt_z}
@@ -37,7 +37,7 @@ pub record IsPacketAt (p : PacketJournal) (n : ℕ) (a : Accepted) : Type 0 wher
   pub due : a.instant ≡ pos (p.times.due n)
   pub is : IsOfPacket false p n a.batch
 
--- The item at place n is packet n, which is known and came in time.
+-- Item n is packet n, which is known and arrives in time.
 pub record IsTimelyAt (p : PacketJournal) (plan : ListenPlan) (records : List Record) (n : ℕ) : Type 0 where
   pub made : MadeItem
   pub timely : IsTimely p plan records n n made

@@ -14,34 +14,35 @@ use Rattle.talked_presented.specs.Whole.{ends_unit}
 abbrev pub sent_copy : TalkPlan → List ℕ → ℕ → Copy
 sent_copy plan input n = record { number = n; arrival = (stream_of plan input).arrival n }
 
--- the packets among these that are not yet due when packet n is sent
+-- those of `packets` that are not yet due when packet n is sent
 abbrev pub waiting_at : TalkPlan → List ℕ → ℕ → List ℕ → List ℕ
 waiting_at plan input n packets = filter (λ (k : ℕ). nat_le ((stream_of plan input).arrival n) ((journal plan input).times.due k)) packets
 
--- Packet n of a plan without a clock is captured after the packets `before`, and the packets `after` follow. It has a
--- timestamp, or can be counted from one of those that came up to it and `look` more; and no packet before it was captured after
--- packet n is due.
+-- Packet n of a plan without a clock is captured after the packets `before` and before the packets `after`. It has a
+-- timestamp, or can be counted from a timestamp among the packets up to it and the next `look`. No packet before it was
+-- captured after packet n is due.
 pub record ComesInTime (plan : TalkPlan) (input : List ℕ) (listen : ListenPlan) (before : List ℕ) (n : ℕ) (after : List ℕ) : Type 0 where
   pub talk : ListensTo plan input listen
   pub alone : plan.crf ≡ None
   pub without : listen.clock ≡ None
-  -- all are packets of the plan
+  -- all captured packets are packets of the plan
   pub sent : All (λ (k : ℕ). k < (journal plan input).times.packets) (before ++ n ∷ after)
   pub timed : IsTimed (journal plan input).times listen.lead (listen.look + 16) (sent_copy plan input n) (take (length before + listen.look + 1) (before ++ n ∷ after))
   pub in_time : All (λ (k : ℕ). (stream_of plan input).arrival k ≤ (journal plan input).times.due n) before
 
--- The copy must be presented: it comes in time, it is the first of its packet, and the buffer has room for it and for all
--- packets before it that are not yet due. No packet has more than 1,500 bytes.
+-- The copy of packet n must be presented. It is captured in time, it is the first copy, and the buffer has room for it
+-- and for all earlier packets that are not yet due. The room is counted with 1,500 bytes for each packet; no packet has
+-- more.
 pub record MustBePresented (plan : TalkPlan) (input : List ℕ) (listen : ListenPlan) (before : List ℕ) (n : ℕ) (after : List ℕ) : Type 0 where
   pub comes : ComesInTime plan input listen before n after
   pub first : All (λ (k : ℕ). k ≢ n) before
   pub some : length (waiting_at plan input n before) < listen.buffer
   pub bytes : (length (waiting_at plan input n before) + 1) * 1500 ≤ listen.room
 
--- Packets `from` to n of a plan of H.264, which carry one unit, are captured in their order after the packets `front`, and the
--- packets `after` follow. The unit must be presented: no packet before it was captured after it is due, its last packet did not
--- come before, and the buffer has room for it and for all units that were completed before. A unit has at most 255 packets of
--- 1,500 bytes.
+-- Packets `from` to n of a plan of H.264, which carry one unit, are captured in order, after the packets `front` and
+-- before the packets `after`. The unit must be presented. No packet of `front` was captured after the unit is due, the
+-- unit's last packet is not in `front`, and the buffer has room for the unit and for all units completed in `front`.
+-- The room is counted with 255 packets of 1,500 bytes for each unit; no unit has more.
 pub record UnitMustBePresented (plan : TalkPlan) (input : List ℕ) (listen : ListenPlan) (front : List ℕ) (from n : ℕ) (after : List ℕ) : Type 0 where
   pub talk : ListensToVideo plan input (front ++ (range_with_len from (n - from) ++ n ∷ after)) listen
   pub sent : All (λ (k : ℕ). k < (journal plan input).times.packets) (front ++ n ∷ after)

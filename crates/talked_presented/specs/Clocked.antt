@@ -15,33 +15,34 @@ use Rattle.talk_plan.specs.Plan.{IsAudioPlan, interval_of, most_input, spacing_o
 use Rattle.talked_headline.specs.Premises.{ListensTo}
 use Rattle.talked_presented.specs.Whole.{HoldsLead, default_listener}
 
--- the first packet whose first sample is at the second timestamp of the clock, or after it
+-- the first packet whose first sample is at or after the second timestamp of the clock
 abbrev pub first_covered : CrfPlan → TalkPlan → ℕ
 first_covered crf plan = div_ceil (spacing_of crf plan.rate) plan.count
 
--- A batch is a packet from this one on. A flag is that of a packet before it, with the reason `noclock`.
+-- A batch is that of packet `first` or of a later packet. A flag is that of an earlier packet, with the reason
+-- `noclock`.
 abbrev pub IsFrom : PacketJournal → ℕ → Shown → Type 0
 IsFrom p first (Present batch) = (n : ℕ) × ((first ≤ n) × IsOfPacket true p n batch)
 IsFrom p first (Flag frame seq reason) = (n : ℕ) × ((n < first) × ((seq ≡ n % 256) × (reason ≡ NoClock)))
 
--- Each packet from this one on is presented by the clock, once and in order. Nothing else is shown, except for flags of the
--- packets before it, with the reason `noclock`.
+-- Each packet from `first` on is presented by the clock, once and in order. Nothing else is shown but flags of earlier
+-- packets, with the reason `noclock`.
 pub record ArePresentedFrom (p : PacketJournal) (first : ℕ) (shown : List Shown) : Type 0 where
   pub each : (n : ℕ) → first ≤ n → n < p.times.packets → Any (IsOfPacket true p n) (presented_of shown)
   pub once : AllPairs (AreOther true p) (presented_of shown)
   pub in_order : AllPairs ComesBefore (presented_of shown)
   pub no_other : All (IsFrom p first) shown
 
--- Each packet of a plan of this kind stamps its first sample: in PCM that is not sparse, and in AM824 if a packet has one or more
--- whole SYT intervals of data blocks (IEC 61883-6), as a blocking talker sends them.
+-- Each packet of a plan of this kind stamps its first sample. That is so in PCM that is not sparse. It is so in AM824
+-- if a packet has whole SYT intervals of data blocks, as a blocking talker sends them (IEC 61883-6).
 abbrev pub StampsFirst : TalkKind → TalkPlan → Type 0
 StampsFirst (Aaf format false) plan = ⊤
 StampsFirst (Aaf format true) plan = ⊥
 StampsFirst Am824 plan = plan.count % interval_of plan.rate ≡ 0
 StampsFirst (H264 last_stamp) plan = ⊥
 
--- The listener has the talker's clock and does not look ahead. Each packet of the plan stamps its first sample, and the plan has no
--- restarts.
+-- The listener has the talker's clock, does not look ahead, and has room for what is sent during the plan's lead. Each
+-- packet of the plan stamps its first sample. The plan has no restarts and a lead of at least 3 ns.
 pub record HearsClock (plan : TalkPlan) (crf : CrfPlan) (input : List ℕ) (listen : ListenPlan) : Type 0 where
   pub talk : ListensTo plan input listen
   pub stamps : StampsFirst plan.kind plan
@@ -52,12 +53,12 @@ pub record HearsClock (plan : TalkPlan) (crf : CrfPlan) (input : List ℕ) (list
   pub now : listen.look ≡ 0
   pub room : HoldsLead plan listen
 
--- the listener with the default options of `listen` and a clock
+-- the listener with the default options of `listen` and with the clock `clock`
 abbrev pub clocked_listener : ℕ → ℕ → ListenPlan
 clocked_listener id clock = record (default_listener id) { clock = Some clock }
 
--- A plan with this clock and without restarts, each packet of which stamps its first sample, sends this input with the default lead
--- of `talk`, 2 ms.
+-- A plan sends `input` with the clock `crf` and the default lead of `talk`, 2 ms. It has no restarts, and each of its
+-- packets stamps its first sample.
 pub record HasDefaultClock (plan : TalkPlan) (crf : CrfPlan) (input : List ℕ) : Type 0 where
   pub talked : IsAudioPlan plan
   pub id : plan.id < 2 ^ 64

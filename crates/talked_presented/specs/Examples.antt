@@ -6,15 +6,15 @@ use Rattle.talk_plan.specs.declared.plan.TalkKind.TheVariants.{Aaf, H264}
 use Rattle.talk_plan.specs.declared.plan.TalkPlan.{TalkPlan}
 use Rattle.talker.specs.Examples.{restarting, six_blocks}
 
--- packets of 6 stereo sample frames of 16 bits at 48 kHz, sparse or not, without restarts
+-- PCM of 16 bits at 48 kHz, sparse or not, in packets of 6 stereo sample frames, without restarts
 abbrev pub plain : Bool → TalkPlan
 plain sparse = record restarting { kind = Aaf Int16 sparse; restart = None }
 
--- 30 access units a second, each packet stamped, or only the last one of each unit
+-- 30 access units a second; every packet has a timestamp, or only the last packet of each NAL unit
 abbrev pub thirty : Bool → TalkPlan
 thirty last_stamp = record restarting { kind = H264 last_stamp; rate = 30; restart = None }
 
--- silence for three packets of the plain plan
+-- silence for three packets of the `plain` plan
 abbrev pub silence : List ℕ
 silence = replicate 72 0
 
@@ -22,11 +22,11 @@ silence = replicate 72 0
 abbrev pub six_points : CrfPlan
 six_points = record { id = 0x0200000000010002; rate = 48000; pull = 0; interval = 160; points = 6 }
 
--- the plain plan of dense PCM with that clock
+-- the `plain` plan of dense PCM with the clock `six_points`
 abbrev pub with_clock : TalkPlan
 with_clock = record (plain false) { crf = Some six_points }
 
--- packets of 8 data blocks of AM824 at 48 kHz, one SYT interval in each, with that clock
+-- AM824 at 48 kHz, in packets of 8 data blocks, one SYT interval, with the clock `six_points`
 abbrev pub blocking : TalkPlan
 blocking = record (six_blocks 48000) { count = 8; crf = Some six_points }
 

@@ -14,8 +14,8 @@ use Rattle.talk_plan.specs.Plan.{IsAudioPlan, IsVideoPlan, interval_of, most_inp
 use Rattle.talker.specs.Journal.{journal, stream_of}
 use Rattle.talked_headline.specs.Premises.{ListensTo, part_sent}
 
--- Exactly these packets are shown, in this order: each is presented once, with its bytes and at its instants, and nothing is
--- flagged.
+-- Exactly these packets are shown, in this order. Each is presented once, with its bytes and at its instants, and
+-- nothing is flagged.
 abbrev pub ArePresented : Bool → PacketJournal → List ℕ → List Shown → Type 0
 ArePresented by p [] [] = ⊤
 ArePresented by p [] (s ∷ rest) = ⊥
@@ -23,27 +23,27 @@ ArePresented by p (n ∷ ns) [] = ⊥
 ArePresented by p (n ∷ ns) (Present batch ∷ rest) = IsOfPacket by p n batch × ArePresented by p ns rest
 ArePresented by p (n ∷ ns) (Flag frame seq reason ∷ rest) = ⊥
 
--- The listener's buffer has room for all packets that are sent in 4/3 of the plan's lead, with 1 ns added to the lead, and has
--- 1,500 bytes for each: no packet carries more.
+-- The listener's buffer has room for all packets that are sent in 4/3 of a period 1 ns longer than the plan's lead. It
+-- has 1,500 bytes for each packet; no packet carries more.
 pub record HoldsLead (plan : TalkPlan) (listen : ListenPlan) : Type 0 where
   pub packets : 4 * ((plan.lead + 1) * plan.rate) < 3 * (listen.buffer * (plan.count * 1000000000))
   pub bytes : listen.buffer * 1500 ≤ listen.room
 
--- the leads of the listener and of the plan differ by at most 59 packets' time
+-- the leads of the listener and of the plan differ by at most the time of 59 packets
 pub record IsCloseLead (plan : TalkPlan) (lead : ℕ) : Type 0 where
   pub from : plan.lead * plan.rate ≤ lead * plan.rate + 59 * (plan.count * 1000000000)
   pub to : lead * plan.rate ≤ plan.lead * plan.rate + 59 * (plan.count * 1000000000)
 
--- A listener times packets without a timestamp by another packet's, if it expects them at about the time at which the plan
--- sends them. If each packet is stamped, any lead will do.
+-- To time a packet without a timestamp by another packet, a listener must expect packets at about the time at which the
+-- plan sends them. If each packet is stamped, any lead will do.
 abbrev pub ExpectsCounted : TalkKind → TalkPlan → ℕ → Type 0
 ExpectsCounted (Aaf format false) plan lead = ⊤
 ExpectsCounted (Aaf format true) plan lead = IsCloseLead plan lead
 ExpectsCounted Am824 plan lead = plan.count < interval_of plan.rate → IsCloseLead plan lead
 ExpectsCounted (H264 last_stamp) plan lead = ⊤
 
--- The listener can present each packet of the plan, which sends no clock: each packet has a timestamp or one that it is counted
--- from, and the buffer has room for all packets that wait.
+-- The listener can present each packet of the plan, which has no clock. Each packet has a timestamp or is counted from
+-- one, and the buffer has room for all waiting packets.
 pub record HearsAll (plan : TalkPlan) (input : List ℕ) (listen : ListenPlan) : Type 0 where
   pub talk : ListensTo plan input listen
   pub alone : plan.crf ≡ None
@@ -54,7 +54,8 @@ pub record HearsAll (plan : TalkPlan) (input : List ℕ) (listen : ListenPlan) :
 
 -- ---- the defaults
 
--- Each packet of a plan of this kind has a timestamp, or one that it is counted from: each is stamped, or there is no restart.
+-- Each packet of a plan of this kind has a timestamp or is counted from one, because each packet is stamped or there is
+-- no restart.
 abbrev pub HasEachHead : TalkKind → Option ℕ → Type 0
 HasEachHead (Aaf format false) restart = ⊤
 HasEachHead (Aaf format true) restart = restart ≡ None
@@ -65,7 +66,7 @@ HasEachHead (H264 last_stamp) restart = ⊤
 abbrev pub default_listener : ℕ → ListenPlan
 default_listener id = record { stream = id; clock = None; buffer = 4096; room = 67108864; look = 0; lead = 2000000; shift = pos 0 }
 
--- An audio plan without a clock, with the default lead of `talk`, 2 ms, sends this input, and each of its packets can be timed.
+-- An audio plan without a clock sends `input` with the default lead of `talk`, 2 ms. Each of its packets can be timed.
 pub record HasDefaultLead (plan : TalkPlan) (input : List ℕ) : Type 0 where
   pub talked : IsAudioPlan plan
   pub id : plan.id < 2 ^ 64
@@ -76,7 +77,7 @@ pub record HasDefaultLead (plan : TalkPlan) (input : List ℕ) : Type 0 where
 
 -- ---- H.264
 
--- the part ends a unit: it is a whole unit or its last fragment
+-- the part ends a unit: it is a whole unit or a last fragment
 abbrev pub ends_unit : Part → Bool
 ends_unit Single = true
 ends_unit First = false
@@ -87,15 +88,15 @@ ends_unit Last = true
 abbrev pub unit_ends : TalkPlan → List ℕ → List ℕ
 unit_ends plan input = filter (λ (n : ℕ). ends_unit (part_sent input n)) (range_with_len 0 (journal plan input).times.packets)
 
--- Whenever a packet is sent, the buffer has room for all packets that are not yet due. It has 1,500 bytes for each packet that
--- it may hold and for 255 more, the most packets that a unit has.
+-- Whenever a packet is sent, the buffer has room for all packets that are not yet due. The buffer has 1,500 bytes for
+-- each packet that it may hold and for 255 more packets, the most that a unit has.
 pub record HoldsUnits (plan : TalkPlan) (input : List ℕ) (listen : ListenPlan) : Type 0 where
   pub packets : (k n : ℕ) → k ≤ n → n < (journal plan input).times.packets → (stream_of plan input).arrival n ≤ (journal plan input).times.due k
       → n < k + listen.buffer
   pub bytes : (listen.buffer + 255) * 1500 ≤ listen.room
 
--- The listener can present each unit of a plan of H.264: the buffer has room for all units that wait. The listener may have any
--- lead.
+-- The listener can present each unit of a plan of H.264, because its buffer has room for all waiting units. The
+-- listener may have any lead.
 pub record HearsUnits (plan : TalkPlan) (input : List ℕ) (listen : ListenPlan) : Type 0 where
   pub last_stamp : Bool
   pub kind : plan.kind ≡ H264 last_stamp
@@ -106,7 +107,7 @@ pub record HearsUnits (plan : TalkPlan) (input : List ℕ) (listen : ListenPlan)
   pub clock : FollowsClock (pos 0) (journal plan input) listen.shift listen.clock
   pub room : HoldsUnits plan input listen
 
--- A plan of H.264 with the default lead of `talk`, 2 ms, sends this input.
+-- A plan of H.264 sends `input` with the default lead of `talk`, 2 ms.
 pub record IsDefaultVideo (plan : TalkPlan) (input : List ℕ) : Type 0 where
   pub last_stamp : Bool
   pub kind : plan.kind ≡ H264 last_stamp

@@ -29,9 +29,10 @@ use packet_journal::laws::{carried_clock_packet_is_delivered, carried_packet_is_
 use talked_headline::laws::{talked_is_heard, talked_video_is_heard, whole_capture_is_heard};
 use talker::laws::{capture_delivers, capture_reads_back, journal_conforms, losses_are_delivered};
 
-/// Files that `talk` makes with its default lead meet the whole premise of the headline for listeners with the default options
-/// of `listen`: those of audio without a media clock, if each packet has a timestamp or is counted from one; those with a
-/// clock, if each packet stamps its first sample and there are no restarts, for listeners with that clock; and those of H.264.
+/// Files that `talk` makes with its default lead meet the whole premise of the headline, for listeners with the default
+/// options of `listen`. This holds for audio without a media clock if each packet has a timestamp or is counted from
+/// one. It holds for audio with a clock if each packet stamps its first sample, there are no restarts, and the listener
+/// has that clock. It holds for all H.264.
 pub fn files_are_heard()
     ensures audio { (plan : TalkPlan) (input : List ℕ) → HasDefaultLead plan input → HearsTalker (pos 0) (journal plan input) (default_listener plan.id) (records_in (capture plan input)) }
     ensures clocked { (plan : TalkPlan) (crf : CrfPlan) (input : List ℕ) → HasDefaultClock plan crf input → HearsTalker (pos 0) (journal plan input) (clocked_listener plan.id crf.id) (records_in (capture plan input)) }
@@ -43,8 +44,9 @@ pub fn files_are_heard()
     capture_reads_back();
 }
 
-/// If each packet of an audio plan without a clock has a timestamp or is counted from one, and the listener has room for what
-/// is sent during the lead, all of a whole capture is presented: each packet once, in order, and nothing is flagged.
+/// Assume that each packet of an audio plan without a clock has a timestamp or is counted from one, and that the
+/// listener has room for what is sent during the lead. Then each packet of a whole capture is presented, once and in
+/// order, and nothing is flagged.
 pub fn whole_capture_is_presented()
     ensures { (plan : TalkPlan) (input : List ℕ) (listen : ListenPlan) → HearsAll plan input listen
         → ArePresented false (journal plan input) (range_with_len 0 (journal plan input).times.packets) (shown_of listen (whole_records (capture plan input))) }
@@ -55,9 +57,9 @@ pub fn whole_capture_is_presented()
     carried_clock_packet_is_delivered();
 }
 
-/// A listener with the default options of `listen` presents all of an audio plan with the default lead of `talk`, without a
-/// clock, and without restarts if it is sparse AAF or AM824: at any rate, with any number of channels and of sample frames in a
-/// packet.
+/// A listener with the default options of `listen` presents all of an audio plan that has the default lead of `talk`
+/// and no clock. Sparse AAF and AM824 must have no restarts. The plan may have any rate, any number of channels, and
+/// any number of sample frames in a packet.
 pub fn defaults_present_all()
     ensures hears { (plan : TalkPlan) (input : List ℕ) → HasDefaultLead plan input → HearsAll plan input (default_listener plan.id) }
     ensures presented { (plan : TalkPlan) (input : List ℕ) → HasDefaultLead plan input
@@ -66,10 +68,10 @@ pub fn defaults_present_all()
     whole_capture_is_presented();
 }
 
-/// A listener with the talker's clock presents each packet of a whole capture from the second timestamp of the clock on, once and
-/// in order, if each packet stamps its first sample, there are no restarts, and the lead is at least 3 ns; the listener has no
-/// look-ahead, and room for what is sent during the lead. Nothing else is shown but flags of packets before that timestamp,
-/// with the reason `noclock`.
+/// Assume that each packet of an audio plan with a clock stamps its first sample, that there are no restarts, and that
+/// the lead is at least 3 ns. Assume that the listener has the talker's clock, no look-ahead, and room for what is sent
+/// during the lead. Then each packet of a whole capture from the second timestamp of the clock on is presented, once
+/// and in order. Nothing else is shown but flags of packets before that timestamp, with the reason `noclock`.
 pub fn clocked_capture_is_presented()
     ensures { (plan : TalkPlan) (crf : CrfPlan) (input : List ℕ) (listen : ListenPlan) → HearsClock plan crf input listen
         → ArePresentedFrom (journal plan input) (first_covered crf plan) (shown_of listen (whole_records (capture plan input))) }
@@ -80,8 +82,8 @@ pub fn clocked_capture_is_presented()
     carried_clock_packet_is_delivered();
 }
 
-/// If such a plan has the default lead of `talk`, a listener with its clock and otherwise the default options of `listen`
-/// presents these packets.
+/// If a plan as in `clocked_capture_is_presented` has the default lead of `talk`, a listener with the plan's clock and
+/// otherwise the default options of `listen` presents its packets from the second timestamp of the clock on.
 pub fn defaults_present_by_clock()
     ensures hears { (plan : TalkPlan) (crf : CrfPlan) (input : List ℕ) → HasDefaultClock plan crf input → HearsClock plan crf input (clocked_listener plan.id crf.id) }
     ensures presented { (plan : TalkPlan) (crf : CrfPlan) (input : List ℕ) → HasDefaultClock plan crf input
@@ -90,8 +92,8 @@ pub fn defaults_present_by_clock()
     clocked_capture_is_presented();
 }
 
-/// If the listener has room for the units that wait, all of a whole capture of an H.264 plan is presented: each unit once, in
-/// order, and nothing is flagged, whether each packet has a timestamp or only the last one of each unit.
+/// If the listener has room for the waiting units, each unit of a whole capture of an H.264 plan is presented, once and
+/// in order, and nothing is flagged. Each packet may have a timestamp, or only the last one of each unit.
 pub fn whole_video_is_presented()
     ensures { (plan : TalkPlan) (input : List ℕ) (listen : ListenPlan) → HearsUnits plan input listen
         → ArePresented (by_clock listen) (journal plan input) (unit_ends plan input) (shown_of listen (whole_records (capture plan input))) }
@@ -102,7 +104,8 @@ pub fn whole_video_is_presented()
     carried_clock_packet_is_delivered();
 }
 
-/// If an H.264 plan has the default lead of `talk`, a listener with the default options of `listen` presents all its units.
+/// If an H.264 plan has the default lead of `talk`, a listener with the default options of `listen` presents all units
+/// of the plan.
 pub fn defaults_present_all_units()
     ensures hears { (plan : TalkPlan) (input : List ℕ) → IsDefaultVideo plan input → HearsUnits plan input (default_listener plan.id) }
     ensures presented { (plan : TalkPlan) (input : List ℕ) → IsDefaultVideo plan input
@@ -111,9 +114,9 @@ pub fn defaults_present_all_units()
     whole_video_is_presented();
 }
 
-/// A listener with the default options of `listen` hears a whole capture of an H.264 plan with the default lead of `talk`. If
-/// each packet has a timestamp, it hears any other capture of the plan, too, whatever that loses, repeats or reorders. It has
-/// room for each unit of the plan.
+/// A listener with the default options of `listen` hears a whole capture of an H.264 plan with the default lead of
+/// `talk`. If each packet has a timestamp, the listener also hears any capture that loses, repeats or reorders packets
+/// of the plan. It has room for each unit of the plan.
 pub fn defaults_hear_units()
     ensures whole { (plan : TalkPlan) (input : List ℕ) → IsDefaultVideo plan input → ListensToVideo plan input (range_with_len 0 (journal plan input).times.packets) (default_listener plan.id) }
     ensures stamped { (plan : TalkPlan) (input places : List ℕ) → (is : IsDefaultVideo plan input) → is.last_stamp ≡ false → ListensToVideo plan input places (default_listener plan.id) }
@@ -122,9 +125,10 @@ pub fn defaults_hear_units()
     journal_conforms();
 }
 
-/// Anywhere in a capture of an audio plan without a clock, whatever the capture loses, repeats or reorders, a copy of a packet
-/// must be presented if the packet has a timestamp or can be counted from one that came, no packet up to it was captured after
-/// it is due, it is the first copy, and the buffer has room for it.
+/// A capture of an audio plan without a clock may lose, repeat or reorder packets. A copy of a packet must be
+/// presented, wherever it is in the capture, if four conditions hold. The packet has a timestamp or can be counted from
+/// one that arrived. No packet before the copy was captured after the packet is due. The copy is the first of the
+/// packet. The buffer has room for it.
 pub fn talked_copy_is_welcome()
     ensures { (plan : TalkPlan) (input before after : List ℕ) (n : ℕ) (listen : ListenPlan) → MustBePresented plan input listen before n after
         → (made : MadeItem) × IsWelcome (journal plan input) listen (captured plan input (before ++ n ∷ after)) (length before) n made }
@@ -136,8 +140,9 @@ pub fn talked_copy_is_welcome()
     copies_anywhere_are_welcome();
 }
 
-/// If a packet that must be presented comes again, anywhere later in the capture, and no packet up to that copy was captured
-/// after the repeated packet is due, the copy is a further one, and must be flagged as a repeat.
+/// Assume that a packet whose copy must be presented is captured again, anywhere later in the capture. If the packet
+/// can then be timed, and no packet before the later copy was captured after the packet is due, the later copy must be
+/// flagged as a repeat.
 pub fn talked_copy_is_further()
     ensures { (plan : TalkPlan) (input before between after : List ℕ) (n : ℕ) (listen : ListenPlan) → MustBePresented plan input listen before n (between ++ n ∷ after) → ComesInTime plan input listen (before ++ n ∷ between) n after
         → (made : MadeItem) × IsFurther (journal plan input) listen (captured plan input ((before ++ n ∷ between) ++ n ∷ after)) (length (before ++ n ∷ between)) n made }
@@ -150,9 +155,10 @@ pub fn talked_copy_is_further()
     copies_anywhere_are_further();
 }
 
-/// A unit of an H.264 plan must be presented, wherever it is in a capture and whatever the capture loses, repeats or reorders,
-/// if all its packets are captured in order, with no other packet of the stream between them, no packet before it was captured
-/// after the unit is due, its last packet did not come before, and the buffer has room for it.
+/// A capture of an H.264 plan may lose, repeat or reorder packets. A unit must be presented, wherever it is in the
+/// capture, if four conditions hold. All packets of the unit are captured in order, with no other packet of the stream
+/// between them. No packet before them was captured after the unit is due. The last packet of the unit was not captured
+/// before. The buffer has room for the unit.
 pub fn talked_unit_anywhere_is_welcome()
     ensures { (plan : TalkPlan) (input front after : List ℕ) (from n : ℕ) (listen : ListenPlan) → UnitMustBePresented plan input listen front from n after
         → (place : ℕ) × ((made : MadeItem) × IsWelcome (journal plan input) listen (captured plan input (front ++ (range_with_len from (n - from) ++ n ∷ after))) place n made) }
@@ -164,16 +170,16 @@ pub fn talked_unit_anywhere_is_welcome()
     units_anywhere_are_welcome();
 }
 
-/// If exactly these packets are presented and nothing is flagged, the listener's counts say so: this many items are presented,
-/// and none is flagged.
+/// If exactly `packets` are presented and nothing is flagged, the listener counts as many presented items, and no
+/// flagged one.
 pub fn presented_are_counted()
     ensures presented { (by : Bool) (p : PacketJournal) (packets : List ℕ) (plan : ListenPlan) (records : List Record) → ArePresented by p packets (shown_of plan records) → (counts_of plan records (shown_of plan records)).presented ≡ length packets }
     ensures flagged { (by : Bool) (p : PacketJournal) (packets : List ℕ) (plan : ListenPlan) (records : List Record) → ArePresented by p packets (shown_of plan records) → (counts_of plan records (shown_of plan records)).flagged ≡ 0 }
 {}
 
-/// Plans of each kind, with a clock and without, have the default lead, and each of their packets can be timed, whatever they
-/// send. If packets 0, 2, 1 and 1 of a plan are captured, in this order, the first copy of packet 1 must be presented. So must a
-/// unit of one packet that comes twice.
+/// Example plans of each kind, with a clock and without, meet the premises of the laws about default options, whatever
+/// they send. If packets 0, 2, 1 and 1 of a plan are captured, in this order, the first copy of packet 1 must be
+/// presented. A unit of one packet that is captured twice must be presented, too.
 pub fn examples_are_so()
     ensures dense { (input : List ℕ) → length input ≤ most_input → HasDefaultLead (plain false) input }
     ensures sparse { (input : List ℕ) → length input ≤ most_input → HasDefaultLead (plain true) input }
