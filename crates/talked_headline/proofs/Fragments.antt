@@ -44,7 +44,7 @@ inside part from n k (inr a) low high ends = elim (cases_lt from k) [
 next_unit : (units : List (ℕ × ℕ)) (p : Place) → suc p.fragment < packets_at units p.unit → (next_place units p).unit ≡ p.unit
 next_unit units p more = let test : nat_lt (suc p.fragment) (packets_at units p.unit) ≡ true = grind (arith, nat_tests) in rw test refl
 
--- the packet after one that does not end its unit carries a part of the same unit
+-- if packet k does not end its unit, packet k + 1 carries a part of the same unit
 goes_on : (units : List (ℕ × ℕ)) (k : ℕ) → (Ends (part_of (part_at units (place_of units k))) → ⊥) → (place_of units (suc k)).unit ≡ (place_of units k).unit
 goes_on units k open_one =
     let place = place_of units k in
@@ -115,7 +115,7 @@ unit_size plan input last_stamp from n e few =
     let bodies = all_short plan input last_stamp from (suc n - from) e in
     omega (arith, length-append (first_byte ((journal plan input).packet from)) (flat_map (λ (k : ℕ). carried ((journal plan input).packet k)) (range_with_len from (suc n - from))), byte, bodies, few)
 
--- a unit has at most 1,500 bytes for each of its packets: none carries more than 1,428, and the unit has one byte besides
+-- A unit has at most 1,500 bytes for each of its packets: its first byte, and at most 1,428 bytes from each packet.
 pub unit_small : (plan : TalkPlan) (input : List ℕ) (last_stamp : Bool) (from n : ℕ) → plan.kind ≡ H264 last_stamp → from ≤ n → length (unit_bytes (journal plan input) from n) ≤ (suc n - from) * 1500
 unit_small plan input last_stamp from n e low =
     let byte : length (first_byte ((journal plan input).packet from)) ≡ 1 = ap (λ (view : PacketView). length (first_byte view)) (packet_is plan input last_stamp from e) in
@@ -130,7 +130,7 @@ pub record HasFrames (plan : TalkPlan) (input : List ℕ) (lead a k : ℕ) : Typ
   pub carry : AllCarry (journal plan input) lead (range_with_len a k) (map record_of sent)
   pub long : length sent ≡ k
 
--- adjacent packets have these frames
+-- if each of the packets `a` to a + k - 1 has a frame that carries it, these packets have frames in that order
 pub frames_of : (plan : TalkPlan) (input : List ℕ) (lead a k : ℕ) → ((i : ℕ) → i < a + k → (f : SentFrame) × ((slice_get (frames plan input) i ≡ Some f) × Carries (journal plan input) lead i (record_of f))) → HasFrames plan input lead a k
 frames_of plan input lead a zero each = record { sent = []; same = λ places. refl; carry = tt; long = refl }
 frames_of plan input lead a (suc k) each =
@@ -145,7 +145,7 @@ frames_of plan input lead a (suc k) each =
 
 -- ---- their deliveries
 
--- the deliveries of records that all belong to the stream, numbered from i on
+-- the deliveries of records, numbered from `i` on, and the condition that each record belongs to the stream
 unfoldable pub numbered : ℕ → List Record → List Delivery
 numbered i [] = []
 numbered i (r ∷ rs) = delivery i r ∷ numbered (i + 1) rs

@@ -1,4 +1,4 @@
--- A plan of a talker, and a listener for it.
+-- A plan of a talker, and a listener to its stream.
 use Rattle.std.specs.Prelude.{◌≡◌, ◌^◌, ◌<◌, ◌≤◌, ℕ, Bool, pos, List, length}
 use Rattle.pcap_frames.specs.Capture.{Record, whole_records}
 use Rattle.stream_journal.specs.Journal.{Part}
@@ -14,12 +14,12 @@ use Rattle.talker.specs.Journal.{journal}
 use Rattle.talk_plan.specs.Plan.{Expects, IsAudioPlan, IsVideoPlan, most_input}
 use Rattle.talk_video.specs.Units.{sent_units}
 
--- the records of a capture that has these frames of the plan, in this order
+-- the records of a capture of the plan's frames at the indices `places`, in that order
 abbrev pub captured : TalkPlan → List ℕ → List ℕ → List Record
 captured plan input places = whole_records (capture_of (frames_at plan input places))
 
--- The plan is one of audio and sends this input, and the listener listens to its stream, with its clock or without one. With
--- its lead the listener can tell packets without a timestamp apart.
+-- An audio plan sends `input`, and the listener listens to the plan's stream, with or without the plan's clock. The
+-- listener's lead lets it tell packets without a timestamp apart.
 pub record ListensTo (plan : TalkPlan) (input : List ℕ) (listen : ListenPlan) : Type 0 where
   pub talked : IsAudioPlan plan
   pub id : plan.id < 2 ^ 64
@@ -30,9 +30,9 @@ pub record ListensTo (plan : TalkPlan) (input : List ℕ) (listen : ListenPlan) 
 
 -- ---- H.264
 
--- The plan is one of H.264 and sends this input, and the listener listens to its stream. If the plan stamps only the last
--- fragments of units, adjacent captured fragments are of packets at most 254 apart, unless both are stamped. The listener may
--- have any lead.
+-- An H.264 plan sends `input`, and the listener listens to the plan's stream. If the plan stamps only the last
+-- fragments of units, adjacent captured fragments are of packets at most 254 apart, unless both packets are stamped.
+-- The listener may have any lead.
 pub record ListensToVideo (plan : TalkPlan) (input places : List ℕ) (listen : ListenPlan) : Type 0 where
   pub last_stamp : Bool
   pub kind : plan.kind ≡ H264 last_stamp

@@ -21,8 +21,8 @@ use talker::laws::{
     packets_are_sent_in_time,
 };
 
-/// A capture of the frames of an audio plan and of its clock meets the whole premise of the headline, whatever the capture
-/// loses, repeats or reorders, for listeners with the clock and without.
+/// A capture of the frames of an audio plan and of its clock meets the whole premise of the headline, for listeners
+/// with the clock and without. The capture may lose, repeat or reorder frames.
 pub fn talked_is_heard()
     ensures { (plan : TalkPlan) (input places : List ℕ) (listen : ListenPlan) → ListensTo plan input listen → HearsTalker (pos 0) (journal plan input) listen (captured plan input places) }
 {
@@ -30,7 +30,7 @@ pub fn talked_is_heard()
     losses_are_delivered();
 }
 
-/// The whole capture that `talk` makes of an audio plan meets the whole premise of the headline, too.
+/// The whole capture that `talk` makes of an audio plan meets the whole premise of the headline.
 pub fn whole_capture_is_heard()
     ensures { (plan : TalkPlan) (input : List ℕ) (listen : ListenPlan) → ListensTo plan input listen → HearsTalker (pos 0) (journal plan input) listen (whole_records (capture plan input)) }
 {
@@ -39,8 +39,8 @@ pub fn whole_capture_is_heard()
     capture_reads_back();
 }
 
-/// What a listener shows of a capture of an audio plan and of its clock keeps the headline, if the talker takes the plan and
-/// the listener listens to its stream.
+/// What a listener shows of a capture of an audio plan and of its clock keeps the headline, if the talker accepts the
+/// plan and the listener listens to the plan's stream.
 pub fn talked_keeps_headline()
     ensures { (plan : TalkPlan) (input places : List ℕ) (listen : ListenPlan) → ListensTo plan input listen
         → KeepsHeadline (pos 0) (journal plan input) listen (captured plan input places) (shown_of listen (captured plan input places)) }
@@ -49,8 +49,9 @@ pub fn talked_keeps_headline()
     headline_holds();
 }
 
-/// A capture of an H.264 plan also meets the whole premise of the headline, whatever the capture loses, repeats or reorders. If
-/// the plan stamps only the last fragments of units, adjacent captured fragments must be of packets that are at most 254 apart.
+/// A capture of an H.264 plan meets the whole premise of the headline. The capture may lose, repeat or reorder frames.
+/// If the plan stamps only the last fragments of units, adjacent captured fragments must be of packets that are at most
+/// 254 apart.
 pub fn talked_video_is_heard()
     ensures { (plan : TalkPlan) (input places : List ℕ) (listen : ListenPlan) → ListensToVideo plan input places listen → HearsTalker (pos 0) (journal plan input) listen (captured plan input places) }
 {
@@ -58,8 +59,8 @@ pub fn talked_video_is_heard()
     losses_are_delivered();
 }
 
-/// What a listener shows of a capture of an H.264 plan keeps the headline, on the premises of `talked_video_is_heard`: each
-/// unit that is presented is a whole unit of the plan, with its bytes and at its instant.
+/// On the premises of `talked_video_is_heard`, what a listener shows of a capture of an H.264 plan keeps the headline:
+/// each unit that is presented is a whole unit of the plan, with its bytes and at its instant.
 pub fn talked_video_keeps_headline()
     ensures { (plan : TalkPlan) (input places : List ℕ) (listen : ListenPlan) → ListensToVideo plan input places listen
         → KeepsHeadline (pos 0) (journal plan input) listen (captured plan input places) (shown_of listen (captured plan input places)) }
@@ -68,8 +69,8 @@ pub fn talked_video_keeps_headline()
     headline_holds();
 }
 
-/// A unit of an H.264 plan must be presented, whatever follows, if its packets are the first ones of the capture, in order, and
-/// there is room for the unit. It may be one packet.
+/// A unit of an H.264 plan must be presented, whatever follows, if its packets are the first ones of the capture, in
+/// order, and there is room for the unit. The unit may have only one packet.
 pub fn talked_unit_is_welcome()
     ensures { (plan : TalkPlan) (input places : List ℕ) (listen : ListenPlan) (from n : ℕ) → ListensToVideo plan input (range_with_len from (n - from) ++ n ∷ places) listen → HasRoomForUnit plan input listen from n
         → (made : MadeItem) × IsWelcome (journal plan input) listen (captured plan input (range_with_len from (n - from) ++ n ∷ places)) 0 n made }
