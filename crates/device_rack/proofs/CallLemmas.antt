@@ -1,4 +1,4 @@
--- Numbers of calls, counted after some calls.
+-- The numbers of failing calls, counted anew after some calls.
 use Rattle.std.proofs.Common.{◌≡◌, ℕ, ◌+◌, ◌-◌, ◌<◌, ◌≤◌, ◌⊎◌, inl, inr, List, [], ◌∷◌, refl, ap, ◌∙◌, zero, suc, Contains, All, arith}
 use Rattle.std.proofs.lemmas.List.Elements.{Contains-append_left, Contains-append_right, Contains-append_cases, Contains-push, All-head, All-tail}
 use Rattle.std.proofs.lemmas.Bool.{cases_lt}
@@ -14,7 +14,6 @@ stays k n ns h = grind (arith, nat_tests)
 none : (x : ℕ) → Contains [] x → ⊥
 none x (i, below, is) = omega arith
 
--- an element is the first one, or one of the others
 first_or_other : (n : ℕ) (ns : List ℕ) (x : ℕ) → Contains (n ∷ ns) x → (n ≡ x) ⊎ Contains ns x
 first_or_other n ns x has =
     elim (Contains-append_cases (n ∷ []) ns x has) [
@@ -23,7 +22,7 @@ first_or_other n ns x has =
       | inr there ↦ inr there
     ]
 
--- the calls counted after one more call
+-- counting anew after `k` calls, and then after one more, is counting anew after k + 1 calls
 pub later-again : (k : ℕ) (ns : List ℕ) → later 1 (later k ns) ≡ later (k + 1) ns
 later-again k [] = refl
 later-again k (n ∷ ns) =
@@ -36,7 +35,7 @@ later-again k (n ∷ ns) =
       | inr h ↦ rw (gone k n ns h, gone (k + 1) n ns (omega arith)) (later-again k ns)
     ]
 
--- the device reports the next call if it is among those that fail
+-- if call k + 1 fails, it is call 1 when calls are counted anew after `k` calls
 pub next_is_told : (k : ℕ) (ns : List ℕ) → Contains ns (k + 1) → Contains (later k ns) 1
 next_is_told k [] has = absurd (none (k + 1) has)
 next_is_told k (n ∷ ns) has =
@@ -66,7 +65,7 @@ told_is_next k (n ∷ ns) told =
       | inr past ↦ Contains-append_right (n ∷ []) ns (k + 1) (told_is_next k ns (rw (gone k n ns past) at told))
     ]
 
--- after the last call that has a number, no failing call is left
+-- if no number exceeds `k`, no failing call is left after `k` calls
 pub later-last : (k : ℕ) (ns : List ℕ) → All (λ n. n ≤ k) ns → later k ns ≡ []
 later-last k [] all = refl
 later-last k (n ∷ ns) all = gone k n ns (All-head (λ n. n ≤ k) n ns all) ∙ later-last k ns (All-tail (λ n. n ≤ k) n ns all)

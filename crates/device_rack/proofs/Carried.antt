@@ -1,4 +1,4 @@
--- The NAL units of units after start codes.
+-- Units that are written after start codes are the NAL units of the byte stream.
 use Rattle.std.proofs.Common.{◌≡◌, ◌≢◌, ℕ, zero, suc, ◌+◌, ◌-◌, ◌<◌, ◌≤◌, Bool, true, false, cond, eqb, inl, inr, List, [], ◌∷◌, ◌++◌, length, map, drop, get_or, Option, None, Some, refl, sym, ap, ap₂, subst, ◌∙◌, arith, length-append, length-drop}
 use Rattle.std.specs.Prelude.{filter, find, flat_map, unwrap_or, All}
 use Rattle.std.specs.List.{cons_option, filter_map, last_or, range_with_len, slice_range}
@@ -17,7 +17,7 @@ use Rattle.cvf_format.proofs.AnnexBLemmas.{three_read}
 
 -- ---- places that pass no test are skipped
 
--- the last place passes, so it is the last that passes
+-- if the last number of a range passes a test, it is the last one that passes
 last_passes : (test : ℕ → Bool) (m a : ℕ) (o : Option ℕ) → test (a + m) ≡ true → last_or o (filter test (range_with_len a (suc m))) ≡ Some (a + m)
 last_passes test zero a o there = let here : a + 0 ≡ a = omega arith in let t : test a ≡ true = rw here at there in rw (here, t) refl
 last_passes test (suc m) a o there =
@@ -122,7 +122,7 @@ module _ (bytes unit : List ℕ) (us : List Presented) (at : ℕ) (carried : IsC
         three_read bytes (at + 1) 0 0 1 (header_byte 1) (ap (λ (k : ℕ). get_or bytes k 0) second ∙ header_byte 2) (ap (λ (k : ℕ). get_or bytes k 0) third ∙ header_byte 3);
   }
 
-  -- no start code begins where one of its bytes would be different
+  -- no start code begins at `k` if one of its bytes differs from the byte read there
   no_code_by : (k j byte : ℕ) → j < 3 → get_or bytes (k + j) 0 ≡ byte → byte ≢ get_or start_code j 0 → is_start_code bytes k ≡ false
   no_code_by k j byte few is differs = not_there bytes start_code k (λ o. differs (sym is ∙ o.reads j few))
 
@@ -143,7 +143,7 @@ module _ (bytes unit : List ℕ) (us : List Presented) (at : ℕ) (carried : IsC
         ]
       ]
 
-  -- the unit ends where the next start code begins, after a zero, or where the bytes end
+  -- the unit ends at the zero before the next start code, or at the end of the bytes
   ends : end_behind bytes (at + 4) ≡ at + 4 + length unit
   ends =
       let count : length bytes - (at + 4) ≡ length unit + length (coded us) = omega (arith, total) in
@@ -173,7 +173,7 @@ module _ (bytes unit : List ℕ) (us : List Presented) (at : ℕ) (carried : IsC
       rw (place, ends, count)
       (ap (option_map (λ last. (at + 4, last + 1))) (last_passes (is_other_byte bytes) m (at + 4) None (other_there bytes unit (coded us) (at + 4) carried stands m is)))
 
-  -- the units from here on are this one and those after it
+  -- the units from `at` on are this unit and those after its end
   one_more : (m : ℕ) → m + 1 ≡ length unit → units_from bytes at ≡ (at + 4, at + 4 + m + 1) ∷ units_from bytes (at + 4 + length unit)
   unfolding units_from
   one_more m is =

@@ -1,4 +1,4 @@
--- Items given to places one after the other: none, one, one list after another, and what holds for each place.
+-- What holds for each place after a list of items was given: none, one, or one list after another.
 use Rattle.std.proofs.Common.{◌≡◌, ◌≢◌, ℕ, zero, suc, ◌-◌, ◌==◌, ◌<◌, ◌≤◌, ◌⊎◌, ◌↔◌, Bool, true, false, cond, not, inl, inr, List, [], ◌∷◌, ◌++◌, length, get_or, Any, Contains, MatchBool, Option, None, Some, IfSome, refl, sym, ap, subst, ◌∙◌, arith, append_assoc, append-nil, true≢false, ne_eqb}
 use Rattle.std.specs.Global.{Global}
 use Rattle.std.specs.List.{AllZip}
@@ -26,7 +26,7 @@ module _ {X : Type 0} (P : X → Type 0) where
       by zero y below is p = inl (subst P (sym is) p)
       by (suc k) y below is p = inr (k, y, omega (arith, below), is, p)
 
--- a call's number is at most n
+-- the number of a call is from 1 to n
 abbrev IsWithin : ℕ → ℕ → Type 0
 IsWithin n k = (1 ≤ k) × (k ≤ n)
 
@@ -36,7 +36,7 @@ contains_first n ks c = (c.0, 1, c.1, c.2, (omega arith, omega arith))
 none_within : (ks : List ℕ) → ¬ Any (IsWithin 0) ks
 none_within ks a = omega (arith, a.4.0, a.4.1)
 
--- a number that is within, counted after one call
+-- if a number that is counted anew after one call is within n, some original number is within n + 1
 later_within : (n : ℕ) (ks : List ℕ) → Any (IsWithin n) (later 1 ks) → Any (IsWithin (suc n)) ks
 later_within n [] a = absurd (omega (arith, a.2))
 later_within n (k ∷ ks) a = either (k - 1 == 0) (later_within n ks) a
@@ -73,7 +73,7 @@ within_later n (k ∷ ks) none a =
 -- ---- a device
 
 module _ {Device : Type 0} (took : Device → List Shown → Type 0) (faults : Device → ℕ) (failing : Device → Option (List ℕ)) where
-  -- the device was given no item
+  -- giving no item changes nothing
   none_handed : (device : Device) → WasHandedAll took faults failing [] device device true
   none_handed device = record {
     takes = λ live earlier t. subst (took device) (sym (append-nil earlier)) t;
@@ -87,7 +87,7 @@ module _ {Device : Type 0} (took : Device → List Shown → Type 0) (faults : D
       by None = tt
       by (Some numbers) = (λ live. absurd (true≢false live), λ a. absurd (none_within numbers a))
 
-  -- the device did not take the first item
+  -- if a device does not take the first item, it is given none of the others
   turned : (shown : Shown) (items : List Shown) (before after : Device) → WasHanded took faults failing shown before after false → WasHandedAll took faults failing (shown ∷ items) before after false
   turned shown items before after was = record {
     takes = λ live. absurd (true≢false (sym live));
@@ -102,7 +102,7 @@ module _ {Device : Type 0} (took : Device → List Shown → Type 0) (faults : D
       by None told = tt
       by (Some numbers) told = (λ live. contains_first (length items) numbers (told.0.0 refl), λ a. refl)
 
-  -- the device took the first item, and was given the others
+  -- if a device takes the first item, it is given the others
   went_on : (shown : Shown) (items : List Shown) (before between after : Device) (live : Bool)
       → WasHanded took faults failing shown before between true → WasHandedAll took faults failing items between after live → WasHandedAll took faults failing (shown ∷ items) before after live
   went_on shown items before between after live was all = record {

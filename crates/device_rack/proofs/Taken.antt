@@ -14,7 +14,7 @@ use Rattle.device_rack.specs.Written.{AppendsUpTo, HasTakenRaw, HasTakenUnits, I
 use Rattle.device_rack.specs.state.Written.{AppendsPrefix}
 use Rattle.device_rack.proofs.Outputs.{annexb_of_unit, last_more, raw_of_samples, samples_of_samples}
 
--- the bytes that are shown grew by a part of what the next item adds
+-- if a sink takes `bs` and then a prefix of `adds`, it takes `bs` and a part that together are a prefix of `more`
 up_to : (a b c : SinkState) (bs adds more : List ℕ) → more ≡ bs ++ adds → Appends a.held b.held bs → AppendsPrefix b.held c.held adds → AppendsUpTo a c bs more
 up_to a b c bs adds more is first taken =
     let part = taken.0 in
@@ -24,7 +24,7 @@ up_to a b c bs adds more is first taken =
 
 -- ---- samples
 
--- nothing was added, and the device shows what it did
+-- if the samples of `more` are those of `items`, the device has taken `more`, too
 pub raw_same : {S : Type 0} (state : S → SinkState) (start : SinkState) (device : RawDevice S) (items more : List Shown)
     → sample_batches more ≡ sample_batches items → HasTakenRaw state start device items → HasTakenRaw state start device more
 raw_same state start device items more same taken = record {
@@ -32,7 +32,7 @@ raw_same state start device items more same taken = record {
   holds = λ lives. rw same (taken.holds lives);
 }
 
--- samples were added after their silence
+-- if the sink takes the silence before a batch and the samples of the batch, the device has taken the batch
 pub raw_added : {S : Type 0} (state : S → SinkState) (start : SinkState) (old new : RawDevice S) (items : List Shown) (batch : Presented)
     → is_unit batch ≡ false → HasTakenRaw state start old items
     → raw_failed new ≡ raw_failed old → silence_in new ≡ silence_in old → IsPreviousOf new.previous (Some batch)
@@ -51,7 +51,7 @@ raw_added state start old new items batch samples taken failed silence previous 
       (silence_before (silence_in old) (last_or None (sample_batches items)) batch ++ batch.bytes) first added);
 }
 
--- a part of the samples was added
+-- if the sink takes only a prefix of the silence and the samples of a batch, it holds a prefix of the output
 pub raw_part : {S : Type 0} (state : S → SinkState) (start now : SinkState) (old : RawDevice S) (items : List Shown) (batch : Presented)
     → is_unit batch ≡ false → raw_failed old ≡ false → HasTakenRaw state start old items
     → AppendsPrefix (state (raw_sink old)).held now.held (silence_before (silence_in old) (last_or None (sample_batches items)) batch ++ batch.bytes)

@@ -7,8 +7,8 @@ use Rattle.std.proofs.lemmas.List.Filters.{length-filter_both}
 use Rattle.std.specs.Int.{from_bool}
 use Rattle.std.proofs.lemmas.List.Elements.{AllZip-push}
 
--- The elements before i were changed as the relation says, those from i on are as they were, and this many more of those before i
--- pass the test now.
+-- The elements before i were changed as `R` says, and those from i on are unchanged. Of the elements before i, `turned`
+-- more pass the test than before.
 pub record HasWalked {X : Type 0} (R : X → X → Type 0) (test : X → Bool) (old new : List X) (i turned : ℕ) : Type 0 where
   pub long : length new ≡ length old
   pub changed : AllZip R (take i old) (take i new)
@@ -49,19 +49,19 @@ HasWalked-end R test old new i turned walked all =
     let right : take i new ≡ new = take_all i new (omega (arith, walked.long)) in
     (rw (left, right) at walked.changed, rw (left, right) at walked.count)
 
--- the elements that pass a test and those that do not are all elements
+-- the elements that pass a test and those that fail it are as many as all elements
 pub both_counts : {X : Type 0} (test : X → Bool) (xs : List X) → count_by test xs + count_by (λ x. not (test x)) xs ≡ length xs
 both_counts test xs =
     omega (arith, length-filter_both test (λ x. not (test x)) (λ x. refl) xs, length-filter test xs, length-filter (λ x. not (test x)) xs)
 
--- whether an element was turned, as a number
+-- if an element turns from `true` to `false`, the number of `false` elements rises by 1
 pub turned_counts : (old new turned : Bool) → turned ≡ (old && not new) → (old ≡ false → new ≡ false) → cond (not new) 1 0 ≡ cond (not old) 1 0 + from_bool turned
 turned_counts true true turned is stays = rw is refl
 turned_counts true false turned is stays = rw is refl
 turned_counts false true turned is stays = absurd (let h = stays refl in cc)
 turned_counts false false turned is stays = rw is refl
 
--- at most as many elements were turned as were passed
+-- at most `i` elements were turned
 pub HasWalked-bound : {X : Type 0} (R : X → X → Type 0) (test : X → Bool) (old new : List X) (i turned : ℕ) → HasWalked R test old new i turned → turned ≤ i
 HasWalked-bound R test old new i turned walked =
     omega (arith, count_by-le-length test (take i new), length-take i new, walked.count)

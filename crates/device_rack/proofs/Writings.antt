@@ -10,7 +10,7 @@ use Rattle.avtp_base.specs.Faults.{IsCounted}
 use Rattle.avtp_base.specs.States.{SinkState}
 use Rattle.device_rack.specs.state.Written.{AppendsPrefix, HasWritten}
 
--- a sink took a prefix of the bytes, and then more of them
+-- if a sink takes `taken` bytes and then `n` of the others, it takes the first taken + n bytes
 pub taken_more : (a b c : Option (List ℕ)) (bytes : List ℕ) (taken n : ℕ)
     → Appends a b (take taken bytes) → Appends b c (take n (take (length bytes - taken) (drop taken bytes)))
     → Appends a c (take (taken + n) bytes)
@@ -18,7 +18,7 @@ taken_more a b c bytes taken n first second =
     let rest : take (length bytes - taken) (drop taken bytes) ≡ drop taken bytes = take_all (length bytes - taken) (drop taken bytes) (simp length-drop (omega arith)) in
     rw (take-add taken n bytes) (Appends-trans a b c (take taken bytes) (take n (drop taken bytes)) first (subst (λ (l : List ℕ). Appends b c (take n l)) rest second))
 
--- what it took of the first bytes is a part of all
+-- a prefix of the first bytes is a prefix of all bytes
 prefix_of_all : (a b : Option (List ℕ)) (xs ys : List ℕ) → AppendsPrefix a b xs → AppendsPrefix a b (xs ++ ys)
 prefix_of_all a b xs ys taken =
     let part = taken.0 in
@@ -26,7 +26,7 @@ prefix_of_all a b xs ys taken =
     let is : part ++ rest ≡ xs = taken.1.1 in
     (part, (rest ++ ys, sym (append_assoc part rest ys) ∙ ap (λ (zs : List ℕ). zs ++ ys) is), taken.2)
 
--- all of the first bytes, and a part of the next
+-- all of the first bytes and a prefix of the next ones are a prefix of all bytes
 prefix_behind : (a b c : Option (List ℕ)) (xs ys : List ℕ) → Appends a b xs → AppendsPrefix b c ys → AppendsPrefix a c (xs ++ ys)
 prefix_behind a b c xs ys first taken =
     let part = taken.0 in
@@ -34,7 +34,7 @@ prefix_behind a b c xs ys first taken =
     let is : part ++ rest ≡ ys = taken.1.1 in
     (xs ++ part, (rest, append_assoc xs part rest ∙ ap (λ (zs : List ℕ). xs ++ zs) is), Appends-trans a b c xs part first taken.2)
 
--- the count was unchanged, and then a call was counted
+-- if the count is unchanged until a call fails, the count before that is the count before the call
 counted-then : {T U : Type 0} {f g h : ℕ} {e e' : Failed} → g ≡ f → IsCounted {T = T} g h (Err e) → IsCounted {T = U} f h (Err e')
 counted-then quiet counted = record {
   never_falls = rw (← quiet) counted.never_falls;
@@ -42,11 +42,11 @@ counted-then quiet counted = record {
   failed = rw (← quiet) counted.failed;
 }
 
--- nothing was written yet
+-- writing no bytes succeeds and changes nothing
 pub HasWritten-none : {T : Type 0} (a : SinkState) (ok : T) → HasWritten a a (Ok ok) []
 HasWritten-none a ok = record { whole = Appends-nil a.held; part = tt; counted = record { never_falls = omega arith; ok = refl; failed = tt } }
 
--- bytes were written, and then more
+-- if `xs` and then `ys` are written, their concatenation is written
 pub HasWritten-then : {T U : Type 0} {a b c : SinkState} {ok : U} {r : Result T Failed} (xs ys : List ℕ)
     → HasWritten {T = U} a b (Ok ok) xs → HasWritten b c r ys → HasWritten a c r (xs ++ ys)
 HasWritten-then {T} {a = a} {b = b} {c = c} {r = Ok x} xs ys first second = record {
@@ -60,7 +60,7 @@ HasWritten-then {a = a} {b = b} {c = c} {r = Err e} xs ys first second = record 
   counted = counted-then first.counted.ok second.counted;
 }
 
--- the sink failed before the rest came
+-- if writing `xs` fails, writing `xs` and then `ys` fails
 pub HasWritten-cut : {T U : Type 0} {a b : SinkState} {e : Failed} {r : Result U Failed} (xs ys : List ℕ)
     → HasWritten {T = T} a b (Err e) xs → IsErr r → HasWritten a b r (xs ++ ys)
 HasWritten-cut {r = Ok x} xs ys written fails = absurd cc
@@ -70,7 +70,7 @@ HasWritten-cut {a = a} {b = b} {r = Err e'} xs ys written fails = record {
   counted = counted-then refl written.counted;
 }
 
--- the sink took the front of the bytes, and failed
+-- the sink took the first bytes, and then failed
 pub HasWritten-stopped : {T U : Type 0} (a b c : SinkState) {e : Failed} {r : Result U Failed} (bytes : List ℕ) (taken : ℕ)
     → Appends a.held b.held (take taken bytes) → b.faults ≡ a.faults → Keeps b.held c.held → IsCounted {T = T} b.faults c.faults (Err e) → IsErr r
     → HasWritten a c r bytes

@@ -1,13 +1,13 @@
--- What a device reports of its calls that fail.
+-- What a device reports of its future failing calls.
 use Rattle.std.specs.Prelude.{◌≡◌, ℕ, ◌-◌, ◌==◌, ◌↔◌, not, List, map, filter, Contains, Option, Some, Result, IsErr}
 use Rattle.avtp_base.specs.declared.failed.Failed.{Failed}
 
--- the numbers of the failing calls that are still to come, counted from 1, after a number of calls
+-- the numbers of the failing calls that are left after `calls` calls, counted anew from 1
 abbrev pub later : ℕ → List ℕ → List ℕ
 later calls numbers = filter (λ n. not (n == 0)) (map (λ n. n - calls) numbers)
 
--- A device that reports the numbers of its future failing calls has returned from one call: it failed exactly if that was the
--- first of them, and the device now counts the others from the next call on.
+-- A device that reports the numbers of its future failing calls was called once. The call failed exactly if 1 is among
+-- the numbers. The device now reports the other numbers, counted from the next call on.
 pub record FailsAsTold {T : Type 0} (numbers : List ℕ) (after : Option (List ℕ)) (result : Result T Failed) : Type 0 where
   pub failed : IsErr result ↔ Contains numbers 1
   pub told : after ≡ Some (later 1 numbers)

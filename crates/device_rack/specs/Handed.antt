@@ -8,9 +8,9 @@ use Rattle.sample_schedule.specs.declared.shown.Shown.{Shown}
 use Rattle.device_rack.specs.Racks.{IsHanded}
 use Rattle.device_rack.specs.declared.place.Place.{Place}
 
--- A device was given these items one after another, up to the first that it did not take; `live` says that it took all. If it
--- did not, it took some of the first items, but not all. A device that reports the numbers of its future failing calls fails
--- exactly if one of these is at most the number of items.
+-- A device was given these items, one after another, up to the first that it did not take. `live` says whether it took
+-- all of them; if not, it took a proper prefix. A device that reports the numbers of its future failing calls fails
+-- exactly if one of the numbers is at most the number of items.
 pub record WasHandedAll {Device : Type 0} (took : Device → List Shown → Type 0) (faults : Device → ℕ) (failing : Device → Option (List ℕ)) (items : List Shown) (before after : Device) (live : Bool) : Type 0 where
   pub takes : live ≡ true → (earlier : List Shown) → took before earlier → took after (earlier ++ items)
   pub quiet : live ≡ true → faults after ≡ faults before
@@ -18,7 +18,7 @@ pub record WasHandedAll {Device : Type 0} (took : Device → List Shown → Type
   pub counts : live ≡ false → Rose (faults before) (faults after)
   pub told : IfSome (failing before) (λ numbers. live ≡ false ↔ Any (λ n. (1 ≤ n) × (n ≤ length items)) numbers)
 
--- What giving items to the places of a rack does. A place's device brings its own type.
+-- What giving items to the places of a rack does. The device of each place has a type of its own.
 module _ {Kind : Type 0} {Value : Kind → Type 0} where
   -- places were given these items, one after another
   unfoldable pub HandsAll : (DynBox Kind Global Value → List Shown → Type 0) → (DynBox Kind Global Value → ℕ) → (DynBox Kind Global Value → Option (List ℕ)) → List Shown → List (Place Kind Value) → List (Place Kind Value) → Type 0
@@ -26,8 +26,8 @@ module _ {Kind : Type 0} {Value : Kind → Type 0} where
   HandsAll took faults failing (shown ∷ items) before after =
       (between : List (Place Kind Value)) × AllZip (IsHanded took faults failing shown) before between × HandsAll took faults failing items between after
 
-  -- A live place is given the items until its device fails, and stays live if the device took them all. A failed place is
-  -- unchanged.
+  -- A live place is given the items until its device fails, and stays live if the device takes all of them. A failed
+  -- place is unchanged.
   abbrev pub AreHanded : (DynBox Kind Global Value → List Shown → Type 0) → (DynBox Kind Global Value → ℕ) → (DynBox Kind Global Value → Option (List ℕ)) → List Shown → Place Kind Value → Place Kind Value → Type 0
   AreHanded took faults failing items before after =
       MatchBool before.live (WasHandedAll took faults failing items before.device after.device after.live) (after ≡ before)

@@ -8,11 +8,11 @@ use Rattle.device_rack.specs.Devices.{later}
 abbrev pub kept_items : MemoryDevice → List Shown
 kept_items device = device.items.items
 
--- memory ran out for an item: it was taken without being kept, and so was every later one
+-- memory ran out for an item; this item and every later one was taken without being kept
 abbrev pub is_cut : MemoryDevice → Bool
 is_cut device = device.is_cut
 
--- the numbers of the failing calls that are still to come, from 1
+-- the numbers of the failing calls that are left, counted from 1
 abbrev pub failing_calls : MemoryDevice → List ℕ
 failing_calls device = later device.calls device.fails.items
 

@@ -5,14 +5,14 @@ use Rattle.device_rack.specs.Handed.{WasHandedAll}
 use Rattle.device_rack.specs.Racks.{WasHanded}
 use Rattle.device_rack.specs.declared.outlet.Outlet.{Outlet}
 
--- A device of type D. It is seen as the items that it took, its count of faults, and the numbers of its future failing calls,
--- if it reports them.
+-- A device of type D. It is known by the items that it took, its count of faults, and the numbers of its future failing
+-- calls, if it reports these numbers.
 module _ {D : Type 0} (took : D → List Shown → Type 0) (faults : D → ℕ) (failing : D → Option (List ℕ)) where
-  -- A live device is given an item, and stays live if it takes it. A failed one is unchanged.
+  -- A live device is given an item, and stays live if it takes the item. A failed device is unchanged.
   abbrev pub IsHandedTo : Shown → Outlet D → Outlet D → Type 0
   IsHandedTo shown before after = MatchBool before.live (WasHanded took faults failing shown before.device after.device after.live) (after ≡ before)
 
-  -- A live device is given items until it fails, and stays live if it takes them all. A failed one is unchanged.
+  -- A live device is given items until it fails, and stays live if it takes all of them. A failed device is unchanged.
   abbrev pub AreHandedTo : List Shown → Outlet D → Outlet D → Type 0
   AreHandedTo items before after = MatchBool before.live (WasHandedAll took faults failing items before.device after.device after.live) (after ≡ before)
 

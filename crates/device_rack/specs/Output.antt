@@ -9,7 +9,7 @@ use Rattle.time_unfold.specs.Lines.{floor_of}
 use Rattle.device_rack.specs.declared.silence.Silence.{Silence}
 use Rattle.device_rack.specs.declared.silence.Silence.TheVariants.{Zero, Am824}
 
--- the batch of an item, if it is presented
+-- the batch of an item, if the item is presented
 abbrev pub batch_of : Shown → Option Presented
 batch_of (Present batch) = Some batch
 batch_of (Flag frame seq reason) = None
@@ -34,7 +34,7 @@ annexb items = flat_map (λ (unit : Presented). 0 ∷ 0 ∷ 0 ∷ 1 ∷ unit.byt
 
 -- ---- raw samples, with silence for missing ones
 
--- the bytes of one sample of a batch, all channels
+-- the number of bytes in one sample of a batch, with all channels
 abbrev pub sample_size : Presented → ℕ
 sample_size batch = length batch.bytes / batch.count
 
@@ -43,20 +43,20 @@ abbrev pub at_least_0 : ℤ → ℕ
 at_least_0 (pos n) = n
 at_least_0 (negsuc n) = 0
 
--- how many samples of a line fit a span of nanoseconds, to the nearest whole number, half a sample rounded up: span * den / num
--- + 1 / 2, rounded down, or none if that is negative
+-- How many samples of a line fit a span of nanoseconds, to the nearest whole number, with half a sample rounded up.
+-- That is span * den / num + 1 / 2, rounded down, or 0 if this is negative.
 abbrev pub samples_in : Line → ℤ → ℕ
 samples_in line span = at_least_0 (floor_of (pos 2 *ℤ span *ℤ pos line.den +ℤ pos line.num) (2 * line.num))
 
--- at most this many bytes of silence are written between two batches
+-- the most bytes of silence that are written between two batches
 abbrev pub longest_silence : ℕ
 longest_silence = 16777216
 
--- the bytes of silence in a span of nanoseconds, in whole samples of `size` bytes
+-- the number of bytes of silence for a span of nanoseconds, in whole samples of `size` bytes
 abbrev pub silent_bytes : Line → ℕ → ℤ → ℕ
 silent_bytes line size span = min (samples_in line span) (longest_silence / size) * size
 
--- byte j of silence: 0, or for AM824 that of quadlets with the label 40 and the value 0 (IEC 61883-6)
+-- byte j of silence: 0, or for AM824 byte j of a sequence of quadlets 40 00 00 00 (IEC 61883-6)
 abbrev pub silent_byte : Silence → ℕ → ℕ
 silent_byte Zero j = 0
 silent_byte Am824 j = if j % 4 == 0 then 0x40 else 0
@@ -65,19 +65,20 @@ silent_byte Am824 j = if j % 4 == 0 then 0x40 else 0
 abbrev pub silence_of : Silence → ℕ → List ℕ
 silence_of silence count = map (silent_byte silence) (range_with_len 0 count)
 
--- the silence before a batch: from the end of the last batch of samples, on that batch's line; none before the first batch
+-- the silence from the end of the batch `before` to the next batch, in samples of the line of `before`; none if there
+-- is no batch before
 abbrev pub silence_before : Silence → Option Presented → Presented → List ℕ
 silence_before silence None batch = []
 silence_before silence (Some before) batch =
     silence_of silence (silent_bytes before.line (sample_size before) (sample_instant batch 0 -ℤ sample_instant before before.count))
 
--- batches of samples, each after its silence, given the batch before the first
+-- the bytes of batches of samples, each after its silence; `before` is the batch before the first
 abbrev pub raw_behind : Silence → Option Presented → List Presented → List ℕ
 raw_behind silence before [] = []
 raw_behind silence before (batch ∷ batches) =
     silence_before silence before batch ++ batch.bytes ++ raw_behind silence (Some batch) batches
 
--- The samples of the items as they are written, with silence for samples that are missing between two batches, whatever units
--- and flags come between.
+-- The bytes that are written for the samples of items, with silence for samples that are missing between two batches.
+-- Units and flags between the batches do not matter.
 abbrev pub raw : Silence → List Shown → List ℕ
 raw silence items = raw_behind silence None (sample_batches items)

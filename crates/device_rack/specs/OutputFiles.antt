@@ -9,14 +9,14 @@ use Rattle.device_rack.specs.declared.outlet.Outlet.{Outlet}
 use Rattle.device_rack.specs.declared.output_files.OutputFiles.{OutputFiles}
 use Rattle.device_rack.specs.declared.raw.RawDevice.{RawDevice}
 
--- the device exists and is live, or there is none
+-- there is no device and no outlet, or the outlet has the device and is live
 abbrev pub AreLive : {D : Type 0} → Option D → Option (Outlet D) → Type 0
 AreLive None None = ⊤
 AreLive None (Some outlet) = ⊥
 AreLive (Some device) None = ⊥
 AreLive (Some device) (Some outlet) = (outlet.device ≡ device) × (outlet.live ≡ true)
 
--- The two devices of a program, if it has them, each with whether it is live, and what giving items to them does.
+-- The two devices of a program, if it has them; whether each is live; and what giving items to them does.
 module _ {S : Type 0} where
   abbrev pub raw_outlet : OutputFiles S → Option (Outlet (RawDevice S))
   raw_outlet outputs = outputs.raw
@@ -24,11 +24,11 @@ module _ {S : Type 0} where
   abbrev pub units_outlet : OutputFiles S → Option (Outlet (AnnexBDevice S))
   units_outlet outputs = outputs.units
 
-  -- a device of raw samples was given these items until it failed, from whatever its sink held before
+  -- a device of raw samples was given these items until it failed; before, its sink may have held any bytes
   abbrev pub RawHanded : (S → SinkState) → List Shown → Outlet (RawDevice S) → Outlet (RawDevice S) → Type 0
   RawHanded state = AreHandedTo (λ device items. (start : SinkState) × HasTakenRaw state start device items) (λ device. (state (raw_sink device)).faults) (λ device. None)
 
-  -- a device of units was given these items until it failed, from whatever its sink held before
+  -- a device of units was given these items until it failed; before, its sink may have held any bytes
   abbrev pub UnitsHanded : (S → SinkState) → List Shown → Outlet (AnnexBDevice S) → Outlet (AnnexBDevice S) → Type 0
   UnitsHanded state = AreHandedTo (λ device items. (start : SinkState) × HasTakenUnits state start device items) (λ device. (state (annexb_sink device)).faults) (λ device. None)
 

@@ -8,8 +8,8 @@ use Rattle.device_rack.specs.Devices.{later}
 use Rattle.device_rack.specs.declared.place.Place.{Place}
 use Rattle.device_rack.specs.declared.rack.Rack.{Rack}
 
--- A device was given an item; `live` says that it took it. A device is seen as the items that it took, its count of faults, and
--- the numbers of its future failing calls, if it reports them.
+-- A device was given an item, and `live` says whether it took the item. A device is known by the items that it took,
+-- its count of faults, and the numbers of its future failing calls, if it reports these numbers.
 pub record WasHanded {Device : Type 0} (took : Device → List Shown → Type 0) (faults : Device → ℕ) (failing : Device → Option (List ℕ)) (shown : Shown) (before after : Device) (live : Bool) : Type 0 where
   pub takes : live ≡ true → (items : List Shown) → took before items → took after (items ++ shown ∷ [])
   pub quiet : live ≡ true → faults after ≡ faults before
@@ -17,13 +17,14 @@ pub record WasHanded {Device : Type 0} (took : Device → List Shown → Type 0)
   pub counts : live ≡ false → Rose (faults before) (faults after)
   pub told : IfSome (failing before) (λ numbers. (live ≡ false ↔ Contains numbers 1) × (failing after ≡ Some (later 1 numbers)))
 
--- The places of a rack, what giving an item to one does, and how many are live or failed. A device brings its own type.
+-- The places of a rack, what giving an item to a place does, and how many places are live or failed. The device of each
+-- place has a type of its own.
 module _ {Kind : Type 0} {Value : Kind → Type 0} where
   -- the places of a rack, in their order
   abbrev pub places_of : Rack Kind Value → List (Place Kind Value)
   places_of rack = rack.places.items
 
-  -- A live place is given an item, and stays live if its device takes it. A failed place is unchanged.
+  -- A live place is given an item, and stays live if its device takes the item. A failed place is unchanged.
   abbrev pub IsHanded : (DynBox Kind Global Value → List Shown → Type 0) → (DynBox Kind Global Value → ℕ) → (DynBox Kind Global Value → Option (List ℕ)) → Shown → Place Kind Value → Place Kind Value → Type 0
   IsHanded took faults failing shown before after =
       MatchBool before.live (WasHanded took faults failing shown before.device after.device after.live) (after ≡ before)

@@ -12,20 +12,20 @@ use Rattle.device_rack.specs.declared.raw.RawDevice.{RawDevice}
 use Rattle.device_rack.specs.declared.silence.Silence.{Silence}
 use Rattle.device_rack.specs.Output.{annexb, raw, sample_batches, sample_size}
 
--- what is kept of a batch: its line, the instant after its last sample, and the bytes of one sample
+-- what is kept of a batch: its line, the instant after its last sample, and the number of bytes in one sample
 pub record IsPrevious (previous : Previous) (batch : Presented) : Type 0 where
   pub line : previous.line ≡ batch.line
   pub end : previous.end ≡ sample_instant batch batch.count
   pub size : previous.size ≡ sample_size batch
 
--- what is kept of the batch before, or nothing if there was none
+-- what is kept of the batch before, or nothing if there was no batch
 abbrev pub IsPreviousOf : Option Previous → Option Presented → Type 0
 IsPreviousOf None None = ⊤
 IsPreviousOf None (Some batch) = ⊥
 IsPreviousOf (Some previous) None = ⊥
 IsPreviousOf (Some previous) (Some batch) = IsPrevious previous batch
 
--- what a device shows: its sink, whether it has failed, the kind of its silence, and that it has taken these items
+-- what is known of a device: its sink, whether it has failed, the kind of its silence, and which items it has taken
 module _ {S : Type 0} where
   abbrev pub raw_sink : RawDevice S → S
   raw_sink device = device.sink
@@ -42,17 +42,17 @@ module _ {S : Type 0} where
   abbrev pub annexb_failed : AnnexBDevice S → Bool
   annexb_failed device = device.failed
 
-  -- The device has taken these items, in this order, since its sink was in the state `start`: as long as it has not failed, the
-  -- sink holds what it held then, followed by their output.
+  -- The device has taken these items, in this order, since its sink was in the state `start`. If the device has not
+  -- failed, the sink holds what it held at `start`, followed by the output of the items.
   pub record HasTakenRaw (state : S → SinkState) (start : SinkState) (device : RawDevice S) (items : List Shown) : Type 0 where
     pub previous : IsPreviousOf device.previous (last_or None (sample_batches items))
     pub holds : raw_failed device ≡ false → Appends start.held (state (raw_sink device)).held (raw (silence_in device) items)
 
-  -- The device has taken these items since its sink was in the state `start`: as long as it has not failed, the sink holds what
-  -- it held then, followed by their units as a byte stream.
+  -- The device has taken these items since its sink was in the state `start`. If the device has not failed, the sink
+  -- holds what it held at `start`, followed by the units of the items as a byte stream.
   abbrev pub HasTakenUnits : (S → SinkState) → SinkState → AnnexBDevice S → List Shown → Type 0
   HasTakenUnits state start device items = annexb_failed device ≡ false → Appends start.held (state (annexb_sink device)).held (annexb items)
 
--- what a sink holds grew by `bs` and then by a part, which together are a prefix of `more`
+-- a sink took `bs` and then a part, which together are a prefix of `more`
 abbrev pub AppendsUpTo : SinkState → SinkState → List ℕ → List ℕ → Type 0
 AppendsUpTo before after bs more = (part : List ℕ) × IsPrefix (bs ++ part) more × Appends before.held after.held (bs ++ part)

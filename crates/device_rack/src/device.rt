@@ -12,13 +12,13 @@ pub trait Device: Drop {
     ghost use Rattle.std.specs.Prelude.{List, ℕ, Option};
     ghost use Rattle.sample_schedule.specs.declared.shown.Shown.{Shown as ShownValue};
 
-    /// The device has taken these items, in this order. A new one has taken none.
+    /// The device has taken these items, in this order. A new device has taken none.
     ghost took: { Self → List ShownValue → Type 0 };
 
     /// The number of faults so far, which stops at the greatest 64-bit number.
     ghost faults: { Self → ℕ };
 
-    /// The numbers of its failing calls that are still to come, from 1, if the device reports them.
+    /// The numbers of its future failing calls, counted from 1, if the device reports them.
     ghost failing: { Self → Option (List ℕ) };
 
     /// Takes an item.

@@ -11,17 +11,17 @@ pub trait Devices {
     ghost use Rattle.std.specs.Prelude.{List, ℕ};
     ghost use Rattle.sample_schedule.specs.declared.shown.Shown.{Shown as ShownValue};
 
-    /// Between the two states, they were given these items.
+    /// From the first state to the second, the devices were given these items.
     ghost handed: { Self → Self → List ShownValue → Type 0 };
 
-    /// How many of them have failed.
+    /// How many of the devices have failed.
     ghost failures: { Self → ℕ };
 
-    /// Gives an item to each of them that has not failed.
+    /// Gives an item to each of the devices that has not failed.
     fn hand_on(&mut self, shown: &Shown)
         ensures { (begun : Self) (items : List ShownValue) → handed begun self.old items → handed begun self.new (items ++ shown.now ∷ []) };
 
-    /// How many of them have failed.
+    /// How many of the devices have failed.
     fn count_failed(&self) -> u32
         ensures { result ≡ failures self.now };
 }

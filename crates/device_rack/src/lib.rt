@@ -1,4 +1,5 @@
-//! Racks of devices, each of which is given what a listener shows until it fails, and the devices that write files.
+//! Racks of devices, and the devices that write files. Each device is given what a listener shows, until the device
+//! fails.
 #![tactic(auto)]
 
 mod annex_b;

@@ -1,4 +1,4 @@
-//! The devices of a program: a file of raw samples and one of units, or one of these, or none.
+//! The devices of a program: at most one that writes raw samples, and at most one that writes units.
 
 ghost use Rattle.std.specs.Prelude.{◌≡◌, ◌≤◌};
 ghost use Rattle.device_rack.specs.Outlets.{Both, IsHandedTo, failed_in};
@@ -70,7 +70,7 @@ fn hand<D: Device>(outlet: &mut Option<Outlet<D>>, shown: &Shown)
     }
 }
 
-/// 1 for a device that has failed.
+/// 1 for a device that has failed, else 0.
 fn count<D: Device>(outlet: &Option<Outlet<D>>) -> u32
     ensures count { result ≡ failed_in outlet.now }
     ensures most { result ≤ 1 }

@@ -1,4 +1,4 @@
-//! The batch that silence is measured from.
+//! The batch from whose end silence is measured.
 
 ghost use Rattle.std.specs.Prelude.{◌≤◌, ◌^◌};
 
@@ -9,9 +9,9 @@ use time_unfold::Line;
 #[derive(Clone, Copy)]
 pub struct Previous {
     line: Line,
-    /// The instant of the first sample after it.
+    /// The instant of the first sample after the batch.
     end: i64,
-    /// The bytes of one sample, all channels.
+    /// The number of bytes in one sample, with all channels.
     size: usize,
     ghost some_num: { 1 ≤ line.num },
     ghost num: { line.num ≤ 2 ^ 60 },
@@ -25,7 +25,7 @@ impl Previous {
     ghost use Rattle.device_rack.specs.Output.{samples_in, silence_before, silence_of, silent_bytes};
     ghost use Rattle.device_rack.specs.Written.{IsPrevious, IsPreviousOf};
 
-    /// The most bytes of silence.
+    /// The most bytes of silence between two batches.
     const LONGEST: usize = 16_777_216;
 
     /// What is kept of a batch.
@@ -39,7 +39,7 @@ impl Previous {
         }
     }
 
-    /// How many samples are missing up to an instant, to the nearest whole one.
+    /// How many samples are missing up to the instant `next`, to the nearest whole number.
     fn missing(&self, next: i64) -> u128
         ensures { result ≡ samples_in self.now.line (next -ℤ self.now.end) }
     {

@@ -9,14 +9,14 @@ pub enum Silence {
     Am824,
 }
 
-/// The label of an AM824 quadlet of linear audio, which is its first byte.
+/// The label of linear audio, the first byte of an AM824 quadlet.
 const LABEL: u8 = 0x40;
 
 impl Silence {
     ghost use Rattle.std.specs.Prelude.{◌≡◌};
     ghost use Rattle.device_rack.specs.Output.{silent_byte, silence_of};
 
-    /// How many bytes a piece of silence has, in whole quadlets.
+    /// The number of bytes in a piece of silence, which consists of whole quadlets.
     pub(crate) const PIECE: usize = 1024;
 
     /// Byte `j` of silence.
