@@ -1,4 +1,4 @@
--- What a round did, from what its sides did.
+-- What a round did, derived from what its two sides did.
 use Rattle.std.proofs.Common.{◌≡◌, ℕ, ◌+◌, ◌<◌, ◌≤◌, List, [], ◌++◌, length, refl, sym, ap, subst, ◌∙◌, arith, append_assoc, append-nil, length-append, Option, Some, None, IsSome, option_map}
 use Rattle.std.proofs.lemmas.List.{append_cancel_left}
 use Rattle.rtrb.specs.Ring.{sent, received, known_items}
@@ -13,13 +13,13 @@ use Rattle.presenter_ring.specs.state.Backs.{HasPresented}
 use Rattle.presenter_ring.specs.Pipes.{ring_of, waiting_in, ended_with, known_free_of, pushed_by, popped_by, work, HasMoved, IsDrained, IsRound}
 use Rattle.presenter_ring.specs.state.Pipes.{IsStill, HasStepped, KeepsRing}
 
--- the popped items and those in the ring now are those that were in it, and the pushed ones
+-- the items that were in the ring, then the pushed ones, are the popped ones, then those in the ring now
 in_ring : (received known popped known' sent pushed : List Shown) → received ++ known ≡ sent → (received ++ popped) ++ known' ≡ sent ++ pushed → known ++ pushed ≡ popped ++ known'
 in_ring received known popped known' sent pushed old new =
     append_cancel_left received (known ++ pushed) (popped ++ known')
     (sym (append_assoc received known pushed) ∙ ap (λ xs. xs ++ pushed) old ∙ sym new ∙ append_assoc received popped known')
 
--- what is known of every pipe: the ring holds what was pushed and not popped
+-- the ring holds the items that were pushed and not popped, in order, which is true of every pipe
 abbrev pub Fifo : Pipe → Type 0
 Fifo pipe = popped_by pipe ++ ring_of pipe ≡ pushed_by pipe
 
@@ -64,7 +64,7 @@ module _ {R P : Type 0} (gave : R → R → List Shown → Type 0) (left : R →
     steps = λ more. omega (arith, stepped, ap length shown.receives, length-append (popped_by a) shown.presented);
   }
 
-  -- if a slot was known to be free, no item is in hand
+  -- if nothing moved although a slot was known to be free, no item is in `hand`
   not_past : (a b : Pipe) → IsStill a b → 0 < known_free_of a → hand_of b.front ≡ []
   not_past a b still free =
       let stuck = still.stuck in
@@ -84,7 +84,7 @@ module _ {R P : Type 0} (gave : R → R → List Shown → Type 0) (left : R →
       let pushed : length (pushed_by c) ≡ length (pushed_by b) = ap (λ producer. length (sent producer)) kept.producer in
       omega (arith, before, ring_c, ring_b, hand_c, pushed, length-append shown.presented (hand_of b.front))
 
-  -- with neither an item in hand nor one in the ring, the receiver has ended
+  -- if nothing moved and no item was in `hand`, the receiver has ended and no item waits
   drained_past : (a b c : Pipe) → IsStill a b → KeepsRing b c → hand_of c.front ≡ [] → b.front.hand ≡ None → IsDrained c
   drained_past a b c still kept emptied none =
       let ended : IsSome (ended_with b) = rw none at still.stuck in
@@ -94,7 +94,7 @@ module _ {R P : Type 0} (gave : R → R → List Shown → Type 0) (left : R →
         empty = ap (λ xs. xs ++ hand_of c.front) (ap (λ back. known_items back.consumer) kept.back ∙ still.empty) ∙ emptied;
       }
 
-  -- if something is still to be done, the item in hand was presented
+  -- if nothing moved and the pipe is not drained, an item was in `hand`
   steps_past : (a b c : Pipe) → IsStill a b → KeepsRing b c → hand_of c.front ≡ [] → (IsDrained c → ⊥) → length (hand_of b.front) ≡ 1
   steps_past a b c still kept emptied more =
       elim b.front.hand as (λ (o : Option Shown). b.front.hand ≡ o → length (hand_of b.front) ≡ 1) [
@@ -102,7 +102,7 @@ module _ {R P : Type 0} (gave : R → R → List Shown → Type 0) (left : R →
         | Some shown ↦ λ e. rw e refl
       ] refl
 
-  -- one item that was presented past the ring is one less to do
+  -- presenting the item in `hand` past the ring reduces the work
   pub less_past : (r r' : R) (p p' : P) (a b c : Pipe) → Fifo a → Fifo b → HasFed gave left ended r r' a.front b.front → HasPresented handed p p' a.back b.back
       → IsStill a b → KeepsRing b c → hand_of c.front ≡ [] → length (hand_of b.front) ≡ 1 → work (left r') c < work (left r) a
   less_past r r' p p' a b c old new fed shown still kept emptied one =
@@ -169,7 +169,8 @@ module _ {R P : Type 0} (gave : R → R → List Shown → Type 0) (left : R →
     works = omega (arith, x.works, y.works, length-append x.presented y.presented);
   }
 
-  -- If the presented items and those that wait were all that was given before a round, they are all of it after the round, too.
+  -- If the presented items and those that wait were all given items before a round, they are all given items after it,
+  -- too.
   pub runs_on : (r r' : R) (p p' : P) (a b : Pipe) (shown taken : List Shown) → (m : HasMoved gave left handed r r' p p' a b)
       → shown ++ waiting_in a ≡ taken → (shown ++ m.presented) ++ waiting_in b ≡ taken ++ m.given
   runs_on r r' p p' a b shown taken m h =

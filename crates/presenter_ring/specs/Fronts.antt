@@ -6,10 +6,10 @@ use Rattle.presenter_ring.specs.declared.front.Front.{Front}
 use Rattle.presenter_ring.specs.declared.receiver.Pull.{Pull}
 use Rattle.presenter_ring.specs.Pulls.{pull_of}
 
--- the item in hand, if there is one
+-- the item in `hand`, if there is one
 abbrev pub hand_of : Front → List Shown
 hand_of front = option_to_list front.hand
 
--- the answer with which the receiver ended, once it has
+-- the answer with which the receiver ended, if it has ended
 abbrev pub ended_of : Front → Option Pull
 ended_of front = option_map pull_of front.ended

@@ -1,4 +1,4 @@
--- A ring between two threads with the item in hand before it, and what a round does.
+-- A ring between two threads, the item in `hand` that waits for a slot of the ring, and what a round does.
 use Rattle.std.specs.Prelude.{◌≡◌, ℕ, ◌+◌, ◌*◌, ◌<◌, ◌≤◌, ◌++◌, List, [], length, Option, None, IsSome}
 use Rattle.rtrb.specs.Ring.{sent, received, known_free, known_items}
 use Rattle.sample_schedule.specs.declared.shown.Shown.{Shown}
@@ -10,15 +10,15 @@ use Rattle.presenter_ring.specs.Fronts.{hand_of, ended_of}
 abbrev pub ring_of : Pipe → List Shown
 ring_of pipe = known_items pipe.back.consumer
 
--- the items that are presented next: those in the ring and then the one in hand
+-- the items that are presented next: those in the ring and then the one in `hand`
 abbrev pub waiting_in : Pipe → List Shown
 waiting_in pipe = ring_of pipe ++ hand_of pipe.front
 
--- the answer with which the receiver ended, once it has
+-- the answer with which the receiver ended, if it has ended
 abbrev pub ended_with : Pipe → Option Pull
 ended_with pipe = ended_of pipe.front
 
--- how many items the pipe was given
+-- how many items the receiver gave to the pipe
 abbrev pub given_to : Pipe → ℕ
 given_to pipe = pipe.front.given
 
@@ -38,18 +38,18 @@ pushed_by pipe = sent pipe.front.producer
 abbrev pub popped_by : Pipe → List Shown
 popped_by pipe = received pipe.back.consumer
 
--- the receiver has ended, and nothing waits
+-- the receiver has ended, and no item waits
 pub record IsDrained (pipe : Pipe) : Type 0 where
   pub ended : IsSome (ended_with pipe)
   pub empty : waiting_in pipe ≡ []
 
--- The work that is left if the receiver can give `left` more items: a push for each item that is not in the ring yet, and a
--- presentation for each item. Every round reduces it, except a drained one.
+-- The work that is left if the receiver can give `left` more items: a push for each item that is not in the ring yet,
+-- and a presentation for each item. Every round reduces the work, unless the pipe is drained.
 abbrev pub work : ℕ → Pipe → ℕ
 work left pipe = 2 * (left + length (hand_of pipe.front)) + length (ring_of pipe)
 
--- What rounds did: which items the receiver gave and which the presenter got. The items that waited before, followed by those
--- that were given, are those that were presented, followed by those that wait now.
+-- What rounds did: which items the receiver gave and which the presenter got. The items that waited before, followed by
+-- the given items, are the presented items, followed by those that wait now.
 pub record HasMoved {R P : Type 0} (gave : R → R → List Shown → Type 0) (left : R → ℕ) (handed : P → P → List Shown → Type 0) (receiver receiver' : R) (presenter presenter' : P) (before after : Pipe) : Type 0 where
   pub given : List Shown
   pub presented : List Shown
@@ -60,15 +60,15 @@ pub record HasMoved {R P : Type 0} (gave : R → R → List Shown → Type 0) (l
   pub leaves : left receiver' + length given ≤ left receiver
   pub works : work (left receiver') after + (length (pushed_by after) + length presented) ≤ work (left receiver) before + length (pushed_by before)
 
--- What one round did. If its producer knew a free slot when it began, everything presented came through the ring. If work is
--- left, at least one item was pushed or presented.
+-- What one round did. If the producer knew a free slot when the round began, each presented item went through the ring.
+-- If work is left, at least one item was pushed or presented.
 pub record IsRound {R P : Type 0} (gave : R → R → List Shown → Type 0) (left : R → ℕ) (handed : P → P → List Shown → Type 0) (receiver receiver' : R) (presenter presenter' : P) (before after : Pipe) : Type 0 where
   pub moved : HasMoved gave left handed receiver receiver' presenter presenter' before after
   pub through_ring : 0 < known_free_of before → popped_by after ≡ popped_by before ++ moved.presented
   pub steps : (IsDrained after → ⊥) → length (pushed_by before) < length (pushed_by after) + length moved.presented
 
--- If the receiver ended in this round, the pipe has the answer with which it ended. A receiver that has ended is not
--- called again.
+-- If the receiver ended in this round, the pipe keeps the answer with which the receiver ended. A receiver that has
+-- ended is not called again.
 pub record EndsWith {R : Type 0} (ended : R → Option Pull) (receiver receiver' : R) (before after : Pipe) : Type 0 where
   pub ends : ended_with before ≡ None → ended_with after ≡ ended receiver'
   pub stays : IsSome (ended_with before) → (ended_with after ≡ ended_with before) × (receiver' ≡ receiver)

@@ -7,12 +7,12 @@ use Rattle.presenter_ring.specs.declared.receiver.Pull.{Pull}
 use Rattle.presenter_ring.specs.declared.receiver.Pull.TheVariants as pull
 use Rattle.presenter_ring.specs.declared.receiver.Pull.TheVariants.{Item}
 
--- the item of an answer, if it has one
+-- the item of an answer, if the answer has one
 abbrev pub items_of : Pull → List Shown
 items_of (Item shown) = shown ∷ []
 items_of _ = []
 
--- the answer, if it says that no item will come
+-- the answer, if it is not an item
 abbrev pub ending_of : Pull → Option Pull
 ending_of (Item shown) = None
 ending_of pull = Some pull

@@ -11,7 +11,7 @@ use avtp_base::{Bytes, Failed};
 use rtrb::{Consumer, Producer};
 use sample_schedule::Shown;
 
-/// The consumer's end of the ring, and of the way back for the samples that were presented.
+/// The consumer's end of the ring, and the producer's end of the ring that returns the samples of presented items.
 #[derive(Drop)]
 pub struct Back {
     pub consumer: Consumer<Shown>,
@@ -50,8 +50,8 @@ impl Back {
         }
     }
 
-    /// The presenter's turn in a round: pops and presents at most `most` items, until the ring is empty or one fails, and then
-    /// lets the presenter pause.
+    /// The presenter's turn in a round: pops and presents at most `most` items, until the ring is empty or a
+    /// presentation fails. Then lets the presenter pause.
     pub fn take_turn<P: Presenter, G: Gate>(
         &mut self,
         presenter: &mut P,
@@ -70,7 +70,7 @@ impl Back {
         presenter.pause()
     }
 
-    /// Pops and presents at most `most` items, until the ring is empty or one fails.
+    /// Pops and presents at most `most` items, until the ring is empty or a presentation fails.
     fn present_all<P: Presenter, G: Gate>(
         &mut self,
         presenter: &mut P,
@@ -90,7 +90,8 @@ impl Back {
     }
 }
 
-/// Presents an item, and sends its samples back to the receiver. Samples that find no free slot are dropped.
+/// Presents an item, and sends its samples back to the receiver. The samples are dropped if there is no free slot for
+/// them.
 #[inline(always)]
 fn present<P: Presenter>(
     presenter: &mut P,

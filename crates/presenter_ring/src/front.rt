@@ -13,8 +13,8 @@ use avtp_base::Bytes;
 use rtrb::{Consumer, Producer, PushError};
 use sample_schedule::Shown;
 
-/// The producer's end of the ring, and of the way back for the samples that were presented; the item that found no free slot,
-/// and how the receiver ended.
+/// The producer's end of the ring, and the consumer's end of the ring that returns the samples of presented items.
+/// `hand` is the item for which there was no free slot, and `ended` is how the receiver ended.
 #[derive(Drop)]
 pub struct Front {
     pub producer: Producer<Shown>,
@@ -35,7 +35,7 @@ impl Front {
     ghost use Rattle.presenter_ring.specs.Fronts.{ended_of};
     ghost use Rattle.presenter_ring.specs.state.Fronts.{HasFed, IsStuck, Pushes, Takes};
 
-    /// The item in hand, or else the receiver's next one, unless the receiver ends.
+    /// The item in `hand`, or else the receiver's next one, unless the receiver ends.
     #[inline(always)]
     fn next_item<R: Receiver>(&mut self, receiver: &mut R) -> Option<Shown>
         requires live { ended_of self.old ≡ None → R.ended receiver.old ≡ None }
@@ -61,7 +61,7 @@ impl Front {
         }
     }
 
-    /// Pushes an item, or keeps it in hand if no slot is free. Returns whether it was pushed.
+    /// Pushes an item, or keeps it in `hand` if no slot is free. Returns whether it was pushed.
     #[inline(always)]
     fn push<G: Gate>(&mut self, shown: Shown, gate: &G) -> bool
         requires empty { self.old.hand ≡ None }
@@ -82,7 +82,7 @@ impl Front {
         }
     }
 
-    /// Pushes the item in hand, or else one that it pulls. Returns whether an item was pushed.
+    /// Pushes the item in `hand`, or else one that it pulls. Returns whether an item was pushed.
     #[inline(always)]
     fn push_next<R: Receiver, G: Gate>(&mut self, receiver: &mut R, gate: &G) -> bool
         requires live { ended_of self.old ≡ None → R.ended receiver.old ≡ None }
@@ -98,8 +98,9 @@ impl Front {
         }
     }
 
-    /// The receiver's turn in a round: pulls and pushes at most `most` items, while it finds a free slot. Once it has pushed
-    /// one, it ends its turn before it waits, so that the presenter is not kept waiting for what is there.
+    /// The receiver's turn in a round: pulls and pushes at most `most` items, as long as the ring has a free slot.
+    /// After its first push, the turn ends when the receiver may have to wait, so that the presenter gets the pushed
+    /// items without delay.
     pub fn take_turn<R: Receiver, G: Gate>(&mut self, receiver: &mut R, gate: &G, most: usize)
         requires some { 0 < most }
         requires live { ended_of self.old ≡ None → R.ended receiver.old ≡ None }
@@ -118,7 +119,7 @@ impl Front {
     }
 }
 
-/// The receiver's next answer. The receiver first gets back samples that were presented, if some have come.
+/// The receiver's next answer. Before, the receiver gets back the samples of a presented item, if some have arrived.
 #[inline(always)]
 fn pull<R: Receiver>(receiver: &mut R, samples: &mut Consumer<Bytes>) -> Pull
     requires { R.ended receiver.old ≡ None }
@@ -130,7 +131,7 @@ fn pull<R: Receiver>(receiver: &mut R, samples: &mut Consumer<Bytes>) -> Pull
     receiver.next()
 }
 
-/// Hands samples that were presented back to the receiver, if some have come.
+/// Gives the samples of a presented item back to the receiver, if some have arrived.
 #[inline(always)]
 fn take_back<R: Receiver>(receiver: &mut R, samples: &mut Consumer<Bytes>)
     ensures gave { (begun : R) (items : List ShownValue) → R.gave begun receiver.old items → R.gave begun receiver.new items }

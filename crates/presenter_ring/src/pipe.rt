@@ -25,8 +25,8 @@ pub enum Round {
     PresentFault,
 }
 
-/// A ring between a receiver and a presenter, and the item that was pulled but found no free slot. It works in rounds;
-/// in each, both sides take their turns, in two threads.
+/// A ring between a receiver and a presenter, and the item that was pulled but found no free slot. The pipe works in
+/// rounds. In each round, both sides take their turns, in two threads.
 #[derive(Drop)]
 pub struct Pipe {
     front: Front,
@@ -50,7 +50,7 @@ impl Pipe {
     ghost use Rattle.presenter_ring.specs.state.Pipes.{IsStill, HasStepped, KeepsRing};
     ghost use Rattle.presenter_ring.specs.Pulls.{items_of};
 
-    /// An empty pipe whose ring has room for 1 to 256 items. `NoMemory` if it cannot be allocated.
+    /// An empty pipe whose ring has room for 1 to 256 items. Returns `NoMemory` if the ring cannot be allocated.
     pub fn begin(alloc: Global, capacity: u32) -> Result<Self, NoMemory>
         requires some { 1 ≤ capacity }
         requires most { capacity ≤ 256 }
@@ -80,7 +80,7 @@ impl Pipe {
         })
     }
 
-    /// The answer with which the receiver ended, once it has. It is never an item.
+    /// The answer with which the receiver ended, if it has ended. This answer is never an item.
     pub fn ended(&self) -> Option<Pull>
         ensures answer { result ≡ ended_with self.now }
         ensures no_item { IfSome result (λ pull. items_of pull ≡ []) }
@@ -125,7 +125,7 @@ impl Pipe {
         Ok(self.front.pushes != pushes || self.back.pops != pops)
     }
 
-    /// Hands the item in hand to the presenter, past the ring.
+    /// Hands the item in `hand` to the presenter, past the ring.
     fn present_hand<P: Presenter>(&mut self, presenter: &mut P) -> Result<(), Failed>
         requires { ring_of self.old ≡ [] }
         ensures hands { (begun : P) (items : List ShownValue) → P.handed begun presenter.old items → P.handed begun presenter.new (items ++ hand_of self.old.front) }
@@ -143,8 +143,8 @@ impl Pipe {
         }
     }
 
-    /// Both sides take their turns. If an item is in hand and yet nothing was pushed or popped, the ring is empty and
-    /// its producer knew of no free slot, so the item is presented past the ring.
+    /// Both sides take their turns. If an item is in `hand` although nothing was pushed or popped, the ring is empty
+    /// and its producer knew of no free slot. The item is then presented past the ring.
     fn advance<T: Threads + Sync, R: Receiver, P: Presenter, G: Gate>(
         &mut self,
         rt: &T,
@@ -168,7 +168,7 @@ impl Pipe {
         Ok(())
     }
 
-    /// Whether the receiver has ended and nothing waits.
+    /// Whether the receiver has ended and no item waits.
     fn is_drained(&self) -> bool
         ensures { IsTrue result ↔ IsDrained self.now }
     {
@@ -177,9 +177,10 @@ impl Pipe {
             && self.back.consumer.cached_slots() == 0
     }
 
-    /// Runs one round. The receiver's side pulls items and pushes them while it finds a free slot, at most as many as the ring
-    /// has room for, and keeps in hand the one that finds no slot. The presenter's side pops and presents at most as many, until
-    /// one fails. Each side takes its turn in a thread of its own. The gate is called after each push and each pop.
+    /// Runs one round, in which each side takes its turn in a thread of its own. The receiver's side pulls items and
+    /// pushes them while there is a free slot, at most as many as the ring has room for. It keeps an item for which
+    /// there is no slot. The presenter's side pops and presents items, at most as many as the ring has room for, until
+    /// a presentation fails. The gate is called after each push and each pop.
     ///
     /// If `ended` is `None`, the receiver must not have ended. All items together must be at most 2^62.
     pub fn round<T: Threads + Sync, R: Receiver, P: Presenter, G: Gate>(

@@ -11,7 +11,7 @@ pub trait Presenter: Send {
     ghost use Rattle.std.specs.Prelude.{List, ℕ};
     ghost use Rattle.sample_schedule.specs.declared.shown.Shown.{Shown as ShownValue};
 
-    /// The first became the second when it got these items, in this order.
+    /// The first state became the second when the presenter got these items, in this order.
     ghost handed: { Self → Self → List ShownValue → Type 0 };
 
     /// The number of faults so far, which stops at the greatest 64-bit number.
@@ -22,8 +22,8 @@ pub trait Presenter: Send {
         ensures handed { (begun : Self) (items : List ShownValue) → handed begun self.old items → handed begun self.new (items ++ shown.now ∷ []) }
         ensures counted { IsCounted (faults self.old) (faults self.new) result };
 
-    /// Called when there is nothing more to present for now. A presenter that keeps output back should show it here. Returns
-    /// `Failed` only if the count rose.
+    /// Called when there is nothing more to present for now. A presenter that buffers output should write it here.
+    /// Returns `Failed` only if the count of faults rose.
     fn pause(&mut self) -> Result<(), Failed>
         ensures handed { (begun : Self) (items : List ShownValue) → handed begun self.old items → handed begun self.new items }
         ensures counted { IsCounted (faults self.old) (faults self.new) result }

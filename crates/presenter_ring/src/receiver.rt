@@ -23,35 +23,35 @@ pub enum Pull {
     Memory,
 }
 
-/// Gives items, one after another, until it ends. `gave` relates two of its states, an earlier and a later one, because
-/// a side that borrows the receiver does not keep its first state.
+/// Gives items, one after another, until it ends. `gave` relates an earlier state of the receiver to a later one,
+/// because a side that borrows the receiver does not keep the first state.
 pub trait Receiver: Send {
     ghost use Rattle.std.specs.Prelude.{List, ℕ, Option};
     ghost use Rattle.sample_schedule.specs.declared.shown.Shown.{Shown as ShownValue};
     ghost use Rattle.presenter_ring.specs.declared.receiver.Pull.{Pull as PullValue};
 
-    /// The first became the second when it gave these items, in this order.
+    /// The first state became the second when the receiver gave these items, in this order.
     ghost gave: { Self → Self → List ShownValue → Type 0 };
 
-    /// The most items that it can still give.
+    /// The most items that the receiver can still give.
     ghost left: { Self → ℕ };
 
-    /// The answer with which it ended, once it has.
+    /// The answer with which the receiver ended, if it has ended.
     ghost ended: { Self → Option PullValue };
 
-    /// Gives the next item. Any other answer means that the receiver has ended, and then it must not be called again.
+    /// Gives the next item. Any other answer means that the receiver has ended and must not be called again.
     fn next(&mut self) -> Pull
         requires { ended self.old ≡ None }
         ensures gave { (begun : Self) (items : List ShownValue) → gave begun self.old items → gave begun self.new (items ++ items_of result) }
         ensures left { left self.new + length (items_of result) ≤ left self.old }
         ensures ended { ended self.new ≡ ending_of result };
 
-    /// Whether `next` may have to wait for its input. The items that were given so far are then best presented first.
+    /// Whether `next` may have to wait for its input. If so, the items that were given so far are best presented first.
     fn may_wait(&self) -> bool {
         false
     }
 
-    /// Gets back the samples of an item that was presented, whose memory may be used again.
+    /// Gets back the samples of a presented item, whose memory may be used again.
     fn take_back(&mut self, samples: Bytes)
         ensures gave { (begun : Self) (items : List ShownValue) → gave begun self.old items → gave begun self.new items }
         ensures left { left self.new ≡ left self.old }

@@ -7,7 +7,7 @@ use Rattle.rtrb.specs.Ring.{received, known_items, SameConsumer}
 use Rattle.sample_schedule.specs.declared.shown.Shown.{Shown}
 use Rattle.presenter_ring.specs.declared.back.Back.{Back}
 
--- What the presenter's side did. A presenter is seen as the items that it got.
+-- What the presenter's side did. A presenter is known by the items that it got.
 pub record HasPresented {P : Type 0} (handed : P → P → List Shown → Type 0) (presenter presenter' : P) (before after : Back) : Type 0 where
   pub presented : List Shown
   pub hands : (begun : P) (items : List Shown) → handed begun presenter items → handed begun presenter' (items ++ presented)
@@ -23,15 +23,15 @@ pub record IsIdle (before after : Back) : Type 0 where
   pub none : length (received after.consumer) ≡ length (received before.consumer)
   pub empty : known_items before.consumer ≡ []
 
--- The presenter's side took a turn, and presented items. If it popped none, no item was known to be in the ring; it failed only
--- after a pop, and then a fault was counted.
+-- The presenter's side took a turn, and presented items. If it popped none, it knew of no item in the ring. It failed
+-- only after a pop, and then a fault was counted.
 pub record TakesBackTurn {P : Type 0} (handed : P → P → List Shown → Type 0) (faults : P → ℕ) (presenter presenter' : P) (before after : Back) (result : Result Unit Failed) : Type 0 where
   pub presented : HasPresented handed presenter presenter' before after
   pub idle : length (received after.consumer) ≡ length (received before.consumer) → IsIdle before after
   pub failed : OnErr result (length (received before.consumer) < length (received after.consumer))
   pub counted : IsCounted (faults presenter) (faults presenter') result
 
--- the end of the ring is unchanged, and nothing was popped
+-- the presenter's end of the ring is unchanged, and nothing was popped
 pub record KeepsBack (before after : Back) : Type 0 where
   pub same_ring : SameConsumer before.consumer after.consumer
   pub receives : received after.consumer ≡ received before.consumer

@@ -8,8 +8,8 @@ use Rattle.presenter_ring.specs.declared.front.Front.{Front}
 use Rattle.presenter_ring.specs.declared.receiver.Pull.{Pull}
 use Rattle.presenter_ring.specs.Fronts.{hand_of, ended_of}
 
--- What the receiver's side did. A receiver is seen as the items that it gave, the most items that it can still give, and the
--- answer with which it ended.
+-- What the receiver's side did. A receiver is known by the items that it gave, the most items that it can still give,
+-- and the answer with which it ended.
 pub record HasFed {R : Type 0} (gave : R → R → List Shown → Type 0) (left : R → ℕ) (ended : R → Option Pull) (receiver receiver' : R) (before after : Front) : Type 0 where
   pub given : List Shown
   pub pushed : List Shown
@@ -22,11 +22,12 @@ pub record HasFed {R : Type 0} (gave : R → R → List Shown → Type 0) (left 
   pub ends : ended_of before ≡ None → ended_of after ≡ ended receiver'
   pub stays : IsSome (ended_of before) → (ended_of after ≡ ended_of before) × (receiver' ≡ receiver)
 
--- nothing could be pushed: no slot was known to be free for the item in hand, or there is no item and the receiver has ended
+-- nothing could be pushed: no slot was known to be free for the item in `hand`, or `hand` is empty and the receiver has
+-- ended
 abbrev pub IsStuck : Front → Front → Type 0
 IsStuck before after = MatchOption after.hand (IsSome (ended_of after)) (λ shown. known_free before.producer ≡ 0)
 
--- The item in hand was taken, or the receiver's next one if there was none, or the receiver ended.
+-- `item` is the item that was in `hand`, or else the receiver's next one, or `None` if the receiver has ended.
 pub record Takes {R : Type 0} (gave : R → R → List Shown → Type 0) (left : R → ℕ) (ended : R → Option Pull) (receiver receiver' : R) (before after : Front) (item : Option Shown) : Type 0 where
   pub given : List Shown
   pub gives : (begun : R) (items : List Shown) → gave begun receiver items → gave begun receiver' (items ++ given)
@@ -39,7 +40,7 @@ pub record Takes {R : Type 0} (gave : R → R → List Shown → Type 0) (left :
   pub ends : ended_of before ≡ None → ended_of after ≡ ended receiver'
   pub stays : IsSome (ended_of before) → (ended_of after ≡ ended_of before) × (receiver' ≡ receiver)
 
--- An item was pushed, or is in hand now because no slot was known to be free.
+-- An item was pushed, or is in `hand` now because no slot was known to be free.
 pub record Pushes (shown : Shown) (before after : Front) (pushed : Bool) : Type 0 where
   pub sends : sent after.producer ≡ sent before.producer ++ cond pushed (shown ∷ []) []
   pub keeps : hand_of after ≡ cond pushed [] (shown ∷ [])
@@ -48,7 +49,7 @@ pub record Pushes (shown : Shown) (before after : Front) (pushed : Bool) : Type 
   pub given : after.given ≡ before.given
   pub ended : after.ended ≡ before.ended
 
--- the end of the ring and everything else are unchanged
+-- nothing changed on the receiver's side
 pub record KeepsFront (before after : Front) : Type 0 where
   pub same_ring : SameProducer before.producer after.producer
   pub sends : sent after.producer ≡ sent before.producer

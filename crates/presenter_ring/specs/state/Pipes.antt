@@ -1,5 +1,5 @@
--- Kept for proofs: what the code's own parts hold and do. No clause of a public call rests on it.
--- A ring between two threads with the item in hand before it, and what a round does.
+-- Kept for proofs: what the code's own parts hold and do. No clause of a public call rests on it. A ring between two
+-- threads, the item in `hand` that waits for a slot of the ring, and what a round does.
 use Rattle.std.specs.Prelude.{◌≡◌, ◌+◌, ◌<◌, [], length}
 use Rattle.presenter_ring.specs.declared.pipe.Pipe.{Pipe}
 use Rattle.presenter_ring.specs.state.Fronts.{IsStuck}
@@ -16,7 +16,7 @@ pub record IsStill (before after : Pipe) : Type 0 where
 abbrev pub HasStepped : Pipe → Pipe → Type 0
 HasStepped before after = length (pushed_by before) + length (popped_by before) < length (pushed_by after) + length (popped_by after)
 
--- nothing changed except the item in hand
+-- nothing changed except the item in `hand`
 pub record KeepsRing (before after : Pipe) : Type 0 where
   pub producer : after.front.producer ≡ before.front.producer
   pub back : after.back ≡ before.back
