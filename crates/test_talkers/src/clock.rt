@@ -47,13 +47,13 @@ const ROWS: [Row; 5] = [
         frames: &[
             (0, "1000000000 0 04800001 1002000000 "),
             (14, "1000875000 7 04800701 1002875000 "),
-            // a millisecond later than the ninth packet of 125 microseconds
+            // the restart adds 1 ms to the time after eight packets of 125 microseconds
             (16, "1002000000 8 04880801 1004000000 "),
             (30, "1002875000 15 04880f01 1004875000 "),
         ],
     },
-    // A hundred events take 2,267,573 ns, or one nanosecond more. The stamp of event 150 is half the first hundred's time after
-    // event 100, which is a nanosecond before its nominal instant.
+    // A hundred events take 2,267,573 ns, or one nanosecond more. The stamp of event 150 is that of event 100 plus half
+    // the time of the first hundred events. It is a nanosecond before the nominal instant of event 150.
     Row {
         name: "packets are stamped on the clock",
         plan: Planned::OnClock,

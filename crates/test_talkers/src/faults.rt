@@ -5,7 +5,7 @@ use crate::plans::Planned;
 use std::test::Fail;
 use talker::{TalkFault, Talker};
 
-/// A plan; the first bytes of an input, and how many units of type 6 follow; and its fault.
+/// A plan, the first bytes of an input, how many units of type 6 follow these bytes, and the fault.
 type Row = (Planned, &'static [u8], usize, Option<TalkFault>);
 
 const ROWS: [Row; 16] = [
@@ -18,7 +18,7 @@ const ROWS: [Row; 16] = [
     (Planned::Video, &[], 0, Some(TalkFault::StartCode)),
     (Planned::Video, &[1, 2, 3], 0, Some(TalkFault::StartCode)),
     (Planned::Video, &[0, 0, 0, 0], 0, Some(TalkFault::StartCode)),
-    // units of types 28, 0 and 24; one of type 23, and none
+    // units of types 28, 0 and 24, which are refused; then a unit of type 23, and no unit
     (
         Planned::Video,
         &[0, 0, 1, 0x1c, 1],

@@ -9,7 +9,7 @@ use std::process::Abort;
 use std::test::Fail;
 use talker::{Sent, TalkPlan, Talker};
 
-/// An input: some bytes, and then other bytes, repeated.
+/// An input: some bytes, then other bytes, which are repeated.
 pub type Input = (&'static [u8], &'static [u8], usize);
 
 /// What is sent for a plan and an input.
@@ -19,7 +19,7 @@ pub struct Row {
     pub input: Input,
     /// How many packets the stream and its clock have, and the size of the capture of all frames.
     pub sums: (u64, u64, usize),
-    /// Places in the order of sending, and how the line of the frame there begins.
+    /// Indices in the order of sending, and how the line of the frame at each index begins.
     pub frames: &'static [(usize, &'static str)],
 }
 
@@ -77,7 +77,7 @@ fn is_same(sent: Sent<'_>, frame: &Frame) -> bool {
         && sent.bytes == frame.bytes.as_slice()
 }
 
-/// A talker writes exactly these frames in turn, and also returns those of the stream by their numbers.
+/// A talker writes exactly these frames in order, and also returns those of the stream by their numbers.
 fn check_written(
     rt: &impl Abort,
     name: &str,
@@ -127,7 +127,7 @@ fn line_of(alloc: Global, frame: &Frame) -> Result<String, NoMemory> {
     Ok(format!(in alloc; "{arrival} {number} {head:08x} {stamp} {rest}")?)
 }
 
-/// The bytes of the capture of these frames.
+/// The number of bytes in the capture of these frames.
 fn capture_size(frames: &[Frame]) -> usize {
     let mut size = 24usize;
     for frame in frames {

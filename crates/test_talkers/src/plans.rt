@@ -34,13 +34,13 @@ pub enum Planned {
     Clocked44100,
     /// A CRF packet with every second packet of the stream.
     Beside,
-    /// A restart after every eight packets, and a CRF packet with each of these.
+    /// A restart after every eight packets, and a CRF packet with each packet of the stream.
     RestartingClock,
     /// A stream and its clock at 44.1 kHz, with a CRF timestamp every 100 events.
     OnClock,
     /// 30 access units of H.264 a second.
     Video,
-    /// Units that are stamped on their last fragment alone.
+    /// NAL units that are stamped only on their last fragments.
     LastStamp,
     /// One access unit a second.
     Slow,
@@ -60,7 +60,7 @@ macro_rules! pcm {
     };
 }
 
-/// The clock below with another rate and interval.
+/// The plan `CLOCK` with another rate and interval.
 macro_rules! crf {
     ($rate:expr, $interval:expr) => {
         Some(CrfPlan { rate: $rate, interval: $interval, ..CLOCK })

@@ -7,7 +7,7 @@ use std::test::Fail;
 /// A unit of 3,000 bytes.
 const LONG: Input = (&[0, 0, 0, 1, 0x65], &[0xff], 2_999);
 
-/// A slice of one byte has no second byte, which would tell the first slice of a picture.
+/// A slice of one byte lacks the second byte, which tells whether a slice is the first of a picture.
 const SHORT: Input = (&[0, 0, 1, 0x41, 0, 0, 1, 0x41, 0, 0, 1, 0x67], &[], 0);
 
 const ROWS: [Row; 3] = [
@@ -97,7 +97,8 @@ const ACCESS: [(&[u16], &[i64]); 8] = [
     (&[0x0605, 0x0910, 0x0e80, 0x6588, 0x0910], &[1, 1, 1, 1, 2]),
 ];
 
-/// Access unit 1 is sent at 1 s, and each a second after the one before it. The last packet of each has the marker.
+/// Access unit 1 is sent at 1 s, and each further one a second after the one before it. The last packet of each access
+/// unit has the marker.
 #[test]
 fn a_picture_begins_an_access_unit(rt: HostRuntime) -> Result<(), Fail> {
     for row in &ACCESS {
