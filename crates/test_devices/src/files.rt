@@ -7,8 +7,8 @@ use device_rack::{AnnexBDevice, RawDevice, Silence};
 use std::test::Fail;
 use std::{env, fs};
 
-/// How many bytes of two packets with 24 bytes of silence between them are written before call 1, 2, 3 .. of their sink, which
-/// takes 10 bytes at a time. The last call is never made.
+/// How many bytes are written before call 1, 2, 3 .. of a sink that takes 10 bytes at a time. The bytes are two packets
+/// with 24 bytes of silence between them. The last call is never made.
 const RAW: [usize; 10] = [0, 10, 20, 24, 34, 44, 48, 58, 68, 72];
 
 #[test]
@@ -39,7 +39,7 @@ fn samples_are_written_up_to_the_call_that_fails(rt: HostRuntime) -> Result<(), 
     Ok(())
 }
 
-/// How many bytes of two units are written before each call of their sink, which takes everything at once.
+/// How many bytes of two units are written before each call of a sink that takes all bytes at once.
 const UNITS: [usize; 5] = [0, 4, 8, 12, 14];
 
 #[test]

@@ -24,7 +24,7 @@ struct Gap {
 }
 
 const GAPS: [Gap; 8] = [
-    // one packet is missing; none is missing; the next one begins at once
+    // one packet is missing; none is missing; the next packet begins where the last one did
     Gap {
         before: PACKET,
         next: 1_002_250_000,
@@ -51,7 +51,8 @@ const GAPS: [Gap; 8] = [
         next: 5,
         silent: 0,
     },
-    // two samples end at 8 / 3 ns, rounded down to 2, and one and a half samples of 4 / 3 ns fit up to 4
+    // two samples end at 8 / 3 ns, which is rounded down to 2 ns; from there to 4 ns, one and a half samples of 4 / 3
+    // ns fit
     Gap {
         before: Samples {
             num: 4,

@@ -28,7 +28,7 @@ pub const PACKET: Samples = Samples {
     value: 1,
 };
 
-/// How many bytes they have.
+/// How many bytes the samples have.
 pub fn len(samples: Samples) -> usize {
     usize::from(samples.count) * usize::from(samples.size)
 }

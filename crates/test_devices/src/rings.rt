@@ -40,7 +40,7 @@ impl Receiver for Flags {
     }
 }
 
-/// Counts the items that it gets, and whether the frames came in order. Fails at one of its items.
+/// Counts the items that it gets, and the frames that are out of order. Fails at one of its items.
 #[derive(Drop)]
 struct Counted {
     items: u64,
@@ -76,7 +76,7 @@ fn frame_of(shown: &Shown) -> u64 {
     }
 }
 
-/// Counts the steps of each side, and the steps whose number is not the next one.
+/// Counts the steps of each side, and the steps whose number is not one more than the last.
 #[derive(Drop)]
 struct Counting {
     pushes: AtomicU64,
@@ -107,7 +107,7 @@ fn flags_of(left: u64) -> Flags
     }
 }
 
-/// Continues until a round has nothing more to do.
+/// Runs rounds until one returns an answer other than `More`.
 fn last_round<T: Threads + Sync, R: Receiver, P: Presenter, G: Gate>(
     rt: &T,
     pipe: &mut Pipe,
