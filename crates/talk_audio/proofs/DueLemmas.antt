@@ -72,7 +72,7 @@ pub record IsCounted (plan : TalkPlan) (n : ℕ) (head : Head) : Type 0 where
   pub room : run_start plan (run_of plan n) + nominal_offset plan.rate event + 1 ≤ stamp + first_instant plan n
   pub first : head.first ≡ pos (event_of plan n 0) -ℤ pos event
 
--- the first instant of packet n is at least 1, because the lead is
+-- the first instant of packet n is at least 1, because the lead is at least 1
 pub some_instant : (plan : TalkPlan) (n : ℕ) → IsAudioPlan plan → 1 ≤ first_instant plan n
 unfolding nominal_instant
 some_instant plan n p = omega (arith, p.some_lead)

@@ -137,7 +137,7 @@ pub stamped_early : (b : Beat) (start e : ℕ) → e < b.spacing → stamped_at 
 unfolding stamped_at
 stamped_early b start e h = rw (lt-ltb e b.spacing h) refl
 
--- if `f` is at most r/w of the period `p`, it is at most 1 ns longer than r events
+-- if `f` is at most r/w of the period `p`, it is at most 1 ns longer than the time of r events
 part_under : (w rate r p f : ℕ) → 1 ≤ w → r < w → f * w ≤ r * p → p * rate ≤ w * 1000000000 + rate → f * rate ≤ r * 1000000000 + rate
 part_under w rate r p f some small under slow = elim (cases_lt (r * 1000000000 + rate) (f * rate)) [
   | inl more ↦

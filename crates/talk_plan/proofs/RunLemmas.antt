@@ -81,7 +81,7 @@ one_run (Some packets) jump m d n ok few place e =
           one_bit a (n / packets) (omega arith) (omega arith) e
     ]
 
--- if packet n + 1 has another restart bit than packet n, it is the first of the next run
+-- packet n + 1 is the first of the next run if its restart bit differs from that of packet n
 pub new_bit : (r : Option ℕ) (jump n : ℕ) → Restarts r jump → (run_by r (suc n) % 2 == 1) ≢ (run_by r n % 2 == 1) → IsRenewed r n
 new_bit r jump n ok other = elim (next_run r jump n ok) [
   | inl e ↦ absurd (other (rw e refl))

@@ -61,7 +61,7 @@ HasRate Am824 rate = IsSome (fdf_of rate)
 HasRate (H264 last_stamp) rate = ⊥
 
 -- The data blocks of an AM824 packet have at most 256 quadlets each, and fit an Ethernet frame. Their number is at
--- least SYT_INTERVAL / 8, so that every 8 packets have a stamped block.
+-- least SYT_INTERVAL / 8, so that there is a stamped block in every 8 packets.
 pub record FitsBlocks (plan : TalkPlan) : Type 0 where
   pub quadlets : plan.channels ≤ 256
   pub some : interval_of plan.rate ≤ 8 * plan.count
@@ -100,8 +100,8 @@ abbrev pub HasWholeRuns : CrfPlan → ℕ → ℕ → Option ℕ → Type 0
 HasWholeRuns crf rate count None = ⊤
 HasWholeRuns crf rate count (Some packets) = packets * count % (8 * spacing_of crf rate * crf.points) ≡ 0
 
--- The limits of a clock. Its stream has `rate` sample frames a second, `count` sample frames in a packet, and the
--- restarts of `restart`.
+-- The limits of a clock. Its stream has `rate` sample frames a second, `count` sample frames in a packet, and restarts
+-- as in `restart`.
 pub record IsClockPlan (crf : CrfPlan) (rate count : ℕ) (restart : Option ℕ) : Type 0 where
   pub id : crf.id < 2 ^ 64
   pub some_rate : 1 ≤ crf.rate

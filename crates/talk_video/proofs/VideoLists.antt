@@ -24,7 +24,7 @@ listed_at v i d is h =
 pub listed_all : (v : VideoStream) → IsVideo v → length v.units.items ≡ length (nal_units v.input.now)
 listed_all v is = ap length is.units ∙ length-map-range_with_len (unit_in v.input.now) 0 (length (nal_units v.input.now))
 
--- in the list, the units whose first packet has at most the number n precede all others
+-- in the list, the units that begin with packet n or an earlier one precede all others
 pub parted : (v : VideoStream) (n : ℕ) → IsVideo v → IsPartitionedBy (λ (u : NalUnit). nat_le u.first n) v.units.items
 parted v n is i j d le below e =
     let all = listed_all v is in
@@ -101,7 +101,7 @@ units_few bytes =
     let units = kept_few (unit_behind bytes) (places (is_start_code bytes) 0 (length bytes)) in
     omega arith
 
--- `unit` is the unit of packet n, and its access unit has at most the number `most_input`
+-- `unit` is the unit of packet n, and the number of its access unit is at most `most_input`
 pub record IsUnitWith (v : VideoStream) (n : ℕ) (unit : NalUnit) : Type 0 where
   pub same : unit ≡ unit_in v.input.now (place_in v n).unit
   pub few : unit.access_unit ≤ most_input

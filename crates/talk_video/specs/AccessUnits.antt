@@ -22,7 +22,7 @@ unfoldable pub has_slice : List ℕ → ℕ × ℕ → Bool
 has_slice bytes unit = nat_le 1 (type_in bytes unit) && nat_le (type_in bytes unit) 5
 
 -- The unit's slice is the first of a picture: `first_mb_in_slice` is 0, so the top bit of the unit's second byte is
--- set. In a unit of one byte, it is not.
+-- set. A unit of one byte is never a first slice.
 abbrev pub is_first_slice : List ℕ → ℕ × ℕ → Bool
 is_first_slice bytes unit = nat_lt (unit.0 + 1) unit.1 && is_set (unit.0 + 1) 0 bytes
 
@@ -31,7 +31,7 @@ abbrev pub is_in : ℕ → ℕ → ℕ → Bool
 is_in low high type = nat_le low type && nat_le type high
 
 -- The unit can begin an access unit: its type is 6 to 9 or 14 to 18, or it is the first slice of a picture and its type
--- is 1, 2 or 5. It begins one exactly if an earlier unit of the current access unit has a slice.
+-- is 1, 2 or 5. It begins a new access unit exactly if an earlier unit of the current one has a slice.
 unfoldable pub may_begin : List ℕ → ℕ × ℕ → Bool
 may_begin bytes unit =
     is_in 6 9 (type_in bytes unit) || is_in 14 18 (type_in bytes unit)

@@ -17,8 +17,8 @@ pub fn access_units_begin()
 {}
 
 /// Packet `n` of H.264 carries fragment `k` of unit `i` exactly if unit `i` has more than `k` fragments and `n` is `k`
-/// plus the number of packets of the units before `i`. What the packets of a unit carry after the unit's first byte is,
-/// put together, all of the unit after that byte.
+/// plus the number of packets of the units before `i`. The bodies of a unit's packets, put together, are the unit
+/// without its first byte.
 pub fn units_are_carried()
     ensures place { (units : List (ℕ × ℕ)) (n i k : ℕ)
         → place_of units n ≡ record { unit = i; fragment = k } ↔ ((packets_before units i + k ≡ n) × (k < packets_at units i)) }

@@ -185,7 +185,7 @@ impl<'a> VideoStream<'a> {
         (self.instant(self.unit_of(n).access_unit) - u64::from(self.plan.lead)) as i64
     }
 
-    /// The instant in the timestamp of a packet that carries `part` of a unit, if it is stamped.
+    /// The instant in the timestamp of a packet that carries `part` of a unit, if the packet is stamped.
     fn stamp(&self, part: NalPart, instant: u64) -> Option<u64>
         ensures { result ≡ stamp_by self.now.last_stamp part instant }
     {

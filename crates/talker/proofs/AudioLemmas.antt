@@ -139,7 +139,7 @@ times_conform plan a headers input p is limit =
       clock = clock_is plan packets p (λ n h. timely plan a headers input n p is limit h);
     }
 
--- if packets n and m of audio are due at the same instant, each packet between them is due then, too
+-- if packets n and m of audio are due at the same instant, each packet between them is due at that instant, too
 due_once : (j : Journal) → IsAudio j → (n k m : ℕ) → n ≤ k → k ≤ m → m < j.packets → j.due n ≡ j.due m → j.due k ≡ j.due n
 due_once j is n k m low high known e = elim (cases_lt n m) [
   | inl before ↦ absurd (let h = due_rises j is n m before known in omega arith)

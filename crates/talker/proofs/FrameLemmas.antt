@@ -11,7 +11,7 @@ in_order f rises a zero = refl
 in_order f rises a (suc zero) = refl
 in_order f rises a (suc (suc n)) = rw (in_order f rises (a + 1) (suc n), rises a) refl
 
--- if `P` holds for each frame with a number below a + n, it holds for all frames of the list
+-- `P` holds for all frames of the list if it holds for each frame numbered below a + n
 pub each : (f : ℕ → SentFrame) (P : SentFrame → Type 0) (a n : ℕ) → ((k : ℕ) → k < a + n → P (f k)) → AllByRecursion P (map f (range_with_len a n))
 each f P a zero h = tt
 each f P a (suc n) h = (h a (omega arith), each f P (a + 1) n (λ k below. h k (omega arith)))
@@ -28,7 +28,7 @@ numbered f a (suc n) (suc k) j h e = numbered f (a + 1) n k j (omega arith) (ome
 
 -- ---- of two lists
 
--- if `P` holds for each frame with a number from a to below a + n, it holds for all frames of the list
+-- `P` holds for all frames of the list if it holds for each frame numbered a to a + n - 1
 pub each_from : (f : ℕ → SentFrame) (P : SentFrame → Type 0) (a n : ℕ) → ((k : ℕ) → a ≤ k → k < a + n → P (f k)) → AllByRecursion P (map f (range_with_len a n))
 each_from f P a zero h = tt
 each_from f P a (suc n) h = (h a (omega arith) (omega arith), each_from f P (a + 1) n (λ k from below. h k (omega arith) (omega arith)))

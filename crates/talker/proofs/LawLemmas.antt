@@ -26,7 +26,7 @@ use Rattle.talk_audio.proofs.PcmLemmas.{packet_again}
 use Rattle.talker.proofs.StreamLemmas.{AreCarried, all_carried, all_frames, at_number, frames_in, next_near, numbers_of, packets_in, some_carried, spelled}
 use Rattle.talker.proofs.TalkLemmas.{frames_alone, plan_keeps}
 
--- if `fdf` names the plan's rate and `interval` is its SYT interval, these bounds are those of `FitsBlocks`
+-- if `fdf` names the plan's rate and `interval` is the SYT interval of `fdf`, these bounds imply `FitsBlocks`
 pub named_blocks : (plan : TalkPlan) (fdf interval : ℕ) → rate_of_fdf fdf ≡ Some plan.rate → syt_interval fdf ≡ Some interval → plan.channels ≤ 256
     → interval ≤ 8 * plan.count
     → plan.count * block_size plan.channels ≤ 1468 → FitsBlocks plan
@@ -116,7 +116,7 @@ pub all_carry : (plan : TalkPlan) (input : List ℕ) (lead : ℕ) → IsPlan pla
 all_carry plan input lead p none limit expects =
     rw (frames_alone plan input p none limit) (all_carried plan (stream_of plan input) lead (plan_keeps plan input p limit) expects)
 
--- each record carries a packet of the journal or of its clock
+-- each record carries a packet of the stream or of its clock
 pub every_carried : (plan : TalkPlan) (input : List ℕ) (lead : ℕ) → IsPlan plan → length input ≤ most_input → Expects plan lead
     → AreCarried (journal plan input) lead (frames plan input)
 every_carried plan input lead p limit expects =
@@ -129,7 +129,7 @@ kept_carried plan input places lead p limit expects =
     let s = stream_of plan input in
     some_carried plan s lead (filter_map (slice_get (frames plan input)) places) (plan_keeps plan input p limit) expects (frames_in s places)
 
--- `StaysNearBy` asks nothing of audio
+-- for audio, `StaysNearBy` is always true
 near_as : (kind : TalkKind) (j : Journal) (numbers : List ℕ) → IsAudioKind kind → StaysNearBy kind j numbers
 near_as (Aaf format sparse) j numbers kind = tt
 near_as Am824 j numbers kind = tt

@@ -45,7 +45,7 @@ pub record IsStream (plan : TalkPlan) (s : Stream) : Type 0 where
   pub early : (n : ℕ) → IsAhead plan.crf plan.lead → n < packets_in s → s.arrival n ≤ s.journal.times.due n
   -- the frame of each packet fits Ethernet
   pub size : (n : ℕ) → n < packets_in s → length (packet_bytes (s.journal.packet n)) ≤ 1518
-  -- the packets of the clock are sent in order, too, before 2^32 seconds, and each fits Ethernet
+  -- the packets of the clock are sent in order and before 2^32 seconds, and the frame of each fits Ethernet
   pub clock_rising : (m : ℕ) → s.clock_arrival m ≤ s.clock_arrival (m + 1)
   pub clock_sent : (m : ℕ) → m < clocks_in s → s.clock_arrival m < 2 ^ 32 * 1000000000
   pub clock_size : (m : ℕ) → m < clocks_in s → length (clock_bytes (s.journal.clock_packet m)) ≤ 1518
@@ -223,8 +223,8 @@ clock_carried plan s m h =
       packet = record { trail = []; whole = sym (append-nil packet) };
     }
 
--- The records of the frames `given` carry the packets that `origins` lists. The packets of the stream among them have
--- the same numbers in `origins` as in `given`.
+-- The records of the frames `given` carry the packets that `origins` lists. The packets of the stream have the same
+-- numbers in `origins` as in `given`.
 pub record AreCarried (j : PacketJournal) (lead : ℕ) (given : List SentFrame) : Type 0 where
   pub origins : List Origin
   pub carry : AllCarryFrom j lead origins (map record_of given)
@@ -265,7 +265,8 @@ next_near j a (suc (suc n)) = ((λ first second unstamped. (omega arith, omega a
 unrolled : (f : ℕ → SentFrame) (a n : ℕ) → a < n → map f (range_with_len a (n - a)) ≡ f a ∷ map f (range_with_len (a + 1) (n - (a + 1)))
 unrolled f a n h = let more : n - a ≡ suc (n - (a + 1)) = omega arith in rw more refl
 
--- if packet a of the clock is not sent after packet b of the stream or a later one, its frame is the first that is left
+-- if packet a of the clock is sent no later than packets b, b + 1, .. of the stream, the frame of packet a is the first
+-- that is left
 pub clock_first : (plan : TalkPlan) (s : Stream) (a b : ℕ) → IsStream plan s → a < clocks_in s
     → ((k : ℕ) → b ≤ k → k < packets_in s → s.clock_arrival a ≤ s.arrival k)
     → left_of s a b ≡ clock_frame_of s a ∷ left_of s (a + 1) b
@@ -282,8 +283,8 @@ clock_first plan s a b is h sooner =
     rw (unrolled (clock_frame_of s) a (clocks_in s) h)
     (stays_first f (clocks ++ packets) (all_of (λ g. int_le f.arrival g.arrival ≡ true) clocks packets later others))
 
--- if packet b of the stream is sent before packet a of the clock and all later ones, its frame is the first that is
--- left
+-- if packet b of the stream is sent before packets a, a + 1, .. of the clock, the frame of packet b is the first that
+-- is left
 pub packet_first : (plan : TalkPlan) (s : Stream) (a b : ℕ) → IsStream plan s → b < packets_in s
     → ((m : ℕ) → a ≤ m → m < clocks_in s → s.arrival b < s.clock_arrival m)
     → left_of s a b ≡ frame_of s b ∷ left_of s a (b + 1)

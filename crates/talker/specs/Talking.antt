@@ -9,6 +9,6 @@ pub record Talking : Type 0 where
   pub input : List ℕ
   pub given : ℕ
 
--- the talker after it gives one more frame; if it has given all, nothing changes
+-- the talker after it gives one more frame; if it has given all frames, nothing changes
 abbrev pub gone_on : Talking → Talking
 gone_on t = record t { given = min (t.given + 1) (length (frames t.plan t.input)) }

@@ -64,11 +64,12 @@ impl<'a> Talker<'a> {
     /// 24 bits (IEC 61883-6). For H.264, the input is a byte stream of NAL units (ITU-T H.264, annex B). The input has
     /// at most 268,435,456 bytes.
     ///
-    /// A plan has a start of 0 to 4 * 10^18 and a lead of 1 to 10^9. A plan of audio has no restart, or one after each
-    /// 8 to 10^9 packets with a jump of 4 to 10^9. PCM, sparse or not, has one of AAF's rates, 1 to 1023 channels, and
-    /// in each packet 1 to 1476 sample frames of together at most 1476 bytes. AM824 has one of the rates of IEC
-    /// 61883-6, 1 to 256 channels, and in each packet at least SYT_INTERVAL / 8 data blocks of together at most 1468
-    /// bytes. H.264 has a rate of 1 to 240 and neither restarts nor a clock; its channels and its count are not read.
+    /// A plan has a start of 0 to 4 * 10^18 and a lead of 1 to 10^9. A plan of audio has no restarts, or a restart
+    /// after every `restart` packets, 8 to 10^9, with a jump of 4 to 10^9. PCM, sparse or not, has one of AAF's rates,
+    /// 1 to 1023 channels, and in each packet 1 to 1476 sample frames of together at most 1476 bytes. AM824 has one of
+    /// the rates of IEC 61883-6, 1 to 256 channels, and in each packet at least SYT_INTERVAL / 8 data blocks of
+    /// together at most 1468 bytes. H.264 has a rate of 1 to 240 and neither restarts nor a clock; its channels and its
+    /// count are not read.
     ///
     /// A media clock has a base frequency of 1 to 200,000,000 Hz, a pull of 0 to 5, and 1 to 180 timestamps in a
     /// packet. The time from one timestamp to the next is 1 to 65,535 events of the clock, and a whole number of sample
@@ -164,8 +165,8 @@ impl<'a> Talker<'a> {
         }
     }
 
-    /// What is sent next: by arrival; at equal arrivals, packets of the clock first. Returns `None` exactly if all
-    /// frames were given.
+    /// What is sent next. Frames are sent by arrival; at equal arrivals, frames of the clock are sent first. Returns
+    /// `None` exactly if all frames were given.
     #[inline(always)]
     pub fn turn(&self) -> Option<Turn>
         ensures turn { IfSome result (IsTurn self.now) }
@@ -191,7 +192,7 @@ impl<'a> Talker<'a> {
         write_frame(&self.source, &self.clock, turn, out);
     }
 
-    /// Counts the frame that is sent next as given.
+    /// Counts the frame of `turn`, which is sent next, as given.
     #[inline(always)]
     pub fn go_on(&mut self, turn: Turn)
         requires { IsTurn self.old turn }
@@ -204,8 +205,8 @@ impl<'a> Talker<'a> {
         }
     }
 
-    /// Gives the next frame: by arrival; at equal arrivals, packets of the clock first. Returns `None` exactly if all
-    /// frames were given. Allocates nothing.
+    /// Gives the next frame. Frames are sent by arrival; at equal arrivals, frames of the clock are sent first. Returns
+    /// `None` exactly if all frames were given. Allocates nothing.
     #[inline(always)]
     pub fn next(&mut self) -> Option<Sent<'_>>
         ensures frame { option_map sent_frame result ≡ slice_get (frames self.old.plan self.old.input) self.old.given }

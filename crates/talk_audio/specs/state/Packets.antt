@@ -18,7 +18,7 @@ abbrev pub front_of : StreamHeader → List ℕ
 front_of header = header.subtype ∷ ((128 * flag header.sv + 8 * flag header.mr + flag header.tv) ∷ (header.seq ∷ (flag header.tu ∷ [])))
 
 -- A header of 24 bytes with two changes: `part` is at offset `at`, within the first twelve bytes, and the timestamp is
--- another one.
+-- `timestamp`.
 abbrev pub patched : List ℕ → ℕ → List ℕ → ℕ → List ℕ
 patched header at part timestamp =
     take at header ++ (part ++ (take (12 - (at + length part)) (drop (at + length part) header) ++ (big_bytes 4 timestamp ++ take 8 (drop 16 header))))
