@@ -34,7 +34,7 @@ prefix_behind a b c xs ys first taken =
     let is : part ++ rest ≡ ys = taken.1.1 in
     (xs ++ part, (rest, append_assoc xs part rest ∙ ap (λ (zs : List ℕ). xs ++ zs) is), Appends-trans a b c xs part first taken.2)
 
--- if the count is unchanged until a call fails, the count before that is the count before the call
+-- a failed call that is counted from `g` is counted from `f`, too, because `g` is `f`
 counted-then : {T U : Type 0} {f g h : ℕ} {e e' : Failed} → g ≡ f → IsCounted {T = T} g h (Err e) → IsCounted {T = U} f h (Err e')
 counted-then quiet counted = record {
   never_falls = rw (← quiet) counted.never_falls;

@@ -19,7 +19,7 @@ in_ring received known popped known' sent pushed old new =
     append_cancel_left received (known ++ pushed) (popped ++ known')
     (sym (append_assoc received known pushed) ∙ ap (λ xs. xs ++ pushed) old ∙ sym new ∙ append_assoc received popped known')
 
--- the ring holds the items that were pushed and not popped, in order, which is true of every pipe
+-- the ring holds, in order, the items that were pushed and not popped; this is true of every pipe
 abbrev pub Fifo : Pipe → Type 0
 Fifo pipe = popped_by pipe ++ ring_of pipe ≡ pushed_by pipe
 

@@ -40,7 +40,7 @@ few_blocks interval x count (inl e) most = rw e (let h = rw e at most in omega a
 few_blocks interval x count (inr (inl e)) most = rw e (let h = rw e at most in omega arith)
 few_blocks interval x count (inr (inr e)) most = rw e (let h = rw e at most in omega arith)
 
--- the SYT_INTERVAL of each rate is one that the standard has
+-- the SYT_INTERVAL of each rate is 8, 16 or 32
 pub interval_is : (rate : ℕ) → IsInterval (interval_of rate)
 interval_is rate = by (fdf_of rate) refl
   where

@@ -120,7 +120,7 @@ time_is kind part by p n e = rw e (refl, refl)
 record IsNow (p : PacketJournal) (part : ℕ → Part) (plan : ListenPlan) (ends : List ℕ) (i start n : ℕ) (now : ℤ) : Type 0 where
   known : n < p.times.packets
   packets : AreUnit part start n
-  -- the numbers of the packets that end units increase
+  -- the last packets of units have increasing numbers
   before : (k m : ℕ) → k < i → slice_get ends k ≡ Some m → m + i ≤ n + k
   turn : (k l m r : ℕ) → k < l → slice_get ends k ≡ Some m → slice_get ends l ≡ Some r → m < r
   few : (m : ℕ) → m ≤ n → now ≤ℤ pos (p.times.due m) → n < m + plan.buffer
