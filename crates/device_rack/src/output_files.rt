@@ -51,7 +51,7 @@ impl<S: Sink + Drop> Devices for OutputFiles<S> {
     }
 }
 
-/// The device, live, if there is one.
+/// The device as a live outlet, if there is a device.
 fn live<D: Device>(device: Option<D>) -> Option<Outlet<D>>
     ensures { AreLive device result }
 {

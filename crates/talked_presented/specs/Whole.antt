@@ -23,8 +23,8 @@ ArePresented by p (n ∷ ns) [] = ⊥
 ArePresented by p (n ∷ ns) (Present batch ∷ rest) = IsOfPacket by p n batch × ArePresented by p ns rest
 ArePresented by p (n ∷ ns) (Flag frame seq reason ∷ rest) = ⊥
 
--- The listener's buffer has room for all packets that are sent in 4/3 of a period 1 ns longer than the plan's lead. It
--- has 1,500 bytes for each packet; no packet carries more.
+-- The listener's buffer has room for all packets that are sent within 4/3 * (`plan.lead` + 1) nanoseconds. It has 1,500
+-- bytes for each packet; no packet carries more.
 pub record HoldsLead (plan : TalkPlan) (listen : ListenPlan) : Type 0 where
   pub packets : 4 * ((plan.lead + 1) * plan.rate) < 3 * (listen.buffer * (plan.count * 1000000000))
   pub bytes : listen.buffer * 1500 ≤ listen.room

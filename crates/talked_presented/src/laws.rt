@@ -83,7 +83,7 @@ pub fn clocked_capture_is_presented()
 }
 
 /// If a plan as in `clocked_capture_is_presented` has the default lead of `talk`, a listener with the plan's clock and
-/// otherwise the default options of `listen` presents its packets from the second timestamp of the clock on.
+/// otherwise the default options of `listen` presents the plan's packets from the second timestamp of the clock on.
 pub fn defaults_present_by_clock()
     ensures hears { (plan : TalkPlan) (crf : CrfPlan) (input : List ℕ) → HasDefaultClock plan crf input → HearsClock plan crf input (clocked_listener plan.id crf.id) }
     ensures presented { (plan : TalkPlan) (crf : CrfPlan) (input : List ℕ) → HasDefaultClock plan crf input
@@ -116,7 +116,7 @@ pub fn defaults_present_all_units()
 
 /// A listener with the default options of `listen` hears a whole capture of an H.264 plan with the default lead of
 /// `talk`. If each packet has a timestamp, the listener also hears any capture that loses, repeats or reorders packets
-/// of the plan. It has room for each unit of the plan.
+/// of the plan. The listener has room for each unit of the plan.
 pub fn defaults_hear_units()
     ensures whole { (plan : TalkPlan) (input : List ℕ) → IsDefaultVideo plan input → ListensToVideo plan input (range_with_len 0 (journal plan input).times.packets) (default_listener plan.id) }
     ensures stamped { (plan : TalkPlan) (input places : List ℕ) → (is : IsDefaultVideo plan input) → is.last_stamp ≡ false → ListensToVideo plan input places (default_listener plan.id) }
