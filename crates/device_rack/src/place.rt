@@ -7,8 +7,8 @@ ghost use Rattle.device_rack.specs.Racks.{IsHanded, failed_count};
 use crate::device::Device;
 use sample_schedule::Shown;
 
-/// A device, and whether it is live. A place that is not live has failed. A boxed device brings a type of its own, which a
-/// model of the rack could not name, so contracts see a rack as the list of its places.
+/// A device, and whether it is live. A place that is not live has failed. A boxed device has a type of its own, which
+/// no model of the rack could name. So contracts see a rack as the list of its places.
 #[derive(Drop)]
 pub struct Place {
     pub device: Box<dyn Device + Send>,

@@ -43,8 +43,8 @@ pub record IsDrained (pipe : Pipe) : Type 0 where
   pub ended : IsSome (ended_with pipe)
   pub empty : waiting_in pipe ≡ []
 
--- The work that is left if the receiver can give `left` more items: a push for each item that is not in the ring yet,
--- and a presentation for each item. Every round reduces the work, unless the pipe is drained.
+-- The work that is left if the receiver can give `left` more items. It is a push for each item that is not in the ring
+-- yet, and a presentation for each item. Every round reduces the work, unless the pipe is drained.
 abbrev pub work : ℕ → Pipe → ℕ
 work left pipe = 2 * (left + length (hand_of pipe.front)) + length (ring_of pipe)
 

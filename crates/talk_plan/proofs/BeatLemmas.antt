@@ -93,8 +93,8 @@ steady b start m is =
       shorter = little_more (period (pair_from b start m)) (period (pair_from b start (suc m))) b.up b.down (omega (arith, q.from, p.to)) is.slow;
     }
 
--- If a run starts at least 4 ns after the nominal instant of event (m + 2) * `spacing`, it starts at least 3 ns later
--- than point m + 1 plus the last period.
+-- If a run starts at least 4 ns after the nominal instant of event (m + 2) * `spacing`, it starts at least 3 ns after
+-- point m + 1 plus the last period.
 pub renewed : (b : Beat) (start m next : ℕ) → IsBeat b → start + nominal_offset b.rate (suc (suc m) * b.spacing) + 4 ≤ next
     → point_at b start (suc m) + period (pair_from b start m) + 3 ≤ next
 renewed b start m next is far =

@@ -8,8 +8,8 @@ use Rattle.clock_track.specs.Pairs.{spot_by}
 use Rattle.time_unfold.specs.Lines.{instant_at}
 use Rattle.talk_plan.specs.Timing.{nominal_offset}
 
--- A stream of `rate` events a second with a clock of up / down events a second: `spacing` events of the stream take as long as
--- `interval` events of the clock.
+-- A stream of `rate` events a second, with a clock of up / down events a second. `spacing` events of the stream take as
+-- long as `interval` events of the clock.
 pub record Beat : Type 0 where
   pub rate : ℕ
   pub spacing : ℕ
@@ -17,7 +17,7 @@ pub record Beat : Type 0 where
   pub up : ℕ
   pub down : ℕ
 
--- The beat's rate is one of audio, its clock has at most 250 MHz, and `spacing` events of the stream take as long as
+-- The beat's rate is one of audio, and its clock has at most 250 MHz. `spacing` events of the stream take as long as
 -- `interval` events of the clock.
 pub record IsBeat (b : Beat) : Type 0 where
   pub rate_from : 8000 ≤ b.rate

@@ -121,7 +121,7 @@ HasClock None rate count restart = ⊤
 HasClock (Some crf) rate count restart = IsClockPlan crf rate count restart
 
 -- With a clock, the lead is at least 3 ns. The reason: a timestamp can be up to 2 ns before its sample's nominal
--- instant, and the presentation time of a packet's first sample up to 3 ns.
+-- instant, and a packet's first sample up to 3 ns before its own.
 abbrev pub IsAhead : Option CrfPlan → ℕ → Type 0
 IsAhead None lead = ⊤
 IsAhead (Some crf) lead = 3 ≤ lead

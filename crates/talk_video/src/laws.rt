@@ -16,9 +16,8 @@ pub fn access_units_begin()
         → access_unit bytes units (suc i) ≡ suc (access_unit bytes units i) ↔ (HasSlice bytes units i × (may_begin bytes (unit_at units (suc i)) ≡ true)) }
 {}
 
-/// Packet `n` of H.264 carries fragment `k` of unit `i` exactly if unit `i` has more than `k` fragments and `n` is `k`
-/// plus the number of packets of the units before `i`. The bodies of a unit's packets, put together, are the unit
-/// without its first byte.
+/// Packet `n` of H.264 carries fragment `k` of unit `i` exactly if unit `i` has a fragment `k`, and n - k packets carry
+/// the units before unit `i`. The bodies of a unit's packets, put together, are the unit without its first byte.
 pub fn units_are_carried()
     ensures place { (units : List (ℕ × ℕ)) (n i k : ℕ)
         → place_of units n ≡ record { unit = i; fragment = k } ↔ ((packets_before units i + k ≡ n) × (k < packets_at units i)) }

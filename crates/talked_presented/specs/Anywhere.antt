@@ -30,9 +30,9 @@ pub record ComesInTime (plan : TalkPlan) (input : List ℕ) (listen : ListenPlan
   pub timed : IsTimed (journal plan input).times listen.lead (listen.look + 16) (sent_copy plan input n) (take (length before + listen.look + 1) (before ++ n ∷ after))
   pub in_time : All (λ (k : ℕ). (stream_of plan input).arrival k ≤ (journal plan input).times.due n) before
 
--- The copy of packet n must be presented, because it is captured in time, is the first copy, and finds room in the
--- buffer beside all earlier packets that are not yet due. The room is counted with 1,500 bytes for each packet; no
--- packet has more.
+-- The copy of packet n must be presented for three reasons. It is captured in time. It is the first copy of the packet.
+-- The buffer has room for it and for all earlier packets that are not yet due, if each takes 1,500 bytes; no packet
+-- takes more.
 pub record MustBePresented (plan : TalkPlan) (input : List ℕ) (listen : ListenPlan) (before : List ℕ) (n : ℕ) (after : List ℕ) : Type 0 where
   pub comes : ComesInTime plan input listen before n after
   pub first : All (λ (k : ℕ). k ≢ n) before

@@ -44,7 +44,7 @@ pub fn files_are_heard()
     capture_reads_back();
 }
 
-/// Assume that each packet of an audio plan without a clock has a timestamp or is counted from one, and that the
+/// Assume that each packet of an audio plan without a clock has a timestamp or is counted from one. Assume that the
 /// listener has room for what is sent during the lead. Then each packet of a whole capture is presented, once and in
 /// order, and nothing is flagged.
 pub fn whole_capture_is_presented()
@@ -68,10 +68,11 @@ pub fn defaults_present_all()
     whole_capture_is_presented();
 }
 
-/// Assume that each packet of an audio plan with a clock stamps its first sample, that there are no restarts, and that
-/// the lead is at least 3 ns. Assume that the listener has the talker's clock, no look-ahead, and room for what is sent
-/// during the lead. Then each packet of a whole capture from the second timestamp of the clock on is presented, once
-/// and in order. Nothing else is shown but flags of packets before that timestamp, with the reason `noclock`.
+/// Assume that each packet of an audio plan with a clock stamps its first sample. Assume that there are no restarts,
+/// and that the lead is at least 3 ns. Assume that the listener has the talker's clock, no look-ahead, and room for
+/// what is sent during the lead. Then each packet of a whole capture from the second timestamp of the clock on is
+/// presented, once and in order. Nothing else is shown but flags of packets before that timestamp, with the reason
+/// `noclock`.
 pub fn clocked_capture_is_presented()
     ensures { (plan : TalkPlan) (crf : CrfPlan) (input : List ℕ) (listen : ListenPlan) → HearsClock plan crf input listen
         → ArePresentedFrom (journal plan input) (first_covered crf plan) (shown_of listen (whole_records (capture plan input))) }
@@ -82,8 +83,9 @@ pub fn clocked_capture_is_presented()
     carried_clock_packet_is_delivered();
 }
 
-/// If a plan as in `clocked_capture_is_presented` has the default lead of `talk`, a listener with the plan's clock and
-/// otherwise the default options of `listen` presents the plan's packets from the second timestamp of the clock on.
+/// For a plan as in `clocked_capture_is_presented` with the default lead of `talk`, the plan's clock and otherwise the
+/// default options of `listen` suffice. The listener presents the plan's packets from the second timestamp of the clock
+/// on.
 pub fn defaults_present_by_clock()
     ensures hears { (plan : TalkPlan) (crf : CrfPlan) (input : List ℕ) → HasDefaultClock plan crf input → HearsClock plan crf input (clocked_listener plan.id crf.id) }
     ensures presented { (plan : TalkPlan) (crf : CrfPlan) (input : List ℕ) → HasDefaultClock plan crf input
@@ -92,8 +94,8 @@ pub fn defaults_present_by_clock()
     clocked_capture_is_presented();
 }
 
-/// If the listener has room for the waiting units, each unit of a whole capture of an H.264 plan is presented, once and
-/// in order, and nothing is flagged. Each packet may have a timestamp, or only the last one of each unit.
+/// If the listener has room for the waiting units, it presents each unit of a whole capture of an H.264 plan, once and
+/// in order, and flags nothing. Each packet may have a timestamp, or only the last one of each unit.
 pub fn whole_video_is_presented()
     ensures { (plan : TalkPlan) (input : List ℕ) (listen : ListenPlan) → HearsUnits plan input listen
         → ArePresented (by_clock listen) (journal plan input) (unit_ends plan input) (shown_of listen (whole_records (capture plan input))) }
@@ -140,9 +142,8 @@ pub fn talked_copy_is_welcome()
     copies_anywhere_are_welcome();
 }
 
-/// Assume that a packet whose copy must be presented is captured again, anywhere later in the capture. If the packet
-/// can then be timed, and no packet before the later copy was captured after the packet is due, the later copy must be
-/// flagged as a repeat.
+/// Assume that a packet whose copy must be presented is captured again, anywhere later in the capture. The later copy
+/// must be flagged as a repeat if it can be timed, and no packet before it was captured after the packet is due.
 pub fn talked_copy_is_further()
     ensures { (plan : TalkPlan) (input before between after : List ℕ) (n : ℕ) (listen : ListenPlan) → MustBePresented plan input listen before n (between ++ n ∷ after) → ComesInTime plan input listen (before ++ n ∷ between) n after
         → (made : MadeItem) × IsFurther (journal plan input) listen (captured plan input ((before ++ n ∷ between) ++ n ∷ after)) (length (before ++ n ∷ between)) n made }

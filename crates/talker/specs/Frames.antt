@@ -15,8 +15,8 @@ use Rattle.talker.specs.Journal.{Stream, journal, stream_of}
 use Rattle.talk_clock.specs.Clock.{clock_bytes}
 use Rattle.talk_plan.specs.Ethernet.{packet_bytes}
 
--- A frame as it is sent: its time, the number of its packet in the stream or in the clock, whether it belongs to the
--- clock, and its bytes.
+-- A frame as it is sent: its time, its packet's number in the stream or in the clock, whether it belongs to the clock,
+-- and its bytes.
 pub record SentFrame : Type 0 where
   pub arrival : ℤ
   pub number : ℕ

@@ -11,8 +11,8 @@ pub fn restarting_plan_is_worked_out()
     ensures { (input : List ℕ) (n : ℕ) → n < 20 → HasSameTimes (journal restarting input).times restarted n }
 {}
 
-/// In streams of AM824 with 6 blocks in a packet, at 48 kHz and at 96 kHz, the first eight packets have the times and
-/// timestamps that journals list packet by packet.
+/// In AM824 with 6 blocks in a packet, at 48 kHz and at 96 kHz, the first eight packets have the times and timestamps
+/// that journals list packet by packet.
 pub fn block_plans_are_worked_out()
     ensures eighth { (input : List ℕ) (n : ℕ) → n < 8 → HasSameTimes (journal (six_blocks 48000) input).times each_eighth n }
     ensures sixteenth { (input : List ℕ) (n : ℕ) → n < 8 → HasSameTimes (journal (six_blocks 96000) input).times each_sixteenth n }

@@ -73,7 +73,7 @@ pub fn packets_are_sent_in_time()
         → IsSomeAnd (slice_get (stream_frames plan input) n) (λ f. f.arrival ≤ℤ pos ((journal plan input).times.due n)) }
 {}
 
-/// If no restart lies between a packet and the seventh before it, the packet has a head in the plan's journal: one of
+/// If no restart lies between a packet and the seventh before it, the packet has a head in the plan's journal. One of
 /// these eight packets is stamped, and the packet is counted from it.
 pub fn packets_have_heads()
     ensures { (plan : TalkPlan) (input : List ℕ) (n : ℕ) → IsAudioPlan plan → 7 ≤ n → run_of plan (n - 7) ≡ run_of plan n
@@ -116,10 +116,9 @@ pub fn journal_conforms()
 {}
 
 /// The capture of a plan delivers its journal: its records carry each packet of the stream and of its clock once.
-/// Without a clock, they carry the packets of the stream in order. If each packet is stamped, the capture delivers the
-/// journal to every listener. For a sparse stream, or one of AM824 with fewer data blocks in a packet than its SYT
-/// interval, the capture delivers it to every listener that expects packets by about the plan's lead before their first
-/// instants.
+/// Without a clock, they carry the packets of the stream in order. The capture delivers the journal to every listener,
+/// except for sparse PCM and for AM824 with fewer data blocks in a packet than its SYT interval. For these streams, the
+/// listener must expect packets by about the plan's lead before their first instants.
 pub fn capture_delivers()
     ensures carries { (plan : TalkPlan) (input : List ℕ) (lead : ℕ) → IsPlan plan → plan.crf ≡ None → length input ≤ most_input → Expects plan lead
         → AllCarry (journal plan input) lead (range_with_len 0 (journal plan input).times.packets) (records plan input) }

@@ -7,7 +7,8 @@ use std::alloc::Global;
 use std::test::Fail;
 use time_unfold::Line;
 
-/// Samples: their first instant, the spacing as a fraction, their count, and how many of their bytes have each value.
+/// Samples: their first instant, the spacing as a fraction, their count, the number of bytes in each sample, and the
+/// value of each byte.
 #[derive(Clone, Copy)]
 pub struct Samples {
     pub base: u32,

@@ -117,7 +117,7 @@ fn number_at(bytes: &[u8], at: usize) -> u32 {
     }
 }
 
-/// A frame's line: its arrival and its packet's number; the first four bytes of the packet, the last 32 bits of its first
+/// A frame's line: its arrival, its packet's number, the first four bytes of the packet, the last 32 bits of its first
 /// timestamp, and what follows the common header.
 fn line_of(alloc: Global, frame: &Frame) -> Result<String, NoMemory> {
     let head = number_at(&frame.bytes, 18);
