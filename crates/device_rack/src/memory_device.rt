@@ -7,8 +7,8 @@ use avtp_base::{Bytes, Failed, NoMemory};
 use sample_schedule::{Batch, Shown};
 use std::alloc::Global;
 
-/// Keeps copies of the items that it takes. Its calls are numbered from 1, and the calls whose numbers it was given
-/// fail.
+/// Keeps copies of the items that it takes. The device's calls are numbered from 1, and the calls whose numbers it was
+/// given fail.
 ///
 /// If there is no memory to keep an item, this item and every later one is taken without being kept.
 #[derive(Drop)]

@@ -8,7 +8,7 @@ use crate::device::Device;
 use sample_schedule::Shown;
 
 /// A device, and whether it is live. A place that is not live has failed. A boxed device has a type of its own, which
-/// no model of the rack could name. So contracts see a rack as the list of its places.
+/// no model of the rack could name. For this reason, contracts see a rack as the list of its places.
 #[derive(Drop)]
 pub struct Place {
     pub device: Box<dyn Device + Send>,

@@ -11,7 +11,7 @@ use avtp_files::Sink;
 /// The start code before each unit of a byte stream.
 const START_CODE: [u8; 4] = [0, 0, 0, 1];
 
-/// Writes all the bytes. If the sink fails, it has taken a prefix of them.
+/// Writes all the bytes. If the sink fails, it has taken a prefix of the bytes.
 fn write_all<S: Sink>(sink: &mut S, bytes: &[u8]) -> Result<(), Failed>
     ensures { HasWritten (S.state sink.old) (S.state sink.new) result bytes.now }
 {

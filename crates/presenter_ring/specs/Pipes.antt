@@ -43,13 +43,13 @@ pub record IsDrained (pipe : Pipe) : Type 0 where
   pub ended : IsSome (ended_with pipe)
   pub empty : waiting_in pipe ≡ []
 
--- The work that is left if the receiver can give `left` more items. It is a push for each item that is not in the ring
--- yet, and a presentation for each item. Every round reduces the work, unless the pipe is drained.
+-- The work that is left if the receiver can give `left` more items. The work is a push for each item that is not in the
+-- ring yet, and a presentation for each item. Every round reduces the work, unless the pipe is drained.
 abbrev pub work : ℕ → Pipe → ℕ
 work left pipe = 2 * (left + length (hand_of pipe.front)) + length (ring_of pipe)
 
 -- What rounds did: which items the receiver gave and which the presenter got. The items that waited before, followed by
--- the given items, are the presented items, followed by those that wait now.
+-- the given items, are the presented items, followed by the items that wait now.
 pub record HasMoved {R P : Type 0} (gave : R → R → List Shown → Type 0) (left : R → ℕ) (handed : P → P → List Shown → Type 0) (receiver receiver' : R) (presenter presenter' : P) (before after : Pipe) : Type 0 where
   pub given : List Shown
   pub presented : List Shown

@@ -51,7 +51,7 @@ impl Back {
     }
 
     /// The presenter's turn in a round: pops and presents at most `most` items, until the ring is empty or a
-    /// presentation fails. Then lets the presenter pause.
+    /// presentation fails, and lets the presenter pause.
     pub fn take_turn<P: Presenter, G: Gate>(
         &mut self,
         presenter: &mut P,
@@ -90,8 +90,8 @@ impl Back {
     }
 }
 
-/// Presents an item, and sends its samples back to the receiver. The samples are dropped if there is no free slot for
-/// them.
+/// Presents an item, and sends its samples back to the receiver. If there is no free slot for the samples, they are
+/// dropped.
 #[inline(always)]
 fn present<P: Presenter>(
     presenter: &mut P,

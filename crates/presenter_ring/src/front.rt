@@ -61,7 +61,7 @@ impl Front {
         }
     }
 
-    /// Pushes an item, or keeps it in `hand` if no slot is free. Returns whether it was pushed.
+    /// Pushes an item, or keeps it in `hand` if no slot is free. Returns whether the item was pushed.
     #[inline(always)]
     fn push<G: Gate>(&mut self, shown: Shown, gate: &G) -> bool
         requires empty { self.old.hand ≡ None }
@@ -99,7 +99,7 @@ impl Front {
     }
 
     /// The receiver's turn in a round: pulls and pushes at most `most` items, as long as the ring has a free slot.
-    /// After its first push, the turn ends when the receiver may have to wait, so that the presenter gets the pushed
+    /// After the first push, the turn ends when the receiver may have to wait, so that the presenter gets the pushed
     /// items without delay.
     pub fn take_turn<R: Receiver, G: Gate>(&mut self, receiver: &mut R, gate: &G, most: usize)
         requires some { 0 < most }
@@ -119,7 +119,8 @@ impl Front {
     }
 }
 
-/// The receiver's next answer. Before, the receiver gets back the samples of a presented item, if some have arrived.
+/// The receiver's next answer. Before answering, the receiver gets back the samples of a presented item, if some have
+/// arrived.
 #[inline(always)]
 fn pull<R: Receiver>(receiver: &mut R, samples: &mut Consumer<Bytes>) -> Pull
     requires { R.ended receiver.old ≡ None }

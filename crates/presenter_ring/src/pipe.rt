@@ -80,7 +80,7 @@ impl Pipe {
         })
     }
 
-    /// The answer with which the receiver ended, if it has ended. This answer is never an item.
+    /// The answer with which the receiver ended, if it has ended. The answer is never an item.
     pub fn ended(&self) -> Option<Pull>
         ensures answer { result ≡ ended_with self.now }
         ensures no_item { IfSome result (λ pull. items_of pull ≡ []) }
@@ -178,9 +178,9 @@ impl Pipe {
     }
 
     /// Runs one round, in which each side takes its turn in a thread of its own. The receiver's side pulls items and
-    /// pushes them while there is a free slot, at most as many as the ring has room for. It keeps an item for which
-    /// there is no slot. The presenter's side pops and presents items, at most as many as the ring has room for, until
-    /// a presentation fails. The gate is called after each push and each pop.
+    /// pushes them while there is a free slot, at most as many as the ring has room for. The receiver's side keeps an
+    /// item for which there is no slot. The presenter's side pops and presents items, at most as many as the ring has
+    /// room for, until a presentation fails. The gate is called after each push and each pop.
     ///
     /// If `ended` is `None`, the receiver must not have ended. All items together must be at most 2^62.
     pub fn round<T: Threads + Sync, R: Receiver, P: Presenter, G: Gate>(

@@ -22,8 +22,8 @@ pub trait Presenter: Send {
         ensures handed { (begun : Self) (items : List ShownValue) → handed begun self.old items → handed begun self.new (items ++ shown.now ∷ []) }
         ensures counted { IsCounted (faults self.old) (faults self.new) result };
 
-    /// Called when there is nothing more to present for now. A presenter that buffers output should write it here.
-    /// Returns `Failed` only if the count of faults rose.
+    /// Called when there is nothing more to present for now. A presenter that buffers output should write the output
+    /// now. Returns `Failed` only if the count of faults rose.
     fn pause(&mut self) -> Result<(), Failed>
         ensures handed { (begun : Self) (items : List ShownValue) → handed begun self.old items → handed begun self.new items }
         ensures counted { IsCounted (faults self.old) (faults self.new) result }

@@ -46,7 +46,8 @@ pub trait Receiver: Send {
         ensures left { left self.new + length (items_of result) ≤ left self.old }
         ensures ended { ended self.new ≡ ending_of result };
 
-    /// Whether `next` may have to wait for its input. If so, the items that were given so far are best presented first.
+    /// Whether `next` may have to wait for its input. Before such a wait, the items that were given so far are best
+    /// presented.
     fn may_wait(&self) -> bool {
         false
     }

@@ -89,8 +89,8 @@ impl Am824Format {
         Am824Format { fdf, interval }
     }
 
-    /// The instant in the timestamp of packet `n`. It is that of the first block whose count is a multiple of the
-    /// interval, if the packet has such a block (IEC 61883-6).
+    /// The instant in the timestamp of packet `n`. The instant is that of the first block whose count is a multiple of
+    /// the interval, if the packet has such a block (IEC 61883-6).
     fn stamp(&self, plan: &TalkPlan, n: u64) -> Option<u64>
         requires packet { IsPacketOf plan.now n }
         requires format { IsAm824 self.now plan.now }

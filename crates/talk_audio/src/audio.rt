@@ -143,10 +143,10 @@ impl AudioStream {
         }
     }
 
-    /// Writes the frame of packet `n`, which is sent at `arrival`. Its samples are `rest`, the end of the input, filled
-    /// up with silence.
-    // This code seldom runs while audio is sent. Like the code for clock packets, stamps on a clock and H.264, it is
-    // marked cold, so that it takes no registers from the code that runs often.
+    /// Writes the frame of packet `n`, which is sent at `arrival`. The packet's samples are `rest`, the end of the
+    /// input, filled up with silence.
+    // This code seldom runs while audio is sent. Like the code for clock packets, stamps on a clock and H.264, this
+    // code is marked cold, so that it takes no registers from the code that runs often.
     #[cold]
     #[inline(never)]
     fn write_last(&self, out: &mut [u8], n: u64, arrival: i64, rest: &[u8])

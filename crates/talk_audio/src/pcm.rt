@@ -24,8 +24,8 @@ pub struct PcmFormat {
     /// The code of the sample rate.
     pub code: u8,
     /// The Ethernet header and the packet header of packet 0's frame, which are encoded once and adapted for each
-    /// frame. The headers of other frames differ from these only in the packet's first four bytes and in its timestamp.
-    /// In a steady stream, they differ only in the sequence number and the timestamp.
+    /// frame. The headers of other frames differ only in the packet's first four bytes and in its timestamp. In a
+    /// steady stream, the headers differ only in the sequence number and the timestamp.
     pub headers: [u8; HEADERS],
 }
 

@@ -60,8 +60,8 @@ HasRate (Aaf format sparse) rate = IsSome (rate_code rate)
 HasRate Am824 rate = IsSome (fdf_of rate)
 HasRate (H264 last_stamp) rate = ⊥
 
--- The data blocks of an AM824 packet have at most 256 quadlets each, and fit an Ethernet frame. Their number is at
--- least SYT_INTERVAL / 8, so that there is a stamped block in every 8 packets.
+-- The data blocks of an AM824 packet have at most 256 quadlets each, and fit an Ethernet frame. A packet has at least
+-- SYT_INTERVAL / 8 data blocks, so that there is a stamped block in every 8 packets.
 pub record FitsBlocks (plan : TalkPlan) : Type 0 where
   pub quadlets : plan.channels ≤ 256
   pub some : interval_of plan.rate ≤ 8 * plan.count
@@ -88,9 +88,9 @@ Restarts (Some packets) jump = IsRestart packets jump
 
 -- ---- the media clock
 
--- How many sample frames a stream has from one point of the clock to the next. They take as long as `interval` events
--- at the clock's frequency, which is its base frequency times the factor of its pull (IEEE 1722-2016, 10). `rate` is
--- the stream's sample rate.
+-- How many sample frames a stream has from one point of the clock to the next. These sample frames take as long as
+-- `interval` events at the clock's frequency, its base frequency times the factor of its pull (IEEE 1722-2016, 10).
+-- `rate` is the stream's sample rate.
 unfoldable pub spacing_of : CrfPlan → ℕ → ℕ
 spacing_of crf rate = crf.interval * rate * pull_down crf.pull / (crf.rate * pull_up crf.pull)
 
@@ -100,8 +100,8 @@ abbrev pub HasWholeRuns : CrfPlan → ℕ → ℕ → Option ℕ → Type 0
 HasWholeRuns crf rate count None = ⊤
 HasWholeRuns crf rate count (Some packets) = packets * count % (8 * spacing_of crf rate * crf.points) ≡ 0
 
--- The limits of a clock. Its stream has `rate` sample frames a second, `count` sample frames in a packet, and restarts
--- as in `restart`.
+-- The limits of a clock. The clock's stream has `rate` sample frames a second, `count` sample frames in a packet, and
+-- restarts as in `restart`.
 pub record IsClockPlan (crf : CrfPlan) (rate count : ℕ) (restart : Option ℕ) : Type 0 where
   pub id : crf.id < 2 ^ 64
   pub some_rate : 1 ≤ crf.rate
@@ -126,7 +126,7 @@ abbrev pub IsAhead : Option CrfPlan → ℕ → Type 0
 IsAhead None lead = ⊤
 IsAhead (Some crf) lead = 3 ≤ lead
 
--- A plan of audio: PCM in the AVTP audio format, sparse or not, or AM824. It may have restarts and a media clock.
+-- A plan of audio: PCM in the AVTP audio format, sparse or not, or AM824. The plan may have restarts and a media clock.
 pub record IsAudioPlan (plan : TalkPlan) : Type 0 where
   pub kind : IsAudioKind plan.kind
   pub rate : HasRate plan.kind plan.rate
@@ -144,8 +144,8 @@ pub record IsAudioPlan (plan : TalkPlan) : Type 0 where
 
 -- ---- H.264
 
--- A plan of H.264 has 1 to 240 access units a second, no restarts and no media clock. Its channels and its count have no
--- meaning.
+-- A plan of H.264 has 1 to 240 access units a second, no restarts and no media clock. The plan's channels and count
+-- have no meaning.
 pub record IsVideoPlan (plan : TalkPlan) : Type 0 where
   pub some_rate : 1 ≤ plan.rate
   pub rate : plan.rate ≤ 240

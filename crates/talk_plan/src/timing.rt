@@ -126,7 +126,7 @@ impl TalkPlan {
     }
 
     /// The instant that the plan's clock gives the timestamp of sample frame `i` of packet `n`, in nanoseconds of gPTP.
-    /// It is counted from the last point of the clock, with the period before that point.
+    /// The instant is counted from the last point of the clock, with the period before that point.
     #[cold]
     #[inline(never)]
     fn clocked_instant(&self, crf: &CrfPlan, n: u64, i: u32) -> u64

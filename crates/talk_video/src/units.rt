@@ -36,7 +36,7 @@ pub struct NalUnit {
 }
 
 /// A walk over the NAL units of a byte stream. A first walk finds faults and needs no memory; a second one lists the
-/// units. So a fault is found even if memory runs out.
+/// units. With two walks, a fault is found even if memory runs out.
 #[derive(Clone, Copy, Debug)]
 pub struct Units {
     /// How many units were passed, and where the last one of them ends.

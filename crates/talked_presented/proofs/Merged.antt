@@ -138,8 +138,8 @@ all_merged plan s is = merge (clocks_in s - 0 + (packets_in s - 0)) plan s 0 0 i
 
 -- ---- the index of a packet of the stream
 
--- Packet n of the stream is at index `i` of `os`. Before it are, in order, the packets of the stream from `b` on, and
--- the packets of the clock from `a` on that are sent by then.
+-- Packet n of the stream is at index `i` of `os`. Before packet n are, in order, the packets of the stream from `b` on,
+-- and the packets of the clock from `a` on that are sent by then.
 pub record IsPlaced (s : Stream) (a b : ℕ) (os : List Origin) (i n : ℕ) : Type 0 where
   pub low : b ≤ n
   pub known : n < packets_in s

@@ -18,9 +18,9 @@ sent_copy plan input n = record { number = n; arrival = (stream_of plan input).a
 abbrev pub waiting_at : TalkPlan → List ℕ → ℕ → List ℕ → List ℕ
 waiting_at plan input n packets = filter (λ (k : ℕ). nat_le ((stream_of plan input).arrival n) ((journal plan input).times.due k)) packets
 
--- Packet n of a plan without a clock is captured after the packets `before` and before the packets `after`. It has a
--- timestamp, or can be counted from a timestamp among the packets up to it and the next `look`. No packet before it was
--- captured after packet n is due.
+-- Packet n of a plan without a clock is captured after the packets `before` and before the packets `after`. Packet n
+-- has a timestamp, or can be counted from a timestamp among the packets up to it and the next `look`. No packet before
+-- packet n was captured after packet n is due.
 pub record ComesInTime (plan : TalkPlan) (input : List ℕ) (listen : ListenPlan) (before : List ℕ) (n : ℕ) (after : List ℕ) : Type 0 where
   pub talk : ListensTo plan input listen
   pub alone : plan.crf ≡ None
@@ -30,9 +30,9 @@ pub record ComesInTime (plan : TalkPlan) (input : List ℕ) (listen : ListenPlan
   pub timed : IsTimed (journal plan input).times listen.lead (listen.look + 16) (sent_copy plan input n) (take (length before + listen.look + 1) (before ++ n ∷ after))
   pub in_time : All (λ (k : ℕ). (stream_of plan input).arrival k ≤ (journal plan input).times.due n) before
 
--- The copy of packet n must be presented for three reasons. It is captured in time. It is the first copy of the packet.
--- The buffer has room for it and for all earlier packets that are not yet due, if each takes 1,500 bytes; no packet
--- takes more.
+-- The copy of packet n must be presented for three reasons. The copy is captured in time. The copy is the first of its
+-- packet. The buffer has room for the copy and for all earlier packets that are not yet due, if each takes 1,500 bytes;
+-- no packet takes more.
 pub record MustBePresented (plan : TalkPlan) (input : List ℕ) (listen : ListenPlan) (before : List ℕ) (n : ℕ) (after : List ℕ) : Type 0 where
   pub comes : ComesInTime plan input listen before n after
   pub first : All (λ (k : ℕ). k ≢ n) before

@@ -33,8 +33,8 @@ pub record ArePresentedFrom (p : PacketJournal) (first : ℕ) (shown : List Show
   pub in_order : AllPairs ComesBefore (presented_of shown)
   pub no_other : All (IsFrom p first) shown
 
--- Each packet of a plan of this kind stamps its first sample. That is so in PCM that is not sparse. It is so in AM824
--- if a packet has whole SYT intervals of data blocks, as a blocking talker sends them (IEC 61883-6).
+-- Each packet of a plan of this kind stamps its first sample, as in PCM that is not sparse. A packet of AM824 does if
+-- it has whole SYT intervals of data blocks, as a blocking talker sends them (IEC 61883-6).
 abbrev pub StampsFirst : TalkKind → TalkPlan → Type 0
 StampsFirst (Aaf format false) plan = ⊤
 StampsFirst (Aaf format true) plan = ⊥
@@ -57,8 +57,8 @@ pub record HearsClock (plan : TalkPlan) (crf : CrfPlan) (input : List ℕ) (list
 abbrev pub clocked_listener : ℕ → ℕ → ListenPlan
 clocked_listener id clock = record (default_listener id) { clock = Some clock }
 
--- A plan sends `input` with the clock `crf` and the default lead of `talk`, 2 ms. It has no restarts, and each of its
--- packets stamps its first sample.
+-- A plan sends `input` with the clock `crf` and the default lead of `talk`, 2 ms. The plan has no restarts, and each of
+-- its packets stamps its first sample.
 pub record HasDefaultClock (plan : TalkPlan) (crf : CrfPlan) (input : List ℕ) : Type 0 where
   pub talked : IsAudioPlan plan
   pub id : plan.id < 2 ^ 64

@@ -14,8 +14,8 @@ use Rattle.talk_plan.specs.Plan.{IsAudioPlan, IsVideoPlan, interval_of, most_inp
 use Rattle.talker.specs.Journal.{journal, stream_of}
 use Rattle.talked_headline.specs.Premises.{ListensTo, part_sent}
 
--- Exactly these packets are shown, in this order. Each is presented once, with its bytes and at its instants, and
--- nothing is flagged.
+-- Exactly these packets are shown, in this order. Each packet is presented once, with its bytes and at its instants,
+-- and nothing is flagged.
 abbrev pub ArePresented : Bool → PacketJournal → List ℕ → List Shown → Type 0
 ArePresented by p [] [] = ⊤
 ArePresented by p [] (s ∷ rest) = ⊥
@@ -23,8 +23,8 @@ ArePresented by p (n ∷ ns) [] = ⊥
 ArePresented by p (n ∷ ns) (Present batch ∷ rest) = IsOfPacket by p n batch × ArePresented by p ns rest
 ArePresented by p (n ∷ ns) (Flag frame seq reason ∷ rest) = ⊥
 
--- The listener's buffer has room for all packets that are sent within 4/3 * (`plan.lead` + 1) nanoseconds. It has 1,500
--- bytes for each packet; no packet carries more.
+-- The listener's buffer has room for all packets that are sent within 4/3 * (`plan.lead` + 1) nanoseconds. The buffer
+-- has 1,500 bytes for each packet; no packet carries more.
 pub record HoldsLead (plan : TalkPlan) (listen : ListenPlan) : Type 0 where
   pub packets : 4 * ((plan.lead + 1) * plan.rate) < 3 * (listen.buffer * (plan.count * 1000000000))
   pub bytes : listen.buffer * 1500 ≤ listen.room
@@ -66,7 +66,8 @@ HasEachHead (H264 last_stamp) restart = ⊤
 abbrev pub default_listener : ℕ → ListenPlan
 default_listener id = record { stream = id; clock = None; buffer = 4096; room = 67108864; look = 0; lead = 2000000; shift = pos 0 }
 
--- An audio plan without a clock sends `input` with the default lead of `talk`, 2 ms. Each of its packets can be timed.
+-- An audio plan without a clock sends `input` with the default lead of `talk`, 2 ms. Each packet of the plan can be
+-- timed.
 pub record HasDefaultLead (plan : TalkPlan) (input : List ℕ) : Type 0 where
   pub talked : IsAudioPlan plan
   pub id : plan.id < 2 ^ 64

@@ -30,9 +30,9 @@ use talked_headline::laws::{talked_is_heard, talked_video_is_heard, whole_captur
 use talker::laws::{capture_delivers, capture_reads_back, journal_conforms, losses_are_delivered};
 
 /// Files that `talk` makes with its default lead meet the whole premise of the headline, for listeners with the default
-/// options of `listen`. This holds for audio without a media clock if each packet has a timestamp or is counted from
-/// one. It holds for audio with a clock if each packet stamps its first sample, there are no restarts, and the listener
-/// has that clock. It holds for all H.264.
+/// options of `listen`. Audio without a media clock does if each packet has a timestamp or is counted from one. Audio
+/// with a clock does if each packet stamps its first sample, there are no restarts, and the listener has that clock.
+/// H.264 always does.
 pub fn files_are_heard()
     ensures audio { (plan : TalkPlan) (input : List ℕ) → HasDefaultLead plan input → HearsTalker (pos 0) (journal plan input) (default_listener plan.id) (records_in (capture plan input)) }
     ensures clocked { (plan : TalkPlan) (crf : CrfPlan) (input : List ℕ) → HasDefaultClock plan crf input → HearsTalker (pos 0) (journal plan input) (clocked_listener plan.id crf.id) (records_in (capture plan input)) }
@@ -130,7 +130,7 @@ pub fn defaults_hear_units()
 /// A capture of an audio plan without a clock may lose, repeat or reorder packets. A copy of a packet must be
 /// presented, wherever it is in the capture, if four conditions hold. The packet has a timestamp or can be counted from
 /// one that arrived. No packet before the copy was captured after the packet is due. The copy is the first of the
-/// packet. The buffer has room for it.
+/// packet. The buffer has room for the copy.
 pub fn talked_copy_is_welcome()
     ensures { (plan : TalkPlan) (input before after : List ℕ) (n : ℕ) (listen : ListenPlan) → MustBePresented plan input listen before n after
         → (made : MadeItem) × IsWelcome (journal plan input) listen (captured plan input (before ++ n ∷ after)) (length before) n made }
@@ -143,7 +143,7 @@ pub fn talked_copy_is_welcome()
 }
 
 /// Assume that a packet whose copy must be presented is captured again, anywhere later in the capture. The later copy
-/// must be flagged as a repeat if it can be timed, and no packet before it was captured after the packet is due.
+/// must be flagged as a repeat if it can be timed, and no packet before that copy was captured after the packet is due.
 pub fn talked_copy_is_further()
     ensures { (plan : TalkPlan) (input before between after : List ℕ) (n : ℕ) (listen : ListenPlan) → MustBePresented plan input listen before n (between ++ n ∷ after) → ComesInTime plan input listen (before ++ n ∷ between) n after
         → (made : MadeItem) × IsFurther (journal plan input) listen (captured plan input ((before ++ n ∷ between) ++ n ∷ after)) (length (before ++ n ∷ between)) n made }
@@ -158,8 +158,8 @@ pub fn talked_copy_is_further()
 
 /// A capture of an H.264 plan may lose, repeat or reorder packets. A unit must be presented, wherever it is in the
 /// capture, if four conditions hold. All packets of the unit are captured in order, with no other packet of the stream
-/// between them. No packet before them was captured after the unit is due. The last packet of the unit was not captured
-/// before. The buffer has room for the unit.
+/// between them. No packet before the unit was captured after the unit is due. The last packet of the unit was not
+/// captured before. The buffer has room for the unit.
 pub fn talked_unit_anywhere_is_welcome()
     ensures { (plan : TalkPlan) (input front after : List ℕ) (from n : ℕ) (listen : ListenPlan) → UnitMustBePresented plan input listen front from n after
         → (place : ℕ) × ((made : MadeItem) × IsWelcome (journal plan input) listen (captured plan input (front ++ (range_with_len from (n - from) ++ n ∷ after))) place n made) }

@@ -38,7 +38,7 @@ clocks_in s = s.journal.times.clock.packets
 
 -- What holds for the stream of every plan.
 pub record IsStream (plan : TalkPlan) (s : Stream) : Type 0 where
-  -- No packet is sent before its predecessor. Each is sent before 2^32 seconds, so a capture can record it.
+  -- No packet is sent before its predecessor. Each packet is sent before 2^32 seconds, so a capture can record it.
   pub rising : (n : ℕ) → s.arrival n ≤ s.arrival (n + 1)
   pub sent : (n : ℕ) → n < packets_in s → s.arrival n < 2 ^ 32 * 1000000000
   -- no packet is sent after it is due

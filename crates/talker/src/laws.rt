@@ -44,8 +44,8 @@ pub fn packets_are_paced()
 {}
 
 /// The clock has a timestamp at the first sample frame of the stream, and at each later sample frame whose number is a
-/// multiple of the spacing. Its timestamps and its packets are numbered across all runs. With restarts, the instant of
-/// a timestamp is counted anew in each run, and a packet has the restart bit of its run.
+/// multiple of the spacing. The clock's timestamps and packets are numbered across all runs. With restarts, the instant
+/// of a timestamp is counted anew in each run, and a packet has the restart bit of its run.
 pub fn clocks_are_paced()
     ensures points { (plan : TalkPlan) (crf : CrfPlan) (packets s : ℕ) → IsPlan plan → plan.crf ≡ Some crf
         → s < points_for crf plan packets ↔ s * spacing_of crf plan.rate < packets * plan.count }
@@ -74,7 +74,7 @@ pub fn packets_are_sent_in_time()
 {}
 
 /// If no restart lies between a packet and the seventh before it, the packet has a head in the plan's journal. One of
-/// these eight packets is stamped, and the packet is counted from it.
+/// the eight packets is stamped, and the last of them is counted from that one.
 pub fn packets_have_heads()
     ensures { (plan : TalkPlan) (input : List ℕ) (n : ℕ) → IsAudioPlan plan → 7 ≤ n → run_of plan (n - 7) ≡ run_of plan n
         → IsSome (head_of (journal plan input).times n) }
@@ -116,9 +116,9 @@ pub fn journal_conforms()
 {}
 
 /// The capture of a plan delivers its journal: its records carry each packet of the stream and of its clock once.
-/// Without a clock, they carry the packets of the stream in order. The capture delivers the journal to every listener,
-/// except for sparse PCM and for AM824 with fewer data blocks in a packet than its SYT interval. For these streams, the
-/// listener must expect packets by about the plan's lead before their first instants.
+/// Without a clock, the records carry the packets of the stream in order. The capture delivers the journal to every
+/// listener, except for sparse PCM and for AM824 with fewer data blocks in a packet than its SYT interval. For sparse
+/// PCM and such AM824, the listener must expect packets by about the plan's lead before their first instants.
 pub fn capture_delivers()
     ensures carries { (plan : TalkPlan) (input : List ℕ) (lead : ℕ) → IsPlan plan → plan.crf ≡ None → length input ≤ most_input → Expects plan lead
         → AllCarry (journal plan input) lead (range_with_len 0 (journal plan input).times.packets) (records plan input) }

@@ -53,7 +53,7 @@ const ROWS: [Row; 5] = [
         ],
     },
     // A hundred events take 2,267,573 ns, or one nanosecond more. The stamp of event 150 is that of event 100 plus half
-    // the time of the first hundred events. It is a nanosecond before the nominal instant of event 150.
+    // the time of the first hundred events. This stamp is a nanosecond before the nominal instant of event 150.
     Row {
         name: "packets are stamped on the clock",
         plan: Planned::OnClock,
