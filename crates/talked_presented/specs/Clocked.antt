@@ -33,8 +33,8 @@ pub record ArePresentedFrom (p : PacketJournal) (first : ℕ) (shown : List Show
   pub in_order : AllPairs ComesBefore (presented_of shown)
   pub no_other : All (IsFrom p first) shown
 
--- Each packet of a plan of this kind stamps its first sample, as in PCM that is not sparse. A packet of AM824 does if
--- it has whole SYT intervals of data blocks, as a blocking talker sends them (IEC 61883-6).
+-- Each packet of a plan of this kind stamps its first sample. PCM that is not sparse is of this kind. AM824 is of this
+-- kind if a packet has whole SYT intervals of data blocks, as a blocking talker sends them (IEC 61883-6).
 abbrev pub StampsFirst : TalkKind → TalkPlan → Type 0
 StampsFirst (Aaf format false) plan = ⊤
 StampsFirst (Aaf format true) plan = ⊥

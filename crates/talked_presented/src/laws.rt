@@ -30,9 +30,9 @@ use talked_headline::laws::{talked_is_heard, talked_video_is_heard, whole_captur
 use talker::laws::{capture_delivers, capture_reads_back, journal_conforms, losses_are_delivered};
 
 /// Files that `talk` makes with its default lead meet the whole premise of the headline, for listeners with the default
-/// options of `listen`. Audio without a media clock does if each packet has a timestamp or is counted from one. Audio
-/// with a clock does if each packet stamps its first sample, there are no restarts, and the listener has that clock.
-/// H.264 always does.
+/// options of `listen`. Files of audio without a media clock meet the premise if each packet has a timestamp or is
+/// counted from one. Files of audio with a clock meet the premise if each packet stamps its first sample, there are no
+/// restarts, and the listener has that clock. Files of H.264 always meet the premise.
 pub fn files_are_heard()
     ensures audio { (plan : TalkPlan) (input : List ℕ) → HasDefaultLead plan input → HearsTalker (pos 0) (journal plan input) (default_listener plan.id) (records_in (capture plan input)) }
     ensures clocked { (plan : TalkPlan) (crf : CrfPlan) (input : List ℕ) → HasDefaultClock plan crf input → HearsTalker (pos 0) (journal plan input) (clocked_listener plan.id crf.id) (records_in (capture plan input)) }

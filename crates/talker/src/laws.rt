@@ -74,7 +74,7 @@ pub fn packets_are_sent_in_time()
 {}
 
 /// If no restart lies between a packet and the seventh before it, the packet has a head in the plan's journal. One of
-/// the eight packets is stamped, and the last of them is counted from that one.
+/// the eight packets is stamped, and the last of the eight is counted from the stamped one.
 pub fn packets_have_heads()
     ensures { (plan : TalkPlan) (input : List ℕ) (n : ℕ) → IsAudioPlan plan → 7 ≤ n → run_of plan (n - 7) ≡ run_of plan n
         → IsSome (head_of (journal plan input).times n) }
