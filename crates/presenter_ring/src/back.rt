@@ -51,7 +51,7 @@ impl Back {
     }
 
     /// The presenter's turn in a round: pops and presents at most `most` items, until the ring is empty or a
-    /// presentation fails, and then lets the presenter pause.
+    /// presentation fails. If items were popped and no presentation failed, the presenter is then told to pause.
     pub fn take_turn<P: Presenter, G: Gate>(
         &mut self,
         presenter: &mut P,

@@ -72,7 +72,7 @@ packet_of_silence f plan p is =
     let size : plan.count * block_size plan.channels ≡ 4 * (plan.count * plan.channels) = omega arith in
     some_silent (plan.count * block_size plan.channels) (plan.count * plan.channels) 369 size (omega (arith, fit.size))
 
--- ---- its times
+-- ---- the times of AM824
 
 abbrev IsInterval : ℕ → Type 0
 IsInterval interval = (interval ≡ 8) ⊎ ((interval ≡ 16) ⊎ (interval ≡ 32))
@@ -238,7 +238,7 @@ fewer dbc interval count (inr (inr e)) unstamped = rw e (fewer_than 32 (32 - dbc
 leads_by : (kind : TalkKind) (plan : TalkPlan) (lead : ℕ) → kind ≡ Am824 → ExpectsBy kind plan lead → plan.count < interval_of plan.rate → IsNearLead plan lead
 leads_by kind plan lead e expects few = (rw e at expects) few
 
--- ---- its packets
+-- ---- the packets of AM824
 
 fdf_is : (f : Am824Format) (plan : TalkPlan) → IsAm824 f plan → unwrap_or (fdf_of plan.rate) 0 ≡ f.fdf
 fdf_is f plan is = rw (is.code) refl

@@ -21,7 +21,7 @@ use Rattle.talk_audio.specs.Streams.{IsAudio, IsFormat, audio_in, audio_of, head
 use Rattle.talk_audio.proofs.Am824Lemmas.{am824_format}
 use Rattle.talk_audio.proofs.PcmLemmas.{both_headers, has_both, pcm_format}
 
--- ---- a plan, with its format
+-- ---- an audio plan with its format
 
 format_by : (format : Format) (plan : TalkPlan) → IsAudioPlan plan → IsFormat format plan → IsFormatOf plan (audio_in format plan) (headers_by format)
 format_by (OfPcm f) plan p is = pcm_format f plan p is.format

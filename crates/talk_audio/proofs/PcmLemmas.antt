@@ -154,7 +154,7 @@ in_parts o o1 o2 samples first last k lo few size first_is last_is h1 h2 =
     (omega (arith, length-append (take 16 samples) (drop 16 o), long, length-drop 16 o, lo, size)) in
     h2 ∙ rw (o1_is, front, behind, last_is, append-nil (drop k samples)) (take-append-drop k samples)
 
--- ---- its times
+-- ---- the times of PCM
 
 eighth_back : (plan : TalkPlan) (n : ℕ) (far : Distance) (b : Bool) → (n % 8 == 0) ≡ b
     → (if b then None else Some (record { packets = n % 8; samples = n % 8 * plan.count })) ≡ Some far → IsCountedBack (kind_of true) plan.count n far
@@ -198,7 +198,7 @@ leads_by : (kind : TalkKind) (format : AafFormat) (sparse : Bool) (plan : TalkPl
 leads_by kind format false plan lead n e expects unstamped = absurd cc
 leads_by kind format true plan lead n e expects unstamped = rw e at expects
 
--- ---- its packets
+-- ---- the packets of PCM
 
 code_is : (plan : TalkPlan) (code : ℕ) → rate_code plan.rate ≡ Some code → unwrap_or (rate_code plan.rate) 0 ≡ code
 code_is plan code e = rw e refl

@@ -210,7 +210,7 @@ is_stamped b start e is = elim (cases_lt e b.spacing) [
       (late_near b start e (e / b.spacing - 1) (e % b.spacing) is place.0 place.1)
 ]
 
--- ---- which pair covers it
+-- ---- which pair covers a stamp
 
 -- `Covers` in natural numbers, for instants of at least 0
 record IsWithin (instant later den num p : ℕ) : Type 0 where
@@ -455,7 +455,7 @@ not_later_run b start events next m e is far within covers =
     (t : ℕ). t * (2 * b.spacing) ≤ instant * (2 * b.spacing) + p) (sym place) whole.0 in
     not_begun b.spacing (point_at b next m) p next instant is.some (omega arith) before from
 
--- ---- as it is computed
+-- ---- the stamp as the code computes it
 
 stamped_if : (b : Beat) (start e : ℕ) (early : Bool) → nat_lt e b.spacing ≡ early → b.spacing ≤ e
     → (if early then start + nominal_offset b.rate e else point_at b start (e / b.spacing)

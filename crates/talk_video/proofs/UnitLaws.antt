@@ -88,7 +88,7 @@ begins_where bytes units i has may =
     let sliced = sliced_by bytes units i has.unit has.before has.one has.slice in
     begun bytes units i (rw (sliced, may) refl)
 
--- ---- the place of a packet
+-- ---- what packet n carries
 
 pub place_is : (units : List (ℕ × ℕ)) (n i k : ℕ) → place_of units n ≡ record { unit = i; fragment = k }
     → (packets_before units i + k ≡ n) × (k < packets_at units i)

@@ -143,7 +143,7 @@ frames_of plan input lead a (suc k) each =
       long = ap suc rest.long;
     }
 
--- ---- their deliveries
+-- ---- the deliveries of these frames
 
 -- the deliveries of records, numbered from `i` on, and the condition that each record belongs to the stream
 unfoldable pub numbered : ℕ → List Record → List Delivery

@@ -71,7 +71,7 @@ pub caught_video : (plan : TalkPlan) (input ks : List ℕ) (listen : ListenPlan)
     → captured plan input ks ≡ map record_of (frames_at plan input ks) → AreRead (journal plan input) listen.lead → IsCaught plan input listen (captured plan input ks) (map OfStream ks)
 caught_video plan input ks listen l = caught_of plan input ks listen (video_plan plan l.last_stamp l.kind l.talked) l.limit (video_expects plan l.last_stamp listen.lead l.kind) l.talked.crf
 
--- ---- it arrives in time
+-- ---- the copy arrives in time
 
 counted_head : (j : Journal) (lead room : ℕ) (c : Copy) (came : List ℕ) → IsCounted j lead room c came → IsSome (head_of j c.number)
 counted_head j lead room c came k =
@@ -130,7 +130,7 @@ comes_here plan input before after n listen h w =
       };
     }
 
--- ---- it must be presented
+-- ---- the copy must be presented
 
 pub must_be : (plan : TalkPlan) (input before after : List ℕ) (n : ℕ) (listen : ListenPlan) → MustBePresented plan input listen before n after → IsCaught plan input listen (captured plan input (before ++ n ∷ after)) (map OfStream (before ++ n ∷ after))
     → (d : Delivery) × CopyMustBePresented (journal plan input) listen (captured plan input (before ++ n ∷ after)) (length before) n d

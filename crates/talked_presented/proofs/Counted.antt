@@ -59,7 +59,7 @@ back_by j n (Some far) e some = stamp_back j n far (nat_le far.packets n) (same_
 pub is_back : (j : Journal) (n : ℕ) → j.stamp n ≡ None → IsSome (head_of j n) → IsBack j n
 is_back j n none some = back_by j n (distance (rule_of j.kind n) n j.count) refl (rw none at some)
 
--- ---- its stamp is kept
+-- ---- the stamp of that packet is kept
 
 pub more_range : (a x y : ℕ) → range_with_len a (x + y) ≡ range_with_len a x ++ range_with_len (a + x) y
 more_range a zero y =

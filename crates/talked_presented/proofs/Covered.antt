@@ -51,7 +51,7 @@ stamp_at plan crf n = stamped_at (beat_of crf plan) (run_start plan 0) (n * plan
 abbrev pub place_at : CrfPlan → ℕ → Place
 place_at crf s = record { packet = s / crf.points; at = s % crf.points }
 
--- ---- the places of points
+-- ---- the packets that hold points
 
 is_place : (plan : TalkPlan) (crf : CrfPlan) (packets s : ℕ) → 1 ≤ crf.points → s < points_for crf plan packets → IsPlace (clock_times crf plan packets) (place_at crf s)
 is_place plan crf packets s some lt =

@@ -138,7 +138,7 @@ packet_size plan input n is known =
     let view = (journal plan input).packet n in
     omega (arith, is.size n known, bytes_size view, carried_less view)
 
--- ---- when each is judged
+-- ---- when each delivery is judged
 
 pub later_one : (x y : ℕ) → x ≤ y → int_max (pos x) (pos y) ≡ pos y
 later_one x y le = grind (arith, ints)

@@ -101,7 +101,7 @@ others_in : (n a k : ℕ) → a + k ≤ n → All (λ (m : ℕ). m ≢ n) (range
 others_in n a zero le = All-nil (λ (m : ℕ). m ≢ n)
 others_in n a (suc k) le = All-cons (λ (m : ℕ). m ≢ n) a (range_with_len (a + 1) k) (λ e. absurd (omega arith)) (others_in n (a + 1) k (omega arith))
 
--- ---- when they arrived
+-- ---- when the deliveries arrived
 
 all_in : (Q : ℕ → Type 0) (a k : ℕ) → ((m : ℕ) → a ≤ m → m < a + k → Q m) → All Q (range_with_len a k)
 all_in Q a zero each = All-nil Q
@@ -125,7 +125,7 @@ came_before plan input listen rs ks rest xs ys due w split long early =
     (ap (λ (l : List Delivery). slice_get l i) split ∙ (front_same xs ys i lt ∙ slice_get-get_or xs i d lt))
     (λ o at. let f = first_of (λ (k : ℕ). (stream_of plan input).arrival k ≤ due) ks rest i o early (omega (arith, lt, long)) at in rw f.1.0 f.1.1)
 
--- ---- it must be presented
+-- ---- the unit must be presented
 
 -- `last` is the delivery that ends the unit, and `before` are the deliveries before it
 pub record IsUnitAfter (plan : TalkPlan) (input : List ℕ) (listen : ListenPlan) (places : List ℕ) (from n : ℕ) : Type 0 where

@@ -57,7 +57,7 @@ soon plan n i p within =
     let few = short_offset plan.rate i least in
     (omega (arith, sum.from), omega (arith, sum.to, p.count))
 
--- ---- the rules
+-- ---- the rules of audio
 
 apart_by : (due next x y rate time : ℕ) → due ≤ x + 1 → y ≤ next + 3 → 4 * (x * rate) + time + 16 * rate ≤ 4 * (y * rate)
     → 4 * (due * rate) + time ≤ 4 * (next * rate)
@@ -168,7 +168,7 @@ audio_conforms plan a headers input p is limit id = record {
   clock_packets = λ m h. clock_packet_is plan (packets_of a plan input) m p (λ n k. timely plan a headers input n p is limit k) h;
 }
 
--- ---- packet n comes in time
+-- ---- packet n arrives in time
 
 near_by : (arrival lead plan_lead first due rate time : ℕ) → arrival + plan_lead ≡ first → due ≤ first + 1 → first ≤ due + 3 → 3 * rate < time
     → plan_lead * rate < lead * rate + 127 * time → lead * rate < plan_lead * rate + 127 * time
@@ -234,7 +234,7 @@ sent_early kind plan packets n p k ready =
     let due = due_near kind plan packets n p k in
     omega (arith, lead_within plan n, due.to, early_lead plan.crf plan.lead p.some_lead ready)
 
--- ---- all of it
+-- ---- the whole stream
 
 pub audio_stream : (plan : TalkPlan) (a : Audio) (headers : ℕ) (input : List ℕ) → IsAudioPlan plan → IsFormatOf plan a headers → length input ≤ most_input
     → IsStream plan (stream_in a plan input)

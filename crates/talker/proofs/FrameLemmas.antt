@@ -26,7 +26,7 @@ numbered f a zero k j h e = absurd (omega arith)
 numbered f a (suc n) zero j h e = let at : a ≡ j = omega arith in ap (λ (m : ℕ). Some (f m)) at
 numbered f a (suc n) (suc k) j h e = numbered f (a + 1) n k j (omega arith) (omega arith)
 
--- ---- of two lists
+-- ---- frames of two lists
 
 -- `P` holds for all frames of the list if it holds for each frame numbered a to a + n - 1
 pub each_from : (f : ℕ → SentFrame) (P : SentFrame → Type 0) (a n : ℕ) → ((k : ℕ) → a ≤ k → k < a + n → P (f k)) → AllByRecursion P (map f (range_with_len a n))

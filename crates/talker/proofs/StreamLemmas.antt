@@ -56,7 +56,7 @@ pub record IsStream (plan : TalkPlan) (s : Stream) : Type 0 where
   pub on_time : (lead n : ℕ) → Expects plan lead → n < packets_in s → IsDelivered s.journal.times lead (record { number = n; arrival = s.arrival n })
   pub near : (numbers : List ℕ) → StaysNearBy plan.kind s.journal.times numbers → AreNear s.journal.times numbers
 
--- ---- its frames
+-- ---- the frames of a stream
 
 pub in_turn : (plan : TalkPlan) (s : Stream) → IsStream plan s → by_arrival (numbered_frames s) ≡ numbered_frames s
 in_turn plan s is =
@@ -149,7 +149,7 @@ never_late plan s is =
     none_of (λ f. int_le (pos (2 ^ 32 * 1000000000)) f.arrival) (frames_of s)
     (mapped (IsFrameOf s) (λ f. int_le (pos (2 ^ 32 * 1000000000)) f.arrival ≡ false) (frames_of s) (λ f of. not_late plan s f is of) (all_frames s))
 
--- ---- some of its frames
+-- ---- some frames of a stream
 
 pub at_place : {X : Type 0} (P : X → Type 0) (xs : List X) (k : ℕ) → AllByRecursion P xs → IfSome (slice_get xs k) P
 at_place P [] k all = tt
@@ -182,7 +182,7 @@ pub spelled : (plan : TalkPlan) (s : Stream) (given : List SentFrame) → IsStre
 spelled plan s [] is all = tt
 spelled plan s (f ∷ given) is all = (spells plan s f is all.0, spelled plan s given is all.1)
 
--- ---- its captures
+-- ---- captures of a stream
 
 carried : (plan : TalkPlan) (s : Stream) (lead n : ℕ) → IsStream plan s → Expects plan lead → n < packets_in s
     → Carries s.journal lead n (record_of (frame_of s n))

@@ -36,7 +36,7 @@ use Rattle.talk_plan.proofs.CountLemmas.{rises}
 use Rattle.talker.proofs.VideoLemmas.{video_stream_keeps}
 use Rattle.talk_video.proofs.VideoRules.{sent_are}
 
--- ---- a plan, with its format
+-- ---- an audio plan with its format
 
 pub stream_is : (s : AudioStream) (input : List ℕ) → IsAudio s → stream_of s.plan input ≡ stream_in (audio_of s) s.plan input
 stream_is s input is = rw (audio_found s is) refl

@@ -104,7 +104,7 @@ packet_is last_stamp plan bytes units n sent id h = record {
   part_is = refl;
 }
 
--- ---- its times
+-- ---- the times of a stream
 
 one_bit : (plan : TalkPlan) (n : ℕ) → plan.restart ≡ None → mr_of plan n ≡ false
 one_bit plan n e = rw e refl
@@ -158,7 +158,7 @@ conforms last_stamp plan bytes units p sent limit id = record {
   clock_packets = λ m h. absurd (let none = none_sent plan.crf plan (all_packets units) p.crf in omega arith);
 }
 
--- ---- when its packets are sent
+-- ---- when packets are sent
 
 ahead : (plan : TalkPlan) (bytes : List ℕ) (units : List (ℕ × ℕ)) (n : ℕ) → IsVideoPlan plan → AreSent bytes units → length bytes ≤ 268435456
     → n < all_packets units
@@ -205,7 +205,7 @@ near_by : (last_stamp : Bool) (plan : TalkPlan) (bytes : List ℕ) (units : List
 near_by false plan bytes units numbers near = all_near plan bytes units numbers
 near_by true plan bytes units numbers near = near
 
--- ---- all of it
+-- ---- the whole stream
 
 no_arrival : (crf : Option CrfPlan) (plan : TalkPlan) (m : ℕ) → crf ≡ None → clock_arrival_by crf plan m ≡ 0
 no_arrival None plan m e = refl

@@ -9,7 +9,7 @@ use Rattle.talk_clock.specs.Streams.{IsClockOf}
 use Rattle.talker.specs.declared.source.Source.{Source}
 use Rattle.talker.specs.state.Talking.{IsSource, plan_in, stream_in}
 
--- ---- the packet that it sends
+-- ---- the packet that a turn sends
 
 -- the number of packets of the clock (`true`) or of the stream (`false`)
 abbrev pub packets_by : Bool → Stream → ℕ
