@@ -1,4 +1,4 @@
--- The formats of audio: what is specific to each in a stream.
+-- What is specific to each audio format in a stream.
 use Rattle.std.specs.Prelude.{ℕ, ◌*◌, Bool, List, flat_map, replicate, Option, Some, None}
 use Rattle.byteorder.specs.Endian.{big_bytes}
 use Rattle.aaf_format.specs.declared.aaf.AafFormat.{AafFormat}

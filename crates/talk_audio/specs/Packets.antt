@@ -52,7 +52,7 @@ dbc_of plan n = n * plan.count % 256
 abbrev pub am824_kind : TalkPlan → Kind
 am824_kind plan = Am824 (interval_of plan.rate) (λ n. dbc_of plan n)
 
--- packet n of AM824, with these data blocks; it comes from no IEEE 1394 bus
+-- packet n of AM824, with these data blocks, not from an IEEE 1394 bus
 abbrev pub iec_packet : TalkPlan → ℕ → List ℕ → Iec
 iec_packet plan n blocks = record {
   header = header_of iec_subtype (stamp_of (am824_kind plan) plan n) plan n (8 + plan.count * block_size plan.channels);

@@ -5,7 +5,7 @@ use Rattle.avtp_header.specs.Numbers.{avtp_ethertype}
 use Rattle.packet_journal.specs.Packets.{PacketView, spelling_of}
 
 -- The frame that carries a packet of AVTP. Both addresses are administered locally; the destination is one of AVTP's
--- multicast addresses. Priority 3 and VLAN 2 are what stream reservation class A has by default (IEEE 802.1Q).
+-- multicast addresses. Priority 3 and VLAN 2 are the defaults of stream reservation class A (IEEE 802.1Q).
 abbrev pub ethernet : List ℕ → Frame
 ethernet packet = record {
   dst = 0x91E0F000FE00;

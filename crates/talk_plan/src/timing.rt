@@ -14,7 +14,7 @@ use clock_track::{pull_down, pull_up};
 
 const NANOSECONDS: u64 = 1_000_000_000;
 
-/// `parts` of `whole` equal parts of a period, rounded down.
+/// The time of `parts` parts of a period that has `whole` equal parts, rounded down.
 fn part(parts: u64, period: u64, whole: u64) -> u64
     requires { parts < whole }
     ensures value { result ≡ parts * period / whole }

@@ -23,7 +23,7 @@ pub record SentFrame : Type 0 where
   pub clock : Bool
   pub bytes : List ℕ
 
--- a borrowed frame, without its bytes' location in memory
+-- a borrowed frame as a plain value, without the location of its bytes in memory
 abbrev pub sent_frame : Sent → SentFrame
 sent_frame s = record { arrival = s.arrival; number = s.number; clock = s.clock; bytes = s.bytes.now }
 

@@ -9,6 +9,6 @@ pub struct Turn {
     pub number: u64,
     /// It is a packet of the media clock.
     pub clock: bool,
-    /// The bytes of its frame.
+    /// The number of bytes in its frame.
     pub size: usize,
 }

@@ -4,7 +4,7 @@ use crate::frames::{Row, check_rows};
 use crate::plans::Planned;
 use std::test::Fail;
 
-/// A byte of the samples.
+/// The byte that is repeated in the samples.
 const NOISE: &[u8] = &[0x5a];
 
 const ROWS: [Row; 11] = [

@@ -109,7 +109,7 @@ fn check_written(
     Ok(())
 }
 
-/// The 32-bit number in four bytes.
+/// The 32-bit number in the four bytes at `at`.
 fn number_at(bytes: &[u8], at: usize) -> u32 {
     match bytes.get(at..) {
         Some([b0, b1, b2, b3, ..]) => u32::from_be_bytes([*b0, *b1, *b2, *b3]),
