@@ -1,4 +1,4 @@
-//! Both sides at once.
+//! The turns of both sides, at the same time.
 
 ghost use Rattle.std.specs.Prelude.{◌≡◌, ◌+◌, ◌<◌, ◌≤◌, ◌^◌, ◌++◌, None, OnErr, length};
 ghost use Rattle.avtp_base.specs.Faults.{IsCounted};

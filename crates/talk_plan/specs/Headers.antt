@@ -4,8 +4,8 @@ use Rattle.avtp_header.specs.declared.header.StreamHeader.{StreamHeader}
 use Rattle.talk_plan.specs.declared.plan.TalkPlan.{TalkPlan}
 use Rattle.talk_plan.specs.Timing.{mr_of, seq_of, timestamp_of}
 
--- The stream header of packet n (IEEE 1722-2016, 4.4.4) with the timestamp of `stamp`, or none, for a payload of
--- `length` bytes.
+-- The stream header of packet n (IEEE 1722-2016, 4.4.4), for a payload of `length` bytes. If `stamp` is an instant, the
+-- header has its timestamp.
 abbrev pub header_of : ℕ → Option ℕ → TalkPlan → ℕ → ℕ → StreamHeader
 header_of subtype stamp plan n length = record {
   subtype = subtype;

@@ -186,8 +186,8 @@ impl TalkPlan {
         self.run(n) % 2 == 1
     }
 
-    /// The stream header of packet `n` (IEEE 1722-2016, 4.4.4) with the timestamp of `stamp`, or none, for a payload of
-    /// `length` bytes.
+    /// The stream header of packet `n` (IEEE 1722-2016, 4.4.4), for a payload of `length` bytes. If `stamp` is an
+    /// instant, the header has its timestamp.
     pub fn header(&self, subtype: u8, stamp: Option<u64>, n: u64, length: u16) -> StreamHeader
         requires { Restarts self.now.restart self.now.jump }
         ensures { result ≡ header_of subtype stamp self.now n length }

@@ -265,8 +265,8 @@ next_near j a (suc (suc n)) = ((λ first second unstamped. (omega arith, omega a
 unrolled : (f : ℕ → SentFrame) (a n : ℕ) → a < n → map f (range_with_len a (n - a)) ≡ f a ∷ map f (range_with_len (a + 1) (n - (a + 1)))
 unrolled f a n h = let more : n - a ≡ suc (n - (a + 1)) = omega arith in rw more refl
 
--- if packet a of the clock is sent no later than packets b, b + 1, .. of the stream, the frame of packet a is the first
--- that is left
+-- if no packet of the stream from b on is sent before packet a of the clock, the frame of packet a is the first that is
+-- left
 pub clock_first : (plan : TalkPlan) (s : Stream) (a b : ℕ) → IsStream plan s → a < clocks_in s
     → ((k : ℕ) → b ≤ k → k < packets_in s → s.clock_arrival a ≤ s.arrival k)
     → left_of s a b ≡ clock_frame_of s a ∷ left_of s (a + 1) b
