@@ -283,7 +283,7 @@ clock_first plan s a b is h sooner =
     rw (unrolled (clock_frame_of s) a (clocks_in s) h)
     (stays_first f (clocks ++ packets) (all_of (λ g. int_le f.arrival g.arrival ≡ true) clocks packets later others))
 
--- if packet b of the stream is sent before packets a, a + 1, .. of the clock, the frame of packet b is the first that
+-- if packet b of the stream is sent before all packets of the clock from a on, the frame of packet b is the first that
 -- is left
 pub packet_first : (plan : TalkPlan) (s : Stream) (a b : ℕ) → IsStream plan s → b < packets_in s
     → ((m : ℕ) → a ≤ m → m < clocks_in s → s.arrival b < s.clock_arrival m)
