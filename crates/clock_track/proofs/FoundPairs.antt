@@ -1,4 +1,4 @@
--- A pair of timestamps in the window that covers an instant gives it a line.
+-- If a pair of timestamps in the window covers an instant, the instant has a line.
 use Rattle.std.proofs.Common.{◌≡◌, ◌≢◌, ℕ, zero, suc, ◌+◌, ◌-◌, ◌^◌, ◌<◌, length, true, ℤ, List, [], ◌∷◌, ◌++◌, All, Option, Some, None, refl, subst, arith}
 use Rattle.std.specs.Prelude.{Contains, IfSome, nat_lt, option_map}
 use Rattle.std.specs.List.{cons_option, filter_map, flat_map, range_with_len}

@@ -24,8 +24,6 @@ last_by : {X : Type 0} (f : X → Option Pair) (test : Pair → Bool) (xs : List
 last_by f test xs x None e = rw e (ap (λ (l : List Pair). find_last test l) (append-nil (filter_map f xs)))
 last_by f test xs x (Some p) e = rw e (kept_last test (filter_map f xs) p (test p) refl)
 
--- if the pair of `x` passes, it is the last pair that passes; otherwise the last one that passes is from an item of
--- `xs`
 pub last-more : {X : Type 0} (f : X → Option Pair) (test : Pair → Bool) (xs : List X) (x : X)
     → find_last test (filter_map f (xs ++ x ∷ [])) ≡ option_or (kept test (f x)) (find_last test (filter_map f xs))
 last-more f test xs x = ap (λ (l : List Pair). find_last test l) (filter_map-append f xs (x ∷ [])) ∙ last_by f test xs x (f x) refl
@@ -69,7 +67,8 @@ or-none (Some x) p e = absurd cc
 
 -- ---- one step of a search
 
--- the last pair that passes is the pair at index `left` - 1, if it passes, and otherwise the last one before that index
+-- If the pair at index `left` - 1 passes, it is the last pair that passes. Otherwise the last pair that passes is
+-- before that index.
 pub between-found : (shift : ℤ) (row : ClockRow) (test : Pair → Bool) (first left a b : ℕ) (r whole : Option Pair) → first < left
     → a ≡ timestamp row (left - 1) → b ≡ timestamp row (left - 1 + 1) → r ≡ kept test (joined_by shift row a b)
     → find_last test (filter_map (inside shift row) (range_with_len first (left - first))) ≡ whole
@@ -84,7 +83,7 @@ between-found shift row test first left a b r whole some p q e same =
     ap (λ (o : Option Pair). option_or o (find_last test (filter_map f xs))) here ∙ sym (last-more f test xs (left - 1))
     ∙ ap (λ (l : List ℕ). find_last test (filter_map f l)) (sym split) ∙ same
 
--- the last pair that passes is in the last group, or else in the groups before it
+-- if no pair of the last group passes, the last pair that passes is in an earlier group
 pub group-found : (f : ℕ → Option Pair) (test : Pair → Bool) (first left : ℕ) (r whole : Option Pair) → first ≤ left
     → r ≡ find_last test (filter_map f (range_with_len first (left - first)))
     → find_last test (filter_map f (range_with_len 0 left)) ≡ whole
@@ -124,8 +123,7 @@ take-more rows left row some e =
 given : (b c : Bool) (o r : Option Pair) → b ≡ c → r ≡ (if b then o else None) → r ≡ (if c then o else None)
 given b c o r u f = rw (← u) f
 
--- If a pair of packet `row` passes, the last such pair is found. If none passes, the last pair that passes is one of
--- the packets before `row`.
+-- if no pair of packet `row` passes, the last pair that passes belongs to an earlier packet
 row-found : (g : List ClockRow → List Pair) (h : ClockRow → List Pair) (test : Pair → Bool) (rows : List ClockRow) (left : ℕ) (row : ClockRow) (r whole : Option Pair)
     → ((xs : List ClockRow) (x : ClockRow) → g (xs ++ x ∷ []) ≡ g xs ++ h x)
     → 0 < left → slice_get rows (left - 1) ≡ Some row → r ≡ (if row.usable then find_last test (h row) else None)
@@ -222,7 +220,7 @@ row-is (x ∷ xs) (suc k) row all e = row-is xs k row (All-tail IsNotable x xs a
 
 -- ---- what is found
 
--- the pair that is found has the property `P` of all pairs of the list, and passes the test
+-- if each pair of the list has the property `P`, the pair that is found has it, too, and passes the test
 pub found-in : (P : Pair → Type 0) (test : Pair → Bool) (xs : List Pair) → All P xs → IfSome (find_last test xs) (λ p. P p × (test p ≡ true))
 found-in P test [] all = tt
 found-in P test (x ∷ xs) all = cases (find_last test xs) (test x) refl (found-in P test xs (All-tail P x xs all))

@@ -1,4 +1,4 @@
--- No pair within bounds covers an instant that is outside them.
+-- A pair within bounds covers no instant outside those bounds.
 use Rattle.std.proofs.Common.{◌≡◌, ◌⊎◌, length, inl, inr, ℕ, zero, suc, ◌+◌, ◌-◌, ◌*◌, ◌^◌, ◌<◌, ◌≤◌, Bool, true, false, ℤ, pos, neg_ℤ, ◌+ℤ◌, ◌-ℤ◌, ◌*ℤ◌, ◌≤ℤ◌, ◌<ℤ◌, List, [], ◌∷◌, ◌++◌, Option, Some, None, refl, sym, subst, ap, ◌∙◌, arith}
 use Rattle.std.specs.Prelude.{IfSome, IsSome, slice_get, nat_lt, if◌then◌else◌}
 use Rattle.std.specs.List.{filter_map, range_with_len}
@@ -102,7 +102,6 @@ if-some : (P Q : Pair → Type 0) (o : Option Pair) → ((p : Pair) → P p → 
 if-some P Q None more h = tt
 if-some P Q (Some p) more h = more p h
 
--- if bounds are widened to hold pair `i`, they hold the pairs from `first` to `i`
 pub inside-more : (shift : ℤ) (row : ClockRow) (old new : Bounds) (first i : ℕ) (o : Option Pair) (a b : ℕ) → HasInside shift row old first i
     → a ≡ timestamp row i → b ≡ timestamp row (i + 1) → o ≡ joined_by shift row a b → IfSome o (λ pair. IsWithin new pair) → ((other : Pair) → IsWithin old other → IsWithin new other)
     → HasInside shift row new first (i + 1)
@@ -160,7 +159,8 @@ by-late shift row bounds first second e = cases (nat_lt first (2 ^ 62)) (nat_lt 
 not_below : (a b : ℕ) → b ≤ a → nat_lt a b ≡ false
 not_below a b h = grind (arith, nat_tests)
 
--- if the first timestamp of a packet is not a point, bounds of the pairs inside the packet hold all its pairs
+-- if a packet's first timestamp is not a point, bounds that hold the pairs inside the packet hold all pairs of the
+-- packet
 pub pairs-late : (shift : ℤ) (row : ClockRow) (bounds : Bounds) → HasInside shift row bounds 0 (timestamps row - 1) → 2 ^ 62 ≤ timestamp row 0 → HasPairs shift row bounds
 pairs-late shift row bounds has late = record {
   inside = has;
@@ -192,8 +192,8 @@ widened-inside shift row old new later end first last has wider i from to =
     if-some (λ pair. IsWithin old pair) (λ pair. IsWithin new pair) (inside shift row i)
     (λ p is. let low = is.from in let high = is.to in record { from = omega (arith, ints); to = omega (arith, ints) }) (has i from to)
 
--- if bounds of the pairs inside a packet are widened by the longest period after the first timestamp, they hold all
--- pairs of the packet
+-- Bounds that hold the pairs inside a packet are widened to the packet's first timestamp and the longest period after
+-- that timestamp. The widened bounds hold all pairs of the packet.
 pub pairs-wide : (shift : ℤ) (row : ClockRow) (old new : Bounds) (pair : Pair) (longest : ℕ) → HasInside shift row old 0 (timestamps row - 1) → Widens old new pair.later (pair.later +ℤ pos longest)
     → pair ≡ pair_of shift row (timestamp row 0) (timestamp row 0) → IsLongest pair longest → HasPairs shift row new
 pairs-wide shift row old new pair longest has wider same is =
@@ -231,7 +231,6 @@ last-or (z ∷ zs) x y (suc k) e = elim (last-or zs x y k e) [
 pub no-groups : (shift : ℤ) (row : ClockRow) → AreGroups shift row []
 no-groups shift row g bounds there = absurd cc
 
--- the groups still have true bounds after the bounds of one more group are appended
 pub groups-more : (shift s : ℤ) (row : ClockRow) (groups : List Bounds) (bounds : Bounds) (first last : ℕ) → s ≡ shift → AreGroups shift row groups → first ≡ 32 * length groups
     → ((end : ℕ) → end ≤ 32 * length groups + 32 → end ≤ timestamps row - 1 → end ≤ last) → HasInside s row bounds first last → AreGroups shift row (groups ++ bounds ∷ [])
 groups-more shift s row groups bounds first last same are e most has g other there end within inner = elim (last-or groups bounds other g there) [

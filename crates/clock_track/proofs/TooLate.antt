@@ -1,4 +1,4 @@
--- If the later point of a pair is too late, the pair does not cover the instant, whatever the earlier point.
+-- If the later point of a pair is too late, the pair does not cover the instant, whatever its earlier point is.
 use Rattle.std.proofs.Common.{◌≡◌, ℕ, ◌^◌, ◌-◌, Bool, true, false, ℤ, List, [], ◌∷◌, Option, Some, None, refl, arith}
 use Rattle.std.specs.Prelude.{nat_lt, if◌then◌else◌}
 use Rattle.std.specs.List.{cons_option, filter_map}
@@ -46,11 +46,9 @@ across_by shift row before rate instant none = cases (seems_next row before) (na
     cases true false d = refl
     cases false b d = refl
 
--- a pair whose later point is too late does not cover the instant
 pub late-none : (shift : ℤ) (row before : ClockRow) (rate : ℕ) (instant : ℤ) → IsAfter (pair_of shift row (timestamp row 0) (timestamp row 0)) rate instant → kept (test rate instant) (across shift row before) ≡ None
 late-none shift row before rate instant after = across_by shift row before rate instant (λ first. joined_none shift row first (timestamp row 0) rate instant after)
 
--- if nothing is found and one more item does not pass, still nothing is found
 pub none-more : (test : Pair → Bool) (o : Option Pair) (rest : List Pair) → kept test o ≡ None → find_last test rest ≡ None → find_last test (cons_option o rest) ≡ None
 none-more test None rest e found = found
 none-more test (Some p) rest e found = one p (test p) e (find_last test rest) found
@@ -58,7 +56,6 @@ none-more test (Some p) rest e found = one p (test p) e (find_last test rest) fo
     one : (p : Pair) (b : Bool) → (if b then Some p else None) ≡ None → (o : Option Pair) → o ≡ None → option_or o (if b then Some p else None) ≡ None
     one p b e o f = rw (f, e) refl
 
--- if no item gives a pair that passes, nothing is found
 pub none-found : (f : ClockRow → Option Pair) (test : Pair → Bool) (xs : List ClockRow) → ((x : ClockRow) → kept test (f x) ≡ None) → find_last test (filter_map f xs) ≡ None
 none-found f test [] none = refl
 none-found f test (x ∷ xs) none = none-more test (f x) (filter_map f xs) (none x) (none-found f test xs none)

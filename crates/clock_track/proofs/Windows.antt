@@ -30,7 +30,8 @@ window-by rows start few (inr e) =
 rest-whole : (rows : List ClockRow) (start : ℕ) → take (length rows - start) (drop start rows) ≡ drop start rows
 rest-whole rows start = let n = length-drop start rows in take_all (length rows - start) (drop start rows) (omega arith)
 
--- the rows from index `start` on hold the window, if `start` is 0 or 64 of these rows give points
+-- Of the rows from index `start` on, at most 64 give points. If 64 of them give points, or `start` is 0, these rows are
+-- the window.
 pub recent-window : (rows : List ClockRow) (start : ℕ) → length (used (drop start rows)) ≤ 64 → (start ≡ 0) ⊎ (length (used (drop start rows)) ≡ 64)
     → used (take (length rows - start) (drop start rows)) ≡ window rows
 recent-window rows start few end = ap used (rest-whole rows start) ∙ window-by rows start few end
@@ -40,7 +41,6 @@ recent-window rows start few end = ap used (rest-whole rows start) ∙ window-by
 fewer : (xs : List ClockRow) (n : ℕ) → drop (length (drop n xs) - 63) (drop n xs) ≡ drop (n + (length xs - n - 63)) xs
 fewer xs n = let e : length (drop n xs) - 63 ≡ length xs - n - 63 = (let l = length-drop n xs in omega arith) in rw e (drop-drop (length xs - n - 63) n xs)
 
--- the last 64 items of `xs` and then `x` are the last 63 items of `xs` and then `x`
 last-more : (xs : List ClockRow) (x : ClockRow) → drop (length (xs ++ x ∷ []) - 64) (xs ++ x ∷ []) ≡ drop (length xs - 63) xs ++ x ∷ []
 last-more xs x =
     let sum = length-append xs (x ∷ []) in
@@ -59,7 +59,8 @@ used-one rows row u = filter-append (λ row. row.usable) rows (row ∷ []) ∙ a
     single true e = rw e refl
     single false e = absurd cc
 
--- after one more packet that gives points, a clock keeps the last 63 packets that it kept, and the new packet
+-- after one more packet that gives points, the window is the last 63 packets of the old window, followed by the new
+-- packet
 pub window-more : (held rows : List ClockRow) (row : ClockRow) → held ≡ window rows → row.usable ≡ true → drop (length held - 63) held ++ row ∷ [] ≡ window (rows ++ row ∷ [])
 window-more held rows row e u =
     ap (λ (l : List ClockRow). drop (length l - 63) l ++ row ∷ []) e

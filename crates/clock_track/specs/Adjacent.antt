@@ -36,10 +36,12 @@ pub record AreAcross (shift : ℤ) (row before : ClockRow) : Type 0 where
 
 -- ---- the last packets
 
--- a packet of the worked clock that is joined with no other, because no packet has an adjacent sequence number
+-- a packet of the worked example that is joined with no other packet, because no packet of the example has an adjacent
+-- sequence number
 abbrev pub lone_row : ClockRow
 lone_row = worked_row 100 false 48000 1006000000
 
--- The two worked packets, whose points are 2 ms apart, and then `others` packets that are not joined with any packet.
+-- The two packets of the worked example, whose points are 2 ms apart, followed by `others` packets that are joined with
+-- no packet.
 abbrev pub followed_rows : ℕ → List ClockRow
 followed_rows others = worked_rows 48000 false ++ replicate others lone_row

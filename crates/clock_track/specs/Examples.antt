@@ -8,7 +8,8 @@ use Rattle.clock_track.specs.declared.pair.Pair.{Pair}
 abbrev pub second_pair : Pair
 second_pair = record { earlier = pos 1002000000; later = pos 1005333333; interval = 147; up = 44100; down = 1 }
 
--- a clock packet with one timestamp, an interval of 96 events, and this base frequency in Hz
+-- a clock packet with this sequence number, restart bit, base frequency in Hz, and one timestamp; its interval is 96
+-- events
 abbrev pub worked_row : ℕ → Bool → ℕ → ℕ → ClockRow
 worked_row seq mr base timestamp = record {
   usable = true;
@@ -20,6 +21,7 @@ worked_row seq mr base timestamp = record {
   payload = big_bytes 8 timestamp;
 }
 
--- two clock packets whose points are 2 ms apart, with or without a restart between them
+-- Two successive clock packets with this base frequency in Hz, whose points are 2 ms apart. If `restarts` is true, the
+-- clock restarts between the two packets.
 abbrev pub worked_rows : ℕ → Bool → List ClockRow
 worked_rows base restarts = worked_row 255 false base 1002000000 ∷ worked_row 0 restarts base 1004000000 ∷ []

@@ -27,7 +27,8 @@ pub record IsSmall (p : Pair) : Type 0 where
   pub down : p.down ≤ 1001
 
 -- The fields of a packet that gives points are within the limits of the format. The pull is at most 5, the base
--- frequency has 29 bits, and the interval 16. There are at most 8,191 timestamps, all whole.
+-- frequency has 29 bits, and the interval has 16 bits. The packet has at most 8,191 timestamps, and none of them is cut
+-- off.
 pub record IsRow (row : ClockRow) : Type 0 where
   pub pull : row.pull ≤ 5
   pub some_frequency : 1 ≤ row.base_frequency
@@ -48,7 +49,8 @@ pub record IsShift (shift : ℤ) : Type 0 where
 
 -- ---- a line that a clock returns
 
--- The limits of what a clock returns for a stream of this rate and an instant: the line, and the sample's number on it.
+-- The limits of what a clock returns for an instant in a stream of `rate` samples a second: of the line, and of the
+-- sample's number on that line.
 pub record IsClockLine (rate : ℕ) (instant : ℤ) (spot : Spot) : Type 0 where
   pub some_num : 1 ≤ spot.line.num
   pub num : spot.line.num ≤ 2 ^ 60

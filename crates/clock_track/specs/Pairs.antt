@@ -51,7 +51,7 @@ IsSpaced p = 3 * nominal p ≤ 4 * (period p * p.up)
 
 -- ---- the samples of a stream according to a pair
 
--- the numerator of the spacing of samples according to a pair, which is step_num p / step_den p rate nanoseconds
+-- The numerator of the spacing of samples according to a pair. The spacing is step_num p / step_den p rate nanoseconds.
 abbrev pub step_num : Pair → ℕ
 step_num p = period p * p.up
 
@@ -73,7 +73,7 @@ pub record Covers (p : Pair) (rate : ℕ) (instant : ℤ) : Type 0 where
 abbrev pub IsOfRate : Pair → ℕ → Type 0
 IsOfRate p rate = p.up ≡ rate * p.down
 
--- the line of a clock that a sample is on, and the sample's number on it
+-- a line of a clock, and the number of a sample on that line
 pub record Spot : Type 0 where
   pub line : Line
   pub from : ℤ
@@ -87,8 +87,8 @@ abbrev pub nearest_event : Pair → ℤ → ℤ
 nearest_event p instant = floor_of ((instant -ℤ p.later) *ℤ pos (2 * p.interval) +ℤ pos (period p)) (2 * period p)
 
 -- The line of a sample with this presentation time according to a pair, and the sample's number on that line. If the
--- clock's frequency is the stream's rate, the sample is at the nearest event. If it is another, samples are counted
--- from the presentation time, in the pair's spacing.
+-- clock's frequency is the stream's rate, the sample is at the nearest event. Otherwise the sample is sample 0 of a
+-- line that begins at the presentation time and has the pair's spacing.
 abbrev pub spot_by : Pair → ℕ → ℤ → Spot
 spot_by p rate instant =
     if p.up == rate * p.down
@@ -102,7 +102,8 @@ abbrev pub is_joined : Pair → Bool
 is_joined p =
     if nat_le (7 * nominal p) (8 * step_num p) then nat_le (8 * step_num p) (9 * nominal p) else false
 
--- whether a pair covers an instant; it covers those of one period, which begins half a sample before its later point
+-- Whether a pair covers an instant. A pair covers the instants of one period, which begins half a sample before its
+-- later point.
 abbrev pub covers : Pair → ℕ → ℤ → Bool
 covers p rate instant =
     if int_le (pos 0) (reach p rate instant) then int_lt (reach p rate instant) (pos (2 * (period p * step_den p rate))) else false

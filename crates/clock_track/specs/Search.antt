@@ -10,7 +10,7 @@ pub record IsCovering (rate : ℕ) (instant : ℤ) (pair : Pair) : Type 0 where
   pub joined : IsJoined pair
   pub covers : Covers pair rate instant
 
--- The pair comes after the instant: the instant is more than half a sample before the pair's later point. Half a sample
--- is computed from a period of twice the nominal time, which no joined pair reaches.
+-- The instant is more than one nominal sample before the pair's later point. If so, no joined pair with this later
+-- point covers the instant, because half a sample of a joined pair is shorter than one nominal sample.
 abbrev pub IsAfter : Pair → ℕ → ℤ → Type 0
 IsAfter p rate instant = ((instant -ℤ p.later) *ℤ pos (2 * step_den p rate) +ℤ pos (2 * nominal p)) <ℤ pos 0

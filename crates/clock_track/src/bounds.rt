@@ -6,8 +6,8 @@ ghost use Rattle.clock_track.specs.state.Bounds.{IsOutside, IsPair, IsWithin, Wi
 
 use crate::pair::Pair;
 
-/// Bounds of some pairs: no later point is before `earliest`, and no pair's end, one period after its later point, is
-/// after `latest`.
+/// Bounds of some pairs. No later point of these pairs is before `earliest`. A pair ends one period after its later
+/// point, and no pair ends after `latest`.
 #[derive(Clone, Copy, Debug)]
 pub struct Bounds {
     pub earliest: i64,

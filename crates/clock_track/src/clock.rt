@@ -19,10 +19,10 @@ use circular_buffer::HeapCircularBuffer;
 use std::alloc::Global;
 use std::marker::Model;
 
-/// The length in bytes of the most timestamps that a packet can have.
+/// The maximum number of timestamp bytes in a packet.
 const ROOM: usize = 65_528;
 
-/// The greatest number of groups of pairs in a packet.
+/// The maximum number of groups of pairs in a packet.
 const GROUPS: usize = 256;
 
 /// Memory for a packet's timestamps, and for the bounds of its groups of pairs.
@@ -44,7 +44,7 @@ struct Kept {
     payload: Vec<u8>,
     /// Bounds of the pairs whose later point is in the packet.
     bounds: Bounds,
-    /// Bounds of each 32 pairs inside the packet.
+    /// The bounds of each group of 32 pairs inside the packet.
     groups: Vec<Bounds>,
 }
 
@@ -132,7 +132,7 @@ impl Rows for Ring<'_> {
     }
 }
 
-/// Room for one more packet: unused room, or that of the oldest packet, which is dropped.
+/// Room for one more packet. If no room is spare, the oldest packet is dropped and its room is returned.
 fn take_room(rows: &mut HeapCircularBuffer<Kept>, spare: &mut Vec<Room>) -> Room
     requires room { All HasRoom rows.old.items }
     requires spare { All IsRoom spare.old.items }
@@ -206,8 +206,9 @@ impl Clock {
     }
 
     /// Notes a packet of the clock. If 64 packets are kept already, the oldest is dropped. A packet that gives no
-    /// points is ignored. A packet that gives points must have at most 8,191 timestamps, all whole. In such a packet
-    /// the pull is at most 5, the base frequency 1 to 2^29 - 1, and the interval at least 1. Allocates nothing.
+    /// points is ignored. A packet that gives points must be within these limits: at most 8,191 timestamps, none of
+    /// which is cut off; a pull of at most 5; a base frequency from 1 to 2^29 - 1; and an interval of at least 1.
+    /// Allocates nothing.
     pub fn note(&mut self, points: &Points<'_>)
         requires { IsNotable (row_of points.now) }
         ensures noted { (rows : List ClockRowValue) → StandsFor self.old rows → StandsFor self.new (rows ++ row_of points.now ∷ []) }

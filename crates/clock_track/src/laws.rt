@@ -43,8 +43,8 @@ pub fn covering_pairs_are_found()
     ensures across { (shift instant : ℤ) (rate : ℕ) (rows : List ClockRow) (row before : ClockRow) → Contains (window rows) row → Contains (window rows) before → AreAcross shift row before → Covers (pair_across shift row before) rate instant → clock_spot rows shift instant rate ≢ None }
 {}
 
-/// The two worked packets give a line while they are among the last 64 packets, that is, if at most 62 others arrived
-/// after them.
+/// The two packets of the worked example give a line while they are among the last 64 packets. They are among the last
+/// 64 if at most 62 other packets arrived after them.
 pub fn last_64_packets_count()
     ensures last { clock_spot (followed_rows 62) (pos 0) (pos 1004125000) 48000 ≡ Some (record { line = record { base = pos 1004000000; num = 2000000; den = 96 }; from = pos 6 }) }
     ensures dropped { clock_spot (followed_rows 63) (pos 0) (pos 1004125000) 48000 ≡ None }

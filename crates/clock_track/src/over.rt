@@ -12,7 +12,7 @@ use crate::bounds::Bounds;
 use crate::clock_row::{ClockRow, Points};
 use crate::search::{Query, Rows, latest, lead_of};
 
-/// How many packets that give points are searched.
+/// The maximum number of packets that are searched. Packets that give no points are not counted.
 pub const WINDOW: usize = 64;
 
 /// The packets of a slice.
@@ -43,7 +43,7 @@ impl Rows for Listed<'_> {
     }
 }
 
-/// The last rows, from the 64th last that gives points on; all rows if fewer than 64 give points.
+/// The shortest suffix of `rows` in which 64 rows give points; all rows if fewer than 64 give points.
 fn recent(rows: &[ClockRow]) -> &[ClockRow]
     requires { All IsNotable rows.now }
     ensures window { used result.now ≡ window rows.now }
@@ -60,7 +60,7 @@ fn recent(rows: &[ClockRow]) -> &[ClockRow]
     &rows[start..]
 }
 
-/// The line of an instant according to the packets `rows`.
+/// The line that the packets `rows` give for the instant of `query`.
 pub fn line_among<R: Rows>(rows: &R, query: &Query) -> ClockAnswer
     requires rows { All IsNotable (R.rows rows.now) }
     requires bounded { R.bounded rows.now query.now.shift }
@@ -77,23 +77,25 @@ pub fn line_among<R: Rows>(rows: &R, query: &Query) -> ClockAnswer
 }
 
 /// The line of the sample whose presentation time is `instant`, in nanoseconds of gPTP, and the sample's number on that
-/// line. A media clock gives the line (IEEE 1722-2016, 10). The stream has `rate` samples a second. The clock consists
-/// of the last 64 rows that give points. `shift` is added to each of the clock's timestamps; it is in nanoseconds, at
-/// most a second forward or back.
+/// line, according to a media clock (IEEE 1722-2016, 10). The stream has `rate` samples a second, at least 1. The
+/// clock's packets are the last 64 of `rows` that give points. `shift` is added to each timestamp of the clock. It is
+/// in nanoseconds, at most a second forward or back.
 ///
-/// Two adjacent timestamps below 2^62 are a pair if the time between them is within 1/8 of the nominal time of the
-/// interval. Timestamps that follow each other in one packet are adjacent. The last timestamp of a packet and the first
-/// of another are adjacent if the other has the next sequence number, and the same restart bit, frequency and interval.
+/// Two adjacent timestamps are a pair if both are below 2^62 and the time between them differs from the nominal time of
+/// the interval by at most 1/8. Successive timestamps of one packet are adjacent. The last timestamp of a packet and
+/// the first timestamp of the next packet are adjacent, too. The next packet must have the next sequence number, and
+/// the same restart bit, frequency and interval.
 ///
-/// A pair covers the instants of one period, which begins half a sample before its later point. The last pair that
-/// covers the instant counts. Pairs are in the order of their later points in the packets. Pairs with the same later
-/// point are in the order of their earlier points. The answer is `NoClock` exactly if no pair covers the instant.
+/// A pair covers the instants of one period. The period begins half a sample before the pair's later point. If several
+/// pairs cover the instant, the last of them gives the line. Pairs are ordered by the positions of their later points
+/// in the packets. Pairs with the same later point are ordered by the positions of their earlier points. The answer is
+/// `NoClock` exactly if no pair covers the instant.
 ///
-/// If the clock's frequency is the stream's rate, the line is that of the clock's events, and the sample is the event
-/// nearest to the instant. If the frequency is another, samples are counted from the instant, in the pair's spacing.
+/// If the clock's frequency is `rate`, the line is that of the clock's events, and the sample is the event nearest to
+/// the instant. Otherwise the sample is sample 0 of a line that begins at the instant and has the pair's spacing.
 ///
-/// A row that gives points must have at most 8,191 timestamps, all whole. In such a row the pull is at most 5, the base
-/// frequency 1 to 2^29 - 1, and the interval at least 1. `rate` must be at least 1.
+/// Each row that gives points must be within these limits: at most 8,191 timestamps, none of which is cut off; a pull
+/// of at most 5; a base frequency from 1 to 2^29 - 1; and an interval of at least 1.
 pub fn line_over(rows: &[ClockRow], shift: i64, instant: i64, rate: u32) -> ClockAnswer
     requires rows { All IsNotable rows.now }
     requires shift { IsShift shift }

@@ -12,8 +12,8 @@ use time_unfold::Line;
 
 const NANOSECONDS: u64 = 1_000_000_000;
 
-/// Two adjacent timestamps, in nanoseconds of gPTP, `interval` events apart, of a clock of `up / down` events a second
-/// (IEEE 1722-2016, 10).
+/// Two adjacent timestamps of a clock that has `up / down` events a second (IEEE 1722-2016, 10). The timestamps are in
+/// nanoseconds of gPTP and `interval` events apart.
 #[derive(Clone, Copy, Debug, PartialEq, Eq)]
 pub struct Pair {
     pub earlier: i64,
@@ -124,8 +124,8 @@ impl Pair {
         0 <= reach && reach < doubled(self.period(), den)
     }
 
-    /// Whether each joined pair with this later point covers only instants after `instant`, in a stream of this rate,
-    /// whatever its earlier point.
+    /// Whether `instant` is more than one nominal sample before the later point, in a stream of `rate` samples a
+    /// second. If so, no joined pair with this later point covers `instant`, whatever its earlier point is.
     pub fn is_after(&self, rate: u32, instant: i64) -> bool
         requires { IsSmall self.now }
         ensures { IsTrue result ↔ IsAfter self.now rate instant }
@@ -148,8 +148,9 @@ impl Pair {
     }
 
     /// The line of a sample whose presentation time is `instant`, and the sample's number on that line, in a stream of
-    /// this rate. The pair must cover the instant. If the clock's frequency is the rate, the sample is at the nearest
-    /// event. If it is another, samples are counted from the instant, in the pair's spacing.
+    /// `rate` samples a second. The pair must cover the instant. If the clock's frequency is `rate`, the sample is at
+    /// the nearest event. Otherwise the sample is sample 0 of a line that begins at the instant and has the pair's
+    /// spacing.
     pub fn answer(&self, rate: u32, instant: i64) -> ClockAnswer
         requires rate { 1 ≤ rate }
         requires covering { IsCovering rate instant self.now }

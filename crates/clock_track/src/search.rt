@@ -44,7 +44,7 @@ pub fn lead_of(rate: u32) -> u64
     562_500_000 / u64::from(rate)
 }
 
-/// The packets of a clock by their indexes, the oldest first.
+/// The packets of a clock, which are read by index. The oldest packet has index 0.
 pub trait Rows {
     ghost rows: { Self → List ClockRowValue };
 
@@ -63,7 +63,8 @@ pub trait Rows {
         requires { place < length (rows self.now) }
         ensures { (shift : ℤ) (row : ClockRowValue) → bounded self.now shift → slice_get (rows self.now) place ≡ Some row → IfSome result (HasPairs shift row) };
 
-    /// Bounds of each 32 pairs inside the packet at index `place`, in order. The last pairs may have no bounds.
+    /// The bounds of each group of 32 pairs inside the packet at index `place`, in order. The last groups may have no
+    /// bounds.
     fn groups(&self, place: usize) -> &[Bounds]
         requires { place < length (rows self.now) }
         ensures { (shift : ℤ) (row : ClockRowValue) → bounded self.now shift → slice_get (rows self.now) place ≡ Some row → AreGroups shift row result.now };
@@ -132,7 +133,7 @@ fn covering(row: &Points<'_>, query: &Query, first: u64, second: u64) -> Option<
     }
 }
 
-/// Bounds of the pairs inside a packet whose earlier timestamp is one of `first` to `end` - 1.
+/// The bounds of those pairs inside a packet whose earlier timestamp has an index from `first` to `end` - 1.
 fn bounds_inside(row: &Points<'_>, shift: i64, first: usize, end: usize) -> Bounds
     requires row { IsRow (row_of row.now) }
     requires shift { IsShift shift }
@@ -162,7 +163,8 @@ fn group_end(group: usize, pairs: usize) -> usize
     }
 }
 
-/// Replaces `groups` by bounds of each 32 pairs inside a packet. If memory runs out, later pairs have no bounds.
+/// Replaces `groups` by the bounds of each group of 32 pairs inside a packet. If memory runs out, later groups have no
+/// bounds.
 pub fn bound_groups(groups: &mut Vec<Bounds>, row: &Points<'_>, shift: i64)
     requires row { IsRow (row_of row.now) }
     requires shift { IsShift shift }
@@ -203,8 +205,8 @@ pub fn bounds_of(row: &Points<'_>, shift: i64) -> Bounds
     )
 }
 
-/// The last pair that covers the instant, of the pairs inside a packet whose earlier timestamp is one of `first` to
-/// `end` - 1.
+/// Of the pairs inside a packet whose earlier timestamp has an index from `first` to `end` - 1, the last that covers
+/// the instant.
 fn latest_between(row: &Points<'_>, first: usize, end: usize, query: &Query) -> Option<Pair>
     requires row { IsRow (row_of row.now) }
     requires shift { IsShift query.now.shift }
@@ -233,7 +235,7 @@ fn is_past_group(groups: &[Bounds], group: usize, query: &Query) -> bool
     }
 }
 
-/// The last pair of a group, before index `end`, that covers the instant.
+/// The last pair of a group that has an index below `end` and covers the instant.
 fn latest_of_group(
     row: &Points<'_>,
     groups: &[Bounds],
@@ -321,8 +323,8 @@ fn covering_from<R: Rows>(rows: &R, place: usize, row: &Points<'_>, query: &Quer
     }
 }
 
-/// Whether the first timestamp of a packet is missing, is not a point, or is too late. If so, no pair with this later
-/// point covers the instant, whatever the earlier point.
+/// Whether the first timestamp of a packet is missing, is not a point, or is too late. If so, no pair whose later point
+/// is this timestamp covers the instant.
 fn is_too_late(row: &Points<'_>, query: &Query) -> bool
     requires row { IsRow (row_of row.now) }
     requires shift { IsShift query.now.shift }
@@ -336,7 +338,7 @@ fn is_too_late(row: &Points<'_>, query: &Query) -> bool
         || pair_of(row, query.shift, first, first).is_after(query.rate, query.instant)
 }
 
-/// The last pair that covers the instant and whose later point is the first timestamp of a packet.
+/// Of the pairs whose later point is the first timestamp of `row`, the last that covers the instant.
 fn latest_across<R: Rows>(rows: &R, row: &Points<'_>, query: &Query) -> Option<Pair>
     requires row { IsRow (row_of row.now) }
     requires shift { IsShift query.now.shift }
@@ -371,8 +373,8 @@ fn is_outside<R: Rows>(rows: &R, place: usize, query: &Query) -> bool
     }
 }
 
-/// The last pair that covers the instant and whose later point is in the packet at index `place`. `None` if the packet
-/// gives no points.
+/// Of the pairs whose later point is in the packet at index `place`, the last that covers the instant. `None` if the
+/// packet gives no points.
 fn latest_at<R: Rows>(rows: &R, place: usize, query: &Query) -> Option<Pair>
     requires rows { All IsNotable (R.rows rows.now) }
     requires bounded { R.bounded rows.now query.now.shift }

@@ -47,7 +47,6 @@ first_there hay needle from within (Some k) found = (
   occurs_there hay needle from k within found.1,
 )
 
--- if `needle` is first found at k in the bytes from `from` on, it is first found at `from` + k in all bytes
 pub found_there : (hay needle : List ℕ) (from : ℕ) → from ≤ length hay → (r s : Option ℕ) → r ≡ s
     → FindsNeedle (take (length hay - from) (drop from hay)) needle 0 r → IsFirst (OccursAt hay needle) from (length hay + 1) (option_map (λ k. from + k) s)
 found_there hay needle from within r s e found =
@@ -138,7 +137,7 @@ end_none bytes at within none =
     let rest : NonePasses (is_end bytes) at (at + (length bytes - at)) = λ k low high. none k low (omega arith) in
     ap (λ (o : Option ℕ). unwrap_or o (length bytes)) (find_none (is_end bytes) (length bytes - at) at rest)
 
--- the code's test of the byte after two zero bytes is true exactly if a unit ends before them
+-- the code's test of the byte after two zero bytes is true exactly if a unit ends before these zero bytes
 pub third_tells : (bytes : List ℕ) (at : ℕ) → OccursAt bytes (0 ∷ 0 ∷ []) at → at + 2 < length bytes → leb (get_or bytes (at + 2) 0) 1 ≡ is_end bytes at
 third_tells bytes at two more =
     elim (leb_tells (get_or bytes (at + 2) 0) 1) [
@@ -200,8 +199,8 @@ none_codes bytes low high none k from below = false_from_ne_true (is_start_code 
 pub codes_none : (bytes : List ℕ) (at : ℕ) → at ≤ length bytes → Nowhere (OccursAt bytes start_code) at (length bytes + 1) → units_from bytes at ≡ []
 codes_none bytes at within none = units_none bytes at within (none_codes bytes at (length bytes) (λ k low high. none k low (omega arith)))
 
--- If a start code is at `code` and no earlier one is at or after `at`, the units from `at` on are the unit after
--- `code`, if there is one, and those from `code` + 1 on.
+-- Let `code` be the index of the first start code at or after `at`. The units from `at` on are the unit after that
+-- start code, if there is one, followed by the units from `code` + 1 on.
 pub code_found : (bytes : List ℕ) (at code : ℕ) → NoneBefore (OccursAt bytes start_code) at (length bytes + 1) code → OccursAt bytes start_code code
     → units_from bytes at ≡ cons_option (unit_behind bytes code) (units_from bytes (code + 1))
 code_found bytes at code first there =

@@ -22,7 +22,7 @@ keeps_marks : (a : Assembly) (w : List Fragment) → KeepsAll a w → a.held ≡
 keeps_marks a [] k = k
 keeps_marks a (f ∷ rest) k = k.marks
 
--- the packets that an event gave up, from the stretches before and after the event
+-- the packets that an event gave up, computed from the stretches before and after the event
 abbrev pub lost_of : List Fragment → List Fragment → List Fragment
 lost_of before after = if is_joined after then [] else waiting before
 
@@ -423,7 +423,6 @@ pushed_apart a events f rest here s =
     let after = nothing_here a r f s.waits rest here in
     pushed_by _ _ events f (lost_left a r (step r f) s.waits after) (lost_answers a r (step r f) s.waits after)
 
--- if `f` continues the stretch `r`, the stretch after `f` is `r` and then `f`
 step_here : (r : List Fragment) (g : Fragment) (gs : List Fragment) (f : Fragment) → r ≡ g ∷ gs → continues g gs f ≡ true → step r f ≡ g ∷ (gs ++ f ∷ [])
 step_here r g gs f is goes = rw (is, goes) refl
 

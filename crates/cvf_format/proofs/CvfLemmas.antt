@@ -129,7 +129,7 @@ accepted_so bytes e =
 
 -- ---- the part and the first byte of a NAL unit
 
--- what a packet carries of its NAL unit decides whether its type is FU-A, and its bits S and E
+-- the part of its NAL unit that a packet carries determines whether its type is FU-A, and its bits S and E
 single_bits : (fragment start end : Bool) → cond fragment (fragment_of start end) Single ≡ Single → fragment ≡ false
 single_bits false start end e = refl
 single_bits true true end e = absurd cc
@@ -208,7 +208,7 @@ nal_spelled Last bytes known is shared =
     let b = last_bits (is_fragment bytes) (is_set 29 0 bytes) (is_set 29 1 bytes) is in
     fragment_spelled Last bytes known is b.0 b.1 b.2 shared
 
--- the NAL type in accepted bytes is that of a single NAL unit, 1 to 23
+-- the type of the NAL unit in accepted bytes is 1 to 23
 type_accepted : (fragment : Bool) (bytes : List ℕ) → Accepted bytes → is_fragment bytes ≡ fragment → is_single_type (type_of (nal_of bytes)) ≡ true
 type_accepted true bytes known is =
     rw (← type_there (bits 28 0 3 bytes) (bits 29 3 5 bytes) (nal_of bytes) (nal_fragment bytes is) (bits-below 29 3 5 bytes)) (known.fragment_type is)
@@ -330,7 +330,7 @@ length_of_headers First v = refl
 length_of_headers Middle v = refl
 length_of_headers Last v = refl
 
--- if bytes hold the headers as the writer writes them, they spell those of the packet with every reserved bit 0
+-- if bytes hold the headers as the writer writes them, they spell the headers of the packet with every reserved bit 0
 held_plain : (part : NalPart) (v : Cvf) (bytes : List ℕ) → Holds (layout_of part) v bytes → Spells (layout_of part) (plain_cvf v) bytes
 held_plain Single v bytes h = held_spells (layout_of Single) (plain_cvf v) bytes refl h
 held_plain First v bytes h = held_spells (layout_of First) (plain_cvf v) bytes refl h
@@ -396,8 +396,8 @@ accepted_again bytes v whole s h long =
     let nal = headers_accepted v.part v bytes refl whole.type (omega (arith, whole.data_length)) h in
     or_else-accepted _ _ (or_else-accepted _ _ start shared) (or_else-accepted _ _ format nal)
 
--- if bytes hold the headers as the writer writes them, and then the body, they spell the packet with every reserved bit
--- 0
+-- if bytes hold the headers as the writer writes them, followed by the body, they spell the packet with every reserved
+-- bit 0
 held : (bytes : List ℕ) (v : Cvf) → IsWritableCvf v → Holds (layout_of v.part) v bytes → 24 + v.header.data_length ≤ length bytes
     → v.body ≡ body_of v.part v.header.data_length bytes → SpellsCvf bytes (plain_cvf v)
 held bytes v whole f long body =

@@ -67,7 +67,7 @@ head_has t f o is h = subst (λ (o : Option ℤ). IfSome o (λ stamp. stamp ≡ 
 head_of : (t : ℤ) (f : Fragment) (o : Option ℤ) → f.instant ≡ o → HasInstant t f → IfSome o (λ stamp. stamp ≡ t)
 head_of t f o is h = subst (λ (o : Option ℤ). IfSome o (λ stamp. stamp ≡ t)) is h
 
--- the list of instants, preceded by the instant of one more packet if that packet has one
+-- the instant of a packet, if it has one, followed by the list of instants
 abbrev with_stamp : Option ℤ → List ℤ → List ℤ
 with_stamp None ts = ts
 with_stamp (Some t) ts = t ∷ ts

@@ -105,7 +105,7 @@ comes_in_order {X} R test gives high apart (suc n) low e =
 
 -- ---- the unit after a start code
 
--- if `is_end` is true at an index, a unit ends there by the definition
+-- if `is_end` is true at an index, or the index is the end of the bytes, a unit ends there as `IsEnd` defines it
 ends_so : (bytes : List ℕ) (at : ℕ) → (is_end bytes at ≡ true) ⊎ (at ≡ length bytes) → IsEnd bytes at
 ends_so bytes at (inl t) = elim (or_cases (occurs_at bytes start_code at) (occurs_at bytes three_zeros at) t) [
   | inl code ↦ inl (OccursAt-true bytes start_code at code)

@@ -6,8 +6,8 @@ use Rattle.cvf_format.specs.Stretches.{Fragment, Event, mark_of, unit_of, stamps
 
 -- The state of an assembler. `bytes` are the bytes of the unit so far, and `whole` is true if the unit is complete.
 -- `held` are the marks of the packets that wait for the rest of their unit. `lost` are the marks of the packets that
--- were given up last. The next fragment must have the unit's first byte `nal`, the sequence number `next_seq`, and no
--- instant other than `instant`.
+-- the last event gave up. The next fragment must have the unit's first byte `nal` and the sequence number `next_seq`.
+-- If `instant` and the next fragment's instant are both known, they must be equal.
 pub record Assembly : Type 0 where
   pub bytes : List ℕ
   pub held : List Mark

@@ -81,9 +81,9 @@ ends Single = false
 ends First = false
 ends Middle = false
 
--- The table of an H.264 packet: 28 bytes that are the same for whole NAL units and fragments, and then `nal_headers`.
--- The two format bits of the stream header are reserved, and a view shows them. The stated length includes the H.264
--- timestamp. A packet that ends within that timestamp is therefore refused for its stated length.
+-- The table of an H.264 packet: 28 bytes with the same layout for whole NAL units and fragments, and then
+-- `nal_headers`. The two format bits of the stream header are reserved, and a view shows them. The stated length
+-- includes the H.264 timestamp. A packet that ends within that timestamp is therefore refused for its stated length.
 abbrev pub cvf_layout : Layout Cvf → Layout Cvf
 cvf_layout nal_headers = stream_layout (λ v. v.header)
     (reserved_shown 2 (λ v. v.header.format_bits) ∷ [])

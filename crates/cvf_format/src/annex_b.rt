@@ -24,7 +24,8 @@ fn find_from(bytes: &[u8], needle: &[u8], from: usize) -> Option<usize>
     }
 }
 
-/// Whether a unit ends at the two zero bytes at `zeros`: it does if they begin a start code or three zero bytes.
+/// Whether a unit ends before the two zero bytes at index `zeros`. It does if these bytes begin a start code or three
+/// zero bytes.
 fn ends_at(bytes: &[u8], zeros: usize) -> bool
     requires { OccursAt bytes.now (0 ∷ 0 ∷ []) zeros }
     ensures { result ≡ is_end bytes.now zeros }
@@ -32,7 +33,8 @@ fn ends_at(bytes: &[u8], zeros: usize) -> bool
     zeros + 2 < bytes.len() && bytes[zeros + 2] <= 1
 }
 
-/// Where a unit that begins at `from` ends: before a start code or three zero bytes, or at the end of the bytes.
+/// The index at which a unit that begins at `from` ends: before a start code or three zero bytes, or at the end of the
+/// bytes.
 fn end_of_unit(bytes: &[u8], from: usize) -> usize
     requires { from ≤ length bytes.now }
     ensures value { result ≡ end_behind bytes.now from }

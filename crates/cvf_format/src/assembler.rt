@@ -111,8 +111,8 @@ fn completes_unit(part: NalPart) -> bool
 }
 
 impl Assembler {
-    /// An assembler without a packet. Reserves the memory for a unit of 4,194,304 bytes, and for the marks of 4,096 fragments
-    /// that wait and of 4,096 that were given up.
+    /// An assembler without a packet. Reserves the memory for a unit of 4,194,304 bytes, and for the marks of 4,096
+    /// waiting fragments and of 4,096 fragments that were given up.
     pub fn new(alloc: Global) -> Result<Self, NoMemory>
         ensures { IfOk result (λ assembler. StandsFor assembler []) }
     {
@@ -130,10 +130,10 @@ impl Assembler {
     /// Takes a packet with its mark and its presentation time in nanoseconds of gPTP. A packet without a timestamp has
     /// no presentation time.
     ///
-    /// A unit is complete when its last packet is pushed. A packet that does not continue the waiting unit gives it up.
-    /// A packet that would make the unit longer than 4,194,304 bytes or 4,096 fragments is lost, and gives up the
-    /// waiting unit, too. A packet that completes a unit must have a timestamp. A body has at most 65,530 bytes.
-    /// Allocates nothing.
+    /// A unit is complete when its last packet is pushed. A packet that does not continue the waiting unit gives that
+    /// unit up. A packet that would make the unit longer than 4,194,304 bytes or 4,096 fragments is lost, and gives up
+    /// the waiting unit, too. A packet that completes a unit must have a timestamp. A body must have at most 65,530
+    /// bytes. Allocates nothing.
     pub fn push(&mut self, mark: Mark, instant: Option<i64>, view: &CvfView<'_>) -> Pushed
         requires body { length view.now.body.now ≤ longest_body }
         requires stamped { IsTrue (completes view.now.part) → IsSome instant }

@@ -145,11 +145,13 @@ fn read_packet(pdu: &[u8]) -> Result<CvfView<'_>, Refusal>
 
 /// Reads a packet.
 ///
-/// Refuses the first of these that applies, in this order: a field of the stream header that the slice cuts off; a
-/// subtype other than CVF; a version other than 0; a format other than that of RFC payloads; a format subtype other
-/// than H.264; a stated length below 5, or beyond the end of the slice; a NAL type that is neither that of a single
-/// unit, 1 to 23, nor FU-A; a fragment that has no FU header, is both first and last, or has a type other than 1 to 23.
-/// A body may be empty. Accepts set reserved bits, and ignores what follows the stated length.
+/// Checks the fields in the order given here, and refuses the packet at the first one that fails. The slice must hold
+/// the whole stream header. The subtype must be CVF, the version 0, the format that of RFC payloads, and the format
+/// subtype that of H.264. The stated length must be at least 5 and end within the slice. The NAL type must be FU-A or
+/// that of a single unit, 1 to 23. A fragment must have an FU header, must not be both first and last, and must be of a
+/// unit with a type from 1 to 23.
+///
+/// A body may be empty. Reserved bits may be set, and bytes after the stated length are ignored.
 #[inline(always)]
 pub fn read_cvf(pdu: &[u8]) -> Result<CvfView<'_>, Refusal>
     ensures exact { Reads cvf_shape (cvf_refusal pdu.now) (cvf_of pdu.now) result }

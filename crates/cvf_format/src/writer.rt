@@ -14,7 +14,7 @@ use avtp_header::header_bytes;
 /// Bytes 16 to 19: the format is that of an RFC, and its subtype H.264.
 const FORMAT_DATA: u32 = 0x0201_0000;
 
-/// Bytes 22 and 23: whether the H.264 timestamp is valid, the marker and the event field.
+/// Bytes 22 and 23: the bit that the H.264 timestamp is valid, the marker and the event field.
 fn format_flags(view: &CvfView<'_>) -> u16
     requires { IsWritableCvf (cvf_shape view.now) }
     ensures { result ≡ flag view.now.ptv * 2 ^ 13 + flag view.now.marker * 2 ^ 12 + view.now.evt * 2 ^ 8 }
@@ -23,7 +23,7 @@ fn format_flags(view: &CvfView<'_>) -> u16
     (flags << 4 | u16::from(view.evt)) << 8
 }
 
-/// Bytes 28 and 29: the headers of the NAL unit; a whole unit has only the first.
+/// Bytes 28 and 29: the headers of the NAL unit. A whole unit has only the first header.
 fn nal_headers(view: &CvfView<'_>) -> [u8; 2]
     ensures { take (size_of_header view.now.part - 28) result ≡ spelling (headers_of view.now.part) (cvf_shape view.now) }
 {

@@ -13,7 +13,7 @@ pub record IsPair (pair : Pair) : Type 0 where
   pub small : IsSmall pair
   pub joined : IsJoined pair
 
--- the pair's later point, and its end one period later, are within the bounds
+-- the pair's later point, and the end of its period, are within the bounds
 pub record IsWithin (bounds : Bounds) (pair : Pair) : Type 0 where
   pub from : bounds.earliest ≤ℤ pair.later
   pub to : (pair.later +ℤ pos (period pair)) ≤ℤ bounds.latest

@@ -31,7 +31,7 @@ pub record HasBounds (shift : ℤ) (kept : Kept) : Type 0 where
   pub all : HasPairs shift (kept_row kept) kept.bounds
   pub groups : AreGroups shift (kept_row kept) kept.groups.items
 
--- The kept packets and the spare rooms are 64 together. Each packet and each spare room has room for any packet's
+-- The kept packets and the spare rooms together number 64. Each packet and each spare room has room for any packet's
 -- timestamps. The bounds of each packet hold its pairs.
 pub record IsWindow (shift : ℤ) (rows : Buffer Kept) (spare : Vec Room) : Type 0 where
   pub capacity : rows.capacity ≡ 64

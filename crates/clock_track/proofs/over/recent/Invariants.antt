@@ -2,7 +2,7 @@ use Rattle.std.proofs.Common.{◌≡◌, ◌≤◌, length, drop}
 use Rattle.clock_track.specs.Rows.{used}
 use Rattle.clock_track.proofs.over.recent.Given as goal
 
--- of the rows from `start` on, `found` give points
+-- `found` of the rows from index `start` on give points
 abbrev pub invariant-loop-start : goal.invariant-loop-start
 invariant-loop-start l = record {
   within : l.start ≤ length l.rows;

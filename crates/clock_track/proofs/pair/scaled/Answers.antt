@@ -1,4 +1,4 @@
--- In 128 bits nothing wraps.
+-- The arithmetic in 128 bits does not wrap.
 use Rattle.std.proofs.Common.{◌≡◌, ℕ, ◌*◌, ◌^◌, ◌<◌, ◌≤◌, ℤ, pos, ◌-ℤ◌, ◌*ℤ◌, ◌+ℤ◌, arith, FitsSigned, w64, to_z, of_z}
 use Rattle.std.specs.Prelude.{unsigned_abs}
 use Rattle.std.proofs.Math.Nat.{mul-le-mul}

@@ -1,4 +1,4 @@
--- In the list of pairs, those inside the packet come after those that end at the packet's first timestamp.
+-- In the list of pairs, the pairs that end at the packet's first timestamp precede the pairs inside the packet.
 use Rattle.std.proofs.Common.{sym, ◌∙◌}
 use Rattle.clock_track.specs.Rows.{used}
 use Rattle.clock_track.specs.state.Search.{test_of}

@@ -1,4 +1,4 @@
--- The case in which the bounds of the group show that no pair of it covers the instant.
+-- Proves the case in which the bounds of the group show that none of its pairs covers the instant.
 use Rattle.std.proofs.Common.{sym}
 use Rattle.clock_track.specs.Views.{row_of}
 use Rattle.clock_track.proofs.Outside.{group-none}

@@ -1,5 +1,5 @@
--- The packet is appended to the kept packets. If 64 packets are kept already, the oldest is dropped and its room is
--- reused.
+-- The packet is appended to the kept packets. If 64 packets are kept already, the oldest packet is dropped and its
+-- memory is reused.
 use Rattle.std.proofs.Common.{[], ◌∷◌, ◌+◌, ◌++◌, ap, sym, ◌∙◌, ◌≡◌, ℤ, w64, to_z, of_z, arith, subst, length, vec_len}
 use Rattle.std.proofs.lemmas.Int.{ints}
 use Rattle.circular_buffer.specs.Buffer.{Buffer, buffer}

@@ -1,4 +1,4 @@
--- In 128 bits nothing wraps, and the number of the event is from 0 to below the interval.
+-- The arithmetic in 128 bits does not wrap. The number of the event is at least 0 and less than the interval.
 use Rattle.std.proofs.Common.{◌≡◌, ◌*◌, ℤ, pos, ◌-ℤ◌, ◌*ℤ◌, ◌+ℤ◌, ap, ◌∙◌, arith, w64, to_z, of_z}
 use Rattle.std.proofs.lemmas.Int.{ints}
 use Rattle.std.specs.Int.{int_div_euclid, w128}
