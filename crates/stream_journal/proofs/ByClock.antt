@@ -1,4 +1,5 @@
--- How far a packet's first instant by the clock can be from when the packet is due, and what follows for two packets.
+-- How far the clock can move a packet's first instant from the instant at which the packet is due, and what follows for
+-- two packets.
 use Rattle.std.proofs.Common.{zero-mul, ◌≡◌, inl, inr, ℕ, ◌+◌, ◌-◌, ◌*◌, ◌%◌, ◌<◌, ◌≤◌, Bool, true, false, ℤ, pos, neg_ℤ, ◌+ℤ◌, ◌-ℤ◌, ◌*ℤ◌, ◌≤ℤ◌, ◌<ℤ◌, Option, Some, None, refl, sym, ap, ◌∙◌, subst, arith}
 use Rattle.std.specs.Prelude.{◌==◌, nat_le, if◌then◌else◌, option_map, option_and_then}
 use Rattle.std.specs.Option.{option_or}
@@ -102,7 +103,7 @@ on_line j is clock agrees n instant p q x = cases (pair.up == j.rate * pair.down
 
 -- ---- a number of samples later on a line
 
--- `z` nanoseconds, positive or negative, are less than the time of 9 packets; a packet's time is w / rate
+-- the absolute value of `z` nanoseconds is less than the time of 9 packets; a packet's time is w / rate nanoseconds
 pub record IsClose (rate w : ℕ) (z : ℤ) : Type 0 where
   pub above : (z *ℤ pos (8 * rate)) <ℤ pos (72 * w)
   pub below : (neg_ℤ z *ℤ pos (8 * rate)) <ℤ pos (72 * w)
@@ -146,7 +147,8 @@ difference_times x y d =
     let f : d * (up z + down x + up y) ≡ d * (down z + up x + down y) = ap (λ (n : ℕ). d * n) e in
     omega (arith, ints)
 
--- if two samples of a line are at most k numbers apart, their instants are less than k steps and one nanosecond apart
+-- if the numbers of two samples of a line differ by at most k, their instants are less than k steps and one nanosecond
+-- apart
 apart_by : (line : Line) (from first instant at : ℤ) (k : ℕ) → 1 ≤ line.den → neg_ℤ (pos k) ≤ℤ first → first ≤ℤ pos k
     → instant_at line from ≡ instant → instant_at line (from +ℤ first) ≡ at
     → (((at -ℤ instant) *ℤ pos line.den) <ℤ pos (k * line.num + line.den)) × ((neg_ℤ (at -ℤ instant) *ℤ pos line.den) <ℤ pos (k * line.num + line.den))
@@ -180,7 +182,7 @@ close_on rate count line from first instant at some_rate slow low high some spac
       below = close_by (neg_ℤ (at -ℤ instant)) rate count line.num line.den some some_rate slow spacing parts.1;
     }
 
--- by the clock, a packet's first sample is near its head
+-- the clock puts a packet's first sample near the instant of the packet's head
 pub by_clock : (j : Journal) → IsAudio j → IsClock j.clock → AgreesWithClock j → (n : ℕ) (x : ℤ) → n < j.packets → (a : IsAtByClock j n 0 x) → IsClose j.rate (j.count * 1000000000) (x -ℤ a.head.instant)
 by_clock j is clock agrees n x known a =
     let s = head_stamped j n a.head known a.is_head in

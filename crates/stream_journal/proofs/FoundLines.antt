@@ -1,4 +1,4 @@
--- Points whose packets are at hand give the line that the journal has.
+-- If the packets of two joined points are at hand, the points give the line that the journal has.
 use Rattle.std.proofs.Common.{◌≡◌, ◌≢◌, inl, inr, ℕ, suc, ◌+◌, ◌-◌, ◌%◌, ◌^◌, ◌<◌, Bool, true, false, ℤ, pos, ◌+ℤ◌, List, All, Option, Some, None, length, refl, sym, ap, ◌∙◌, subst, arith}
 use Rattle.std.specs.Prelude.{◌==◌, if◌then◌else◌, IfSome}
 use Rattle.std.proofs.lemmas.Bool.Decides.{nat_tests}

@@ -1,4 +1,4 @@
--- The rules at their limits.
+-- Examples at the limits of the rules.
 use Rattle.std.proofs.Common.{◌≡◌, ◌⊎◌, inl, inr, ◌↔◌, ℕ, zero, suc, ◌+◌, ◌-◌, ◌*◌, ◌<◌, ◌≤◌, Some, refl, sym, ap, ◌∙◌, arith}
 use Rattle.clock_track.specs.Pairs.{period}
 use Rattle.stream_journal.specs.Clocks.{Follows, IsNext, Place, pair_at, point}
@@ -58,7 +58,7 @@ periods late p q f =
     by (inl g) e = inl (g.0, e ∙ g.1)
     by (inr g) e = inr (g.0, e ∙ g.1)
 
--- the period is the nominal one, or at most `late` nanoseconds longer
+-- the period is 2 ms, or at most `late` nanoseconds longer
 record IsLong (late d : ℕ) : Type 0 where
   from : 2000000 ≤ d
   to : d ≤ 2000000 + late

@@ -1,4 +1,4 @@
--- Packets with the same sequence number whose first instants are near are the same packet.
+-- Packets with the same sequence number are the same packet if their first instants are near each other.
 use Rattle.std.proofs.Common.{◌≡◌, inl, inr, ℕ, ◌+◌, ◌-◌, ◌*◌, ◌%◌, ◌<◌, ◌≤◌, Bool, true, false, ℤ, pos, negsuc, neg_ℤ, ◌-ℤ◌, ◌*ℤ◌, ◌≤ℤ◌, ◌<ℤ◌, refl, sym, ap, ◌∙◌, subst, arith}
 use Rattle.std.specs.Prelude.{unsigned_abs}
 use Rattle.std.proofs.Math.Nat.{mul-le-mul_left}
@@ -31,7 +31,6 @@ near_due rate w x due p c d =
     let d4 = d.below in
     record { above = omega (arith, ints); below = omega (arith, ints) }
 
--- one instant is later than the other by at most the absolute difference
 not_further : (x y : ℤ) → (y -ℤ x) ≤ℤ pos (unsigned_abs (x -ℤ y))
 not_further x y = of_difference (x -ℤ y) (y -ℤ x) (omega (arith, ints))
   where
@@ -39,8 +38,8 @@ not_further x y = of_difference (x -ℤ y) (y -ℤ x) (omega (arith, ints))
     of_difference (pos k) w e = omega (arith, ints)
     of_difference (negsuc k) w e = omega (arith, ints)
 
--- packets that are due at least the time of 192 packets apart have first instants more than the time of 72 packets
--- apart
+-- if two packets are due at least the time of 192 packets apart, their first instants are more than the time of 72
+-- packets apart
 too_near : (rate w : ℕ) (x y : ℤ) (a b : ℕ) → IsNearDue rate w x (pos a) → IsNearDue rate w y (pos b) → unsigned_abs (x -ℤ y) * rate ≤ 72 * w → 4 * (a * rate) + 768 * w ≤ 4 * (b * rate) → ⊥
 too_near rate w x y a b c d near h =
     let k : ℕ = unsigned_abs (x -ℤ y) in

@@ -24,7 +24,7 @@ each_below P (suc m) each n h = elim (cases_lt n m) [
 
 -- ---- the rules
 
--- if packet n has a head, it is due at the instant of its first sample
+-- if packet n has a head, the packet is due at the instant of its first sample
 abbrev IsDue : ℕ → Type 0
 IsDue n = IfSome (head_of restarted n) (λ head. pos (restarted_due n) ≡ nominal_instant restarted head 0)
 

@@ -14,7 +14,7 @@ use Rattle.clock_track.proofs.LineFacts.{product}
 pub period_at : (c : ClockJournal) (p q : Place) → period (pair_at c p q) ≡ point c q - point c p
 period_at c p q = period-natural (point c p) (point c q)
 
--- the numerator of the nominal time of the interval; `up_of` is its denominator
+-- the numerator of the nominal time of the interval; `up_of` is the denominator
 abbrev time_of : ClockJournal → ℕ
 time_of c = c.interval * 1000000000 * pull_down c.pull
 
@@ -72,7 +72,7 @@ inside c is m i (suc k) known within =
     }) in
     rw e (omega arith)
 
--- in a packet, a point at a greater index is not earlier
+-- within a packet, points never decrease
 to_last : (c : ClockJournal) → IsClock c → (m i l : ℕ) → m < c.packets → i ≤ l → l < length (c.points m) → point c (at_place m i) ≤ point c (at_place m l)
 to_last c is m i l known from within =
     let e : i + (l - i) ≡ l = omega arith in

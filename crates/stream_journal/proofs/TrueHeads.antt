@@ -89,7 +89,7 @@ fits_so want stamp h =
     let parts = all_true (stamp.seq == want.seq) (same_flag stamp.mr want.mr) (stamp.rate == want.rate) (same_block stamp.block want.block) (is_near want stamp) h in
     record { seq = one_number stamp.seq want.seq parts.0; mr = one_flag stamp.mr want.mr parts.1; near = parts.2 }
 
--- if s is k modulo 256, and also n - d modulo 256, then k + d is n modulo 256
+-- if s equals both k and n - d modulo 256, k + d equals n modulo 256
 in_circle : (k d n s : ℕ) → d ≤ 7 → s ≡ k % 256 → s ≡ (n % 256 + 256 - d) % 256 → (k + d) % 256 ≡ n % 256
 in_circle k d n s few e f = omega arith
 

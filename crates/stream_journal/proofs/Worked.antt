@@ -27,7 +27,7 @@ no_clock-regular = record {
   holds = λ n k e h g. absurd (omega arith);
 }
 
--- a clock without packets covers no timestamp
+-- every stream agrees with a clock without packets, because such a clock covers no timestamp
 pub no_clock-agrees : (j : Journal) → j.clock.packets ≡ 0 → AgreesWithClock j
 no_clock-agrees j none = record {
   one = λ n i p q r s a b. let h = a.joined.follows.first in absurd (omega arith);

@@ -5,8 +5,8 @@ use Rattle.clock_track.specs.declared.pair.Pair.{Pair}
 use Rattle.clock_track.specs.Pairs.{IsJoined, pull_down, pull_up}
 
 -- The packets of a clock, counted from 0, and their points. A point is a timestamp plus what the listener adds to it.
--- All packets have one base frequency in Hz, one pull and one interval. A new run of the clock begins where `mr`
--- changes.
+-- All packets have one base frequency in Hz, one pull and one interval. Each change of `mr` begins a new run of the
+-- clock.
 pub record ClockJournal : Type 0 where
   pub base : ℕ
   pub pull : ℕ
@@ -46,7 +46,7 @@ pub record Follows (c : ClockJournal) (p q : Place) : Type 0 where
   pub second : IsPlace c q
   pub next : IsNext c p q
 
--- The packets of p and q have the same `mr`. Adjacent points are in one run if this holds.
+-- The packets of p and q have the same `mr`. Adjacent points that satisfy this are in one run.
 abbrev pub InOneRun : ClockJournal → Place → Place → Type 0
 InOneRun c p q = c.mr p.packet ≡ c.mr q.packet
 
@@ -67,9 +67,9 @@ pub record IsJoinedAt (c : ClockJournal) (p q : Place) : Type 0 where
   pub one_run : InOneRun c p q
   pub joined : IsJoined (pair_at c p q)
 
--- A listener considers the points at p and q adjacent. The points are adjacent in one packet, or p is the last of a
--- packet and q the first of another. In the second case, the packet of q has the sequence number after that of the
--- packet of p.
+-- A listener considers the points at p and q adjacent. Either the two points are adjacent in one packet, or p is the
+-- last point of a packet and q is the first point of another packet. In the second case, the packet of q has the
+-- sequence number after that of the packet of p.
 abbrev pub SeemNext : ClockJournal → Place → Place → Type 0
 SeemNext c p q =
     ((q.packet ≡ p.packet) × (q.at ≡ suc p.at))

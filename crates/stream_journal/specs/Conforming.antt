@@ -25,8 +25,8 @@ is_stamped Own n count = true
 is_stamped Eight n count = n % 8 == 0
 is_stamped (Blocks dbc interval) n count = nat_lt (stamped_index (Blocks dbc interval)) count
 
--- Block counts continue from packet to packet, from any first count. The interval is one of the standard's (IEC
--- 61883-6).
+-- Block counts continue from packet to packet, and the first packet may have any count. The interval is one of the
+-- standard's SYT intervals (IEC 61883-6).
 pub record BlocksGoOn (interval : ℕ) (dbc : ℕ → ℕ) (count packets : ℕ) : Type 0 where
   pub standard : (interval ≡ 8) ⊎ ((interval ≡ 16) ⊎ (interval ≡ 32))
   pub first : dbc 0 < 256
@@ -92,7 +92,7 @@ pub record IsVideo (j : Journal) (part : ℕ → Part) : Type 0 where
 -- ---- the clock
 
 -- A clock that keeps the rules. Adjacent points of one run are in one packet, or in adjacent packets with equal `mr`. A
--- new run begins with a new packet, and with the other value of `mr`.
+-- new run begins with a new packet, whose `mr` differs from that of the packet before it.
 pub record IsClock (c : ClockJournal) : Type 0 where
   pub interval : 1 ≤ c.interval
   -- each packet has a point

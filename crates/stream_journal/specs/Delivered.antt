@@ -1,4 +1,4 @@
--- How far from its instant a copy of a packet may arrive so that a listener can tell which instant was sent.
+-- How far from a packet's instant a copy of the packet may arrive if a listener is to tell which instant was sent.
 use Rattle.std.specs.Prelude.{◌≡◌, ◌⊎◌, ℕ, ◌+◌, ◌*◌, ◌^◌, ◌<◌, ◌≤◌, ⊤, List, [], ◌∷◌, map, All, Some, None}
 use Rattle.stream_journal.specs.Journal.{Journal, Kind, DenseAaf, SparseAaf, Am824, H264, First, Middle, Last}
 

@@ -36,7 +36,7 @@ restarted = record {
   clock = no_clock;
 }
 
--- a copy of the packet with this number, with this arrival
+-- a copy of the packet with this number, captured at this time
 abbrev pub came : ℕ → ℕ → Copy
 came number arrival = record { number = number; arrival = arrival }
 
@@ -107,7 +107,7 @@ sixteenth_copies =
     []
 
 -- Sixty-four packets of 6 sample frames at 48 kHz, each with a timestamp. The clock has the base frequency `base`. Its
--- two packets have two points each, and adjacent points are 96 events or 2 ms apart.
+-- two packets have two points each. Adjacent points are 2 ms apart, with an interval of 96 events.
 abbrev pub clocked : ℕ → Journal
 clocked base = record {
   kind = DenseAaf;
@@ -165,8 +165,8 @@ unsteady late = record {
   mr = λ m. false;
 }
 
--- A clock of 44.1 kHz with three points, of which the last is 4,000 ns early. Both pairs of points cover some instants,
--- and a packet is due at one of these instants.
+-- A clock of 44.1 kHz with three points, the last of which is 4,000 ns early. Some instants are covered by both pairs
+-- of points, and a packet is due at one of these instants.
 abbrev pub overlapped : Journal
 overlapped = record {
   kind = DenseAaf;

@@ -1,4 +1,4 @@
--- When a listener finds the clock's line of an instant.
+-- When a listener finds the clock's line for an instant.
 use Rattle.std.specs.Prelude.{ℕ, ◌^◌, ℤ, pos, ◌+ℤ◌, ◌<ℤ◌, List, Contains}
 use Rattle.clock_track.specs.declared.clock_row.ClockRow.{ClockRow}
 use Rattle.clock_track.specs.Rows.{window}

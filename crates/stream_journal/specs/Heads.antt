@@ -29,7 +29,8 @@ pub record IsTrue (j : Journal) (stamp : Stamp) : Type 0 where
   pub number : ℕ
   pub is : IsStampOf j number stamp
 
--- what a listener searches for, to count a copy of a packet without a timestamp from a stamp at the distance `far`
+-- The stamp that a listener searches for if it has a copy of a packet without a timestamp. `far` is the distance from
+-- the packet back to that stamp.
 abbrev pub wanted : Journal → ℕ → Copy → Distance → Want
 wanted j lead c far = record {
   seq = (c.number % 256 + 256 - far.packets) % 256;

@@ -13,7 +13,7 @@ use Rattle.clock_track.specs.declared.pair.Pair.{Pair}
 use Rattle.clock_track.specs.Pairs.{Covers, spot_by}
 use Rattle.stream_journal.specs.Clocks.{ClockJournal, IsJoinedAt, Place, pair_at}
 
--- what a packet of H.264 carries: a whole unit, or its first, a middle or its last fragment (RFC 6184)
+-- what a packet of H.264 carries: a whole NAL unit, or the first, a middle or the last fragment of one (RFC 6184)
 pub data Part : Type 0 where
   Single : Part
   First : Part
@@ -60,7 +60,7 @@ own_head j n =
     option_map (λ instant. record { instant = pos instant; first = neg_ℤ (pos (stamped_index (rule_of j.kind n))) }) (j.stamp n)
 
 -- The head of packet n according to the timestamp of the packet `far.packets` before it. `None` if that packet has no
--- timestamp, or if the two have different `mr`.
+-- timestamp, or if the two packets have different `mr`.
 abbrev pub head_from : Journal → ℕ → Distance → Option Head
 head_from j n far =
     if nat_le far.packets n then
@@ -68,8 +68,8 @@ head_from j n far =
     option_map (λ instant. record { instant = pos instant; first = pos far.samples }) (j.stamp (n - far.packets))
     else None else None
 
--- The head of packet n: according to its own timestamp, or else to that of the packet from which it is counted. `None`
--- if neither has a timestamp.
+-- The head of packet n according to its own timestamp. If packet n has no timestamp, its head is that according to the
+-- packet from which it is counted. `None` if that packet has no timestamp either, or a different `mr`.
 abbrev pub head_of : Journal → ℕ → Option Head
 head_of j n = option_or (own_head j n) (option_and_then (head_from j n) (distance (rule_of j.kind n) n j.count))
 

@@ -23,8 +23,8 @@ pub fn three_packets_conform()
     ensures { (spacing : ℕ) → Conforms (three_packets spacing) ↔ 93750 ≤ spacing }
 {}
 
-/// Of the packets of `restarted`, one was lost, one arrived twice, and two changed places. The copies are delivered to
-/// a listener that expects packets 2 ms before their first instant.
+/// Of the packets of `restarted`, one was lost, one arrived twice, and two arrived in the wrong order. The copies are
+/// delivered to a listener that expects packets 2 ms before their first instant.
 pub fn restarted_copies_are_delivered()
     ensures { AreDelivered restarted 2000000 restarted_copies }
 {}
@@ -51,7 +51,7 @@ pub fn block_talkers_conform()
 
 /// Of the packets of `each_sixteenth`, packet 2 was lost. The copies are delivered to a listener that expects packets 2
 /// ms before their first instant. For packet 4 the listener finds the stamp of packet 2 if it has this stamp, and
-/// otherwise none.
+/// otherwise finds no stamp.
 pub fn block_copies_are_delivered()
     ensures delivered { AreDelivered each_sixteenth 2000000 sixteenth_copies }
     ensures known { found 16 (wanted each_sixteenth 2000000 (came 4 1000250000) (record { packets = 2; samples = 8 })) (stamp_at each_sixteenth 0 1002000000 ∷ stamp_at each_sixteenth 2 1002166666 ∷ [])
@@ -59,15 +59,15 @@ pub fn block_copies_are_delivered()
     ensures lost { found 16 (wanted each_sixteenth 2000000 (came 4 1000250000) (record { packets = 2; samples = 8 })) (stamp_at each_sixteenth 0 1002000000 ∷ stamp_at each_sixteenth 5 1002333333 ∷ []) ≡ None }
 {}
 
-/// A talker sends a stream of 48 kHz and a clock whose timestamps are 96 events and 2 ms apart. The talker keeps the
-/// rules exactly if 2 ms are within 1/8 of the nominal time of 96 events.
+/// A talker sends a stream of 48 kHz and a clock whose timestamps are 2 ms apart, with an interval of 96 events. The
+/// talker keeps the rules exactly if 2 ms are within 1/8 of the nominal time of 96 events.
 pub fn clocked_talkers_conform()
     ensures { (base : ℕ) → Conforms (clocked base) ↔ (42000 ≤ base) × (base ≤ 54000) }
 {}
 
-/// If the second and third points cover a packet's timestamp, they time the packet's samples. With a clock of the
-/// stream's rate, samples are on the line of the clock's events. With a clock of 44.1 kHz, samples are counted from the
-/// timestamp in the clock's spacing.
+/// If the second and third points cover a packet's timestamp, they give the packet's samples their instants. With a
+/// clock of the stream's rate, samples are on the line of the clock's events. With a clock of 44.1 kHz, samples are
+/// counted from the timestamp in the clock's spacing.
 pub fn samples_are_clocked()
     ensures own { IsAt true (clocked 48000) 33 1 (pos 1006145833) }
     ensures other { IsAt true (clocked 44100) 33 1 (pos 1006144140) }

@@ -35,7 +35,7 @@ pub fn packets_are_spaced()
 
 /// Packet k is not the packet from which packet n is counted, but has the same sequence number. Packet k is at least
 /// 256 numbers from the right packet. An instant counted from packet k's timestamp is more than the time of 189 packets
-/// from when packet n is due.
+/// from the instant at which packet n is due.
 pub fn other_stamps_are_far()
     ensures numbers { (n k : ℕ) (far : Distance) → IsOther n k far → (k + far.packets + 256 ≤ n) ⊎ (n + 256 ≤ k + far.packets) }
     ensures instants { (j : Journal) (n k instant : ℕ) (far : Distance) → IsAudio j → n < j.packets → k < j.packets → j.stamp k ≡ Some instant → distance (rule_of j.kind n) n j.count ≡ Some far → IsOther n k far → AreApart j 189 (j.due n) (behind j instant far.samples) }
@@ -49,8 +49,9 @@ pub fn other_stamps_are_refused()
 {}
 
 /// For a copy of a packet without a timestamp, a listener finds at most the stamp of the packet from which the copy is
-/// counted. No other stamps of the talker change this result. A listener finds no stamp if there is a restart between
-/// the two packets. A listener finds the head that the packet has in the journal, or none if the packet has none there.
+/// counted. The talker's other stamps do not change this result. A listener finds no stamp if there is a restart
+/// between the two packets. A listener finds the head that the packet has in the journal, or no head if the packet has
+/// no head there.
 pub fn heads_are_true()
     ensures stamp { (j : Journal) (lead room : ℕ) (c : Copy) (far : Distance) (stamps : List Stamp) → IsAudio j → IsUnstamped j lead c far → All (IsTrue j) stamps → IfSome (found room (wanted j lead c far) stamps) (IsHeadOf j c.number far) }
     ensures head { (j : Journal) (lead room : ℕ) (c : Copy) (far : Distance) (stamps : List Stamp) → IsAudio j → IsUnstamped j lead c far → All (IsTrue j) stamps → IfSome (found room (wanted j lead c far) stamps) (IsCountedFrom j c.number far) }

@@ -1,5 +1,5 @@
 //! The journal of a talker: which packets it sent, with their true numbers and instants, and the rules that it keeps.
-//! This crate holds the definitions. Each call states a law of them, and does nothing.
+//! This crate holds the definitions. Each function states a law about the definitions, and does nothing.
 #![tactic(auto)]
 
 pub mod examples;
