@@ -148,7 +148,7 @@ same_packet : (a a' : StreamHeader) (b b' : AafFormat) (c c' d d' e e' : ℕ) (f
     → packet a b c d e f g h i j ≡ packet a' b' c' d' e' f' g' h' i' j'
 same_packet a a' b b' c c' d d' e e' f f' g g' h h' i i' j j' p q r s t u v w x y = rw (p, q, r, s, t, u, v, w, x, y) refl
 
--- If the bytes spell the packet, their bits are its fields.
+-- The fields of a packet, as bits of the bytes that spell it.
 record Fields (bytes : List ℕ) (v : Aaf) : Type 0 where
   subtype : bits 0 0 8 bytes ≡ v.header.subtype
   version : bits 1 1 3 bytes ≡ 0
@@ -242,8 +242,8 @@ accepted_again bytes v whole j long =
     ) in
     or_else-accepted _ _ (or_else-accepted _ _ start shared) (or_else-accepted _ _ samples lengths)
 
--- if bytes hold the header as the writer writes it, and then the payload, they spell the packet with every reserved bit
--- 0
+-- if bytes hold the header as the writer writes it, followed by the payload, they spell the packet with every reserved
+-- bit 0
 held : (bytes : List ℕ) (v : Aaf) → IsWritableAaf v → Holds aaf_layout v bytes → 24 + v.header.data_length ≤ length bytes
     → v.payload ≡ take v.header.data_length (drop 24 bytes) → SpellsAaf bytes (plain_aaf v)
 held bytes v whole f long payload =

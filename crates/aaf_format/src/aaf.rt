@@ -20,7 +20,7 @@ pub struct AafView<'a> {
     pub nsr: u8,
     /// The number of channels in each sample frame, 1 to 1023.
     pub channels: u16,
-    /// The number of used bits of a sample; 0 means all.
+    /// The number of used bits of a sample; 0 means all bits.
     pub depth: u8,
     /// Sparse timestamp mode: one packet in eight has a timestamp.
     pub sparse: bool,

@@ -127,10 +127,13 @@ fn read_packet(pdu: &[u8]) -> Result<AafView<'_>, Refusal>
 
 /// Reads a PCM packet.
 ///
-/// Refuses the first of these that applies, in this order: a field of the stream header that the slice cuts off; a
-/// subtype other than AAF; a version other than 0; a format that is not PCM; a reserved sample rate code; 0 channels; a
-/// bit depth above the width of a sample; a stated length beyond the end of the slice, or not a whole number of sample
-/// frames. Accepts set reserved bits, and ignores what follows the stated length.
+/// Checks the fields in the order given here, and refuses the packet at the first one that fails. The slice must hold
+/// the whole stream header. The subtype must be AAF, the version 0, and the format PCM. The sample rate code must not
+/// be a reserved one. There must be at least one channel, and the bit depth must be at most the width of a sample. The
+/// stated length must be at most the number of bytes after the stream header, and must be a whole number of sample
+/// frames.
+///
+/// Reserved bits may be set, and bytes after the stated length are ignored.
 #[inline(always)]
 pub fn read_aaf(pdu: &[u8]) -> Result<AafView<'_>, Refusal>
     ensures exact { Reads aaf_shape (aaf_refusal pdu.now) (aaf_of pdu.now) result }

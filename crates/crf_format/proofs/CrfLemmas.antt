@@ -86,7 +86,7 @@ crf_spelled bytes e =
       reserved = refl;
     }
 
--- If the bytes spell the packet, their bits are its fields.
+-- The fields of a packet, as bits of the bytes that spell it.
 record Fields (bytes : List ℕ) (v : Crf) : Type 0 where
   subtype : bits 0 0 8 bytes ≡ crf_subtype
   sv : bits 1 0 1 bytes ≡ flag v.sv
@@ -217,7 +217,8 @@ accepted_again bytes v whole j long =
     ) in
     or_else-accepted _ _ start (or_else-accepted _ _ shared clock)
 
--- if bytes hold the header as the writer writes it, and then the payload, they spell the packet with the reserved bit 0
+-- if bytes hold the header as the writer writes it, followed by the payload, they spell the packet with the reserved
+-- bit 0
 held : (bytes : List ℕ) (v : Crf) → IsWritableCrf v → Holds crf_layout v bytes → 20 + length v.payload ≤ length bytes
     → v.payload ≡ take (length v.payload) (drop 20 bytes) → SpellsCrf bytes (plain_crf v)
 held bytes v whole f long payload =

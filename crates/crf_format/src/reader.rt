@@ -53,7 +53,7 @@ fn base_frequency(pdu: &[u8]) -> u32
     u32_at(pdu, 12) % (1 << 29)
 }
 
-/// Whether a stated length is not that of one or more whole timestamps, or exceeds the bytes after the header of a
+/// Whether a stated length is 0, is not a multiple of 8 bytes, or exceeds the number of bytes after the header of a
 /// packet of `len` bytes.
 fn misses_timestamps(stated: u16, len: usize) -> bool
     requires { 20 ≤ len }
@@ -121,10 +121,12 @@ fn read_packet(pdu: &[u8]) -> Result<CrfView<'_>, Refusal>
 
 /// Reads a packet of the clock reference format, of any type.
 ///
-/// Refuses the first of these that applies, in this order: a field of the header that the slice cuts off; a subtype
-/// other than CRF; a version other than 0; a reserved pull code; a base frequency of 0; a stated length that is 0, not
-/// a multiple of 8 bytes, or beyond the end of the slice; an interval of 0. Accepts a set reserved bit, and ignores
-/// what follows the stated length.
+/// Checks the fields in the order given here, and refuses the packet at the first one that fails. The slice must hold
+/// the whole header. The subtype must be CRF, and the version 0. The pull code must be at most 5, and the base
+/// frequency at least 1. The stated length must be a multiple of 8, at least 8, and at most the number of bytes after
+/// the header. The interval must be at least 1.
+///
+/// The reserved bit may be set, and bytes after the stated length are ignored.
 #[inline(always)]
 pub fn read_crf(pdu: &[u8]) -> Result<CrfView<'_>, Refusal>
     ensures exact { Reads crf_shape (crf_refusal pdu.now) (crf_of pdu.now) result }

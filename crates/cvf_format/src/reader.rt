@@ -147,9 +147,9 @@ fn read_packet(pdu: &[u8]) -> Result<CvfView<'_>, Refusal>
 ///
 /// Checks the fields in the order given here, and refuses the packet at the first one that fails. The slice must hold
 /// the whole stream header. The subtype must be CVF, the version 0, the format that of RFC payloads, and the format
-/// subtype that of H.264. The stated length must be at least 5 and end within the slice. The NAL type must be FU-A or
-/// that of a single unit, 1 to 23. A fragment must have an FU header, must not be both first and last, and must be of a
-/// unit with a type from 1 to 23.
+/// subtype that of H.264. The stated length must be at least 5, and at most the number of bytes after the stream
+/// header. The NAL type must be FU-A or that of a single unit, 1 to 23. A fragment must have an FU header, must not be
+/// both first and last, and must be of a unit with a type from 1 to 23.
 ///
 /// A body may be empty. Reserved bits may be set, and bytes after the stated length are ignored.
 #[inline(always)]

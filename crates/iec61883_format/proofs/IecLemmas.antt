@@ -226,7 +226,7 @@ same_packet : (a a' : StreamHeader) (b b' c c' d d' e e' : ℕ) (f f' : Cip) (g 
     → packet a b c d e f g h i ≡ packet a' b' c' d' e' f' g' h' i'
 same_packet a a' b b' c c' d d' e e' f f' g g' h h' i i' p q r s t u v w x = rw (p, q, r, s, t, u, v, w, x) refl
 
--- If the bytes spell the packet, their bits are its fields.
+-- The fields of a packet, as bits of the bytes that spell it.
 record Fields (bytes : List ℕ) (v : Iec) : Type 0 where
   subtype : bits 0 0 8 bytes ≡ v.header.subtype
   version : bits 1 1 3 bytes ≡ 0
@@ -379,8 +379,8 @@ accepted_again bytes v whole j long =
     or_else-accepted _ _ (or_else-accepted _ _ start shared)
     (or_else-accepted _ _ carrier (or_else-accepted _ _ first (or_else-accepted _ _ second blocks)))
 
--- if bytes hold the headers as the writer writes them, and then the payload, they spell the packet with every reserved
--- bit 0
+-- if bytes hold the headers as the writer writes them, followed by the payload, they spell the packet with every
+-- reserved bit 0
 held : (bytes : List ℕ) (v : Iec) → IsWritableIec v → Holds iec_layout v bytes → 24 + v.header.data_length ≤ length bytes
     → v.payload ≡ take (v.header.data_length - 8) (drop 32 bytes) → SpellsIec bytes (plain_iec v)
 held bytes v whole f long payload =

@@ -1,6 +1,6 @@
 -- IEC 61883-6 packets in AVTP: the encapsulation of IEEE 1722-2016, 5, and the CIP header of IEC 61883-1, which is two
--- quadlets after the stream header. This project's profile says which packets are accepted: audio blocks with nothing
--- split or packed, and no-data packets.
+-- quadlets after the stream header. This project's profile accepts packets of audio blocks that are neither split nor
+-- packed, and no-data packets.
 use Rattle.std.specs.Prelude.{◌≡◌, ◌⊎◌, ℕ, ◌+◌, ◌-◌, ◌*◌, ◌/◌, ◌%◌, ◌==◌, ◌^◌, ◌<◌, ◌≤◌, Bool, false, not, ◌&&◌, ◌||◌, nat_lt, if◌then◌else◌, List, [], ◌∷◌, ◌++◌, length, take, drop, Option, Some, None}
 use Rattle.time_unfold.specs.declared.head_rule.HeadRule.TheVariants.{Blocks}
 use Rattle.time_unfold.specs.Heads.{stamped_index}
@@ -139,8 +139,8 @@ sets_reserved bytes = any_set (reserved_ranges iec_layout) bytes
 -- ---- the rows
 
 -- The rows of the encapsulation, which follow those that all formats share. The first row refuses a tag that is not
--- that of a CIP header. The second refuses a stated length that is less than a CIP header, or exceeds the bytes after
--- the stream header.
+-- that of a CIP header. The second refuses a stated length that is less than the length of a CIP header, or exceeds the
+-- number of bytes after the stream header.
 abbrev pub carrier_rows : List ℕ → List Row
 carrier_rows bytes =
     row Tag 22 (not (bits 22 0 2 bytes == cip_tag)) ∷
@@ -156,8 +156,8 @@ first_quadlet_rows bytes =
     row Qpc 26 (not (bits 26 2 3 bytes == 0)) ∷
     row Sph 26 (not (bits 26 5 1 bytes == 0)) ∷ []
 
--- The rows of the second quadlet of the CIP header, which follow those of the first. The rows refuse a QI_2 other than
--- 2, an FMT other than audio, and an FDF that names neither a rate nor no data.
+-- The rows of the second quadlet of the CIP header, which follow the rows of the first quadlet. The rows refuse a QI_2
+-- other than 2, an FMT other than audio, and an FDF that names neither a rate nor no data.
 abbrev pub second_quadlet_rows : List ℕ → List Row
 second_quadlet_rows bytes =
     row Qi2 28 (not (bits 28 0 2 bytes == second_mark)) ∷
@@ -172,11 +172,12 @@ stated_data bytes = data_size (bits 29 0 8 bytes) (bits 20 0 16 bytes - 8)
 abbrev pub stated_block : List ℕ → ℕ
 stated_block bytes = block_size (dbs_of (bits 25 0 8 bytes))
 
--- the row of the data blocks, which comes last: it refuses a stated length that is not filled by whole data blocks
+-- the row of the data blocks, which comes last: it refuses a stated length if the data is not a whole number of data
+-- blocks
 abbrev pub block_rows : List ℕ → List Row
 block_rows bytes = row StreamDataLength 20 (not (stated_data bytes % stated_block bytes == 0)) ∷ []
 
--- why a packet is refused for its CIP header or its data blocks; `None` if it is not
+-- why a packet is refused for its CIP header or its data blocks; `None` if both are accepted
 abbrev pub cip_refusal : List ℕ → Option Refusal
 cip_refusal bytes =
     or_else (first_row (first_quadlet_rows bytes))

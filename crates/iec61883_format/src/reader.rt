@@ -83,7 +83,7 @@ fn refused_by_second_quadlet(pdu: &[u8]) -> Option<Refusal>
     None
 }
 
-/// The refusal of the stated length if its part for data is not filled by whole data blocks of `block` bytes.
+/// The refusal of the stated length if `data_bytes` is not a whole number of data blocks of `block` bytes.
 fn refused_by_blocks(pdu: &[u8], data_bytes: u32, block: u32) -> Option<Refusal>
     requires some { 0 < block }
     requires all { data_bytes ≡ stated_data pdu.now }
@@ -165,12 +165,13 @@ fn read_packet(pdu: &[u8]) -> Result<IecView<'_>, Refusal>
 
 /// Reads an IEC 61883-6 packet.
 ///
-/// Refuses the first of these that applies, in this order: a field of the stream header that the slice cuts off; a
-/// subtype other than IEC 61883; a version other than 0; a tag other than 1; a stated length below that of a CIP
-/// header, or beyond the end of the slice; a `qi_1`, `fn`, `qpc` or `sph` of the CIP header other than 0; a `qi_2`
-/// other than 2; a format other than audio; an FDF that is neither that of a rate nor 255; data that is not a whole
-/// number of data blocks, except in a no-data packet. Accepts set reserved bits, and ignores what follows the stated
-/// length.
+/// Checks the fields in the order given here, and refuses the packet at the first one that fails. The slice must hold
+/// the whole stream header. The subtype must be IEC 61883, the version 0, and the tag 1. The stated length must be at
+/// least that of a CIP header, and at most the number of bytes after the stream header. In the CIP header, `qi_1`,
+/// `fn`, `qpc` and `sph` must be 0, `qi_2` must be 2, and the format must be audio. The FDF must be that of a rate, or
+/// 255, which marks a no-data packet. In a packet with data, the stated length must end with a whole data block.
+///
+/// Reserved bits may be set, and bytes after the stated length are ignored.
 #[inline(always)]
 pub fn read_iec(pdu: &[u8]) -> Result<IecView<'_>, Refusal>
     ensures exact { Reads iec_shape (iec_refusal pdu.now) (iec_of pdu.now) result }

@@ -65,7 +65,7 @@ record IsOfStream (subtype stream : ℕ) (bytes : List ℕ) : Type 0 where
   valid : is_set 1 0 bytes ≡ true
   id : bits 4 0 64 bytes ≡ stream
 
--- if bytes have the header of a packet of the stream, they show the stream's subtype and ID
+-- if bytes have the header of a packet of the stream, they have the stream's subtype and its stream ID
 of_stream : (j : Journal) (subtype stream n : ℕ) (h : StreamHeader) (bytes : List ℕ) → kind_refusal subtype bytes ≡ None → IsHeader j stream n h → h.subtype ≡ subtype
     → bits 0 0 8 bytes ≡ h.subtype → bits 1 0 1 bytes ≡ flag h.sv → bits 4 0 64 bytes ≡ h.stream_id → IsOfStream subtype stream bytes
 of_stream j subtype stream n h bytes accepted is kind a b c = record {
@@ -199,8 +199,8 @@ clock_belongs shift p m r is c =
 pub clock_copy_of : (p : PacketJournal) (m i : ℕ) (r : Record) → CarriesClock p m r → IsClockCopyOf p m (delivery i r)
 clock_copy_of p m i r c = record { known = c.known; spelled = rw (clock_frame_is p m r c).payload_is c.packet }
 
--- The deliveries `ds` are copies of packets. The stream's packets among them have the numbers `numbers`. The other
--- deliveries are copies of clock packets.
+-- Each delivery of `ds` is a copy of a packet of the stream or of the clock. `numbers` are the numbers of the stream's
+-- packets among them, in order.
 record AreKept (p : PacketJournal) (lead : ℕ) (numbers : List ℕ) (ds : List Delivery) : Type 0 where
   origins : List Origin
   copies : AreFrom p lead origins ds

@@ -9,7 +9,7 @@ use Rattle.packet_journal.specs.Delivered.{Origin, OfClock, OfStream, Spells}
 use Rattle.packet_journal.specs.Packets.{PacketJournal, spelling_of}
 
 -- The record holds an Ethernet frame of AVTP with packet n. The record was captured near enough to the packet's instant
--- for a listener to tell which packet it is.
+-- for a listener to tell which packet the record holds.
 pub record Carries (p : PacketJournal) (lead n : ℕ) (r : Record) : Type 0 where
   pub frame : Frame
   pub writable : IsWritableFrame frame

@@ -6,13 +6,13 @@ use Rattle.stream_journal.specs.Delivered.{AreNear, IsDelivered}
 use Rattle.packet_journal.specs.Deliveries.{Delivery, deliveries}
 use Rattle.packet_journal.specs.Packets.{PacketJournal, spelling_of}
 
--- the bytes are those of a packet, and then trailing bytes that belong to no field
+-- the bytes are those of a packet, followed by trailing bytes that belong to no field
 pub record Spells (packet bytes : List ℕ) : Type 0 where
   pub trail : List ℕ
   pub whole : bytes ≡ packet ++ trail
 
--- The delivery is a copy of packet n. The copy arrived near enough to the packet's instant for a listener to tell it
--- from copies of other packets.
+-- The delivery is a copy of packet n. The copy arrived near enough to the packet's instant for a listener to tell which
+-- packet was sent.
 pub record IsCopyOf (p : PacketJournal) (lead n : ℕ) (d : Delivery) : Type 0 where
   pub arrival : ℕ
   pub arrived : d.arrival ≡ pos arrival

@@ -57,7 +57,7 @@ no_packet = record {
   reserved = false;
 }
 
--- `restarted` with its packets, those of a sparse talker that restarts
+-- the journal `restarted` with its packets; its talker is sparse and restarts
 abbrev pub restarted_packets : PacketJournal
 restarted_packets = record {
   times = restarted;
@@ -81,7 +81,7 @@ silent_blocks n = record {
   reserved = false;
 }
 
--- `each_eighth` with its packets; they are AM824, and every eighth block has a timestamp
+-- the journal `each_eighth` with its packets; the packets are AM824, and every eighth block has a timestamp
 abbrev pub block_packets : PacketJournal
 block_packets = record {
   times = each_eighth;
@@ -112,7 +112,7 @@ clock_data m = record {
   reserved = false;
 }
 
--- `clocked` with its packets and the packets of its clock
+-- the journal `clocked` with its packets and the packets of its clock
 abbrev pub clocked_packets : PacketJournal
 clocked_packets = record {
   times = clocked 48000;

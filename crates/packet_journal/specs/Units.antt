@@ -34,13 +34,14 @@ pub record IsUnitOf (p : PacketJournal) (part : ℕ → Part) (n : ℕ) (unit : 
   pub packets : AreUnit part from n
   pub bytes : unit ≡ unit_bytes p from n
 
--- What is presented of packet n in a stream of this kind: its samples, or the NAL unit whose last packet it is.
+-- What is presented of packet n in a stream of this kind: the packet's samples, or the NAL unit that ends with packet
+-- n.
 abbrev pub IsContentBy : Kind → PacketJournal → ℕ → List ℕ → Type 0
 IsContentBy DenseAaf p n bytes = bytes ≡ carried (p.packet n)
 IsContentBy SparseAaf p n bytes = bytes ≡ carried (p.packet n)
 IsContentBy (Am824 interval dbc) p n bytes = bytes ≡ carried (p.packet n)
 IsContentBy (H264 part) p n bytes = IsUnitOf p part n bytes
 
--- the bytes are what is presented of packet n: its samples, or the NAL unit whose last packet it is
+-- the bytes are what is presented of packet n: the packet's samples, or the NAL unit that ends with packet n
 abbrev pub IsContent : PacketJournal → ℕ → List ℕ → Type 0
 IsContent p n bytes = IsContentBy p.times.kind p n bytes

@@ -20,8 +20,8 @@ pub fn copies_are_read()
     cvf_format::laws::packet_again();
 }
 
-/// A record that carries a packet of a conforming talker belongs to the talker's stream, and its delivery is a copy of the
-/// packet.
+/// A record that carries a packet of a conforming talker belongs to the talker's stream, and the record's delivery is a
+/// copy of the packet.
 pub fn carried_packet_is_delivered()
     ensures belongs { (shift : ℤ) (p : PacketJournal) (lead n : ℕ) (r : Record) → IsConforming shift p → Carries p lead n r → belongs stream_kinds p.stream r.bytes ≡ true }
     ensures copy { (p : PacketJournal) (lead n frame : ℕ) (r : Record) → Carries p lead n r → IsCopyOf p lead n (delivery frame r) }
@@ -29,8 +29,8 @@ pub fn carried_packet_is_delivered()
     cvf_format::laws::packet_again();
 }
 
-/// If frames with packets of a conforming talker are captured in time, their records deliver the talker's journal,
-/// whichever packets they carry.
+/// Records carry some packets of a conforming talker. If the records were captured in time, and adjacent fragments are
+/// near each other, the records deliver the talker's journal.
 pub fn carried_packets_are_delivered()
     ensures { (shift : ℤ) (p : PacketJournal) (clock : Option ℕ) (lead : ℕ) (numbers : List ℕ) (records : List Record) → IsConforming shift p → AllCarry p lead numbers records → AreNear p.times numbers → Delivers p clock lead records }
 {
@@ -44,9 +44,9 @@ pub fn carried_clock_packet_is_delivered()
     ensures copy { (p : PacketJournal) (m frame : ℕ) (r : Record) → CarriesClock p m r → IsClockCopyOf p m (delivery frame r) }
 {}
 
-/// If frames with packets of a conforming talker's stream and clock are captured, their records deliver the talker's
-/// journal, whichever packets they carry. Only the frames of the stream must be captured in time. The law holds for
-/// listeners with the clock and without.
+/// Records carry some packets of a conforming talker's stream and clock. If the records of the stream were captured in
+/// time, and adjacent fragments are near each other, the records deliver the talker's journal. The records of the clock
+/// may be captured at any time. The law holds for listeners with the clock and without.
 pub fn records_of_both_are_delivered()
     ensures { (shift : ℤ) (p : PacketJournal) (clock : Option ℕ) (lead : ℕ) (origins : List Origin) (records : List Record) → IsConforming shift p → AllCarryFrom p lead origins records → AreNear p.times (stream_numbers origins) → Delivers p clock lead records }
 {

@@ -1,5 +1,5 @@
 //! The packets of a talker's journal, and which records of a capture are copies of them. This crate holds the
-//! definitions. Each call states a law of them, and does nothing.
+//! definitions. Each function states a law about the definitions, and does nothing.
 #![tactic(auto)]
 
 pub mod examples;

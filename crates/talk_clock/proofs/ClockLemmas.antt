@@ -28,7 +28,7 @@ frames_by count (suc k) few = omega (arith, few k (omega arith))
 pub few_frames : (c : ClockStream) → IsClockStream c → c.stream * c.plan.count ≤ 268436932
 few_frames c is = omega (arith, frames_by c.plan.count c.stream is.few, is.plan.count)
 
--- the sample frame `frame` is within a stream of `packets` packets, and its numbers are small
+-- the sample frame `frame` is within a stream of `packets` packets, and is at most 268,436,932
 pub record IsPointAt (plan : TalkPlan) (packets frame : ℕ) : Type 0 where
   pub packet : frame / plan.count < packets
   pub frames : frame / plan.count * plan.count ≤ 268435456

@@ -91,7 +91,7 @@ run_number x count packets g some from to =
     ] in
     div-eq_of_lt-le packets (omega arith) (omega arith)
 
--- counting points in each run gives the same run for point s as counting packets of the stream
+-- the run of point s is the same whether runs are measured in points or in packets of the stream
 pub run_of_point : (r : Option ℕ) (crf : CrfPlan) (rate count s : ℕ) → 1 ≤ count → 1 ≤ spacing_of crf rate → AreWhole crf rate count r
     → run_by r (s * spacing_of crf rate / count) ≡ run_by (points_per crf rate count r) s
 run_of_point None crf rate count s some some_w is = refl
@@ -108,7 +108,6 @@ run_of_point (Some packets) crf rate count s some some_w is =
     let frames : g * (per * w) ≡ g * (packets * count) = ap (λ (n : ℕ). g * n) points in
     run_number (s * w) count packets g some (omega arith) (omega arith)
 
--- the sample frame of point s is t * w events after the first sample frame of the point's run
 event_by : (x count w s a b n d t frames per g : ℕ) → n * count + b ≡ x → x ≡ s * w → g * frames ≡ g * (per * w) → d * count + g * frames ≡ n * count
     → t * w + g * (per * w) ≡ s * w
     → d * count + b ≡ t * w
@@ -259,7 +258,7 @@ starts_by (Some k) rate count base jump packets g h some ok e before =
     let more : (g + 1) * k * count ≤ h * k * count = mul-le-mul_right count (mul-le-mul_right k (omega arith)) in
     rw (← same) (apart_by rate base jump (g * k * count) (k * count) (h * k * count) g h some ok.least_jump before (omega arith))
 
--- if run g is before run h, the start of h is late enough after the start of g
+-- if run g is before run h, run h starts at least 4 ns after the end of run g
 pub starts_apart : (plan : TalkPlan) (crf : CrfPlan) (packets g h : ℕ) → IsAudioPlan plan → plan.crf ≡ Some crf → plan.restart ≡ Some packets → g < h
     → IsNextStart (beat_of crf plan) (run_start plan g) (packets * plan.count) (run_start plan h)
 starts_apart plan crf packets g h p e restart before =
@@ -286,7 +285,7 @@ end_by (Some packets) plan crf s p e restart is new =
     let frames : suc (s - g * size) * spacing_of crf plan.rate ≡ packets * plan.count = ap (λ (n : ℕ). n * spacing_of crf plan.rate) last ∙ is.points in
     rw frames (starts_apart plan crf packets g (suc g) p e restart (omega arith))
 
--- the point after s is the next one in the same run, or is the first of the next run
+-- the point after point s is in the same run, or is the first point of the next run
 pub after_point : (plan : TalkPlan) (crf : CrfPlan) (s : ℕ) → IsAudioPlan plan → plan.crf ≡ Some crf → IsBeside plan crf s ⊎ IsRunEnd plan crf s
 after_point plan crf s p e =
     let whole = whole_runs plan crf p e in

@@ -29,7 +29,6 @@ pub pair_from_at : (plan : TalkPlan) (crf : CrfPlan) (g m h k : ℕ) → g ≡ h
     → pair_from (beat_of crf plan) (run_start plan g) m ≡ pair_from (beat_of crf plan) (run_start plan h) k
 pair_from_at plan crf g m h k e f = ap (λ (x : ℕ). pair_from (beat_of crf plan) (run_start plan x) m) e ∙ ap (pair_from (beat_of crf plan) (run_start plan h)) f
 
--- the pair of the points b and d, which follow point a in the same run
 next_pair : (plan : TalkPlan) (crf : CrfPlan) (packets : ℕ) (a b d : Place) → IsAudioPlan plan → plan.crf ≡ Some crf
     → Follows (clock_times crf plan packets) a b → Follows (clock_times crf plan packets) b d
     → IsBeside plan crf (number crf a) → IsBeside plan crf (number crf b)
@@ -45,8 +44,8 @@ next_pair plan crf packets a b d p e f g first second =
 spaced_by : (nominal p q up : ℕ) → 7 * nominal ≤ 8 * (p * up) → p ≤ q → 3 * nominal ≤ 4 * (q * up)
 spaced_by nominal p q up least more = let times : p * up ≤ q * up = mul-le-mul_right up more in omega arith
 
--- If point b is the first of a run, b is at the start of that run, and the point a before b is where the earlier run
--- has it.
+-- If point b is the first of a run, its instant is the start of that run. The instant of the point a before b follows
+-- from the start of the earlier run.
 first_later : (plan : TalkPlan) (crf : CrfPlan) (packets : ℕ) (a b : Place) → IsAudioPlan plan → plan.crf ≡ Some crf
     → Follows (clock_times crf plan packets) a b → IsRunEnd plan crf (number crf a)
     → (point (clock_times crf plan packets) a

@@ -51,7 +51,8 @@ points_size crf plan packets m = min crf.points (points_for crf plan packets - f
 unfoldable pub points_in : CrfPlan → TalkPlan → ℕ → ℕ → List ℕ
 points_in crf plan packets m = map (clock_point crf plan) (range_with_len (first_point crf m) (points_size crf plan packets m))
 
--- the restart bit of clock packet m: that of the stream packet with the sample frame of the clock packet's first point
+-- the restart bit of clock packet m: that of the stream packet that holds the sample frame of the clock packet's first
+-- point
 abbrev pub clock_mr : CrfPlan → TalkPlan → ℕ → Bool
 clock_mr crf plan m = mr_of plan (frame_at crf plan (first_point crf m) / plan.count)
 
@@ -120,8 +121,8 @@ clock_arrival_by (Some crf) plan m = clock_arrival crf plan m
 unfoldable pub clock_bytes : Crf → List ℕ
 clock_bytes packet = frame_spelling (ethernet (crf_spelling packet))
 
--- the sample frames of this many packets can be counted: no packet begins after sample frame 2^28, and no input has
--- more sample frames
+-- The sample frames of this many packets can be counted: no packet begins after sample frame 2^28. An input has at most
+-- 2^28 sample frames.
 abbrev pub AreFew : TalkPlan → ℕ → Type 0
 AreFew plan packets = (n : ℕ) → n < packets → n * plan.count ≤ 2 ^ 28
 

@@ -12,9 +12,10 @@ use byteorder::{BigEndian, ByteOrder};
 use crf_format::{CrfView, write_crf};
 use talk_plan::{CrfPlan, ETHERNET_HEADER, TalkPlan, write_ethernet};
 
-/// The media clock of a plan, with a stream of `stream` packets. Its points are counted through the whole stream,
-/// including points at sample frames that only fill up the last packet. Point s is at sample frame s * spacing. Each
-/// restart is at a whole packet of the clock, so points counted in each run are at the same sample frames.
+/// The media clock of a plan, with a stream of `stream` packets. The clock's points are counted through the whole
+/// stream, including points at sample frames that only fill up the last packet. Point s is at sample frame s * spacing.
+/// Each restart is at the beginning of a clock packet, so points counted in each run would be at the same sample
+/// frames.
 #[derive(Clone, Copy, Debug)]
 pub struct ClockStream {
     pub plan: TalkPlan,
@@ -29,7 +30,7 @@ const CRF_HEADER: usize = 20;
 /// The length in bytes of a timestamp.
 const TIMESTAMP: usize = 8;
 
-/// The greatest number of points of a packet.
+/// The maximum number of points of a packet.
 const POINTS_LIMIT: usize = 180;
 
 /// The type of a clock whose events are audio samples.
@@ -83,7 +84,7 @@ impl ClockStream {
         m * u64::from(self.crf.points)
     }
 
-    /// The stream packet with the sample frame of point `s`.
+    /// The number of the stream packet that holds the sample frame of point `s`.
     #[tactic(auto, using(crate::proofs::ClockLemmas::point_within))]
     fn stream_packet(&self, s: u64) -> u64
         requires { IsPointOfClock self.now s }

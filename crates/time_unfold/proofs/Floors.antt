@@ -43,7 +43,7 @@ floor_below z d some = let e = euclid z d some in let r = rest_natural z d in om
 pub floor_above : (z : ℤ) (d : ℕ) → 0 < d → z <ℤ ((int_div_euclid z (pos d) +ℤ pos 1) *ℤ pos d)
 floor_above z d some = let e = euclid z d some in let r = rest_below z d some in let m = one_more (int_div_euclid z (pos d)) d in omega (arith, ints)
 
--- at most one quotient is within the bounds of rounding down
+-- at most one number q satisfies q * d <= z < (q + 1) * d
 pub floor_only : (z q r : ℤ) (d : ℕ) → (q *ℤ pos d) ≤ℤ z → z <ℤ ((q +ℤ pos 1) *ℤ pos d) → (r *ℤ pos d) ≤ℤ z → z <ℤ ((r +ℤ pos 1) *ℤ pos d) → q ≡ r
 floor_only z q r d a b c e =
     by_lt_z q r

@@ -14,8 +14,7 @@ pub find_last-fails : {T : Type 0} (test : T → Bool) (xs : List T) (x : T) →
 find_last-fails test [] x e = rw e refl
 find_last-fails test (y ∷ xs) x e = rw (find_last-fails test xs x e) refl
 
--- A search of `xs ++ ys` finds what a search of `ys` finds. If a search of `ys` finds nothing, it finds what a search
--- of `xs` finds.
+-- if a search of `ys` finds an item, a search of `xs ++ ys` finds the same item
 pub find_last-behind : {T : Type 0} (test : T → Bool) (xs ys : List T) (y : T) → find_last test ys ≡ Some y → find_last test (xs ++ ys) ≡ Some y
 find_last-behind test [] ys y e = e
 find_last-behind test (x ∷ xs) ys y e = rw (find_last-behind test xs ys y e) refl
@@ -27,8 +26,6 @@ find_last-before test (x ∷ xs) ys e = rw (find_last-before test xs ys e) refl
 pub All-front : {T : Type 0} (P : T → Type 0) (xs : List T) (x : T) → All P (xs ++ x ∷ []) → All P xs
 All-front {T} P xs x all = subst (λ (l : List T). All P l) (take-append_seam xs (x ∷ [])) (All-take P (length xs) (xs ++ x ∷ []) all)
 
--- If a stamp of `xs` fits, the last such stamp is also the last that fits of `x ∷ xs`. If no stamp of `xs` fits, `x` is
--- found if it fits.
 IsFound-cons : (want : Want) (x : Stamp) (xs : List Stamp) (r : Option Stamp) → find_last (fits want) xs ≡ r → IsFound want xs r → IsFound want (x ∷ xs) (find_last (fits want) (x ∷ xs))
 IsFound-cons want x xs (Some s) e is = rw e (record {
   before = x ∷ is.before;
@@ -47,7 +44,7 @@ pub find_last-found : (want : Want) (xs : List Stamp) → IsFound want xs (find_
 find_last-found want [] = All-nil (λ s. fits want s ≡ false)
 find_last-found want (x ∷ xs) = IsFound-cons want x xs (find_last (fits want) xs) refl (find_last-found want xs)
 
--- a stamp that is found has each property that all stamps have
+-- if each stamp has the property `P`, a stamp that is found has it, too
 pub found_is : (P : Stamp → Type 0) (want : Want) (room : ℕ) (stamps : List Stamp) (stamp : Stamp) → IsLastFit want (last_of room stamps) stamp → All P stamps → P stamp
 found_is P want room stamps stamp is all =
     let last : All P (is.before ++ stamp ∷ is.behind) = subst (λ (l : List Stamp). All P l) is.place (All-drop P (length stamps - room) stamps all) in

@@ -1,4 +1,4 @@
--- The last stamps of all that were noted.
+-- The last of the stamps that were noted.
 use Rattle.std.specs.Prelude.{◌≡◌, ◌≤◌, ℕ, List}
 use Rattle.time_unfold.specs.declared.stamp.Stamp.{Stamp}
 use Rattle.time_unfold.specs.Stamps.{last_of}
@@ -13,6 +13,6 @@ pub record LastStamps : Type 0 where
   pub room : ℕ
   pub stamps : List Stamp
 
--- the stamps that are kept are the last `room` of all that were noted
+-- the kept stamps are the last `room` of the stamps that were noted
 abbrev pub KeepsLast : LastStamps → List Stamp → Type 0
 KeepsLast kept noted = kept.stamps ≡ last_of kept.room noted

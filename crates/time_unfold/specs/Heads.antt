@@ -1,5 +1,5 @@
--- Which sample of an audio packet its timestamp belongs to, and from which packet a packet without a timestamp is
--- counted. Packets are numbered through the stream, or modulo 256.
+-- The sample to which an audio packet's timestamp belongs, and the packet from which a packet without a timestamp is
+-- counted. Packet numbers count through the stream, and may be reduced modulo 256.
 use Rattle.std.specs.Prelude.{ℕ, ◌+◌, ◌-◌, ◌*◌, ◌%◌, ◌==◌, nat_lt, if◌then◌else◌, Option, Some, None}
 use Rattle.std.specs.Int.{div_ceil}
 use Rattle.time_unfold.specs.declared.head_rule.Distance.{Distance}
@@ -19,9 +19,10 @@ stamped_block Own = None
 stamped_block Eight = None
 stamped_block (Blocks dbc interval) = Some ((dbc + stamped_index (Blocks dbc interval)) % 256)
 
--- The distance from packet n, of `count` samples, back to the sample from which it is counted if it has no timestamp.
--- In sparse AAF this is the first sample of the last packet before it whose number is a multiple of 8. In IEC 61883-6
--- it is the last block before the packet whose block count is a multiple of the interval, at most 7 packets back.
+-- The distance from packet n, which has `count` samples, back to the stamped sample from which the packet is counted if
+-- it has no timestamp. In sparse AAF, the stamped sample is the first sample of the last earlier packet whose number is
+-- a multiple of 8. In IEC 61883-6, it is the last earlier block whose block count is a multiple of the interval, if
+-- that block is at most 7 packets back.
 abbrev pub distance : HeadRule → ℕ → ℕ → Option Distance
 distance Own n count = None
 distance Eight n count =

@@ -18,6 +18,6 @@ pub record IsAt (line : Line) (k instant : ℤ) : Type 0 where
   pub not_after : ((instant -ℤ line.base) *ℤ pos line.den) ≤ℤ (k *ℤ pos line.num)
   pub last : (k *ℤ pos line.num) <ℤ (((instant -ℤ line.base) +ℤ pos 1) *ℤ pos line.den)
 
--- samples at a nominal rate, of which sample 0 is at this instant
+-- the line of samples at this nominal rate, with sample 0 at this instant
 abbrev pub nominal_line : ℤ → ℕ → Line
 nominal_line instant rate = record { base = instant; num = 1000000000; den = rate }

@@ -20,7 +20,8 @@ pub record Unfolds (timestamp : ℕ) (arrival instant : ℤ) : Type 0 where
   pub from : (arrival -ℤ pos (2 ^ 31)) ≤ℤ instant
   pub to : instant <ℤ (arrival +ℤ pos (2 ^ 31))
 
--- the instant that a timestamp means in a packet with this arrival, counted from 2^31 ns before the arrival
+-- the instant that a timestamp means in a packet with this arrival, computed from the instant 2^31 ns before the
+-- arrival
 unfoldable pub unfolded : ℕ → ℤ → ℤ
 unfolded timestamp arrival =
     let first = arrival -ℤ pos (2 ^ 31) in

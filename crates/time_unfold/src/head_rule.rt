@@ -11,8 +11,8 @@ const SPARSE: u32 = 8;
 /// The greatest number of packets back to a stamped sample.
 const FARTHEST: u32 = 7;
 
-/// The sample of a packet to which its timestamp belongs, and the way to count a packet without a timestamp from
-/// another packet.
+/// The rule that says to which sample of a packet its timestamp belongs, and from which stamped sample a packet without
+/// a timestamp is counted.
 #[derive(Clone, Copy, Debug, PartialEq, Eq)]
 pub enum HeadRule {
     /// AAF: each packet has a timestamp, which belongs to its first sample (IEEE 1722-2016, 7).
@@ -39,7 +39,7 @@ pub struct Head {
 pub struct Distance {
     /// The number of packets.
     pub packets: u32,
-    /// The number of samples from the stamped sample to the packet's first.
+    /// The number of samples from the stamped sample to the packet's first sample.
     pub samples: u32,
 }
 
@@ -118,9 +118,9 @@ impl HeadRule {
         }
     }
 
-    /// The distance back to the sample from which a packet without a timestamp is counted. In sparse AAF this is the
-    /// first sample of the last packet before it whose sequence number is a multiple of 8. In IEC 61883-6 it is the
-    /// last block before the packet whose block count is a multiple of the interval.
+    /// The distance back to the stamped sample from which a packet without a timestamp is counted. In sparse AAF, this
+    /// is the first sample of the last earlier packet whose sequence number is a multiple of 8. In IEC 61883-6, it is
+    /// the last earlier block whose block count is a multiple of the interval.
     ///
     /// `None` for AAF that is not sparse. Also `None` if the packet's own first sample is a stamped one, or if the
     /// stamped sample is more than 7 packets back. The packet has 1 to 65,535 samples, and the interval is 8, 16 or 32.

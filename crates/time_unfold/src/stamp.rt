@@ -28,7 +28,7 @@ pub struct Want {
     pub rate: u32,
     /// When the packet without a timestamp was captured, in nanoseconds of gPTP.
     pub arrival: i64,
-    /// The time by which a packet is expected before its first sample, in nanoseconds.
+    /// How long before its first sample a packet is expected, in nanoseconds.
     pub lead: u32,
     /// The number of the first sample of the packet without a timestamp, counted from the stamped sample.
     pub back: u32,

@@ -1,4 +1,4 @@
--- The code computes `unfolded`. The lemmas say that this is the only instant that the timestamp means.
+-- The code computes `unfolded`. The lemmas say that `unfolded` is the only instant that the timestamp means.
 use Rattle.std.proofs.Common.{◌≡◌, ◌^◌, ℤ, pos, ◌-ℤ◌, sym, ap, ◌∙◌, subst, arith}
 use Rattle.std.proofs.lemmas.Int.{ints}
 use Rattle.std.specs.Int.{int_rem_euclid}

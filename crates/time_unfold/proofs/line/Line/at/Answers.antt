@@ -1,5 +1,5 @@
--- In 128 bits nothing wraps, so the code computes `instant_at`. The lemmas say that this is the only instant of the
--- sample.
+-- The arithmetic in 128 bits does not wrap, so the code computes `instant_at`. The lemmas say that `instant_at` is the
+-- only instant of the sample.
 use Rattle.std.proofs.Common.{◌≡◌, ℕ, ◌^◌, ◌<◌, ℤ, pos, ◌-◌, ◌*ℤ◌, sym, subst, arith, lit<, FitsSigned, w64, to_z, of_z}
 use Rattle.std.proofs.lemmas.Int.{ints, to_z-of_z, fits_signed_mul}
 use Rattle.std.specs.Int.{w128}
