@@ -1,4 +1,4 @@
--- Points of clocks that were worked out by hand.
+-- Clock points that were worked out by hand.
 use Rattle.std.specs.Prelude.{ℕ, Bool, true, false, pos, List, [], ◌∷◌}
 use Rattle.byteorder.specs.Endian.{big_bytes}
 use Rattle.clock_track.specs.declared.clock_row.ClockRow.{ClockRow}

@@ -15,7 +15,8 @@ pub record IsNear (base instant : ℤ) : Type 0 where
   pub from : (base -ℤ pos (2 ^ 51)) ≤ℤ instant
   pub to : instant ≤ℤ (base +ℤ pos (2 ^ 51))
 
--- the numbers of the pair are within the limits of the format: a base frequency has 29 bits, and an interval 16
+-- the numbers of the pair are within the limits of the format: a base frequency has 29 bits, and an interval has 16
+-- bits
 pub record IsSmall (p : Pair) : Type 0 where
   pub earlier : IsPoint p.earlier
   pub later : IsPoint p.later
@@ -49,8 +50,8 @@ pub record IsShift (shift : ℤ) : Type 0 where
 
 -- ---- a line that a clock returns
 
--- The limits of what a clock returns for an instant in a stream of `rate` samples a second: of the line, and of the
--- sample's number on that line.
+-- The limits of the line that a clock returns for an instant, and of the sample's number on that line. The stream has
+-- `rate` samples a second.
 pub record IsClockLine (rate : ℕ) (instant : ℤ) (spot : Spot) : Type 0 where
   pub some_num : 1 ≤ spot.line.num
   pub num : spot.line.num ≤ 2 ^ 60
@@ -63,5 +64,5 @@ pub record IsClockLine (rate : ℕ) (instant : ℤ) (spot : Spot) : Type 0 where
   pub to : spot.from <ℤ pos 65535
   -- sample 0 of the line is at a point, or at the instant itself
   pub base : (spot.line.base ≡ instant) ⊎ IsPoint spot.line.base
-  -- the 2^20 samples before sample 0 and the 2^20 after it are within 2^51 ns of it
+  -- the 2^20 samples before sample 0 and the 2^20 samples after it are within 2^51 ns of sample 0
   pub near : (k : ℤ) → neg_ℤ (pos (2 ^ 20)) ≤ℤ k → k ≤ℤ pos (2 ^ 20) → IsNear spot.line.base (instant_at spot.line k)

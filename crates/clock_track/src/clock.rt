@@ -188,7 +188,7 @@ impl Model for Clock {
 }
 
 impl Clock {
-    /// A clock without packets. `shift` is added to each of its timestamps; it is in nanoseconds, at most a second
+    /// A clock without packets. `shift` is added to each timestamp of the clock. It is in nanoseconds, at most a second
     /// forward or back.
     pub fn new(alloc: Global, shift: i64) -> Result<Self, NoMemory>
         requires { IsShift shift }

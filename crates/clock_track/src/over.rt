@@ -83,8 +83,8 @@ pub fn line_among<R: Rows>(rows: &R, query: &Query) -> ClockAnswer
 ///
 /// Two adjacent timestamps are a pair if both are below 2^62 and the time between them differs from the nominal time of
 /// the interval by at most 1/8. Successive timestamps of one packet are adjacent. The last timestamp of a packet and
-/// the first timestamp of the next packet are adjacent, too. The next packet must have the next sequence number, and
-/// the same restart bit, frequency and interval.
+/// the first timestamp of the next packet are adjacent, too. A packet is the next one if it has the next sequence
+/// number, and the same restart bit, frequency and interval.
 ///
 /// A pair covers the instants of one period. The period begins half a sample before the pair's later point. If several
 /// pairs cover the instant, the last of them gives the line. Pairs are ordered by the positions of their later points

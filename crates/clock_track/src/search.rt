@@ -235,7 +235,7 @@ fn is_past_group(groups: &[Bounds], group: usize, query: &Query) -> bool
     }
 }
 
-/// The last pair of a group that has an index below `end` and covers the instant.
+/// Of the pairs of a group with an index below `end`, the last that covers the instant.
 fn latest_of_group(
     row: &Points<'_>,
     groups: &[Bounds],
@@ -256,7 +256,7 @@ fn latest_of_group(
     latest_between(row, GROUP * group, end, query)
 }
 
-/// The last pair inside a packet that covers the instant.
+/// Of the pairs inside a packet, the last that covers the instant.
 fn latest_inside(row: &Points<'_>, groups: &[Bounds], query: &Query) -> Option<Pair>
     requires row { IsRow (row_of row.now) }
     requires groups { AreGroups query.now.shift (row_of row.now) groups.now }
@@ -398,8 +398,8 @@ fn latest_at<R: Rows>(rows: &R, place: usize, query: &Query) -> Option<Pair>
     latest_across(rows, &row, query)
 }
 
-/// The last joined pair of a clock's packets that covers the instant. The search goes backwards through all joined
-/// pairs, and stops at the first pair that covers the instant.
+/// Of the joined pairs of a clock's packets, the last that covers the instant. The search goes backwards through all
+/// joined pairs, and stops at the first pair that covers the instant.
 pub fn latest<R: Rows>(rows: &R, query: &Query) -> Option<Pair>
     requires rows { All IsNotable (R.rows rows.now) }
     requires bounded { R.bounded rows.now query.now.shift }

@@ -67,14 +67,14 @@ fu_a = 28
 
 -- ---- the tables
 
--- bit S of a fragment: whether it is the first of its NAL unit (RFC 6184, 5.8)
+-- bit S of a fragment: whether the fragment is the first of its NAL unit (RFC 6184, 5.8)
 abbrev pub starts : NalPart → Bool
 starts First = true
 starts Single = false
 starts Middle = false
 starts Last = false
 
--- bit E of a fragment: whether it is the last of its NAL unit (RFC 6184, 5.8)
+-- bit E of a fragment: whether the fragment is the last of its NAL unit (RFC 6184, 5.8)
 abbrev pub ends : NalPart → Bool
 ends Last = true
 ends Single = false

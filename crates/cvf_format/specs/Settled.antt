@@ -1,4 +1,4 @@
--- Each packet is settled once, in order. A later event gives it up, it is lost when it arrives, it is in a complete
+-- Each packet is settled once, in order: a later event gives it up, it is lost when it arrives, it is in a complete
 -- unit, or it still waits.
 use Rattle.std.specs.Prelude.{List, [], ◌∷◌, ◌++◌}
 use Rattle.cvf_format.specs.declared.piece.Piece.{Piece}
@@ -26,7 +26,7 @@ settled_by before (packet fragment) =
     given_up (before ++ packet fragment ∷ [])
     ++ settled_as (piece (before ++ packet fragment ∷ [])) fragment (last_stretch (before ++ packet fragment ∷ []))
 
--- the packets that the events of the second list settle, in order, after the events of the first list
+-- the packets, in order, that the events of the second list settle if they follow the events of the first list
 abbrev pub settled : List Event → List Event → List Fragment
 settled before [] = []
 settled before (event ∷ events) = settled_by before event ++ settled (before ++ event ∷ []) events

@@ -5,8 +5,8 @@ use Rattle.std.specs.Option.{IfSome}
 use Rattle.cvf_format.specs.Stretches.{Fragment, Event, packet, begins, goes_on, completes, sequence_numbers}
 
 -- The packet `after` continues the unit of the packet `before`. `after` carries a middle or last fragment, and `before`
--- did not complete the unit. Both packets carry the same first byte of the unit. The sequence number of `after` is the
--- next one.
+-- did not complete the unit. Both packets carry the same first byte of the unit. The sequence number of `after` follows
+-- that of `before`.
 pub record GoesOn (before after : Fragment) : Type 0 where
   pub incomplete : completes before.part ≡ false
   pub part : goes_on after.part ≡ true

@@ -31,7 +31,7 @@ pub struct Assembler {
     bytes: Vec<u8>,
     /// The marks of the fragments that wait for the rest of their unit.
     held: Vec<Mark>,
-    /// The marks of the fragments that were given up last.
+    /// The marks of the fragments that the last packet or cut gave up.
     lost: Vec<Mark>,
     nal: u8,
     next_seq: u8,

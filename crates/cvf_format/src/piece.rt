@@ -1,7 +1,7 @@
 //! What becomes of the fragments of NAL units.
 
-/// The packet that a fragment arrived in: its frame of the capture, counted from 1, its sequence number, and its
-/// arrival in nanoseconds of gPTP.
+/// The packet that a fragment arrived in: the number of the packet's frame in the capture, counted from 1; the packet's
+/// sequence number; and its arrival in nanoseconds of gPTP.
 #[derive(Clone, Copy, Debug, PartialEq, Eq)]
 pub struct Mark {
     pub frame: u64,

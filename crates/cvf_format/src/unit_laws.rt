@@ -16,7 +16,7 @@ pub fn one_stretch()
     ensures some { (events : List Event) → (last_stretch events ≡ []) ⊎ EndsWith events (last_stretch events) }
 {}
 
-/// Each packet is settled exactly once, in the order in which the packets arrived. A later event gives it up, it is
+/// Each packet is settled exactly once, in the order in which the packets arrived: a later event gives it up, it is
 /// lost when it arrives, it is in a unit that a packet completes, or it waits at the end.
 pub fn each_packet_once()
     ensures all { (events : List Event) → packets events ≡ settled [] events ++ held events }

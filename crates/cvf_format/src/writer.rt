@@ -14,7 +14,7 @@ use avtp_header::header_bytes;
 /// Bytes 16 to 19: the format is that of an RFC, and its subtype H.264.
 const FORMAT_DATA: u32 = 0x0201_0000;
 
-/// Bytes 22 and 23: the bit that the H.264 timestamp is valid, the marker and the event field.
+/// Bytes 22 and 23: the bit `ptv`, the marker and the event field.
 fn format_flags(view: &CvfView<'_>) -> u16
     requires { IsWritableCvf (cvf_shape view.now) }
     ensures { result ≡ flag view.now.ptv * 2 ^ 13 + flag view.now.marker * 2 ^ 12 + view.now.evt * 2 ^ 8 }
