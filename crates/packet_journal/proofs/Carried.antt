@@ -199,8 +199,8 @@ clock_belongs shift p m r is c =
 pub clock_copy_of : (p : PacketJournal) (m i : ℕ) (r : Record) → CarriesClock p m r → IsClockCopyOf p m (delivery i r)
 clock_copy_of p m i r c = record { known = c.known; spelled = rw (clock_frame_is p m r c).payload_is c.packet }
 
--- Each delivery of `ds` is a copy of a packet of the stream or of the clock. `numbers` are the numbers of the stream's
--- packets among them, in order.
+-- Each delivery of `ds` is a copy of a packet of the stream or of the clock. `numbers` are the numbers of the copied
+-- packets of the stream, in order.
 record AreKept (p : PacketJournal) (lead : ℕ) (numbers : List ℕ) (ds : List Delivery) : Type 0 where
   origins : List Origin
   copies : AreFrom p lead origins ds

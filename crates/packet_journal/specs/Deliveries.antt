@@ -24,7 +24,7 @@ clock_kinds = crf_subtype ∷ []
 abbrev pub packet_in : List ℕ → List ℕ
 packet_in bytes = (frame_of bytes).payload
 
--- the record is an Ethernet frame of AVTP whose payload has at least 12 bytes, which end with the stream ID
+-- the record is an Ethernet frame of AVTP whose payload has at least 12 bytes, enough for the stream ID
 abbrev pub is_avtp : List ℕ → Bool
 is_avtp bytes =
     is_none (frame_refusal bytes)

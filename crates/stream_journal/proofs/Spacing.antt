@@ -25,7 +25,7 @@ spaced j is n (suc m) h =
 
 -- ---- a packet and its own stamp
 
--- a packet is due `index` samples before its timestamp, up to the rounding of one nanosecond
+-- a packet is due `index` samples before its timestamp, up to a rounding error of one nanosecond
 pub record IsBefore (rate due stamp index : ℕ) : Type 0 where
   pub from : due * rate + index * 1000000000 ≤ stamp * rate
   pub to : stamp * rate < due * rate + rate + index * 1000000000

@@ -1,4 +1,4 @@
--- What a listener knows of a clock's packets, and where it puts samples according to them.
+-- What a listener knows of a clock's packets, and how these packets determine the instants of samples.
 use Rattle.std.specs.Prelude.{◌≡◌, ℕ, ◌*◌, ◌%◌, ◌<◌, true, ℤ, pos, ◌+ℤ◌, length, get_or}
 use Rattle.clock_track.specs.declared.clock_row.ClockRow.{ClockRow}
 use Rattle.clock_track.specs.declared.pair.Pair.{Pair}

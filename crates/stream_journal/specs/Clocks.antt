@@ -1,5 +1,5 @@
--- The media clock of a talker: the packets of its reference timestamps (IEEE 1722-2016, 10), and which points are
--- adjacent in the list of all points.
+-- The media clock of a talker: the packets that carry its reference timestamps (IEEE 1722-2016, 10), and which points
+-- are adjacent in the list of all points.
 use Rattle.std.specs.Prelude.{◌≡◌, ◌⊎◌, ℕ, suc, ◌*◌, ◌%◌, ◌<◌, Bool, false, pos, List, [], length, get_or}
 use Rattle.clock_track.specs.declared.pair.Pair.{Pair}
 use Rattle.clock_track.specs.Pairs.{IsJoined, pull_down, pull_up}
@@ -40,7 +40,7 @@ IsNext c p q =
     ((q.packet ≡ p.packet) × (q.at ≡ suc p.at))
     ⊎ ((q.packet ≡ suc p.packet) × (q.at ≡ 0) × (suc p.at ≡ length (c.points p.packet)))
 
--- p and q are positions of points, and q is the one after p in the list of all points
+-- p and q are positions of points, and q is the position after p in the list of all points
 pub record Follows (c : ClockJournal) (p q : Place) : Type 0 where
   pub first : IsPlace c p
   pub second : IsPlace c q
@@ -50,7 +50,7 @@ pub record Follows (c : ClockJournal) (p q : Place) : Type 0 where
 abbrev pub InOneRun : ClockJournal → Place → Place → Type 0
 InOneRun c p q = c.mr p.packet ≡ c.mr q.packet
 
--- The points at two positions as a pair, with the number of events between timestamps. The clock's frequency is up /
+-- The pair of the points at two positions, with the number of events between timestamps. The clock's frequency is up /
 -- down: its base frequency times the factor of its pull (IEEE 1722-2016, 10).
 abbrev pub pair_at : ClockJournal → Place → Place → Pair
 pair_at c p q = record {

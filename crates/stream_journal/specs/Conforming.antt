@@ -1,5 +1,5 @@
--- The rules that a talker keeps. All promises about listeners rest on these rules alone, and a proof uses each rule. A
--- rule is this project's own if no standard is named.
+-- The rules that a talker keeps. All promises about listeners rest on these rules alone, and each rule is used in a
+-- proof. A rule is this project's own if no standard is named.
 use Rattle.std.specs.Prelude.{◌≡◌, ◌≢◌, ◌⊎◌, ◌↔◌, ℕ, suc, ◌+◌, ◌*◌, ◌%◌, ◌==◌, ◌<◌, ◌≤◌, nat_lt, Bool, true, ⊤, pos, Some, is_some}
 use Rattle.time_unfold.specs.declared.head_rule.Head.{Head}
 use Rattle.time_unfold.specs.declared.head_rule.HeadRule.{HeadRule}

@@ -24,8 +24,8 @@ IsAudioKind SparseAaf = ⊤
 IsAudioKind (Am824 interval dbc) = ⊤
 IsAudioKind (H264 part) = ⊥
 
--- A copy of one of the journal's packets arrives near the packet's instant, so a listener can tell which packet it is.
--- The listener expects packets `lead` nanoseconds before their first instant.
+-- A copy of one of the journal's packets arrives near the packet's instant, so a listener can tell which packet was
+-- sent. The listener expects packets `lead` nanoseconds before their first instant.
 pub record IsDelivered (j : Journal) (lead : ℕ) (c : Copy) : Type 0 where
   pub known : c.number < j.packets
   pub arrival : c.arrival ≤ 2 ^ 62
@@ -49,8 +49,8 @@ IsNear j n m =
     IsFragment j.kind n → IsFragment j.kind m → ((j.stamp n ≡ None) ⊎ (j.stamp m ≡ None)) →
     (n ≤ m + 254) × (m ≤ n + 254)
 
--- `IsNear` holds for each two adjacent packets of the list. For all packets of a run of fragments it follows by
--- induction.
+-- `IsNear` holds for each two adjacent packets of the list. For any two packets of a run of fragments, `IsNear` follows
+-- by induction.
 abbrev pub AreNear : Journal → List ℕ → Type 0
 AreNear j [] = ⊤
 AreNear j (n ∷ []) = ⊤

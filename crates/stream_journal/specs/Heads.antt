@@ -1,4 +1,4 @@
--- The stamps that a listener notes for copies, and the stamp that it searches for.
+-- The stamps that a listener notes for copies, and the stamps that a listener searches for.
 use Rattle.std.specs.Prelude.{◌≡◌, ◌≢◌, ℕ, ◌+◌, ◌-◌, ◌*◌, ◌/◌, ◌%◌, ◌<◌, ◌≤◌, ◌⊎◌, pos, Some, None}
 use Rattle.time_unfold.specs.declared.head_rule.Distance.{Distance}
 use Rattle.time_unfold.specs.declared.stamp.Stamp.{Stamp}
@@ -73,6 +73,6 @@ IsFarther j times from to = from * j.rate + times * (j.count * 1000000000) < to 
 abbrev pub AreApart : Journal → ℕ → ℕ → ℕ → Type 0
 AreApart j times x y = IsFarther j times x y ⊎ IsFarther j times y x
 
--- Packet n is counted from this stamp: its first sample is `far.samples` samples after the stamp's instant.
+-- Packet n is counted from this stamp: the packet's first sample is `far.samples` samples after the stamp's instant.
 abbrev pub IsCountedFrom : Journal → ℕ → Distance → Stamp → Type 0
 IsCountedFrom j n far stamp = head_of j n ≡ Some (record { instant = stamp.instant; first = pos far.samples })

@@ -1,5 +1,5 @@
--- The journal of a talker: when each packet is due, and the timestamps that it sent. Packets are counted from 0, not
--- modulo 256. Instants are whole nanoseconds of gPTP, not modulo 2^32.
+-- The journal of a talker: when each packet is due, and the timestamps that the talker sent. Packets are counted from
+-- 0, not modulo 256. Instants are whole nanoseconds of gPTP, not modulo 2^32.
 use Rattle.std.specs.Prelude.{◌≡◌, ℕ, ◌-◌, nat_le, if◌then◌else◌, Bool, true, false, ℤ, pos, neg_ℤ, ◌+ℤ◌, Option, Some, None, option_map, option_and_then}
 use Rattle.std.specs.Option.{option_or}
 use Rattle.time_unfold.specs.declared.head_rule.Distance.{Distance}
@@ -68,8 +68,9 @@ head_from j n far =
     option_map (λ instant. record { instant = pos instant; first = pos far.samples }) (j.stamp (n - far.packets))
     else None else None
 
--- The head of packet n according to its own timestamp. If packet n has no timestamp, its head is that according to the
--- packet from which it is counted. `None` if that packet has no timestamp either, or a different `mr`.
+-- The head of packet n according to its own timestamp. If packet n has no timestamp, the head follows from the
+-- timestamp of the packet from which packet n is counted. `None` if that packet has no timestamp either, or has a
+-- different `mr`.
 abbrev pub head_of : Journal → ℕ → Option Head
 head_of j n = option_or (own_head j n) (option_and_then (head_from j n) (distance (rule_of j.kind n) n j.count))
 

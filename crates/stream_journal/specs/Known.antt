@@ -33,8 +33,8 @@ pub record IsCounted (j : Journal) (lead room : ℕ) (c : Copy) (came : List ℕ
 abbrev pub IsTimed : Journal → ℕ → ℕ → Copy → List ℕ → Type 0
 IsTimed j lead room c came = (is_some (j.stamp c.number) ≡ true) ⊎ IsCounted j lead room c came
 
--- Two adjacent points of one run of the clock cover the instant. Copies of their packets are among the last 64 clock
--- packets that arrived. The listener adds `shift` to the clock's timestamps.
+-- Two adjacent points of one run of the clock cover the instant. Copies of the points' packets are among the last 64
+-- clock packets that arrived. The listener adds `shift` to the clock's timestamps.
 pub record IsCoveredBy (c : ClockJournal) (shift : ℤ) (rate : ℕ) (came : List ℕ) (instant : ℤ) : Type 0 where
   pub earlier : Place
   pub later : Place

@@ -50,8 +50,8 @@ pub fn block_talkers_conform()
 {}
 
 /// Of the packets of `each_sixteenth`, packet 2 was lost. The copies are delivered to a listener that expects packets 2
-/// ms before their first instant. For packet 4 the listener finds the stamp of packet 2 if it has this stamp, and
-/// otherwise finds no stamp.
+/// ms before their first instant. For packet 4, a listener that has the stamp of packet 2 finds this stamp. A listener
+/// without it finds no stamp.
 pub fn block_copies_are_delivered()
     ensures delivered { AreDelivered each_sixteenth 2000000 sixteenth_copies }
     ensures known { found 16 (wanted each_sixteenth 2000000 (came 4 1000250000) (record { packets = 2; samples = 8 })) (stamp_at each_sixteenth 0 1002000000 ∷ stamp_at each_sixteenth 2 1002166666 ∷ [])
@@ -91,7 +91,7 @@ pub fn video_talker_conforms()
 {}
 
 /// Packet 9 of the sparse talker has no timestamp, and is counted from packet 8. A listener finds the stamp of packet 8
-/// while it is among the last 16, that is, if at most 15 others arrived after it.
+/// while it is among the last 16 stamps, that is, while at most 15 other stamps arrived after it.
 pub fn heads_are_at_hand()
     ensures unstamped { IsUnstamped restarted 2000000 (came 9 1001125000) one_back }
     ensures expected { IsExpected restarted 2000000 (came 9 1001125000) }

@@ -75,7 +75,6 @@ all_whole (Some packets) crf rate count jump some some_w some_size ok has =
     let more : packets * 1 ≤ packets * count = mul-le-mul_left packets some in
     whole_of (packets * count) (spacing_of crf rate) crf.points (omega arith) some_w some_size has
 
--- the run to which a sample frame belongs
 run_number : (x count packets g : ℕ) → 1 ≤ count → g * packets * count ≤ x → x < g * packets * count + packets * count → x / count / packets ≡ g
 run_number x count packets g some from to =
     let n : ℕ = x / count in

@@ -20,7 +20,7 @@ use Rattle.talk_plan.specs.Ethernet.{ethernet}
 abbrev pub frame_at : CrfPlan → TalkPlan → ℕ → ℕ
 frame_at crf plan s = s * spacing_of crf plan.rate
 
--- the instant of point s: the nominal instant of its sample frame
+-- the instant of point s: the nominal instant of the point's sample frame
 unfoldable pub clock_point : CrfPlan → TalkPlan → ℕ → ℕ
 clock_point crf plan s = nominal_instant plan (frame_at crf plan s / plan.count) (frame_at crf plan s % plan.count)
 

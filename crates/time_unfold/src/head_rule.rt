@@ -20,8 +20,8 @@ pub enum HeadRule {
     /// AAF in sparse mode: a packet whose sequence number is a multiple of 8 has a timestamp, which belongs to its
     /// first sample (IEEE 1722-2016, 7).
     Eight,
-    /// IEC 61883-6: the timestamp belongs to the data block whose block count is a multiple of `interval`. The first
-    /// block of the packet has the count `dbc`, modulo 256.
+    /// IEC 61883-6: the timestamp belongs to the first data block whose block count is a multiple of `interval`. The
+    /// first block of the packet has the count `dbc`, modulo 256.
     Blocks { dbc: u8, interval: u32 },
 }
 
