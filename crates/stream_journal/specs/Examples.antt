@@ -81,7 +81,7 @@ blocks_of_six rate interval dues stamps = record {
 }
 
 -- At 48 kHz every eighth block has a timestamp: block 0 of packet 0, block 2 of packet 1, and block 4 of packet 2.
--- Packet 3 has no timestamp.
+-- Packet 3 has no timestamp. Packets 4 to 7 repeat this pattern.
 abbrev pub each_eighth : Journal
 each_eighth = blocks_of_six 48000 8
     (1002000000 ∷ 1002124999 ∷ 1002249999 ∷ 1002374999 ∷ 1002500000 ∷ 1002624999 ∷ 1002749999 ∷ 1002874999 ∷ [])

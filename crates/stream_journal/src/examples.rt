@@ -85,7 +85,7 @@ pub fn rules_have_limits()
     ensures few { (packets : ℕ) → Conforms (one_access_unit packets) ↔ packets ≤ 255 }
 {}
 
-/// A talker of H.264 keeps the rules if the last fragment of each unit has a timestamp.
+/// The talker of `video`, which stamps the last packet of each NAL unit, keeps the rules.
 pub fn video_talker_conforms()
     ensures { Conforms video }
 {}
