@@ -1,4 +1,4 @@
--- What follows from the results of the tests of a pair of points.
+-- What the results of a pair's tests imply.
 use Rattle.std.proofs.Common.{◌≡◌, ℕ, ◌-◌, ◌*◌, ◌≤◌, Bool, true, false, ℤ, pos, negsuc, ◌-ℤ◌, ◌≤ℤ◌, ◌<ℤ◌, refl, arith}
 use Rattle.std.specs.Prelude.{nat_le, int_le, int_lt, if◌then◌else◌}
 use Rattle.std.proofs.lemmas.Bool.{le-leb}

@@ -4,7 +4,7 @@ use Rattle.byteorder.specs.Endian.{big_bytes}
 use Rattle.clock_track.specs.declared.clock_row.ClockRow.{ClockRow}
 use Rattle.clock_track.specs.declared.pair.Pair.{Pair}
 
--- a pair of points of a 44.1 kHz clock: 147 events take 3,333,333 1/3 ns
+-- two points of a 44.1 kHz clock, 147 events apart; 147 events take 3,333,333 1/3 ns
 abbrev pub second_pair : Pair
 second_pair = record { earlier = pos 1002000000; later = pos 1005333333; interval = 147; up = 44100; down = 1 }
 

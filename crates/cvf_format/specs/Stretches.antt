@@ -145,15 +145,15 @@ held events = waiting (last_stretch events)
 abbrev pub is_passed : List Fragment → Bool
 is_passed stretch = not (is_within stretch) && is_within (before_last stretch)
 
--- What becomes of the last packet of the stretch, as far as is known when it arrives. The stretch is empty if the
--- packet is in no stretch.
+-- What becomes of the last packet of the stretch, as far as is known when the packet arrives. The stretch is empty if
+-- the packet is in no stretch.
 abbrev pub piece_of : List Fragment → Piece
 piece_of [] = variant.Lost Broken
 piece_of (first ∷ rest) =
     if is_within (first ∷ rest) then (if is_complete (first ∷ rest) then variant.Whole else variant.Held)
     else if is_passed (first ∷ rest) then variant.Lost Long else variant.Lost Broken
 
--- what becomes of the packet of the last event, as far as is known when it arrives
+-- what becomes of the packet of the last event, as far as is known when the packet arrives
 abbrev pub piece : List Event → Piece
 piece events = piece_of (last_stretch events)
 

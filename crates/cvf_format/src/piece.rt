@@ -18,7 +18,7 @@ pub enum Lost {
     Long,
 }
 
-/// What becomes of a packet, as far as is known when it arrives.
+/// What becomes of a packet, as far as is known when the packet arrives.
 #[derive(Clone, Copy, Debug, PartialEq, Eq)]
 pub enum Piece {
     /// The packet completes its unit.

@@ -67,7 +67,7 @@ pub fn clocked_talkers_conform()
 
 /// If the second and third points cover a packet's timestamp, they give the packet's samples their instants. With a
 /// clock of the stream's rate, samples are on the line of the clock's events. With a clock of 44.1 kHz, samples are
-/// counted from the timestamp in the clock's spacing.
+/// counted from the timestamp, and have the clock's spacing.
 pub fn samples_are_clocked()
     ensures own { IsAt true (clocked 48000) 33 1 (pos 1006145833) }
     ensures other { IsAt true (clocked 44100) 33 1 (pos 1006144140) }

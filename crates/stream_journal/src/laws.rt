@@ -26,7 +26,7 @@ pub fn timestamps_are_true()
     ensures { (j : Journal) (lead : ℕ) (c : Copy) (instant : ℕ) → IsDelivered j lead c → j.stamp c.number ≡ Some instant → unfolded (instant % 2 ^ 32) (pos c.arrival) ≡ pos instant }
 {}
 
-/// Packets that are m numbers apart are due at least 3/4 of the time of m packets apart. Packets are due in the order
+/// Packets whose numbers differ by m are due at least 3/4 of the time of m packets apart. Packets are due in the order
 /// of their numbers.
 pub fn packets_are_spaced()
     ensures rising { (j : Journal) (n m : ℕ) → IsAudio j → n < m → m < j.packets → j.due n < j.due m }
