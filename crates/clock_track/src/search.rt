@@ -235,7 +235,7 @@ fn is_past_group(groups: &[Bounds], group: usize, query: &Query) -> bool
     }
 }
 
-/// Of the pairs of a group with an index below `end`, the last that covers the instant.
+/// Of the pairs in a group, up to index `end` - 1, the last that covers the instant.
 fn latest_of_group(
     row: &Points<'_>,
     groups: &[Bounds],

@@ -1,4 +1,4 @@
--- Which indexes of a range pass a test: the first, the last, and all of them.
+-- The indexes of a range that pass a test: the first, the last, and all of them.
 use Rattle.std.proofs.Common.{◌≡◌, ℕ, zero, suc, ◌+◌, ◌-◌, ◌<◌, ◌≤◌, Bool, true, false, cond, not, eqb, ◌⊎◌, List, [], ◌∷◌, Option, None, Some, refl, sym, ap, subst, ◌∙◌, inl, inr, arith}
 use Rattle.std.proofs.lemmas.Bool.{cases_lt}
 use Rattle.avtp_base.proofs.RowLemmas.{unequal}

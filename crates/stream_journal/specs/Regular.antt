@@ -12,7 +12,7 @@ pub record AreInstants (j : Journal) : Type 0 where
   pub due : (n : ℕ) → n < j.packets → j.due n ≤ 2 ^ 62
   pub stamp : (n instant : ℕ) → n < j.packets → j.stamp n ≡ Some instant → instant ≤ 2 ^ 62
 
--- two periods of the clock differ by at most a quarter of the nominal spacing of two events
+-- two periods of the clock differ by at most a quarter of the nominal time between two events
 pub record IsSteady (first second : Pair) : Type 0 where
   pub longer : 4 * (period second * second.up) ≤ 4 * (period first * first.up) + 1000000000 * first.down
   pub shorter : 4 * (period first * first.up) ≤ 4 * (period second * second.up) + 1000000000 * first.down

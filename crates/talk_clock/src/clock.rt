@@ -14,8 +14,7 @@ use talk_plan::{CrfPlan, ETHERNET_HEADER, TalkPlan, write_ethernet};
 
 /// The media clock of a plan, with a stream of `stream` packets. The clock's points are counted through the whole
 /// stream, including points at sample frames that only fill up the last packet. Point s is at sample frame s * spacing.
-/// Each restart is at the beginning of a clock packet, so points counted in each run would be at the same sample
-/// frames.
+/// Each restart is at the beginning of a clock packet, so a restart does not change the sample frames of points.
 #[derive(Clone, Copy, Debug)]
 pub struct ClockStream {
     pub plan: TalkPlan,

@@ -28,7 +28,7 @@ pub struct Want {
     pub rate: u32,
     /// When the packet without a timestamp was captured, in nanoseconds of gPTP.
     pub arrival: i64,
-    /// How long before its first sample a packet is expected, in nanoseconds.
+    /// A packet is expected this many nanoseconds before its first sample.
     pub lead: u32,
     /// The number of the first sample of the packet without a timestamp, counted from the stamped sample.
     pub back: u32,
