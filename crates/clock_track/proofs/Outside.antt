@@ -141,7 +141,6 @@ across-empty shift row before bounds e = cases (seems_next row before) (nat_lt 0
     cases true false d e = tt
     cases false b d e = tt
 
--- any bounds hold the pairs of a packet without timestamps
 pub pairs-empty : (shift : ℤ) (row : ClockRow) (bounds : Bounds) → timestamps row ≡ 0 → HasPairs shift row bounds
 pairs-empty shift row bounds e = record {
   inside = λ i from to. absurd (omega arith);

@@ -91,9 +91,9 @@ pub fn next_unit(bytes: &[u8], from: usize) -> Option<(usize, usize)>
 /// The NAL units of a byte stream, in order: for each, the index of its first byte, and the index after its last byte.
 ///
 /// A start code is 00 00 01. A unit begins after a start code and ends before the next 00 00 01 or 00 00 00, or at the
-/// end of the bytes. Zero bytes at the end of a unit are dropped. A unit of zero bytes only is left out. Bytes before
-/// the first start code belong to no unit. Bytes from 00 00 00 to the next start code belong to no unit either. Returns
-/// `NoMemory` if the list cannot be allocated; nothing else is allocated.
+/// end of the bytes. Zero bytes at the end of a unit are dropped. A unit that has only zero bytes is left out. Bytes
+/// before the first start code belong to no unit. Bytes from 00 00 00 to the next start code belong to no unit either.
+/// Returns `NoMemory` if the list cannot be allocated; nothing else is allocated.
 pub fn split_annex_b(alloc: Global, bytes: &[u8]) -> Result<Vec<(usize, usize)>, NoMemory>
     ensures units { IfOk result (λ units. AreUnits bytes.now units.items) }
     ensures value { IfOk result (λ units. units.items ≡ nal_units bytes.now) }

@@ -19,8 +19,8 @@ abbrev pub stamps_in : Journal → List ℕ → List Stamp
 stamps_in j came = filter_map (λ n. option_map (stamp_at j n) (j.stamp n)) came
 
 -- A copy of a packet without a timestamp can be counted. The packet from which it is counted has one of the last `room`
--- timestamps that arrived. There is no restart between the two packets. The copy is expected at most the time of 60
--- packets before or after its first instant.
+-- timestamps that arrived. There is no restart between the two packets. The copy's arrival plus `lead` is at most the
+-- time of 60 packets before or after the packet's first instant.
 pub record IsCounted (j : Journal) (lead room : ℕ) (c : Copy) (came : List ℕ) : Type 0 where
   pub none : j.stamp c.number ≡ None
   pub far : Distance

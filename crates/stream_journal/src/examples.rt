@@ -51,7 +51,7 @@ pub fn block_talkers_conform()
 
 /// Of the packets of `each_sixteenth`, packet 2 was lost. The copies are delivered to a listener that expects packets 2
 /// ms before their first instant. For packet 4, a listener that has the stamp of packet 2 finds this stamp. A listener
-/// without it finds no stamp.
+/// that lacks this stamp finds no stamp.
 pub fn block_copies_are_delivered()
     ensures delivered { AreDelivered each_sixteenth 2000000 sixteenth_copies }
     ensures known { found 16 (wanted each_sixteenth 2000000 (came 4 1000250000) (record { packets = 2; samples = 8 })) (stamp_at each_sixteenth 0 1002000000 ∷ stamp_at each_sixteenth 2 1002166666 ∷ [])

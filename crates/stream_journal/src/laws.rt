@@ -94,7 +94,8 @@ pub fn near_packets_are_one()
 
 /// For a copy of a packet without a timestamp, a listener finds a stamp under exactly three conditions. The stamp is
 /// that of the packet from which the copy is counted, and is among the last `room` stamps. There is no restart between
-/// the two packets. The copy is expected at most the time of 60 packets before or after the packet's first instant.
+/// the two packets. The copy's arrival plus `lead` is at most the time of 60 packets before or after the packet's first
+/// instant.
 pub fn heads_are_found()
     ensures { (j : Journal) (lead room : ℕ) (c : Copy) (far : Distance) (stamps : List Stamp) (stamp : Stamp) → IsAudio j → HoldsEight j.packets j.mr → IsUnstamped j lead c far → All (IsTrue j) stamps → (found room (wanted j lead c far) stamps ≡ Some stamp) ↔ (IsExpected j lead c × IsAtHand j room c.number far stamps stamp) }
 {}

@@ -32,7 +32,7 @@ impl Model for Anchors {
 }
 
 impl Anchors {
-    /// An empty window with room for `room` stamps, 1 to 80. Reserves all its memory.
+    /// An empty window with room for `room` stamps, 1 to 80. Reserves the memory for all stamps.
     pub fn new(alloc: Global, room: u32) -> Result<Self, NoMemory>
         requires { IsRoom room }
         ensures empty { IfOk result (λ anchors. KeepsLast anchors []) }
