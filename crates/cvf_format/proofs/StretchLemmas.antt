@@ -89,8 +89,8 @@ equal_stamps : (ts : List ℤ) (g : Fragment) (t : Option ℤ) → g.instant ≡
 equal_stamps ts g None e = rw (e, append_none ts, agree_none (first_stamp ts), and-true (all_equal ts)) refl
 equal_stamps ts g (Some t) e = rw e (equal_more ts t)
 
--- The packet continues the unit of the stretch's last packet. If both the packet and the stretch have an instant, these
--- are equal.
+-- The packet continues the unit of the stretch's last packet. If both the packet and the stretch have an instant, the
+-- two instants are equal.
 abbrev pub continues : Fragment → List Fragment → Fragment → Bool
 continues f rest g = follows (last_of f rest) g && agree (first_stamp (stamps (f ∷ rest))) g.instant
 

@@ -19,9 +19,9 @@ const MOST_FRAGMENTS: usize = 4_096;
 
 /// Puts NAL units together from the packets of a stream, which are pushed in the order of their arrival.
 ///
-/// A unit is in one packet, or in a first fragment, any middle fragments and a last fragment. All fragments carry the
-/// same first byte of the unit, and each has the next sequence number. All fragments with a timestamp must have the
-/// same presentation time.
+/// A unit is in one packet, or is split into a first fragment, any number of middle fragments, and a last fragment. All
+/// fragments carry the same first byte of the unit, and each has the next sequence number. All fragments with a
+/// timestamp must have the same presentation time.
 ///
 /// What becomes of a packet depends on the longest stretch of packets that ends with it. The assembler keeps only that
 /// stretch.
@@ -151,7 +151,7 @@ impl Assembler {
     }
 
     /// The mark of fragment `i`, counted from 0, among the fragments that the last packet or cut gave up, in the order
-    /// of their arrival. `i` must be below their number.
+    /// of their arrival. `i` must be less than the number of these fragments.
     pub fn lost_mark(&self, i: u32) -> Mark
         requires { i < length self.now.lost }
         ensures { (events : List Event) → StandsFor self.now events → slice_get (lost_marks events) i ≡ Some result }

@@ -20,7 +20,7 @@ pub struct Cip {
 /// An IEC 61883-6 packet.
 #[derive(Clone, Copy, Debug)]
 pub struct IecView<'a> {
-    /// The stream header. The higher of its two format bits is reserved. The lower one means that `gateway_info` is
+    /// The stream header. The higher of its two format bits is reserved. The lower bit means that `gateway_info` is
     /// valid.
     pub header: StreamHeader,
     pub gateway_info: u32,

@@ -38,9 +38,9 @@ pub fn restarted_talker_conforms()
     ensures behind { head_of restarted 17 ≡ Some (record { instant = pos 1005000000; first = pos 6 }) }
 {}
 
-/// Talkers of AM824 with 6 blocks in a packet keep the rules. At 48 kHz packet 2 is counted from its own block 4.
-/// Packet 3 has no timestamp, and is counted from that block, too, 2 blocks back. At 96 kHz packet 4 is counted from a
-/// block two packets back.
+/// Talkers of AM824 with 6 blocks in a packet keep the rules. At 48 kHz, packet 2 is counted from its own block 4.
+/// Packet 3 has no timestamp. It is counted from the same block, which is 2 blocks before the first block of packet 3.
+/// At 96 kHz, packet 4 is counted from a block two packets back.
 pub fn block_talkers_conform()
     ensures eighth { Conforms each_eighth }
     ensures sixteenth { Conforms each_sixteenth }

@@ -41,8 +41,8 @@ pub fn other_stamps_are_far()
     ensures instants { (j : Journal) (n k instant : ℕ) (far : Distance) → IsAudio j → n < j.packets → k < j.packets → j.stamp k ≡ Some instant → distance (rule_of j.kind n) n j.count ≡ Some far → IsOther n k far → AreApart j 189 (j.due n) (behind j instant far.samples) }
 {}
 
-/// A listener has a copy of a packet without a timestamp. The listener refuses each stamp of another packet that has
-/// the right sequence number. The copy arrives too far from the instant that would be counted from such a stamp.
+/// A listener has a copy of a packet without a timestamp. If the stamp of another packet has the right sequence number,
+/// the listener refuses this stamp. The copy arrives too far from the instant that would be counted from the stamp.
 pub fn other_stamps_are_refused()
     ensures candidate { (j : Journal) (lead : ℕ) (c : Copy) (far : Distance) (k : ℕ) (stamp : Stamp) (is : IsStampOf j k stamp) → candidate (wanted j lead c far) stamp ≡ pos (behind j is.instant far.samples) }
     ensures refused { (j : Journal) (lead : ℕ) (c : Copy) (far : Distance) (k : ℕ) (stamp : Stamp) → IsAudio j → IsUnstamped j lead c far → IsStampOf j k stamp → IsOther c.number k far → is_near (wanted j lead c far) stamp ≡ false }
@@ -100,8 +100,8 @@ pub fn heads_are_found()
     ensures { (j : Journal) (lead room : ℕ) (c : Copy) (far : Distance) (stamps : List Stamp) (stamp : Stamp) → IsAudio j → HoldsEight j.packets j.mr → IsUnstamped j lead c far → All (IsTrue j) stamps → (found room (wanted j lead c far) stamps ≡ Some stamp) ↔ (IsExpected j lead c × IsAtHand j room c.number far stamps stamp) }
 {}
 
-/// If two adjacent points of one run cover a packet's timestamp, and their packets are among the clock's last 64, a
-/// listener finds a line for the timestamp. The line is that of these two points.
+/// If two adjacent points of one run cover a packet's timestamp, and the points' packets are among the clock's last 64,
+/// a listener finds a line for the timestamp. The line is that of these two points.
 pub fn lines_are_found()
     ensures some { (c : ClockJournal) (shift instant : ℤ) (rate : ℕ) (rows : List ClockRow) (p q : Place) → IsClock c → ArePointsAtHand c shift rows p q → Covers (pair_at c p q) rate instant → clock_spot rows shift instant rate ≢ None }
     ensures found { (j : Journal) (shift : ℤ) (rows : List ClockRow) (n : ℕ) (head : Head) (p q : Place) → IsClock j.clock → AgreesWithClock j → All (IsTrueRow j.clock shift) rows → n < j.packets → head_of j n ≡ Some head → ArePointsAtHand j.clock shift rows p q → Covers (pair_at j.clock p q) j.rate head.instant
