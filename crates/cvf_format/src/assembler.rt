@@ -159,7 +159,8 @@ impl Assembler {
         self.lost[i as usize]
     }
 
-    /// Marks a cut: no unit continues across it. Gives up the waiting fragments and returns their number. Allocates nothing.
+    /// Marks a cut: no unit continues across it. Gives up the waiting fragments and returns their number. Allocates
+    /// nothing.
     pub fn cut(&mut self) -> u32
         ensures stands { (events : List Event) → StandsFor self.old events → StandsFor self.new (events ++ cut_event ∷ []) }
         ensures lost { (events : List Event) → StandsFor self.old events → result ≡ length (given_up (events ++ cut_event ∷ [])) }
