@@ -67,11 +67,10 @@ missing_b : (asked : Agreeing) (a : Option (List ℕ)) → (agree_ended asked a 
 missing_b asked None = (refl, refl)
 missing_b asked (Some x) = (refl, refl)
 
--- the outcome of a run, given the bytes of both files, or `None` for a missing one
+-- the outcome of a run without read faults, given the bytes of A and of B, or `None` for a missing file
 abbrev pub ComesTo : Agreeing → List (List ℕ) → Status → List ℕ → Option (List ℕ) → Option (List ℕ) → Type 0
 ComesTo asked came ended text a b = (came ≡ agree_came asked a) × (ended ≡ agree_ended asked a b) × (text ≡ agree_report asked a b)
 
--- without a read fault, only the outcome without read faults is possible
 pub agree_complete : {asked : Agreeing} {files : Files} {fault : Type 0} {came : List (List ℕ)} {ended : Status} {text : List ℕ} → (fault → ⊥) → AgreeOutcome asked files fault came ended text → ComesTo asked came ended text (files asked.a) (files asked.b)
 agree_complete {asked} {files} {fault} {came} {ended} {text} none (without_a (inl is) c e t) = subst (λ (a : Option (List ℕ)). ComesTo asked came ended text a (files asked.b)) (sym is) (c, e, t)
 agree_complete none (without_a (inr f) c e t) = absurd (none f)
@@ -120,7 +119,6 @@ agree_told {asked} {all} {fault} {h = h} {h'} {w} {w'} {result} {a} {b} {counts}
 
 -- ---- statuses
 
--- if neither reading ended with a read fault, the status is one of reading, but not that of a read fault
 reads_status : (found : ℕ) (a b : End) → a ≢ end.ReadFault → b ≢ end.ReadFault → (is_of_reading (agree_status found a b) ≡ true) × (agree_status found a b ≢ status.ReadFault)
 reads_status found end.Whole end.Whole p q =
     elim (found == 0) as (λ b. (is_of_reading (if b then status.Done else status.Findings) ≡ true) × ((if b then status.Done else status.Findings) ≢ status.ReadFault)) [ true ↦ (refl, λ e. cc) | false ↦ (refl, λ e. cc) ]
@@ -200,7 +198,6 @@ module _ {s t u v : ShelfState} {c c' : Comparing} {h mid : SinkState} {w m : Li
       let at = opened.told all told (shown_before t.files v.files (KeepsFiles-trans t.files u.files v.files compares.reads.files closes.files) still) in
       (at, compares.told asked at.bytes_a at.bytes_b opened.plans at.given_a at.given_b)
 
-  -- what the run did follows from its text, its counts and its status
   does_over : {h' : SinkState} {w' : List ℕ} {result : Result Status Failed}
       → ((all : Files) → s.files ≡ Some all → IsSome v.files → TellsRun (AgreeYields asked all (Rose s.reading_faults v.reading_faults)) HandsNothing s v (written h.held w) (written h'.held w') result)
       → CountsReading (asked.a ∷ asked.b ∷ []) s.files s.reading_faults v.reading_faults result → IsReadingStatus result → KeepsSink h h' result → DoesReading (AgreeYields asked) (asked.a ∷ asked.b ∷ []) HandsNothing s v h h' w w' result

@@ -163,7 +163,6 @@ shift_within : (o : Option (List ℕ)) (z : ℤ) → MatchOption o (z ≡ pos 0)
 shift_within None z given = rw given (omega (arith, ints), omega (arith, ints))
 shift_within (Some word) z given = small_shift z given.size
 
--- the plan of a listener that the words ask for is within its bounds
 listener_within : (settings : List Setting) (id : List ℕ) (asked : ListenerOptions) → SaysListener settings id asked → (asked.limit ≤ 2 ^ 40) × IsSchedulePlan (schedule_plan (plan_of asked))
 listener_within settings id asked says =
     let limit = given_within (value_in (codes "--limit") settings) 1 (2 ^ 40) (2 ^ 40) asked.limit (omega arith) (omega arith) says.limit in
@@ -174,7 +173,7 @@ listener_within settings id asked says =
     let shift = shift_within (value_in (codes "--crf-shift") settings) asked.shift says.shift in
     (limit.1, record { some_buffer = buffer.0; buffer = buffer.1; some_room = room.0; room = omega (arith, room.1); look = look.1; lead = lead.1; shift_from = shift.0; shift_to = shift.1 })
 
--- all values of a request that the words ask for are within their bounds
+-- if the words ask for `request`, all its values are within their bounds
 pub requested : (words : List (List ℕ)) (request : Request) → IsCommandLine words request → IsRequest request
 requested words (show limit file) line = (given_within (value_in (codes "--limit") line.settings) 1 (2 ^ 40) (2 ^ 40) limit (omega arith) (omega arith) line.limit_given).1
 requested words (check limit names) line = (given_within (value_in (codes "--limit") line.settings) 1 (2 ^ 40) (2 ^ 40) limit (omega arith) (omega arith) line.limit_given).1

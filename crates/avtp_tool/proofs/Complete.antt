@@ -194,8 +194,8 @@ opened asked name bytes fault ended yields outcome =
       whole = λ shift p all hears. subst (KeepsHeadline shift p plan records) (sym (items ∙ all_shown plan records outcome.how all)) (headline shift p plan records hears);
     }
 
--- What files in order yield: first what the earlier files yield, then what the file `name` yields, then what the later
--- files yield.
+-- What a run yields, in three parts: what the earlier files yield, then what the file `name` yields, and last what the
+-- later files yield.
 record IsAmong (one : List ℕ → Status → Yield → Type 0) (earlier : List (List ℕ)) (name : List ℕ) (yields : Yield) : Type 0 where
   before : Yield
   done : Status

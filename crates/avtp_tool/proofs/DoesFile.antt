@@ -42,7 +42,6 @@ pub record IsReadAndTold (report : Report) (handed : List Shown → Type 0) (lim
   pub ends : EndsAfter limit bytes fault how records
   pub tells : TellsYield (Only (report.status records how) (report.yields records how)) handed before now result
 
--- a relation of the counts while a file is open holds of the counts before its opening and after its closing
 pub around : {r r' q' q : ℕ} (P : ℕ → ℕ → Type 0) → r' ≡ r → q ≡ q' → P r' q' → P r q
 around {r' = r'} {q = q} P first last p = subst (λ (n : ℕ). P n q) first (subst (P r') (sym last) p)
 

@@ -33,11 +33,10 @@ use Rattle.avtp_tool.specs.Status.{status_of}
 
 -- ---- if no read fault occurs
 
--- the bytes alone never end a reading with a read fault
 never_fault : (limit : ℕ) (bytes : List ℕ) → end_of limit bytes ≡ end.ReadFault → ⊥
 never_fault limit bytes e = (subst (λ (h : End). EndsAt limit (Some bytes) ⊥ h (take limit bytes)) e (ends_here limit bytes ⊥)).0
 
--- the outcome without read faults, given the record that cannot be converted, if any, and how the scan ended
+-- the outcome of a run without read faults, given how the scan ended and the record that cannot be converted, if any
 here_by : (asked : Turning) (files : Files) (fault : Type 0) (bytes : List ℕ) (at : Option FaultAt) (how : End) → files asked.input ≡ Some bytes → fault_in asked (records_of asked bytes) ≡ at → end_of asked.listener.limit bytes ≡ how
     → GatewayOutcome asked files fault (came_by asked at how) (ended_by asked (records_of asked bytes) at how) (text_by asked (records_of asked bytes) at how) (made_by asked (records_of asked bytes) at how)
 here_by asked files fault bytes (Some at) how is found ends = faulty bytes at is found refl refl refl refl
@@ -58,11 +57,11 @@ gateway_here asked files fault = at (files asked.input) refl where
 
 -- ---- any other outcome needs a read fault
 
--- the outcome of a run, given the bytes of IN, or `None` if IN is missing
+-- the outcome of a run without read faults, given the bytes of IN, or `None` if IN is missing
 abbrev pub TurnsOut : Turning → List (List ℕ) → Status → List ℕ → Option (List ℕ) → Option (List ℕ) → Type 0
 TurnsOut asked came ended text made told = (came ≡ gateway_came asked told) × (ended ≡ gateway_ended asked told) × (text ≡ gateway_report asked told) × (made ≡ gateway_made asked told)
 
--- the outcome of a run, given the record that cannot be converted, if any, and how the scan ended
+-- the outcome of a run without read faults, given how the scan ended and the record that cannot be converted, if any
 abbrev pub TurnsBy : Turning → List Record → List (List ℕ) → Status → List ℕ → Option (List ℕ) → Option FaultAt → End → Type 0
 TurnsBy asked records came ended text made at how = (came ≡ came_by asked at how) × (ended ≡ ended_by asked records at how) × (text ≡ text_by asked records at how) × (made ≡ made_by asked records at how)
 

@@ -28,7 +28,6 @@ use Rattle.avtp_tool.proofs.Outcomes.{counts_failed, ends_not, sink_failed, sink
 use Rattle.avtp_tool.proofs.PlanRuns.{tells_all, through_as}
 use Rattle.avtp_tool.proofs.Yields.{gives_then, Joins, more_none, part_before, part_none, part_then, part_whole}
 
--- text that is printed after items adds no item
 joins_text : (handed : List Shown → Type 0) → Joins handed HandsNothing handed
 joins_text handed xs ys first none = subst handed (sym (append-nil xs) ∙ ap (λ (l : List Shown). xs ++ l) (sym none)) first
 

@@ -210,13 +210,13 @@ heard_still {s} {t} {u} {source = source} {listener = listener} {stage} {items} 
 pub presented_flag : (items : List Shown) (frame seq : ℕ) (reason : Reason) → presented_of (items ++ Flag frame seq reason ∷ []) ≡ presented_of items
 presented_flag items frame seq reason = presented-append items (Flag frame seq reason ∷ []) ∙ append-nil (presented_of items)
 
--- the number of presented items among the items is the number of batches
+-- the number of presented items is the number of batches
 pub presented_count : (items : List Shown) → count_by is_present items ≡ length (presented_of items)
 presented_count [] = refl
 presented_count (Present batch ∷ items) = omega (arith, count-next is_present (Present batch) items, presented_count items)
 presented_count (Flag frame seq reason ∷ items) = omega (arith, count-next is_present (Flag frame seq reason) items, presented_count items)
 
--- however the reading ended, what is shown is a prefix of what is shown at the end of a whole capture
+-- whatever `how` is, what is shown is a prefix of what is shown if the reading ends at the capture's end
 first_of_whole : (plan : ListenPlan) (records : List Record) (how : End) → IsPrefix (shown_by plan records how) (shown_by plan records end.Whole)
 first_of_whole plan records end.Whole = ([], append-nil (shown_by plan records end.Whole))
 first_of_whole plan records (end.Refused refusal) = ([], append-nil (shown_by plan records end.Whole))

@@ -49,7 +49,6 @@ shown_first plan records (end.Refused refusal) = due_first plan records
 shown_first plan records end.ReadFault = ([], append-nil (due_of plan records))
 shown_first plan records end.Limit = ([], append-nil (due_of plan records))
 
--- If the listener is closed as `is_all how` says, the items that it shows are those of `shown_by`.
 out_at : (how : End) (listener : ListenState) (records : List Record) → is_closed listener ≡ is_all how → out listener records ≡ shown_by listener.plan records how
 out_at end.Whole listener records closed = rw closed refl
 out_at (end.Refused refusal) listener records closed = rw closed refl
@@ -107,7 +106,7 @@ take_all : {X : Type 0} (xs : List X) → take (length xs) xs ≡ xs
 take_all {X} [] = refl
 take_all {X} (x ∷ xs) = ap (λ (l : List X). x ∷ l) (take_all xs)
 
--- All items of a capture whose reading ended as `how` after these records were shown and counted.
+-- The reading of a capture ended as `how` after these records. All items of the capture were shown and counted.
 pub record IsAllHeard (plan : ListenPlan) (records : List Record) (how : End) (counts : Counts) (items : List Shown) : Type 0 where
   pub items_are : items ≡ shown_by plan records how
   pub counted : counts ≡ counts_of plan records (shown_by plan records how)

@@ -32,7 +32,6 @@ use Rattle.listener.proofs.Fed.{prefix_twice}
 
 -- ---- lists
 
--- a prefix followed by the next item, if any, is still a prefix
 prefix_out : (xs ys : List Shown) (next : Option Shown) → IsPrefix xs ys → next ≡ slice_get ys (length xs) → IsPrefix (xs ++ option_to_list next) ys
 prefix_out xs ys None first at = subst (λ (l : List Shown). IsPrefix l ys) (sym (append-nil xs)) first
 prefix_out xs ys (Some x) first at = prefix-more xs ys x first (sym at)
@@ -42,7 +41,8 @@ prefix_out xs ys (Some x) first at = prefix-more xs ys x first (sym at)
 take_length : {X : Type 0} (n : ℕ) (xs : List X) → n ≤ length xs → length (take n xs) ≡ n
 take_length n xs within = omega (arith, length-take n xs)
 
--- The number of shown items is that of the presented and the flagged items. It is at most the number of taken records.
+-- The number of shown items is the number of presented items plus the number of flagged items. It is at most the number
+-- of taken records.
 pub shown_count : (listener : ListenState) (records : List Record) (given : ℕ) → StandsFor records given listener
     → (listener.counts.presented + listener.counts.flagged ≡ given) × (given ≤ listener.counts.frames)
 shown_count listener records given stands =
@@ -74,7 +74,6 @@ module _ {old new : ListenState} (count : ℕ) (stable : IsStable old) (stands :
             let after = shown_count new on.0 (sound.given + count) on.1 in
             omega (arith, before.0, before.1, after.0, after.1, fewer)
 
--- taking more records does not change which items a listener has shown
 pub stands_still : {old new : ListenState} (more : List Record) → ((records : List Record) (given : ℕ) → StandsFor records given old → StandsFor (records ++ more) given new) → (records : List Record) (given : ℕ) → StandsFor records given old
     → (others : List Record) × StandsFor others (given + 0) new
 stands_still {old} {new} more stands records given was = (records ++ more, subst (λ (n : ℕ). StandsFor (records ++ more) n new) (omega arith) (stands records given was))

@@ -38,7 +38,7 @@ joined_twice a b c = elim (last_of c) [
   | inr last ↦ last (joined a b) ∙ sym (ap (joined a) (last b) ∙ last a)
 ]
 
--- if a run over files is done, so is the run over the files after the first
+-- if a run over files is done, the run over all files but the first is done, too
 pub rest_done : (first rest : Status) → is_done (joined first rest) ≡ true → is_done rest ≡ true
 rest_done first rest done = elim (last_of rest) [ inl is ↦ ap is_done is | inr last ↦ ap is_done (sym (last first)) ∙ done ]
 

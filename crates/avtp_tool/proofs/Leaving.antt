@@ -19,7 +19,6 @@ use Rattle.capture_io.specs.Source.{EndsAfter, GivesNext, HasGivenOf, Sourcing, 
 use Rattle.capture_io.proofs.Ending.{after_weaker}
 use Rattle.capture_io.proofs.Leaving.{only_reads_closed, opens_then, reads_nothing, reads_then}
 
--- the slot that was read is still open, under its present number
 pub live_now : {s t : ShelfState} {k j : ℕ} → ReadsSlot s t k j → IsSome (t.slots j)
 live_now {t = t} reads = subst (λ (n : ℕ). IsSome (t.slots n)) (sym reads.slot) reads.live
 
@@ -97,7 +96,7 @@ ends_reading end.Limit = refl
 pub own_ended : (result : Result Status Failed) (how : End) → IfOk result (λ s. s ≡ status_of how) → IsReadingStatus result
 own_ended result how is = own_as result (status_of how) (ends_reading how) is
 
--- a run that only reads does not end with any status that is not one of reading
+-- a run that only reads ends with a status of reading
 pub never_ends : (result : Result Status Failed) (other : Status) → is_of_reading other ≡ false → IsReadingStatus result → result ≡ Ok other → ⊥
 never_ends (Ok s) other differs own is = let same : s ≡ other = cc in let t : true ≡ false = sym own ∙ (ap is_of_reading same ∙ differs) in cc
 never_ends (Err e) other differs own is = absurd cc

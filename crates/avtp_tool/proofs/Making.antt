@@ -103,7 +103,8 @@ capture_first records n =
           ∙ ap (λ (b : List ℕ). header ++ b) (sym (flat_map-append one (take n records) (drop n records)) ∙ ap (flat_map one) (take-append-drop n records))),
     )
 
--- After a file was created, written and closed, each slot is as before, except what is left to read of this file.
+-- A file was created, written and closed. Each slot is then as before, except that what is left to read of this file
+-- may have changed.
 pub slots_closed : {s t u v : ShelfState} {w w' : Writing} {name : List ℕ} {result : Result Unit Failed} (records : List Record) → BeginsCapture s t name (Ok w) → KeepsOtherFiles t.slots u.slots (name_in t.slots w.slot) → w'.slot ≡ w.slot
     → HoldsCapture s.files u w' name records → ClosesCapture u v w' result → KeepsSlotsBut s.files s.slots v.slots name
 slots_closed {s} {t} {u} {v} {w} {w'} {name} records begins others slot holds closes = record { same = same; left = left } where
@@ -163,7 +164,6 @@ makes_after {a} {b} {c} {name} {bytes} {result} keeps m = record {
 
 -- ---- all else that a run leaves
 
--- a run that did not reach the file wrote nothing
 pub writes_none : {s : ShelfState} (name : List ℕ) (result : Result Status Failed) → (IsDone result → ⊥) → (result ≡ Ok status.WriteFault → ⊥) → WritesOnly s s name result
 writes_none {s} name result not_done not_failed = record {
   files = files_still (Some name) s.files;

@@ -40,7 +40,6 @@ sink_then {U = U} {h} {h'} {h''} {x} {result} first second = record {
   counted = subst (λ (n : ℕ). IsCounted {T = U} n h''.faults result) first.counted.ok second.counted;
 }
 
--- the effect of a failure on the sink does not depend on what the call returns on success
 pub sink_failed : {T U : Type 0} {h h' : SinkState} {e : Failed} {result : Result U Failed} → IsErr result → KeepsSink {T = T} h h' (Err e) → KeepsSink h h' result
 sink_failed {result = Ok x} err first = absurd cc
 sink_failed {result = Err e'} err first = record { grows = first.grows; counted = record { never_falls = first.counted.never_falls; ok = tt; failed = first.counted.failed } }
@@ -54,7 +53,6 @@ sink_printed prints = record { grows = prints.grows; counted = prints.counted }
 pub sink_part : {h h' : SinkState} {w w' : List ℕ} {result : Result Unit Failed} {text : List ℕ} → PrintsPart h h' w w' result text → KeepsSink h h' result
 sink_part prints = record { grows = prints.grows; counted = prints.counted }
 
--- the effect of a success on the sink does not depend on the value that the call returns
 pub sink_ok : {T U : Type 0} {h h' : SinkState} {x : T} (y : U) → KeepsSink h h' (Ok x) → KeepsSink h h' (Ok y)
 sink_ok y first = record { grows = first.grows; counted = record { never_falls = first.counted.never_falls; ok = first.counted.ok; failed = tt } }
 
@@ -74,8 +72,8 @@ tells_cut {result = Ok s} ended yields outcome cut part = record {
 }
 tells_cut {result = Err e} ended yields outcome cut part = record { ended = ended; yields = yields; outcome = outcome; part = part; whole = tt }
 
--- If the known bytes grew by `line`, all of `one` was given out. If they did not grow, a part of any yield was given
--- out. Giving out the whole of a yield is also giving out a part of it.
+-- What follows from how the known bytes grew. If they grew by `line`, all of `one` was given out. If they did not grow,
+-- the empty part of any yield was given out. Giving out a whole yield is also giving out a part of it.
 pub record Telling {Y : Type 0} (Whole Part : Y → Type 0) (before now : Option (List ℕ)) (line : List ℕ) (one : Y) : Type 0 where
   pub says : Appends before now line → Whole one
   pub none : (y : Y) → Keeps before now → Part y
@@ -201,7 +199,6 @@ counts_by ended (Ok s) falls told is = elim told [
   | inr fault ↦ record { never_falls = falls; fault = λ e. inl fault.1; quiet = λ other memory write. absurd (other (is ∙ fault.0)) }
 ]
 
--- if a run ends as its reading ended, its count of reading faults agrees with its status
 ends_fault : (how : End) (before after : ℕ) → CountsFault None (Some how) before after → TellsFault (status_of how) before after
 ends_fault end.Whole before after counts = inl (λ e. cc, counts)
 ends_fault (end.Refused refusal) before after counts = inl (λ e. cc, counts)
@@ -215,7 +212,6 @@ ends_other : (result : Result Status Failed) (ended other : Status) → ended �
 ends_other (Ok s) ended other differ is e = differ (sym is ∙ ok_same (Ok s) s other refl e)
 ends_other (Err x) ended other differ is e = absurd cc
 
--- a run whose last line belongs to the status `ended` does not end with another status
 pub ends_not : {h h' : SinkState} {w w' : List ℕ} {result : Result Status Failed} {ended : Status} {line : List ℕ} (other : Status) → ended ≢ other → EndsWith ended h h' w w' result line → result ≡ Ok other → ⊥
 ends_not {result = result} {ended} other differ ends e = ends_other result ended other differ ends.status e
 

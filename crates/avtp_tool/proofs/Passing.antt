@@ -21,7 +21,6 @@ use Rattle.presenter_ring.specs.Pipes.{ended_with, waiting_in, EndsWith, HasMove
 use Rattle.avtp_tool.specs.state.Outcome.{WritesWaiting}
 use Rattle.avtp_tool.specs.state.Presenting.{failures, GivesItems, HasPassed}
 
--- if a pipe has ended in the same way as its receiver, this still holds after both moved on
 pub ends_on : {R : Type 0} {ended : R → Option Pull} {r r' : R} {a b : Pipe} → ended_with a ≡ ended r → EndsWith ended r r' a b → ended_with b ≡ ended r'
 ends_on {R} {ended} {r} {r'} {a} {b} is with =
     elim (ended_with a) as (λ (e : Option Pull). ended_with a ≡ e → ended_with b ≡ ended r') [

@@ -37,7 +37,7 @@ pub given_over_more : (to : To) (shape : Option Shape) (batches : List Presented
 given_over_more to None batches batch = refl
 given_over_more to (Some shape) batches batch = given_more to shape nothing_given batches batch
 
--- the frames that carry a batch, given what was given out before it; none if the batch is skipped
+-- the frames that carry a batch, given what the gateway had given out before; none if the batch is skipped
 abbrev pub frames_for : To → Option Shape → ℕ → Given → Presented → List SentFrame
 frames_for to None id given batch = []
 frames_for to (Some shape) id given batch = unless (skip_by to shape given batch) (frames_with to shape id given batch) []
@@ -65,7 +65,7 @@ skips_shaped to shape given (b ∷ batches) batch =
     ap (λ (l : List Skipped). here ++ l) (skips_shaped to shape next batches batch)
     ∙ sym (append_assoc here (skips_after to (Some shape) next batches) (skipped_at batch.frame (skip_by to shape (given_by to shape next batches) batch)))
 
--- One more batch appends its line to the lines of skipped batches, if it is skipped.
+-- If one more batch is skipped, its line is appended to the lines of the skipped batches.
 pub skips_more : (to : To) (shape : Option Shape) (batches : List Presented) (batch : Presented)
     → skips_after to shape nothing_given (batches ++ batch ∷ []) ≡ skips_after to shape nothing_given batches ++ skipped_at batch.frame (skip_of to shape (given_over to shape batches) batch)
 skips_more to None batches batch = skips_shapeless to nothing_given batches batch

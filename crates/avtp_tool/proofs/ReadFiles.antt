@@ -77,7 +77,7 @@ pub record IsReadTo (plan : ReadPlan) (handed : List Shown → Type 0) (all : Fi
   pub order : InOrder (one_outcome plan all (Rose before after)) names names ended yields
   pub gives : Gives handed old now yields
 
--- The first files of a plan were read to their ends, if the shelf shows its files. The run so far left all else
+-- If the shelf shows its files, the first files of a plan were read to their ends. The run so far left all else
 -- unchanged.
 pub record ReadsTo (plan : ReadPlan) (handed : List Shown → Type 0) (names : List (List ℕ)) (ended : Status) (s t : ShelfState) (old now : Option (List ℕ)) : Type 0 where
   pub done : is_done ended ≡ true
@@ -116,7 +116,6 @@ counts_step {f} {h} {r} {q} {r'} result names earlier later name split keeps sam
   quiet_at (Ok s) quiet = λ fault memory write. quiet fault memory write ∙ same
   quiet_at (Err e) quiet = tt
 
--- each outcome that is possible for a file by itself is possible for it in the run
 tells_step : (q r r' : ℕ) {mid now : Option (List ℕ)} {handed : List Shown → Type 0} {result : Result Status Failed} (plan : ReadPlan) (all later : Files) (name : List ℕ) → later name ≡ all name → q ≡ r
     → TellsYield (one_outcome plan later (Rose q r') name) handed mid now result → TellsYield (one_outcome plan all (Rose r r') name) handed mid now result
 tells_step q r r' {mid} {now} {handed} {result} plan all later name is same tells =
@@ -230,7 +229,6 @@ other_ends status.Limit done findings is = absurd cc
 other_ends status.DeviceFault done findings is = absurd cc
 other_ends status.TalkInput done findings is = absurd cc
 
--- a failed write ends the run, whatever the call returns on success
 pub does_failed : {report : Report} {limit : ℕ} {name : List ℕ} {s t : ShelfState} {h h' : SinkState} {l l' : List ℕ} {e : Failed} {handed : List Shown → Type 0} (result : Result Status Failed) → IsErr result
     → DoesFile report handed limit name s t h h' l l' (Err e) → DoesFile report handed limit name s t h h' l l' result
 does_failed (Ok ended) err does = absurd cc

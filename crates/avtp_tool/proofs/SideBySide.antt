@@ -78,7 +78,6 @@ lines_next list n d is =
 
 -- ---- a pair that gave a difference
 
--- if `KeepsPair` holds, what is known of the pair is unchanged
 pub known_same : (old new : PairState) (records others : List Record) → KeepsPair old new → known_by new records others ≡ known_by old records others
 known_same old new records others keeps = rw (keeps.closed_a, keeps.closed_b, keeps.plan_a, keeps.plan_b) refl
 
@@ -463,7 +462,6 @@ told_part {s} {c} {asked} {x} {y} {before} {now} at_a at_b plans ends was =
     prefix_of_all (differences (merged_in asked x y)) was.given before now
     (subst (λ (l : List Difference). Appends before now (difference_lines l)) (first_of_all s c asked x y was.records_a was.records_b was.given was.given (omega arith) at_a at_b plans ends was.a was.b was.stands) was.printed)
 
--- writing out pending text removes nothing from a text that was printed
 pub part_kept : {before mid now : Option (List ℕ)} {text : List ℕ} → AppendsPrefix before mid text → Keeps mid now → AppendsPrefix before now text
 part_kept {before} {mid} {now} {text} p keeps = record { prefix = p.prefix; rest = p.rest; split = p.split; appends = Appends-kept before mid now p.prefix p.appends keeps }
 

@@ -120,7 +120,6 @@ tells_caused f g plan bytes a b weaker tells = tells_weaker (λ ended text o. (t
 pub whole_is : (limit : ℕ) (bytes : List ℕ) (halt : Stop) (prefix slice : List ℕ) → halt ≡ stop.End → slice ≡ prefix → IsContents limit bytes halt prefix → slice ≡ bytes
 whole_is limit bytes halt prefix slice is same has = same ∙ sym (subst (λ (h : Stop). IsContents limit bytes h prefix) is has).0
 
--- if an input was read to its end, an outcome for the bytes that were read is an outcome for the whole input
 pub tells_read : {before now : Option (List ℕ)} {result : Result Status Failed} {prefix : List ℕ} (f g : Option Files) (plan : TalkPlan) (bytes input : List ℕ) (halt : Stop)
     → halt ≡ stop.End → input ≡ prefix → IsContents most_input bytes halt prefix → TellsText (OutcomeWith (TalkedOutcome plan input ⊥) f g) before now result → TellsText (OutcomeWith (TalkedOutcome plan bytes (halt ≡ stop.Fault)) f g) before now result
 tells_read {before} {now} {result} {prefix} f g plan bytes input halt is same has tells =
@@ -133,7 +132,7 @@ too_long limit bytes halt prefix is has = (subst (λ (h : Stop). IsContents limi
 
 -- ---- the end of a run whose input was read
 
--- a run does not end with a status that no outcome has
+-- a run ends only with a status of one of its outcomes
 talked_never : {before now : Option (List ℕ)} (plan : TalkPlan) (bytes : List ℕ) (cause : Type 0) (result : Result Status Failed) (other : Status) → other ≢ status.Memory → other ≢ status.WriteFault
     → ((text : List ℕ) → TalkedOutcome plan bytes cause other text → ⊥) → TellsText (TalkedOutcome plan bytes cause) before now result → result ≡ Ok other → ⊥
 talked_never plan bytes cause (Ok s) other no_memory no_write none tells e =

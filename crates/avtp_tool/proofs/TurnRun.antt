@@ -118,7 +118,8 @@ whole_outcome : (asked : Turning) (shape : Option Shape) (bytes : List ℕ) (fau
     → TurnedOutcome asked shape bytes fault (turned_status (length (skips_in asked shape (all_batches asked bytes))) end.Whole) (turned_text asked shape (all_batches asked bytes) end.Whole) (Some (turned_capture asked shape (all_batches asked bytes)))
 whole_outcome asked shape bytes fault whole = record { how = end.Whole; prefix = take asked.listener.limit bytes; ends = (sym whole, refl); status = refl; printed = refl; written = refl }
 
--- A run that was cut short keeps `Produces` if it printed a prefix of the lines and wrote a prefix of the capture.
+-- `Produces` holds for a run that was cut short, if the run printed a prefix of the lines and wrote a prefix of the
+-- capture.
 produces_cut : {before now : Option (List ℕ)} {f g : Option Files} {result : Result Status Failed} (asked : Turning) (shape : Option Shape) (bytes : List ℕ) (fault : Type 0) → end_of asked.listener.limit bytes ≡ end.Whole → IsCut result
     → AppendsPrefix before now (flat_map skipped_line (skips_in asked shape (all_batches asked bytes))) → MakesPrefix f g asked.output (turned_capture asked shape (all_batches asked bytes))
     → Produces (TurnedOutcome asked shape bytes fault) (Some asked.output) before now f g result
@@ -137,7 +138,7 @@ produces_cut {before} {now} {f} {g} {result} asked shape bytes fault whole cut l
 asks_none : {p : Type 0} (names : List (List ℕ)) (a : ShelfState) → (p → ⊥) → AsksFor names a a p
 asks_none names a never = record { count = 0; within = omega arith; all = λ done. absurd (never done); asked = λ before stands. subst (WasAsked a.asked) (sym (append-nil before)) stands }
 
--- if there was no memory before the file was created, nothing is done
+-- if memory ran out before OUT was created, nothing is done
 pub turns_nothing : {s : ShelfState} {out : SinkState} {waits : List ℕ} (asked : Turning) (shape : Option Shape) → TurnsFile asked shape s s out out waits waits (Ok status.Memory)
 turns_nothing {s} {out} {waits} asked shape = record {
   told = λ all bytes told has some whole. produces_cut asked shape bytes _ whole (inl refl) (prefix_none (written out.held waits) (written out.held waits) _ (Keeps-refl _)) (inl (KeepsFiles-refl s.files));
@@ -203,7 +204,6 @@ module _ (limit : ℕ) (u v : ShelfState) (o : Output) (mid out' : SinkState) (w
 
 -- ---- counts
 
--- a run that can only end with the status `ended` does not end with another status
 ended_as : (result : Result Status Failed) (ended other : Status) → IfOk result (λ s. s ≡ ended) → result ≡ Ok other → ended ≡ other
 ended_as (Ok s) ended other is e = sym is ∙ ok_same (Ok s) s other refl e
 ended_as (Err x) ended other is e = absurd cc
@@ -326,7 +326,6 @@ module _ (limit : ℕ) (u v : ShelfState) (o' : Output) (out mid out' : SinkStat
 
 -- ---- what was given out and made
 
--- the last line, given the numbers of batches that were put
 line_is : (asked : Turning) (shape : Option Shape) (batches : List Presented) (presented : ℕ) (o : Output) (how : End) → presented ≡ length batches → o.gateway.given.packets ≡ length (turned_frames asked shape batches)
     → presented - o.gateway.given.batches ≡ length (skips_in asked shape batches) → ended_line asked.listener.limit presented o.gateway how ≡ turned_last asked shape batches how
 line_is asked shape batches presented o end.Whole all packets skipped = rw (packets, skipped, all) refl
@@ -416,7 +415,6 @@ puts_again f None name bytes put = tt
 puts_again None (Some g) name bytes put = absurd put
 puts_again (Some f) (Some g) name bytes put = (put.0, λ other differs. refl)
 
--- a capture that a writer holds over some files is also held over the shelf's present files
 holds_again : (files : Option Files) (s : ShelfState) (w : _) (name : List ℕ) (records : List Record) → HoldsCapture files s w name records → HoldsCapture s.files s w name records
 holds_again files s w name records h = record {
   held = h.held;
@@ -438,7 +436,7 @@ module _ {s t u : ShelfState} (v : ShelfState) {o o' : Output} {listener : Liste
   part : PutsPrefix s.files v.files asked.output (capture_bytes held.0)
   part = closed.closes.prefix s.files asked.output held.0 held.1
 
-  -- if files are shown at the end, they were shown before the output was closed
+  -- if the shelf shows its files at the end, it showed them before the output was closed
   shown_u : IsSome v.files → IsSome u.files
   shown_u told =
       let again = closed.closes.prefix u.files asked.output held.0 (holds_again s.files u o'.writer asked.output held.0 held.1) in

@@ -59,7 +59,7 @@ module _ (asked : Turning) (shape : Option Shape) (files : Option Files) (s t : 
     holds = record { count = cut.holds.count; holds = holds_beside files s t o.writer asked.output (capture_bytes (take cut.holds.count _)) cut.holds.holds keeps slot };
   }
 
-  -- what is said of a conversion still holds if the condition for a read fault is weakened
+  -- `TurnsTo` still holds if the condition for a read fault is weakened
   turned_still : (before now : Option (List ℕ)) (bytes : List ℕ) (cause cause' : Type 0) (result : Result Turned Failed) → (cause → cause') → TurnsTo asked shape bytes cause files s o before now result → TurnsTo asked shape bytes cause' files t o before now result
   turned_still before now bytes cause cause' (Ok (turned.Ended how presented)) make heard = record {
     prefix = heard.prefix;

@@ -72,7 +72,6 @@ none_over : (to : To) (shape : Option Shape) → given_over to shape [] ≡ noth
 none_over to None = refl
 none_over to (Some shape) = refl
 
--- a gateway that has given nothing out was given no batch
 put_none : (g : Gating) → g.given ≡ nothing_given → HasPut g.to g.shape g.id [] g
 put_none g none = record { to_is = refl; shape_is = refl; id_is = refl; given = none ∙ sym (none_over g.to g.shape) }
 
@@ -237,7 +236,6 @@ first_taken zero xs ys = (0, refl)
 first_taken (suc n) [] ys = (0, refl)
 first_taken (suc n) (x ∷ xs) ys = let on = first_taken n xs ys in (suc on.0, ap (λ (l : List Record). x ∷ l) on.1)
 
--- a file that holds a prefix of `records` also holds a prefix of a longer list
 first_further : {files : Option Files} {s : ShelfState} {w : Writing} {name : List ℕ} (records rest all : List Record) → all ≡ records ++ rest → HoldsFirst files s w name records → HoldsFirst files s w name all
 first_further {files} {s} {w} {name} records rest all is holds =
     let some = first_taken holds.count records rest in
@@ -259,7 +257,7 @@ cut_by {before} {now} asked shape bytes batches first lines holds =
     }
 
 module _ {s t : ShelfState} {first source : Sourcing} {fresh listener : ListenState} {stage : Stage} {old new : Output} {out mid : SinkState} {waits waits' : List ℕ} where
-  -- the items that were shown so far are the first of all items
+  -- the items that were shown so far are a prefix of all items
   all_within : {more : List Shown} (asked : Turning) (shape : Option Shape) (bytes : List ℕ) (files : Option Files) → is_closed listener ≡ closed_at stage → IsToTurn asked shape bytes files s first fresh old
       → (so_far : IsPutSoFar s t first source fresh listener stage old new out mid waits waits' more) → IsPrefix (so_far.batches ++ presented_of more) (batches_by asked (records_in (take asked.listener.limit bytes)) end.Whole)
   all_within {more} asked shape bytes files closed to_turn so_far =

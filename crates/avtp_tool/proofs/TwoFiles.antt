@@ -116,7 +116,7 @@ missing_before o None name keeps missing = absurd missing
 missing_before None (Some new) name keeps missing = absurd keeps
 missing_before (Some old) (Some new) name keeps missing = sym (keeps name) ∙ missing
 
--- the files that are still shown are unchanged
+-- if the shelf still shows its files, they are unchanged
 pub shown_still : (o o' : Option Files) (files : Files) → o ≡ Some files → KeepsFiles o o' → IsSome o' → (other : Files) × (o' ≡ Some other) × ((name : List ℕ) → other name ≡ files name)
 shown_still o None files told keeps some = absurd cc
 shown_still None (Some new) files told keeps some = absurd keeps
@@ -147,6 +147,5 @@ refused_memory s v same = record {
   counted = record { never_falls = omega (arith, same); ok = tt; missing = λ is. absurd cc; memory = λ is. same; failed = λ is. absurd cc };
 }
 
--- opening another file leaves unchanged what is left to read of this file
 pub given_kept : {limit : ℕ} {bytes : List ℕ} {source : Sourcing} {records : List Record} (s t : ShelfState) → t.slots (slot_of source) ≡ s.slots (slot_of source) → HasGivenOf limit bytes s source records → HasGivenOf limit bytes t source records
 given_kept {limit} {bytes} {source} {records} s t same given = subst (λ (o : Option Open). HasGiven limit bytes (option_and_then (λ (f : Open). f.left) o) source records) (sym same) given

@@ -15,8 +15,7 @@ more_none y = rw (append-nil y.text, append-nil y.items) refl
 pub more_more : (a b c : Yield) → with_more (with_more a b) c ≡ with_more a (with_more b c)
 more_more a b c = rw (append_assoc a.text b.text c.text, append_assoc a.items b.items c.items) refl
 
--- Items that one part of a run gave to devices, followed by the items of the next part, were given by both parts
--- together.
+-- If the first part of a run gave `xs` to devices and the second part gave `ys`, the whole run gave `xs ++ ys`.
 abbrev pub Joins : (List Shown → Type 0) → (List Shown → Type 0) → (List Shown → Type 0) → Type 0
 Joins first second all = (xs ys : List Shown) → first xs → second ys → all (xs ++ ys)
 
@@ -54,7 +53,6 @@ part_text none y prefix = record { text = prefix; front = []; first = (y.items, 
 pub part_none : {handed : List Shown → Type 0} {before now : Option (List ℕ)} → handed [] → (y : Yield) → Keeps before now → GivesPart handed before now y
 part_none {before = before} {now} none y keeps = part_text none y (prefix_none before now y.text keeps)
 
--- items that are given under one relation are given under each weaker relation
 pub gives_as : {a b : List Shown → Type 0} {before now : Option (List ℕ)} → ((items : List Shown) → a items → b items) → (y : Yield) → Gives a before now y → Gives b before now y
 gives_as on y g = record { text = g.text; items = on y.items g.items }
 

@@ -53,15 +53,15 @@ side_line limit (end.Refused refusal) = capture_refused_line refusal
 side_line limit end.ReadFault = read_fault_line
 side_line limit end.Limit = limit_line limit
 
--- The last lines, given how the readings of A and B ended. If both captures were read to their ends, the counts;
--- otherwise a line for each capture that was not, A's before B's.
+-- The last lines, given how the readings of A and B ended. If both captures were read to their ends, the last lines are
+-- the counts. Otherwise there is a line for each capture that was not read to its end, first for A and then for B.
 abbrev pub last_lines : ℕ → PairCounts → End → End → List ℕ
 last_lines limit counts end.Whole end.Whole = counts_line counts
 last_lines limit counts a b = side_line limit a ++ side_line limit b
 
--- The status, given the number of differences and how the readings ended. If both captures were read to their ends, it
--- says whether there are differences. Otherwise it is the status of A's reading or, if A was read to its end, of B's
--- reading.
+-- The status, given the number of differences and how the readings of A and B ended. If both captures were read to
+-- their ends, the status says whether there are differences. Otherwise it is the status of A's reading or, if A was
+-- read to its end, the status of B's reading.
 abbrev pub agree_status : ℕ → End → End → Status
 agree_status found end.Whole end.Whole = if found == 0 then status.Done else status.Findings
 agree_status found end.Whole b = status_of b
@@ -90,7 +90,7 @@ compared_status asked x y =
 
 -- ---- a read fault
 
--- what is already due when only `prefix`, the first bytes of a capture, was read
+-- what a listener presents by the time it has read `prefix`, the first bytes of a capture
 abbrev pub due_in : Agreeing → List ℕ → List Presented
 due_in asked prefix = presented_of (due_of (plan_of asked.listener) (records_in prefix))
 
@@ -108,8 +108,8 @@ text_without_b asked x prefix = difference_lines (differences (known true false 
 abbrev pub IsUnopened : Files → Type 0 → List ℕ → Type 0
 IsUnopened files fault name = (files name ≡ None) ⊎ fault
 
--- What a run of `agree` over these files can result in: the names that it asks for, its status and its text. A read
--- fault is possible only if `fault` holds.
+-- The possible outcomes of a run of `agree` over these files: the names that it asks for, its status, and its text. A
+-- read fault is possible only if `fault` holds.
 pub data AgreeOutcome (asked : Agreeing) (files : Files) (fault : Type 0) (came : List (List ℕ)) (ended : Status) (text : List ℕ) : Type 0 where
   -- A was not opened.
   without_a : IsUnopened files fault asked.a → came ≡ asked.a ∷ [] → ended ≡ status.ReadFault → text ≡ read_fault_line → AgreeOutcome asked files fault came ended text
@@ -146,8 +146,9 @@ agree_report asked (Some x) (Some y) = compared_text asked x y
 
 -- ---- two captures of a talker that keeps the rules
 
--- What `agree` prints of two captures of a talker that keeps the rules, whatever each lost: the last lines, and no
--- difference. Both batches of a pair are of one packet or unit. Two batches of the same packet or unit form a pair.
+-- What `agree` prints of two captures of one talker that keeps the rules, whatever each capture lost: the last lines,
+-- and no difference. The two batches of each pair are the same packet, or for H.264 the same NAL unit. If both captures
+-- present a packet or NAL unit, its two batches form a pair.
 pub record HasAgreement (asked : Agreeing) (p : PacketJournal) (x y : List ℕ) (text : List ℕ) : Type 0 where
   pub printed : text ≡ last_lines asked.listener.limit (counts_of (merged_in asked x y)) (end_of asked.listener.limit x) (end_of asked.listener.limit y)
   pub none : (counts_of (merged_in asked x y)).differ ≡ 0

@@ -1,4 +1,4 @@
--- What `check` prints and how it ends. Its rules are this project's own.
+-- What `check` prints and how it ends. The rules of `check` are this project's own.
 use Rattle.std.specs.Prelude.{◌==◌, ℕ, ◌+◌, Bool, false, if◌then◌else◌, List, [], ◌∷◌, ◌++◌, flat_map, length, map, Option, Some, None}
 use Rattle.std.specs.Option.{option_map}
 use Rattle.avtp_base.specs.declared.refusal.Refusal.{Refusal}

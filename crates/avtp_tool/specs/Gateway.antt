@@ -141,7 +141,7 @@ pub record CanTurn (asked : Turning) (bytes : List ℕ) : Type 0 where
   pub none : fault_in asked (records_of asked bytes) ≡ None
 
 -- IN can be converted, and its stream has the shape `shape`. IN was read again, to its end or to a read fault.
--- `batches` are what a listener presents from what was read.
+-- `batches` are the batches that a listener presents from the bytes that were read.
 pub record HearsInput (asked : Turning) (files : Files) (fault : Type 0) (shape : Option Shape) (batches : List Presented) (how : End) : Type 0 where
   pub bytes : List ℕ
   pub prefix : List ℕ
@@ -151,8 +151,8 @@ pub record HearsInput (asked : Turning) (files : Files) (fault : Type 0) (shape 
   pub shape_is : shape ≡ shape_asked asked (records_of asked bytes)
   pub presented : batches ≡ batches_by asked (records_in prefix) how
 
--- What a run of `gateway` over these files can result in: the names that it asks for, its status, its text, and the
--- capture made. A read fault is possible only if `fault` holds.
+-- The possible outcomes of a run of `gateway` over these files: the names that it asks for, its status, its text, and
+-- the capture that it makes, if any. A read fault is possible only if `fault` holds.
 pub data GatewayOutcome (asked : Turning) (files : Files) (fault : Type 0) (came : List (List ℕ)) (ended : Status) (text : List ℕ) (made : Option (List ℕ)) : Type 0 where
   -- IN was not opened.
   unopened : IsUnopened files fault asked.input → came ≡ asked.input ∷ [] → ended ≡ status.ReadFault → text ≡ read_fault_line → made ≡ None
@@ -170,8 +170,8 @@ pub data GatewayOutcome (asked : Turning) (files : Files) (fault : Type 0) (came
       → GatewayOutcome asked files fault came ended text made
 
 -- What the capture OUT keeps of IN. OUT is whole. From OUT a listener presents exactly the samples of the batches of IN
--- that are not skipped. Their order, values and instants are those of IN. `check` prints no finding for OUT. With
--- status 0 no batch is skipped.
+-- that are not skipped. The order, values and instants of these samples are those of IN. `check` prints no finding for
+-- OUT. With status 0 no batch is skipped.
 pub record KeepsInput (asked : Turning) (files : Files) (fault : Type 0) (ended : Status) (capture : List ℕ) : Type 0 where
   pub shape : Option Shape
   pub batches : List Presented

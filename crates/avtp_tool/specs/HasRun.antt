@@ -29,7 +29,7 @@ abbrev pub ReadsAll : ShelfState → ShelfState → Type 0
 ReadsAll shelf shelf' = IsQuiet shelf.reading_faults shelf'.reading_faults
 
 -- `agree` compares the captures `x` and `y`, each up to its end, a refused field or the limit. In both, a listener
--- hears the same talker, which keeps the rules, whatever each capture lost, repeated or reordered.
+-- hears one talker that keeps the rules. Each capture may have lost, repeated or reordered packets.
 pub record ComparesTalker (request : Request) (files : Files) (asked : Agreeing) (x y : List ℕ) (shift : ℤ) (p : PacketJournal) : Type 0 where
   pub compares : request ≡ agree asked
   pub told_a : files asked.a ≡ Some x
@@ -47,9 +47,9 @@ pub record Reports (request : Request) (files : Files) (failed : Bool) (handed :
   -- the capture that the run makes, if any
   pub made : Option (List ℕ)
   pub outcome : Outcome request files (Rose shelf.reading_faults shelf'.reading_faults) failed came reached yields made
-  -- Unless memory ran out or a write failed: The run ends with the status `reached`. All of the text was written, and
-  -- each item was given to the devices. The shelf was asked for exactly the names `came`. The output has what the run
-  -- makes.
+  -- Unless memory ran out or a write failed, the run was not cut short. It then ends with the status `reached`. All of
+  -- the text was written, and each item was given to the devices. The shelf was asked for exactly the names `came`. The
+  -- output has what the run makes.
   pub whole : ended ≢ status.Memory → ended ≢ status.WriteFault →
       (ended ≡ reached) × Appends out.held out'.held yields.text × handed yields.items × Asks came shelf shelf' × MakesOutput (output_of request) made shelf.files shelf'.files
   -- In any case, a prefix of the text was written, and a prefix of the items was given to the devices. The output is
@@ -59,12 +59,12 @@ pub record Reports (request : Request) (files : Files) (failed : Bool) (handed :
   pub first : IsPrefix items yields.items
   pub given : handed items
   pub begun : MakesPart (output_of request) made shelf.files shelf'.files
-  -- If no read fault occurred, the names, the status, the yield and the capture are those of the whole report on these
-  -- files.
+  -- If no read fault occurred, the request, the files and `failed` alone determine `came`, `reached`, `yields` and
+  -- `made`.
   pub complete : ReadsAll shelf shelf' →
       (came ≡ came_for request files) × (reached ≡ status_for request files failed) × (yields ≡ yield_for request files failed) × (made ≡ made_for request files)
   -- Each file that `listen` reached yields what the headline says, as far as the file was read and its talker keeps the
-  -- rules. Each file may have its own journal.
+  -- rules. Different files may have different talkers.
   pub headline : (asked : Listening) (earlier later : List (List ℕ)) (name bytes : List ℕ) → request ≡ listen asked → came ≡ earlier ++ name ∷ later →
       files name ≡ Some bytes → HasHeadline asked files (Rose shelf.reading_faults shelf'.reading_faults) earlier name bytes yields
   -- what `agree` prints of two captures of one talker that keeps the rules, if no read fault occurred
@@ -112,7 +112,7 @@ pub record HasRun (request : Request) (handed : List Shown → Type 0) (still : 
   -- all of them.
   pub names : AsksFor (names_of request) shelf shelf' (is_through ended ≡ true)
   pub devices : TellsFailed request failed ended
-  -- only `listen` touches the devices
+  -- unless the command is `listen`, the devices are unchanged
   pub silent : is_listening request ≡ false → still
   pub causes : HasCauses request shelf shelf' out out' ended
   pub not_words : ended ≢ status.Words

@@ -73,19 +73,19 @@ is_cut_short (end.Refused refusal) = false
 is_cut_short end.ReadFault = true
 is_cut_short end.Limit = true
 
--- What an opened capture yields: the text and the items of the records that were read. As far as the records are those
--- of a talker that keeps the rules, what is shown is as the headline says.
+-- What an opened capture yields: the text and the items of the records that were read. If the first of these records
+-- are those of a talker that keeps the rules, what is shown of them is as the headline says.
 pub record YieldsHeadline (asked : Listening) (name bytes : List ℕ) (fault : Type 0) (yields : Yield) : Type 0 where
   -- how the reading ended, and the bytes that were read before it ended
   pub how : End
   pub read : List ℕ
   pub ends : EndsAt asked.listener.limit (Some bytes) fault how read
   pub same : yields ≡ heard_yield asked name (records_in read) how
-  -- If the records `first` are a talker's, what is shown begins with what is due of `first`. That part is as the
+  -- If the records `first` are those of a talker, what is shown begins with what is due of `first`. That part is as the
   -- headline says, whatever records follow.
   pub front : (shift : ℤ) (p : PacketJournal) (first others : List Record) → records_in read ≡ first ++ others → HearsTalker shift p (plan_of asked.listener) first →
       IsPrefix (due_of (plan_of asked.listener) first) yields.items × IsTrueFront p (plan_of asked.listener) first others
-  -- If all records are a talker's and the reading was not cut short, all that is shown is as the headline says.
+  -- If all records are those of a talker and the reading was not cut short, all that is shown is as the headline says.
   pub whole : (shift : ℤ) (p : PacketJournal) → is_cut_short how ≡ false → HearsTalker shift p (plan_of asked.listener) (records_in read) →
       KeepsHeadline shift p (plan_of asked.listener) (records_in read) yields.items
 

@@ -46,14 +46,14 @@ file_yield report limit (Some bytes) = report.yields (records_in (take limit byt
 
 -- ---- files in order
 
--- The status of a run whose first file is done. It is the status of the other files, or that of the first file if
--- theirs is `Done`.
+-- The status of a run whose first file is done. If the other files end with `Done`, it is the status of the first file.
+-- Otherwise it is the status of the other files.
 abbrev pub joined : Status → Status → Status
 joined first status.Done = first
 joined first rest = rest
 
--- Files are read in order. The first file that does not end with `Done` or `Findings` ends the run. `One` gives the
--- possible outcomes of the file with a name. `read` are the names of the files that the run reached.
+-- Files are read in order. The first file that does not end with `Done` or `Findings` ends the run. `One name` gives
+-- the possible outcomes of the file `name`. `read` are the names of the files that the run reached.
 unfoldable pub InOrder : (List ℕ → Status → Yield → Type 0) → List (List ℕ) → List (List ℕ) → Status → Yield → Type 0
 InOrder One [] read ended yields = (read ≡ []) × (ended ≡ status.Done) × (yields ≡ says [])
 InOrder One (name ∷ names) read ended yields =
@@ -80,7 +80,8 @@ in_order_yield one yields (name ∷ names) = with_more (yields name) (if is_done
 
 -- ---- a command
 
--- Which files a command reads, in this order; how many bytes of each at most; and what it makes of each.
+-- Which files a command reads, in order; the maximum number of bytes that it reads of each file; and what it makes of
+-- each file.
 pub record ReadPlan : Type 0 where
   pub names : List (List ℕ)
   pub limit : ℕ

@@ -32,8 +32,8 @@ abbrev pub device_notice : Bool → Status → List ℕ
 device_notice true status.Done = device_fault_line
 device_notice failed ended = []
 
--- The possible outcomes of a run of `listen` over these files: an outcome of reading the files, then the last line and
--- status of a failed device.
+-- A possible outcome of a run of `listen` over these files. It is an outcome of reading the files, followed by the last
+-- line and the status that a failed device adds.
 pub record ListenOutcome (asked : Listening) (files : Files) (fault : Type 0) (failed : Bool) (came : List (List ℕ)) (ended : Status) (yields : Yield) : Type 0 where
   pub heard : Status
   pub given : Yield
@@ -41,8 +41,9 @@ pub record ListenOutcome (asked : Listening) (files : Files) (fault : Type 0) (f
   pub status : ended ≡ device_status failed heard
   pub notice : yields ≡ with_more given (says (device_notice failed heard))
 
--- What a run of the request over these files can result in: the names that it reaches, its status, its yield, and the
--- capture made. A read fault is possible only if `fault` holds. `failed` says whether a device failed.
+-- The possible outcomes of a run of the request over these files: the names that the run reaches, its status, its
+-- yield, and the capture that it makes, if any. A read fault is possible only if `fault` holds. `failed` says whether a
+-- device failed.
 abbrev pub Outcome : Request → Files → Type 0 → Bool → List (List ℕ) → Status → Yield → Option (List ℕ) → Type 0
 Outcome (show limit file) files fault failed came ended yields made = PlanOutcome (show_plan limit file) files fault came ended yields × (made ≡ None)
 Outcome (check limit names) files fault failed came ended yields made = PlanOutcome (check_plan limit names) files fault came ended yields × (made ≡ None)

@@ -18,7 +18,7 @@ code_of Limit = 7
 code_of DeviceFault = 8
 code_of TalkInput = 9
 
--- the status of a run whose last capture's reading ended in this way
+-- the status of a run, given how the reading of its last capture ended
 abbrev pub status_of : End → Status
 status_of end.Whole = Done
 status_of (end.Refused refusal) = Refused

@@ -164,7 +164,7 @@ fn print_total<S: Sink>(
     Ok(status_of(total))
 }
 
-/// The status of a run whose last capture was checked with this total.
+/// The status of a run, given the total of its last capture.
 fn status_of(total: Total) -> Status
     ensures { result ≡ check_status total.findings total.end }
 {

@@ -42,7 +42,7 @@ pub enum Step {
     NoMemory,
 }
 
-/// One of two captures. `end` says how its reading ended, once it has.
+/// One of two captures. `end` says how its reading ended, once it has ended.
 #[derive(Drop)]
 pub struct Side {
     pub source: Source,

@@ -8,7 +8,7 @@ ghost use Rattle.avtp_tool.specs.DeviceWords.{devices_of, silence_as};
 use avtp_words::{Command, Listen, parse};
 use device_rack::Silence;
 
-/// A device. `word` is the index among the words, from 0, of the name of the file that the device writes. With this
+/// A device. `word` is the index, counted from 0, of the word that names the file that the device writes. With this
 /// index the device can be made without parsing the words again.
 #[derive(Clone, Copy, Debug, PartialEq, Eq)]
 pub enum DeviceWord {
@@ -18,7 +18,8 @@ pub enum DeviceWord {
     AnnexB { word: usize },
 }
 
-/// Device `n`, from 0, of those that the words ask for: first the one for raw audio, then the one for a byte stream.
+/// Device `n`, counted from 0, of the devices that the words ask for. The device for raw audio precedes the device for
+/// a byte stream.
 ///
 /// The result is `None` exactly if the words are not a command line of `listen` or ask for at most `n` devices.
 pub fn device_word(words: &[String], n: u32) -> Option<DeviceWord>
@@ -34,7 +35,7 @@ pub fn device_word(words: &[String], n: u32) -> Option<DeviceWord>
     }
 }
 
-/// Device `n`, from 0, of those that are asked for.
+/// Device `n`, counted from 0, of the devices that are asked for.
 fn device_of(asked: &Listen<'_>, n: u32) -> Option<DeviceWord>
     ensures { result ≡ slice_get (devices_of (listening_of asked.now)) n }
 {

@@ -25,9 +25,9 @@ use std::thread::Threads;
 /// What is done with each file.
 #[derive(Clone, Copy, Debug)]
 pub enum Reading<'a> {
-    /// Check it, and read at most `limit` bytes.
+    /// Check the file, and read at most `limit` bytes of it.
     Check { limit: u64 },
-    /// Listen to it.
+    /// Listen to a stream in the file.
     Listen(&'a Listen<'a>),
 }
 

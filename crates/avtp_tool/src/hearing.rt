@@ -33,7 +33,7 @@ pub enum Heard {
     NoMemory,
 }
 
-/// What a receiver returns after the last item of a capture whose reading ended in this way.
+/// What a receiver returns after the last item, given how the reading of the capture ended.
 fn pull_of(end: End) -> Pull
     ensures { result ≡ pull_with end }
 {
@@ -45,7 +45,7 @@ fn pull_of(end: End) -> Pull
     }
 }
 
-/// Closes the listener if items that are not yet due are still shown after the reading ended in this way.
+/// If all items are shown after a reading that ended in this way, closes the listener.
 fn close_at(listener: &mut RecordListener, end: End)
     requires { (is_closed listener.old ≡ false) × IsIdle listener.old }
     ensures { ClosesAt end listener.old listener.new }

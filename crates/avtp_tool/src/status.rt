@@ -32,7 +32,7 @@ pub enum Status {
 }
 
 impl Status {
-    /// The status of a run whose last capture's reading ended in this way.
+    /// The status of a run, given how the reading of its last capture ended.
     pub fn of(end: End) -> Status
         ensures { result ≡ status_of end }
     {

@@ -37,7 +37,7 @@ pub enum Turned {
 /// What was done with a batch.
 #[derive(Clone, Copy, Debug, PartialEq, Eq)]
 pub enum Put {
-    /// Its packets were written, or it was skipped.
+    /// The batch's packets were written, or the batch was skipped.
     Done,
     /// A packet could not be written.
     Unwritten,

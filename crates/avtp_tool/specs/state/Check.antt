@@ -22,7 +22,7 @@ use Rattle.avtp_tool.specs.Check.{noted, notes_of, found_lines, check_lines, joi
 
 -- ---- what is done
 
--- The lines of the findings in a record were printed and counted, at most five. Or the sink failed, and none of them
+-- The lines of a record's findings, at most five, were printed and counted. Or the sink failed, and none of these lines
 -- was printed.
 pub record PrintsFound (out out' : SinkState) (waits waits' : List ℕ) (result : Result ℕ Failed) (lines : List (List ℕ)) : Type 0 where
   pub written : MatchResult result (λ _. Appends (written out.held waits) (written out'.held waits') (joined_lines lines)) (λ _. Keeps (written out.held waits) (written out'.held waits'))

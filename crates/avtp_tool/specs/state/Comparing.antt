@@ -123,15 +123,15 @@ pub record OpensTwo (before after : ShelfState) (limit : ℕ) (plan : ListenPlan
 
 -- ---- differences
 
--- All differences that are known by now are printed. Or the sink failed at one of them, and only those before it are
--- printed.
+-- All differences that are known by now are printed. Or the sink failed at a difference, and only the differences
+-- before it are printed.
 abbrev pub PrintedAll : List Record → List Record → PairState → List Difference → Option (List ℕ) → Result Unit Failed → Option (List ℕ) → Type 0
 PrintedAll records others pair all base (Ok x) now =
     (given : ℕ) × (take given all ≡ all) × StandsFor records others given pair × Appends base now (difference_lines all)
 PrintedAll records others pair all base (Err e) now =
     (n : ℕ) × StandsFor records others (n + 1) pair × Appends base now (difference_lines (take n all))
 
--- The known differences that had not been printed were printed. If the sink failed, only some of them were.
+-- The known differences that had not been printed were printed. If the sink failed, only some of them were printed.
 pub record PrintsDifferences (pair pair' : PairState) (out out' : SinkState) (waits waits' : List ℕ) (result : Result Unit Failed) : Type 0 where
   pub printed : (records others : List Record) (given : ℕ) (base : Option (List ℕ)) → StandsFor records others given pair
       → Appends base (written out.held waits) (difference_lines (take given (differences (known_by pair records others))))
@@ -243,7 +243,7 @@ pub data IsCutIn (asked : Agreeing) (x y : List ℕ) (fault : Type 0) (before no
   in_b : (prefix : List ℕ) → EndsAt asked.listener.limit (Some y) fault end.ReadFault prefix
       → Appends before now (difference_lines (differences (known true false (merged (presented_in asked x) (due_in asked prefix))))) → IsCutIn asked x y fault before now
 
--- two captures were read to their ends `a` and `b`, and all their differences were printed
+-- the readings of two captures ended as `a` and `b`, and all differences between the captures were printed
 pub record HasCompared (asked : Agreeing) (x y : List ℕ) (a b : End) (counts : PairCounts) (before now : Option (List ℕ)) : Type 0 where
   pub end_a : a ≡ end_of asked.listener.limit x
   pub end_b : b ≡ end_of asked.listener.limit y

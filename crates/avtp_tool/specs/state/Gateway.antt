@@ -51,7 +51,7 @@ pub record TurnsInput (asked : Turning) (before after : ShelfState) (listener : 
       → TurnsTo asked shape bytes (Rose before.reading_faults after.reading_faults) files after new (written out.held waits) (written out'.held waits') result
   pub slots : KeepsOtherFiles before.slots after.slots (name_in before.slots old.writer.slot)
   pub writes : WritesOutput before after old new result
-  -- If a read fault ended the reading, it was counted or the file is missing. At any other end, no read fault was
+  -- If the reading ended with a read fault, the fault was counted or the file is missing. Otherwise no read fault was
   -- counted.
   pub fault : (presented : ℕ) → result ≡ Ok (turned.Ended end.ReadFault presented) → Rose before.reading_faults after.reading_faults ⊎ IsMissing before.files asked.input
   pub quiet : (how : End) → ended_turn result ≡ Some how → how ≢ end.ReadFault → after.reading_faults ≡ before.reading_faults

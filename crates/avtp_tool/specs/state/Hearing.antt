@@ -23,7 +23,7 @@ use Rattle.avtp_tool.specs.state.Reading.{ReadsCapture}
 
 -- ---- stages
 
--- after a reading that ended in this way, all items are shown, not only those that were due
+-- all items are shown if the reading ended in this way, not only those that were due
 abbrev pub is_all : End → Bool
 is_all end.Whole = true
 is_all (end.Refused refusal) = true
@@ -43,7 +43,7 @@ read_end (Showing how) = Some how
 read_end (Ended how) = Some how
 read_end NoMemory = None
 
--- what a receiver returns after the last item of a capture whose reading ended in this way
+-- what a receiver returns after the last item, given how the reading of the capture ended
 abbrev pub pull_with : End → Pull
 pull_with end.Whole = pull.Done
 pull_with (end.Refused refusal) = pull.Refused refusal
@@ -81,7 +81,7 @@ IsGoing slots source stage = IsSome (slots (slot_of source)) × (pull_at stage �
 abbrev pub IsAtReading : Slots → Sourcing → Stage → Type 0
 IsAtReading slots source stage = IsSome (slots (slot_of source)) × (stage ≡ Reading)
 
--- The listener was closed exactly if all items are shown after a reading that ended as `how`.
+-- If all items are shown after a reading that ended as `how`, the listener was closed. Otherwise it was left open.
 pub record ClosesAt (how : End) (old new : ListenState) : Type 0 where
   pub stands : (records : List Record) (given : ℕ) → StandsFor records given old → StandsFor records given new
   pub plan : new.plan ≡ old.plan
@@ -99,23 +99,24 @@ abbrev pub unread : Stage → Sourcing → ℕ
 unread Reading source = to_do source
 unread stage source = 0
 
--- The maximum number of items that can still be shown. There is one for each record that was taken or is still unread,
--- minus those that were shown.
+-- The maximum number of items that can still be shown: the number of records that were taken or are unread, minus the
+-- number of items that were shown.
 abbrev pub left_of : Stage → Sourcing → ListenState → ℕ
 left_of stage source listener = (listener.counts.frames + unread stage source) - (listener.counts.presented + listener.counts.flagged)
 
--- some records were given to the listener, and some of their items were shown
+-- There are a list of records and a number of shown items that lead to the listener's state.
 pub record WasGiven (listener : ListenState) : Type 0 where
   pub records : List Record
   pub given : ℕ
   pub stands : StandsFor records given listener
 
--- some list of records was given to the listener
+-- `WasGiven` cannot be refuted
 abbrev pub IsStable : ListenState → Type 0
 IsStable listener = (WasGiven listener → ⊥) → ⊥
 
--- What holds of every hearing at this stage: The number of taken and unread records is bounded. The stage is not
--- `Reading` once the reading of the file has ended. The listener is closed if all items are shown.
+-- What holds of every hearing at this stage. At most 2^41 records were taken or are unread. If the reading of the file
+-- has ended, the stage is not `Reading`. The listener is closed exactly if the reading has ended and all items are to
+-- be shown.
 pub record IsSoundAt (stage : Stage) (source : Sourcing) (listener : ListenState) : Type 0 where
   pub bounded : listener.counts.frames + unread stage source ≤ 2 ^ 41
   pub going : has_stopped stage source ≡ false
@@ -150,8 +151,8 @@ pub record Shows (shelf shelf' : ShelfState)
   pub shown : (limit : ℕ) (bytes : List ℕ) → HasGiven limit bytes (left_in shelf.slots (slot_of old_source)) old_source [] → StandsFor [] 0 old_listener → is_closed old_listener ≡ false
       → IsShown stage limit bytes (Rose shelf.reading_faults shelf'.reading_faults) (left_in shelf'.slots (slot_of source)) source listener items
 
--- The hearing moved on. These items were shown after those that were shown earlier. The number of items that can still
--- be shown fell by at least the number of these items.
+-- The hearing moved on and showed `items`, after the items that it had shown earlier. The number of items that can
+-- still be shown fell by at least the number of `items`. The file is still open.
 pub record GoesOn (shelf shelf' : ShelfState) (old_source source : Sourcing) (old_listener listener : ListenState) (old_stage stage : Stage) (items : List Shown) : Type 0 where
   pub shows : (begun : ShelfState) (first : Sourcing) (fresh : ListenState) (earlier : List Shown)
       → Shows begun shelf first old_source fresh old_listener old_stage earlier → Shows begun shelf' first source fresh listener stage (earlier ++ items)

@@ -17,16 +17,16 @@ use Rattle.avtp_tool.specs.state.Outcome.{TellsText}
 use Rattle.avtp_tool.specs.declared.status.Status.{Status}
 use Rattle.avtp_tool.specs.declared.status.Status.TheVariants as status
 
--- What a run that makes the file `name` leaves of the file, given the run's result. If everything was done, the file
--- has these bytes. If memory ran out or a write failed, the file is unchanged or has a prefix of them. Otherwise all
+-- What becomes of the file `name` in a run that makes it, given the run's result. If everything was done, the file has
+-- these bytes. If memory ran out or a write failed, the file is unchanged or has a prefix of these bytes. Otherwise all
 -- files are unchanged.
 pub record Makes (name bytes : List ℕ) (files files' : Option Files) (result : Result Status Failed) : Type 0 where
   pub done : result ≡ Ok status.Done → PutsFile files files' name bytes
   pub part : MakesPrefix files files' name bytes
   pub untouched : IfOk result (λ s. s ≢ status.Done → s ≢ status.WriteFault → s ≢ status.Memory → KeepsFiles files files')
 
--- The count of writing faults of a run never falls. It rises if a file could not be written, and is otherwise
--- unchanged. If no file is written, it is unchanged.
+-- The count of writing faults of a run never falls. It rises exactly if the run ends with a write fault. If the run
+-- writes no file, the count is unchanged.
 pub record CountsWriting (name : Option (List ℕ)) (before after : ℕ) (result : Result Status Failed) : Type 0 where
   pub never_falls : before ≤ after
   pub failed : result ≡ Ok status.WriteFault → Rose before after
@@ -35,9 +35,9 @@ pub record CountsWriting (name : Option (List ℕ)) (before after : ℕ) (result
 
 -- ---- one file
 
--- A call made the file `name` with these bytes, or returns why it did not. If the file was not made, it is unchanged or
--- has a prefix of the bytes; and memory ran out or a writing fault was counted. All else is unchanged, and no other
--- name was asked for.
+-- A call made the file `name` with these bytes, or returns why it did not. If the file was not made, memory ran out or
+-- a writing fault was counted, and the file is unchanged or has a prefix of the bytes. All else is unchanged, and no
+-- other name was asked for.
 pub record MakesFile (shelf shelf' : ShelfState) (name bytes : List ℕ) (result : Result Unit OpenFault) : Type 0 where
   pub made : OnOk result (PutsFile shelf.files shelf'.files name bytes)
   pub part : OnErr result (MakesPrefix shelf.files shelf'.files name bytes)

@@ -74,8 +74,8 @@ pub record EndsUnopened (fault : OpenFault) (out out' : SinkState) (waits waits'
   pub other : fault ≢ open_fault.Memory → EndsWith status.ReadFault out out' waits waits' result read_fault_line
   pub sink : KeepsSink out out' result
 
--- The pending text was written, and the run ends with the status `result`. If the sink took everything, this is the
--- run's own status. Otherwise it is that of a failed write. The sink keeps what it held, and got all of the text or a
+-- The pending text was written, and the run ends with the status `result`. If the sink took everything, `result` is the
+-- run's own status. Otherwise `result` is `WriteFault`. The sink keeps what it held, and got all of the text or a
 -- prefix of it.
 pub record Finishes (out out' : SinkState) (waits waits' : List ℕ) (ended : Result Status Failed) (result : Status) : Type 0 where
   pub whole : result ≢ status.WriteFault → (ended ≡ Ok result) × (waits' ≡ [])
@@ -86,8 +86,8 @@ pub record Finishes (out out' : SinkState) (waits waits' : List ℕ) (ended : Re
   pub quiet : result ≢ status.WriteFault → out'.faults ≡ out.faults
 
 -- The count of reading faults of a run that reads some of these files. The run ends with a read fault only if a read
--- fault was counted or one of the files is missing. If it ends otherwise, and neither memory ran out nor a write
--- failed, the count is unchanged.
+-- fault was counted or one of the files is missing. If the run ends with any status but `ReadFault`, `Memory` and
+-- `WriteFault`, the count is unchanged.
 pub record CountsReading (names : List (List ℕ)) (files : Option Files) (before after : ℕ) (result : Result Status Failed) : Type 0 where
   pub never_falls : before ≤ after
   pub fault : result ≡ Ok status.ReadFault → Rose before after ⊎ IsOneMissing names files

@@ -27,8 +27,7 @@ ended_scan (scanned.Clean shape) = Some end.Whole
 ended_scan (scanned.Faulty fault frame) = None
 ended_scan (scanned.Cut how) = Some how
 
--- The result of a scan whose reading ended in this way and in which no record has a fault. The shape is that of the
--- stream.
+-- The result of a scan in which no record has a fault, given how the reading ended and the shape of the stream.
 abbrev pub scanned_as : End → Option Shape → Scanned
 scanned_as end.Whole shape = scanned.Clean shape
 scanned_as how shape = scanned.Cut how

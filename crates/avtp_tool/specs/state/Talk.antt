@@ -40,8 +40,8 @@ pub record FaultStops (halt : Stop) (result : Result Status Failed) : Type 0 whe
   pub no_words : result ≢ Ok status.Words
   pub no_devices : result ≢ Ok status.DeviceFault
 
--- A call wrote only the file `name` and asked only for this name. This says what became of all other files, the slots
--- and the counts.
+-- A call wrote only the file `name`, and asked for no other name. The fields say what became of the files, the slots
+-- and the counts of faults.
 pub record WritesOnly (shelf shelf' : ShelfState) (name : List ℕ) (result : Result Status Failed) : Type 0 where
   pub files : KeepsFilesBut (Some name) shelf.files shelf'.files
   pub slots : KeepsSlotsBut shelf.files shelf.slots shelf'.slots name

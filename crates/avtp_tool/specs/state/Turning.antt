@@ -56,7 +56,7 @@ pub record HasPut (to : To) (shape : Option Shape) (id : ℕ) (batches : List Pr
 abbrev pub records_for : To → Option Shape → ℕ → List Presented → List Record
 records_for to shape id batches = map record_of (gateway_frames to shape id batches)
 
--- The file that is written has a capture of a prefix of these records.
+-- The written file is a capture of a prefix of these records.
 pub record HoldsFirst (files : Option Files) (shelf : ShelfState) (writer : Writing) (name : List ℕ) (records : List Record) : Type 0 where
   pub count : ℕ
   pub holds : HoldsCapture files shelf writer name (take count records)
@@ -75,7 +75,7 @@ wrote (Err e) = Ok tt
 
 -- A batch was put: its packets were written, or it was skipped and the line that says why was printed.
 pub record PutsBatch (batch : Presented) (before after : ShelfState) (old new : Output) (out out' : SinkState) (waits waits' : List ℕ) (result : Result Put Failed) : Type 0 where
-  -- if the batch is done, the gateway was given it after `batches`
+  -- if the result is `Done`, the gateway was given `batch` after `batches`
   pub put : result ≡ Ok did.Done → (to : To) (shape : Option Shape) (id : ℕ) (batches : List Presented) → HasPut to shape id batches old.gateway → HasPut to shape id (batches ++ batch ∷ []) new.gateway
   pub frames : result ≡ Ok did.Done → (to : To) (shape : Option Shape) (id : ℕ) (batches : List Presented) (files : Option Files) (name : List ℕ) → HasPut to shape id batches old.gateway
       → HoldsCapture files before old.writer name (records_for to shape id batches) → HoldsCapture files after new.writer name (records_for to shape id (batches ++ batch ∷ []))
@@ -101,7 +101,7 @@ abbrev pub turned_as : Heard → Turned
 turned_as (heard.Ended how counts) = turned.Ended how counts.presented
 turned_as heard.NoMemory = turned.NoMemory
 
--- how the reading of a capture ended, if the conversion came to the end of the reading
+-- how the reading of a capture ended, if the conversion did not stop before
 abbrev pub ended_turn : Result Turned Failed → Option End
 ended_turn (Ok (turned.Ended how presented)) = Some how
 ended_turn (Ok other) = None
@@ -112,7 +112,8 @@ abbrev pub wrote_all : Result Turned Failed → Result Unit Failed
 wrote_all (Ok turned.Unwritten) = Err (record {})
 wrote_all other = Ok tt
 
--- No batch was put yet into the capture that is made. The captures that are read and made have different names.
+-- No batch was put yet into the capture that is made. The capture that is read and the capture that is made have
+-- different names.
 pub record IsFreshOutput (asked : Asked) (shape : Option Shape) (files : Option Files) (shelf : ShelfState) (o : Output) : Type 0 where
   pub apart : asked.input ≢ asked.output
   pub named : name_in shelf.slots o.writer.slot ≡ Some asked.output
@@ -143,8 +144,8 @@ pub record HasHeard (asked : Asked) (shape : Option Shape) (bytes : List ℕ) (f
   pub turned : HasTurned asked shape (batches_by asked (records_in prefix) how) files shelf o before now
   pub counted : presented ≡ length (batches_by asked (records_in prefix) how)
 
--- Only a part of the batches of a capture of these bytes was put. The file holds a prefix of their records, and a
--- prefix of their lines was printed.
+-- Only some of the batches of a capture of these bytes were put. The written file holds a prefix of the records of all
+-- batches. A prefix of the lines of all skipped batches was printed.
 pub record IsCutShort (asked : Asked) (shape : Option Shape) (bytes : List ℕ) (files : Option Files) (shelf : ShelfState) (o : Output) (before now : Option (List ℕ)) : Type 0 where
   pub lines : AppendsPrefix before now (flat_map skipped_line (skips_in asked shape (batches_by asked (records_in (take asked.listener.limit bytes)) end.Whole)))
   pub holds : HoldsFirst files shelf o.writer asked.output (map record_of (turned_frames asked shape (batches_by asked (records_in (take asked.listener.limit bytes)) end.Whole)))
@@ -159,8 +160,8 @@ pub record AreOpenIn (slots : Slots) (source : Sourcing) (o : Output) : Type 0 w
   pub live : IsSome (slots (slot_of source))
   pub made : IsMadeIn slots o.writer.slot
 
--- A capture was written to a file while another file was read. This says what the file has, if it had no record before,
--- and how the counts of faults changed.
+-- A capture was written to a file while another file was read. If the file was a capture without records before, it is
+-- a capture of some records now. A writing fault was counted exactly if a packet could not be written.
 pub record WritesOutput (before after : ShelfState) (old new : Output) (result : Result Turned Failed) : Type 0 where
   pub slot : new.writer.slot ≡ old.writer.slot
   pub made : IsMadeIn after.slots old.writer.slot
@@ -175,8 +176,8 @@ pub record Turns (before after : ShelfState) (source source' : Sourcing) (listen
   pub told : (asked : Asked) (shape : Option Shape) (bytes : List ℕ) (files : Option Files) → IsToTurn asked shape bytes files before source listener old
       → TurnsTo asked shape bytes (Rose before.reading_faults after.reading_faults) files after new (written out.held waits) (written out'.held waits') result
   pub slot : slot_of source' ≡ slot_of source
-  -- Each slot keeps its file. What is left to read in a slot is unchanged, except in the slot that is read and in slots
-  -- of the written file.
+  -- Each slot keeps its file. What is left to read changes only in the slot that is read and in slots of the file that
+  -- is written.
   pub same : (j : ℕ) → option_map file_of (after.slots j) ≡ option_map file_of (before.slots j)
   pub left : (j : ℕ) → j ≢ slot_of source → name_in before.slots j ≢ name_in before.slots old.writer.slot → left_in after.slots j ≡ left_in before.slots j
   pub writes : WritesOutput before after old new result
