@@ -30,7 +30,8 @@ module _ {S : Type 0} (path : S → List ℕ) (state : S → SinkState) where
     pub failed : annexb_failed device ≡ false
     pub new : HasTakenUnits state (state (annexb_sink device)) device []
 
-  -- If something was asked for, there is a live device that does it. If nothing was asked for, there is no device.
+  -- If a device was asked for, it exists, is live, and does what was asked for. If no device was asked for, there is
+  -- none.
   abbrev pub IsFor : {Asked D : Type 0} → (Asked → D → Type 0) → Option Asked → Option (Outlet D) → Type 0
   IsFor Writes None None = ⊤
   IsFor Writes None (Some outlet) = ⊥

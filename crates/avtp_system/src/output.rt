@@ -5,12 +5,12 @@ use avtp_files::FaultTeller;
 use std::io::{self, ErrorKind, IsTerminal, Print, Write};
 
 /// Standard output. If a write fails, the reason is printed on standard error. Nothing is printed there if the reader
-/// has ended, as `head` does.
+/// of standard output has ended, as `head` does.
 #[derive(Drop)]
 pub struct Output<'a> {
     rt: &'a HostRuntime,
     teller: FaultTeller<&'a HostRuntime>,
-    /// If standard output is a terminal: the progress line, which is removed before text is written.
+    /// The progress line, which is removed before text is written. `None` if standard output is not a terminal.
     covered: Option<&'a ProgressLine>,
 }
 
