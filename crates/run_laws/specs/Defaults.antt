@@ -4,7 +4,7 @@ use Rattle.aaf_format.specs.declared.aaf.AafFormat.TheVariants.{Int16}
 use Rattle.avtp_words.specs.declared.talk.Kind.TheVariants.{Aaf}
 use Rattle.avtp_words.specs.Grammar.{Listening, Talking}
 
--- listen STREAM FILE
+-- the words `listen STREAM FILE`
 abbrev pub listen_words : List ℕ → List ℕ → List (List ℕ)
 listen_words stream file = codes "listen" ∷ stream ∷ file ∷ []
 
@@ -18,7 +18,7 @@ listen_default stream file = record {
   files = file ∷ [];
 }
 
--- talk IN OUT
+-- the words `talk IN OUT`
 abbrev pub talk_words : List ℕ → List ℕ → List (List ℕ)
 talk_words input output = codes "talk" ∷ input ∷ output ∷ []
 

@@ -23,10 +23,10 @@ use talked_presented::laws::{
 };
 use talker::laws::capture_reads_back;
 
-/// A stream ID of 16 hexadecimal digits and the name of a file are a complete command line of `listen`. The names of
-/// two different files are a complete command line of `talk`. Each option then has its default. Other laws say what is
-/// presented for the listener and the plan that are asked for in this way. The digits 0200000000010001 are the stream
-/// ID of this plan.
+/// `listen STREAM FILE` is a complete command line if STREAM is a stream ID of 16 hexadecimal digits and FILE is a file
+/// name. `talk IN OUT` is a complete command line if IN and OUT are two different file names. Each option then has its
+/// default: `listen` asks for the listener `default_listener`, and `talk` for the plan `plain false`. Other laws say
+/// what this listener presents. The digits 0200000000010001 are the stream ID of this plan.
 pub fn default_words_are_command_lines()
     ensures listen { (word name : List ℕ) (id : ℕ) → IsId word id → IsName name → IsCommandLine (listen_words word name) (listen (listen_default id name)) }
     ensures listener { (id : ℕ) (name : List ℕ) → plan_of (listen_default id name).listener ≡ default_listener id }
@@ -35,10 +35,10 @@ pub fn default_words_are_command_lines()
     ensures id { IsId (codes "0200000000010001") (plain false).id }
 {}
 
-/// Let a shelf hold, under the name `name`, a capture of a plan with the default lead. Then a run of `listen` with
-/// default words gives the devices all that the capture holds of the plan, as the headline says. For H.264 this is each
-/// unit. This follows from what `run` promises (`HasRun.reports.headline`). For audio, the run ends with `Done`, unless
-/// memory runs out, a write fails or a device fails.
+/// Let a file have a capture of a plan with the default lead, and let `listen` with the plan's stream ID and this file
+/// end with `Done`. Then the devices got all that the capture holds of the plan, as the headline says: each packet, or
+/// for H.264 each NAL unit. This follows from what `run` promises (`HasRun.reports.headline`). For audio, the run ends
+/// with `Done`, unless memory runs out, a write fails or a device fails.
 pub fn default_words_present_all<D: Devices>()
     ensures given { (plan : TalkPlan) (input word name : List ℕ) (files after : Files) (old new : D) (failed : Bool) → HasDefaultLead plan input → IsId word plan.id → IsName name
         → files name ≡ Some (capture plan input) → Ran (listen_words word name) (HandsOn D.handed old new) (new ≡ old) failed files after Done → GaveAll plan input (each_packet plan input) (HandsOn D.handed old new) }
