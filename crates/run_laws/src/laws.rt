@@ -25,8 +25,8 @@ use talker::laws::capture_reads_back;
 
 /// `listen STREAM FILE` is a complete command line if STREAM is a stream ID of 16 hexadecimal digits and FILE is a file
 /// name. `talk IN OUT` is a complete command line if IN and OUT are two different file names. Each option then has its
-/// default: `listen` asks for the listener `default_listener`, and `talk` for the plan `plain false`. Other laws say
-/// what this listener presents. The digits 0200000000010001 are the stream ID of this plan.
+/// default: `listen` asks for the listener `default_listener`, and `talk` for the plan `plain false`. The digits
+/// 0200000000010001 are the stream ID of the plan `plain false`. Other laws say what the listener presents.
 pub fn default_words_are_command_lines()
     ensures listen { (word name : List ℕ) (id : ℕ) → IsId word id → IsName name → IsCommandLine (listen_words word name) (listen (listen_default id name)) }
     ensures listener { (id : ℕ) (name : List ℕ) → plan_of (listen_default id name).listener ≡ default_listener id }

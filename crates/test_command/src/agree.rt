@@ -56,8 +56,8 @@ fn a_pair_differs_in_the_first_sample_that_does(rt: HostRuntime) -> Result<(), N
     follow(&rt, rt.alloc(), CAPTURES)
 }
 
-/// A packet is due before the next packet of its capture is read. Its differences are therefore known even if the
-/// capture cannot be read further.
+/// Each packet is due before the next packet of its capture is read. The differences of a packet are therefore known
+/// even if its capture cannot be read further.
 const ENDS: &str = "\
 < a V1
 < b V1 ..105
@@ -135,8 +135,8 @@ fn a_side_that_ends_early_is_compared_up_to_there(rt: HostRuntime) -> Result<(),
 
 /// A row has the input of `talk`, the options of `talk`, and the options of `agree`. Then it has, for each of two
 /// captures, the records that are delivered, written as in the rows of `losses`. In the first row of H.264, each access
-/// unit has 255 NAL units. In the second, the second access unit is one NAL unit in 255 fragments, and all fragments
-/// are delivered.
+/// unit has 255 NAL units. In the other row of H.264, the second access unit is a single NAL unit in 255 fragments, all
+/// of which are delivered.
 const ROWS: &str = "\
 noise:2400 | --sparse --restart 12 |  | mixed | 0/0/0
 noise:2400 | --sparse --restart 12 |  | mixed | 9/3/4
@@ -154,8 +154,8 @@ x0000000106ab*254 x000000016588 x0000000106cd*254 x000000016588 | --kind h264 | 
 x0000000106ab*254 x000000016588 x0000000165 xff*356000 x0000000106cd*254 x000000016588 | --kind h264 |  | 600/0/0 | 520/0/0
 ";
 
-/// The parts of a line that are the same in each capture of one talker: the instant, and the text from the sequence
-/// number on. The line is that of a packet's first sample.
+/// What the line of a packet's first sample has in each capture of one talker: the same instant, and the same text from
+/// the sequence number on.
 #[derive(Clone, Copy)]
 struct Sample<'a> {
     instant: &'a str,

@@ -9,8 +9,8 @@ use std::alloc::Global;
 use std::sync::Arc;
 use std::sync::atomic::{AtomicU64, Ordering};
 
-/// What was done to a device: the frames of the items that it took, as the digits of a number; and how often it was
-/// dropped.
+/// What was done to a device. `frames` has the frames of the items that the device took, as the digits of a number.
+/// `drops` counts how often the device was dropped.
 #[derive(Drop)]
 pub struct Notes {
     frames: AtomicU64,
@@ -28,7 +28,7 @@ impl Notes {
         )?)
     }
 
-    /// The frames of the taken items, as digits; or the highest number if the device was not dropped exactly once.
+    /// The frames of the taken items, as digits. If the device was not dropped exactly once, the result is `u64::MAX`.
     pub fn taken(&self) -> u64 {
         if self.drops.load(Ordering::SeqCst) != 1 {
             return u64::MAX;
@@ -83,7 +83,7 @@ impl Device for Noting {
     }
 }
 
-/// A device in a rack. Its call number `fails` fails.
+/// A device in a rack. The call with the number `fails` fails.
 fn place_of(alloc: Global, notes: &Arc<Notes, Global>, fails: u64) -> Result<Place, NoMemory>
     ensures { IfOk result (λ place. place.live ≡ true) }
 {

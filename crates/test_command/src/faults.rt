@@ -16,8 +16,8 @@ const READS: [usize; 2] = [1, 65_536];
 
 const WRITES: [usize; 2] = [7, 65_536];
 
-/// A command that reads one or two captures of equal size. The texts are printed before it reads, once it has all
-/// bytes, and at the end.
+/// A command that reads one or two captures of equal size. `before` is printed before the command reads, `certain` once
+/// it has read all bytes, and `end` at the end.
 #[derive(Clone, Copy)]
 struct Case {
     line: &'static str,
@@ -108,8 +108,8 @@ const HEARD_NG: Case = Case {
     ..HEARD
 };
 
-/// Two packets in each of two captures. The first packet is due once the second arrives. Its differences are certain
-/// once the first capture has ended.
+/// Two packets in each of two captures. The first packet of a capture is due once the second arrives. How the first
+/// packets differ is certain once the first capture has ended.
 const AGREED: Case = Case {
     line: "agree --buffer 8 --room 192 0200000000010001 c.pcap d.pcap",
     capture: "\
@@ -160,8 +160,8 @@ impl Case {
         if self.second.is_some() { 2 } else { 1 }
     }
 
-    /// The number of calls of the shelf that a run makes if each capture takes this many reads. The run first opens all
-    /// captures. The last read of each capture finds that nothing is left.
+    /// The number of calls of the shelf in a run. Each capture is opened, takes `reads` reads, and is read once more to
+    /// find that nothing is left.
     fn calls(&self, reads: usize) -> usize {
         self.captures().saturating_mul(reads.saturating_add(2))
     }
@@ -269,7 +269,8 @@ fn a_failing_read_of_either_capture_ends_their_comparison(rt: HostRuntime) -> Re
     ends_where_a_read_fails(&rt, rt.alloc(), &AGREED)
 }
 
-/// The written text is a prefix of the whole text. If a later call fails, at least as much is written.
+/// The written text is a prefix of the whole text. If a later write fails instead, the written text is at least as
+/// long.
 #[test]
 fn a_failing_write_leaves_a_prefix_of_the_text(rt: HostRuntime) -> Result<(), NoMemory> {
     let alloc = rt.alloc();
@@ -307,7 +308,7 @@ fn a_failing_write_leaves_a_prefix_of_the_text(rt: HostRuntime) -> Result<(), No
 
 /// The status of `talk` over the first vector's samples, and the size of the capture if it was created. Call number
 /// `call` of the shelf fails, and each call moves at most `most` bytes. The calls open the input, read it, find its
-/// end, create the capture and write it.
+/// end, create the capture and write the capture.
 fn made(call: usize, most: usize) -> (Status, Option<usize>) {
     let create = 24usize.div_ceil(most.max(1)).saturating_add(3);
     let writes = 106usize.div_ceil(most.max(1));

@@ -8,17 +8,17 @@ use std::alloc::Global;
 use std::thread::Threads;
 use vectors_avtp::Draws;
 
-/// A row has five fields. The first two are the options of `talk`, over 9,600 bytes of input, and the options of
-/// `listen`. The third is the number of items of its look-ahead. The fourth are the records that are delivered, in
-/// order. The last is the end of the text, or the least number of packets that are presented.
+/// A row has five fields. The first has the options of `talk`, whose input has 9,600 bytes. The second has the options
+/// of `listen`. The third has the number of items of the look-ahead. The fourth has the delivered records, in order.
+/// The last has the end of the text, or the least number of packets that are presented.
 ///
-/// In the fourth field, `mixed` are the records of `MIXED`. `7/5/3` loses each seventh record; of the remaining
-/// records, each fifth is delivered twice and each third overtakes the record before it. `drawn:9` draws what happens
-/// to each record, from the seed 9.
+/// In the fourth field, `mixed` means the records of `MIXED`. With `7/5/3`, each seventh record is lost, each fifth is
+/// delivered twice, and each third overtakes the record before it. A record that is lost is not delivered at all. With
+/// `drawn:9`, what happens to each record is drawn from the seed 9.
 ///
-/// AAF restarts after each 12 packets, so packets 12 to 15 come after a restart and before the next timestamp. Its six
-/// rows lose nothing; lose some packets; lose timestamps; repeat each packet; let packets overtake a timestamp; and let
-/// packets overtake a restart.
+/// In the six rows of AAF, the media clock restarts after each 12 packets. Packets 12 to 15 are thus sent after a
+/// restart and before the next timestamp. The first of these rows loses nothing. The others lose packets, lose
+/// timestamps, repeat packets, let packets overtake a timestamp, and let packets overtake a restart, in this order.
 const ROWS: &str = "\
 --sparse --restart 12 |  | 0 | 0 1 2 3 4 5 6 7 8 9 10 11 12 13 14 15 16 17 18 19 20 21 22 23 24 25 26 27 | presented 24 flagged 4
 --sparse --restart 12 |  | 0 | 0 2 5 11 12 16 17 23 24 31 | presented 8 flagged 2
@@ -81,7 +81,7 @@ fn network_places(alloc: Global, comes: &str, records: usize) -> Result<Vec<usiz
     Ok(places)
 }
 
-/// Of eight records, about one is lost, one is delivered twice, and one overtakes the record before it.
+/// On average, one record of eight is lost, one is delivered twice, and one overtakes the record before it.
 fn drawn_places(alloc: Global, seed: usize, records: usize) -> Result<Vec<usize>, NoMemory> {
     let mut draws = Draws::seeded(seed as u64);
     let mut places = Vec::new(alloc);
@@ -155,8 +155,7 @@ fn is_among(alloc: Global, whole: &str, text: &str, places: &[usize]) -> Result<
     Ok(true)
 }
 
-/// If `end` is a number, whether the text presents at least so many packets. Otherwise, whether the text ends with
-/// `end`.
+/// If `end` is a number, whether the text presents at least `end` packets. Otherwise, whether the text ends with `end`.
 fn ends_as_stated(text: &str, end: &str) -> bool {
     if end.starts_with("presented") {
         return text.trim_ascii_end().ends_with(end);
@@ -170,7 +169,7 @@ fn ends_as_stated(text: &str, end: &str) -> bool {
     number(end) <= presented
 }
 
-/// The text of a complete capture, and the text of the records that are delivered.
+/// The text of a complete capture, the text of the delivered records, and their numbers.
 #[derive(Drop)]
 struct Heard {
     whole: String,

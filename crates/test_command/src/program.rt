@@ -59,7 +59,8 @@ impl System<Counting> for Arguments {
     }
 }
 
-/// Arguments; the status; whether the text of `listen` is complete; and the sizes of the file `x` and of the other files.
+/// Each row has the arguments, the status, whether the text of `listen` is complete, the size of the file `x`, and the
+/// size of all other files.
 const RUNS: [(Option<&str>, Status, bool, u64, u64); 5] = [
     (
         Some("listen --raw x --annexb y 0200000000010001 c.pcap"),

@@ -12,7 +12,7 @@ use std::alloc::Global;
 use std::sync::Arc;
 use std::sync::atomic::{AtomicBool, AtomicU64, Ordering};
 
-/// Counts the steps of each side, and the steps that do not have the next number.
+/// Counts the steps of each side, and the steps that are out of order.
 #[derive(Drop)]
 struct Counting {
     pushes: AtomicU64,
@@ -70,7 +70,7 @@ fn each_item_is_pushed_and_popped_once_whatever_room_the_ring_has(
     Ok(())
 }
 
-/// Which of the two calls are running, and whether one of them saw the other.
+/// Whether a read is running, whether a write is running, and whether one of them has seen the other.
 #[derive(Drop)]
 struct Meeting {
     reading: AtomicBool,

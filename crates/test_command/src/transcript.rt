@@ -21,7 +21,7 @@ use std::alloc::Global;
 use std::process::Abort;
 use std::thread::Threads;
 
-/// The files of a shelf, the newest first; what is to fail in the next run; and the result of the last run.
+/// The files of a shelf, the newest first; which calls are to fail in the next run; and the result of the last run.
 #[derive(Drop)]
 pub struct Bench {
     alloc: Global,
@@ -126,7 +126,7 @@ impl Bench {
         Ok(())
     }
 
-    /// Follows those lines that are neither a command line nor its text.
+    /// Follows the lines that are neither command lines nor the text of a command.
     fn follow(&mut self, rt: &impl Abort, lines: &str) -> Result<(), NoMemory> {
         for line in lines.lines() {
             if let Some((sign, rest)) = line.split_once(' ') {
@@ -214,7 +214,7 @@ pub fn records_in(alloc: Global, capture: &[u8]) -> Result<Vec<&[u8]>, NoMemory>
     Ok(records)
 }
 
-/// The capture with the records at these places, in this order.
+/// A capture of the records of `capture` at these places, in this order.
 pub fn records_at(alloc: Global, capture: &[u8], places: &[usize]) -> Result<Vec<u8>, NoMemory> {
     let records = records_in(alloc, capture)?;
     let mut picked = Vec::from_slice(alloc, capture.get(..24).unwrap_or(&[]))?;
