@@ -25,7 +25,7 @@ pub const TALKS: [&str; 9] = [
 /// The maximum number of records of a stream.
 const MOST: usize = 160;
 
-/// The inputs of the talkers, and the records of their streams and of the vectors.
+/// The talkers' input, and the records of the talkers' streams and of the vectors.
 #[derive(Drop)]
 pub struct Bases {
     input: Vec<u8>,
@@ -60,7 +60,7 @@ impl Bases {
         Ok(records)
     }
 
-    /// A part of the talkers' inputs.
+    /// A prefix of the talkers' input.
     pub fn samples(&self, alloc: Global, draws: &mut Draws) -> Result<Vec<u8>, NoMemory> {
         let size = draws.below(self.input.len());
         let part = self.input.get(..size - size % 24).unwrap_or(&[]);
@@ -68,8 +68,8 @@ impl Bases {
     }
 }
 
-/// An input of whole sample frames for each talker. It is also an H.264 byte stream, with short NAL units and one NAL
-/// unit that needs fragments.
+/// One input for all talkers. For each talker it consists of whole sample frames. It is also an H.264 byte stream, with
+/// short NAL units and one NAL unit that needs fragments.
 fn input(alloc: Global) -> Result<Vec<u8>, NoMemory> {
     let mut bytes = Vec::new(alloc);
     for n in 0..3_840_u32 {
@@ -83,7 +83,7 @@ fn input(alloc: Global) -> Result<Vec<u8>, NoMemory> {
     Ok(bytes)
 }
 
-/// The input as AM824: each quadlet has the label of linear audio.
+/// The input as AM824: the first byte of each quadlet is the label of linear audio.
 fn labelled(alloc: Global, input: &[u8]) -> Result<Vec<u8>, NoMemory> {
     let mut bytes = Vec::new(alloc);
     for (place, byte) in input.iter().enumerate() {

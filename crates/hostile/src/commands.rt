@@ -73,8 +73,8 @@ fn shelf_of(alloc: Global, file: &[u8]) -> Result<MemoryShelf, NoMemory> {
     Ok(MemoryShelf::over(alloc, files, Vec::new(alloc)))
 }
 
-/// Runs a command line three times over a file, and returns what is wrong. The last run reads the file in pieces of one
-/// byte.
+/// Runs a command line three times over a file, and returns what is wrong, or `None`. The last run reads the file in
+/// pieces of one byte.
 pub fn wrong_with<T: Threads + Sync>(
     rt: &T,
     alloc: Global,

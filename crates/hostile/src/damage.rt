@@ -17,10 +17,10 @@ const BOUNDS: [u64; 16] = [
     0, 1, 3, 4, 7, 8, 15, 24, 255, 256, 1_476, 32_767, 65_535, 262_144, 262_145, 0xffffffff,
 ];
 
-/// The stream IDs of the talkers' streams and of their clocks, and two others.
+/// The stream ID of the talkers' streams, the stream ID of their media clocks, and two other IDs.
 const IDS: [u64; 4] = [0x0200_0000_0001_0001, 0x0200_0000_0001_0002, 0, u64::MAX];
 
-/// The subtypes that are read, and two others.
+/// The subtypes that are read, and two other numbers.
 const SUBTYPES: [u64; 6] = [0x00, 0x02, 0x03, 0x04, 0x6e, 0xff];
 
 /// The offset of the packet in a frame with a VLAN tag.
@@ -63,8 +63,8 @@ fn moved(draws: &mut Draws, time: u64, by: &[u64]) -> u64 {
     }
 }
 
-/// Damages a field of a record's packet: a length, number or timestamp, a timestamp of a media clock, the stream ID,
-/// the subtype, the sequence number or any bit.
+/// Damages a field of a record's packet: a length, a number, a timestamp, a timestamp of a media clock, the stream ID,
+/// the subtype, the sequence number, or any bit.
 fn damage_field(draws: &mut Draws, record: &mut Record) {
     let turned = moved(draws, record.at, &TURNS);
     let time = moved(draws, turned, &STEPS).to_be_bytes();

@@ -12,7 +12,7 @@ pub struct Draws {
 }
 
 impl Draws {
-    /// The draws for the capture of this number.
+    /// The draws for the capture with this number.
     pub fn of(seed: u64, number: u64) -> Self {
         Draws {
             words: Xoshiro256PlusPlus::seed_from_u64(seed.rotate_left(32) ^ number),

@@ -3,7 +3,8 @@
 use avtp_base::NoMemory;
 use std::alloc::Global;
 
-/// The rules: each word in capital letters, and its pattern. A pattern may use the words of later rules.
+/// The rules. A rule is a word in capital letters and the pattern of this word. A pattern may use the words of later
+/// rules.
 const RULES: [(&str, &str); 27] = [
     ("TEXT", "^(?:SHOW|CHECK|LISTEN|TALK|AGREE|GATEWAY)\n$"),
     (

@@ -1,8 +1,8 @@
 //! `hostile SEED COUNT` damages COUNT captures and runs every command over each of them, in this process. The text must
 //! follow the grammar and fit the status. A second run must give the same result, and so must a run that reads its file
 //! in pieces of one byte. The program prints a line for each command that is wrong, and at the end the number of these
-//! commands. It ends with 0 if there are none. `hostile SEED COUNT FIRST` begins with capture FIRST instead of 1: a
-//! capture depends only on the seed and its own number.
+//! commands. It ends with status 0 if no command is wrong. `hostile SEED COUNT FIRST` begins with capture FIRST instead
+//! of 1: a capture depends only on the seed and its own number.
 #![tactic(auto)]
 
 mod bases;
@@ -22,7 +22,8 @@ use std::env;
 use std::process::ExitCode;
 use std::thread::Threads;
 
-/// The runs over each capture: seven command lines, each run three times, the last time in pieces of one byte.
+/// The number of runs over each capture. Each of seven command lines is run three times, the last time in pieces of one
+/// byte.
 const RUNS: u64 = 21;
 
 /// Which captures are made.

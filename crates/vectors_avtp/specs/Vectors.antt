@@ -19,7 +19,7 @@ abbrev pub v3 : List ℕ
 v3 =
     codes "0381000002000000000100013bb94e8002010000000830003bb94e806742000a"
 
--- A CRF packet of one timestamp, of an audio clock of 48 kHz.
+-- A CRF packet with one timestamp of a 48 kHz audio clock.
 abbrev pub v4 : List ℕ
 v4 =
     codes "0480000102000000000100020000bb8000080060000000003bb94e80"
