@@ -94,13 +94,13 @@ compared_status asked x y =
 abbrev pub due_in : Agreeing → List ℕ → List Presented
 due_in asked prefix = presented_of (due_of (plan_of asked.listener) (records_in prefix))
 
--- The text of `agree` if a read fault occurs in A after `prefix`, given the bytes `y` of B. It has the differences that
--- are known by then, and the line of the fault.
+-- The text of `agree` if a read fault occurs in A after `prefix`, given the bytes `y` of B. The text has the
+-- differences that are known by then, and the line of the fault.
 abbrev pub text_without_a : Agreeing → List ℕ → List ℕ → List ℕ
 text_without_a asked prefix y = difference_lines (differences (known false true (merged (due_in asked prefix) (presented_in asked y)))) ++ read_fault_line
 
--- The text of `agree` if a read fault occurs in B after `prefix`, given the bytes `x` of A. It has the differences that
--- are known by then, and the line of the fault.
+-- The text of `agree` if a read fault occurs in B after `prefix`, given the bytes `x` of A. The text has the
+-- differences that are known by then, and the line of the fault.
 abbrev pub text_without_b : Agreeing → List ℕ → List ℕ → List ℕ
 text_without_b asked x prefix = difference_lines (differences (known true false (merged (presented_in asked x) (due_in asked prefix)))) ++ read_fault_line
 

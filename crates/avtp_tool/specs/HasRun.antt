@@ -108,8 +108,8 @@ pub record HasRun (request : Request) (handed : List Shown → Type 0) (still : 
   pub files : KeepsFilesBut (output_of request) shelf.files shelf'.files
   -- each file that was opened is closed
   pub slots : KeepsSlotsFor (output_of request) shelf'.files shelf.slots shelf'.slots
-  -- The shelf was asked only for names that the words give, in their order. If everything was done, it was asked for
-  -- all of them.
+  -- The shelf was asked only for names that the words give, in the order of `names_of`. If everything was done, the
+  -- shelf was asked for all these names.
   pub names : AsksFor (names_of request) shelf shelf' (is_through ended ≡ true)
   pub devices : TellsFailed request failed ended
   -- unless the command is `listen`, the devices are unchanged

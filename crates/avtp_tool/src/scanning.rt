@@ -19,7 +19,7 @@ pub enum Scanned {
     /// The capture was read to its end, and each record can be converted. The shape is that of the stream, or `None` if
     /// the stream has no packets of samples.
     Clean(Option<Shape>),
-    /// The record with this number, from 1, cannot be converted.
+    /// The record with this number, counted from 1, cannot be converted.
     Faulty { fault: ScanFault, frame: u64 },
     /// The reading ended in this way before the capture's end. Each record that was read can be converted.
     Cut(End),

@@ -144,7 +144,7 @@ fn talk_contents<F: Shelf, S: Sink>(
     }
 }
 
-/// Makes the capture of all frames of a talker, and prints how many packets it has.
+/// Makes the capture of all frames of a talker, and prints how many packets the capture has.
 fn send<F: Shelf, S: Sink>(
     alloc: Global,
     talker: &mut Talker<'_>,

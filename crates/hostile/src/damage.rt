@@ -100,7 +100,7 @@ fn damage_size(draws: &mut Draws, frame: &mut Vec<u8>) -> Result<(), NoMemory> {
     }
 }
 
-/// Damages one record, or the order of all records.
+/// Damages one record, or drops, repeats or swaps records.
 fn damage_records(
     alloc: Global,
     draws: &mut Draws,

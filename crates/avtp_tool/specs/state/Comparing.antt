@@ -163,7 +163,7 @@ pub record Shuts (which : Which) (old new : PairState) : Type 0 where
   pub stands : (mine theirs : List Record) (given : ℕ) → StandsOn which mine theirs given old → StandsOn which mine theirs given new
   pub changes : Changes which 0 true old new
 
--- The pair took the held record. Or there was no memory for it, and nothing changed.
+-- The pair took the held record. Or there was no memory for the record, and nothing changed.
 abbrev pub TakesHeld : Which → Option Record → PairState → PairState → Step → Type 0
 TakesHeld which held old new step.Took = (r : Record) × (held ≡ Some r) × Takes which r old new
 TakesHeld which held old new step.NoMemory = new ≡ old
@@ -201,7 +201,7 @@ pub record IsSideAt (side : Side) (listener : ListenState) : Type 0 where
   pub closed : is_closed listener ≡ is_some side.end
   pub no_fault : side.end ≢ Some end.ReadFault
 
--- how much of a capture is still to be read; this falls with each record and at the capture's end
+-- how much of a capture is still to be read; this number falls with each record and when the reading ends
 abbrev pub left_by : Side → Option End → ℕ
 left_by side None = to_do side.source + 1
 left_by side (Some how) = 0

@@ -97,7 +97,8 @@ EndsOutput limit (Err e) before after o out out' waits waits' result = AbandonsO
 
 -- ---- a capture that was scanned
 
--- A possible outcome of a run whose input has these bytes and was scanned, and whose stream has the shape `shape`.
+-- A possible outcome of a run after its input was scanned. The input has these bytes, and its stream has the shape
+-- `shape`.
 pub record TurnedOutcome (asked : Turning) (shape : Option Shape) (bytes : List ℕ) (fault : Type 0) (ended : Status) (text : List ℕ) (made : Option (List ℕ)) : Type 0 where
   pub how : End
   pub prefix : List ℕ

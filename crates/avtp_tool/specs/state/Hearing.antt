@@ -23,7 +23,7 @@ use Rattle.avtp_tool.specs.state.Reading.{ReadsCapture}
 
 -- ---- stages
 
--- all items are shown if the reading ended in this way, not only those that were due
+-- if the reading ended in this way, all items are shown, not only those that were due
 abbrev pub is_all : End → Bool
 is_all end.Whole = true
 is_all (end.Refused refusal) = true

@@ -86,7 +86,7 @@ pub record Finishes (out out' : SinkState) (waits waits' : List ℕ) (ended : Re
   pub quiet : result ≢ status.WriteFault → out'.faults ≡ out.faults
 
 -- The count of reading faults of a run that reads some of these files. The run ends with a read fault only if a read
--- fault was counted or one of the files is missing. If the run ends with any status but `ReadFault`, `Memory` and
+-- fault was counted or one of the files is missing. If the run ends with a status other than `ReadFault`, `Memory` and
 -- `WriteFault`, the count is unchanged.
 pub record CountsReading (names : List (List ℕ)) (files : Option Files) (before after : ℕ) (result : Result Status Failed) : Type 0 where
   pub never_falls : before ≤ after
