@@ -14,7 +14,7 @@ const AGAIN: u64 = 100;
 
 /// A line on standard error that says how much was read, such as `12.3 MB read`.
 ///
-/// The cursor stays at the start of this line. Each line that reports a fault is at least as long, so it covers this
+/// The cursor stays at the start of this line. Each line that reports a fault is at least as long, and thus covers this
 /// line.
 #[derive(Drop)]
 pub struct ProgressLine {

@@ -73,8 +73,8 @@ is_cut_short (end.Refused refusal) = false
 is_cut_short end.ReadFault = true
 is_cut_short end.Limit = true
 
--- What an opened capture yields: the text and the items of the records that were read. If the first of these records
--- are those of a talker that keeps the rules, what is shown of them is as the headline says.
+-- What an opened capture yields: the text and the items of the records that were read. If a talker that keeps the rules
+-- sent a prefix of these records, what is shown of the prefix is as the headline says.
 pub record YieldsHeadline (asked : Listening) (name bytes : List ℕ) (fault : Type 0) (yields : Yield) : Type 0 where
   -- how the reading ended, and the bytes that were read before it ended
   pub how : End

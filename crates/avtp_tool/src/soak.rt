@@ -14,8 +14,8 @@ use soak_run::SoakCounts;
 use std::alloc::Global;
 use std::thread::Threads;
 
-/// Sends packets over a network that loses, repeats and delays them, and prints what a listener makes of those that arrive. One
-/// thread listens, and another counts.
+/// Sends packets over a network that loses, repeats and delays them, and prints what a listener makes of the packets
+/// that arrive. One thread listens, and another counts.
 pub fn soak<T: Threads + Sync, S: Sink>(
     rt: &T,
     alloc: Global,

@@ -53,7 +53,8 @@ pub struct Found {
     pub wrong: Wrong,
 }
 
-/// Runs each command over a damaged capture, or `talk` over damaged samples, and returns the runs that went wrong.
+/// Runs each command over a damaged capture, and returns the runs that went wrong. `talk` may instead run over damaged
+/// samples.
 pub fn try_commands<T: Threads + Sync>(
     rt: &T,
     alloc: Global,

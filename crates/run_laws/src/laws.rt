@@ -54,7 +54,7 @@ pub fn default_words_present_all<D: Devices>()
 }
 
 /// Let `talk IN OUT` and then `listen 0200000000010001 OUT` both end with `Done`, and let OUT be unchanged in between.
-/// Then the devices got each packet that the plan makes of the bytes of IN, once, in order and at its instants, and
+/// Then the devices got each packet that `talk` makes of the bytes of IN, once, in order and at its instants, and
 /// nothing else. If IN consists of whole sample frames, `talk` ends with `Done`, unless memory runs out or a write
 /// fails.
 pub fn talk_and_listen_present_all<D: Devices>()

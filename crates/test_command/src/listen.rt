@@ -394,7 +394,7 @@ fn samples_follow_the_points_that_the_look_ahead_reaches(rt: HostRuntime) -> Res
 }
 
 /// The digits of each number after `=` are the frames of the items that a device took. In the last run, each packet
-/// makes the one before it due, and the third record exceeds the limit.
+/// makes the packet before it due, and the third record exceeds the limit.
 const RACKS: &str = "\
 < one.pcap V1
 ! devices 1 0 0
