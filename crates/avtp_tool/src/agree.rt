@@ -20,8 +20,8 @@ use capture_io::End;
 use listener_pair::{Difference, PairCounts, Way};
 use std::alloc::Global;
 
-/// Prints each difference between the samples that a listener presents of a stream from two captures. Then prints how
-/// many packets are presented from both captures and how many from only one. If a capture was not read to its end,
+/// Compares the samples of a stream that a listener presents from two captures, and prints each difference. Then prints
+/// how many packets are presented from both captures and how many from only one. If a capture was not read to its end,
 /// prints instead why it was not. Each capture is read only as far as the comparison needs. All memory except that of
 /// samples is allocated before the first line is printed.
 pub fn agree<F: Shelf, S: Sink>(

@@ -51,7 +51,7 @@ pub fn run<T: Threads + Sync, F: Shelf + Send, S: Sink + Send, G: Gate, D: Devic
     finish(&mut text, out, ended)
 }
 
-/// Does what the words ask for. If they are not a command line, prints the position of the first wrong word.
+/// Does what the words ask for. If the words are not a command line, prints the position of the first wrong word.
 fn execute<T: Threads + Sync, F: Shelf + Send, S: Sink + Send, G: Gate, D: Devices + Send>(
     rt: &T,
     alloc: Global,

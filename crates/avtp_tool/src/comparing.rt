@@ -58,8 +58,8 @@ pub struct Comparing {
 }
 
 impl Comparing {
-    /// Opens two captures, A before B. At most `limit` bytes of each will be read. If either cannot be opened or memory
-    /// runs out, neither stays open.
+    /// Opens two captures, A before B. At most `limit` bytes of each will be read. If a capture cannot be opened or
+    /// memory runs out, neither capture stays open.
     pub fn open<F: Shelf>(
         alloc: Global,
         limit: u64,

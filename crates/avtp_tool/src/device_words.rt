@@ -8,8 +8,8 @@ ghost use Rattle.avtp_tool.specs.DeviceWords.{devices_of, silence_as};
 use avtp_words::{Command, Listen, parse};
 use device_rack::Silence;
 
-/// A device. `word` is the index, counted from 0, of the word that names the file that the device writes. With this
-/// index the device can be made without parsing the words again.
+/// A device. `word` is the index, counted from 0, of the word that gives the name of the device's file. With this index
+/// the device can be made without parsing the words again.
 #[derive(Clone, Copy, Debug, PartialEq, Eq)]
 pub enum DeviceWord {
     /// Raw audio. `silence` says what is written for missing packets.

@@ -58,7 +58,7 @@ pub fn read_files<T: Threads + Sync, F: Shelf + Send, S: Sink + Send, G: Gate, D
     Ok(ended)
 }
 
-/// Listens to the files in order. If all were read to their ends and a device failed, the last line says so.
+/// Listens to the files in order. If all files were read to their ends and a device failed, the last line says so.
 pub fn hear_files<T: Threads + Sync, F: Shelf + Send, S: Sink + Send, G: Gate, D: Devices + Send>(
     rt: &T,
     alloc: Global,

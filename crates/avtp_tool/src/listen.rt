@@ -101,8 +101,8 @@ pub fn listen<T: Threads + Sync, F: Shelf + Send, S: Sink + Send, G: Gate, D: De
     }
 }
 
-/// Prints a capture's name, and the items that are shown of its records, each once it is due. The capture is read as
-/// far as possible. At most `ring` items are queued between the two threads.
+/// Prints a capture's name, and each item that is shown of its records as soon as the item is due. The capture is read
+/// as far as possible. At most `ring` items are queued between the two threads.
 fn hear_records<T: Threads + Sync, F: Shelf + Send, S: Sink + Send, G: Gate, D: Devices + Send>(
     rt: &T,
     alloc: Global,

@@ -12,7 +12,7 @@ use avtp_packet::{Packet, read_packet};
 use avtp_text::Text;
 use pcap_frames::{FrameView, RecordView, read_frame};
 
-/// Prints a line of `show`: the record's number in the capture, counted from 1, when it arrived, and what it holds.
+/// Prints the line of a record: its number in the capture, its arrival and what it holds. Records are counted from 1.
 #[tactic(auto, unfolding(crate::specs::Record::record_content, crate::specs::Record::frame_content))]
 pub fn print_record<S: Sink>(
     text: &mut Text,

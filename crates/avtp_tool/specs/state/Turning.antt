@@ -101,7 +101,7 @@ abbrev pub turned_as : Heard → Turned
 turned_as (heard.Ended how counts) = turned.Ended how counts.presented
 turned_as heard.NoMemory = turned.NoMemory
 
--- how the reading of a capture ended, if the conversion did not stop before
+-- how the reading of a capture ended, if the conversion did not stop earlier
 abbrev pub ended_turn : Result Turned Failed → Option End
 ended_turn (Ok (turned.Ended how presented)) = Some how
 ended_turn (Ok other) = None
@@ -137,7 +137,8 @@ pub record HasTurned (asked : Asked) (shape : Option Shape) (batches : List Pres
   pub lines : Appends before now (flat_map skipped_line (skips_in asked shape batches))
   pub holds : HoldsCapture files shelf o.writer asked.output (map record_of (turned_frames asked shape batches))
 
--- All batches that a listener presents from a capture of these bytes, as far as it could be read, were put.
+-- A capture of these bytes was heard as far as it could be read. All batches that a listener presents from what was
+-- read were put.
 pub record HasHeard (asked : Asked) (shape : Option Shape) (bytes : List ℕ) (fault : Type 0) (files : Option Files) (shelf : ShelfState) (o : Output) (how : End) (presented : ℕ) (before now : Option (List ℕ)) : Type 0 where
   pub prefix : List ℕ
   pub ends : EndsAt asked.listener.limit (Some bytes) fault how prefix
