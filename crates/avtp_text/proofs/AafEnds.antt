@@ -7,7 +7,7 @@ use Rattle.avtp_text.specs.declared.aaf_line.AafEnd.{AafEnd}
 use Rattle.avtp_text.specs.Pieces.{newline, flag_text, id_text}
 use Rattle.avtp_text.specs.Show.{aaf_content, header_text, format_text}
 
--- the text of an end, field by field
+-- the text of a line's end, field by field
 abbrev pub spelled : AafEnd → List ℕ
 spelled e =
     codes " tv " ++ flag_text e.tv
@@ -41,7 +41,6 @@ last_of start text len whole =
     let seam : length (start ++ text) - len ≡ length start = omega (arith, whole, length-append start text) in
     rw seam (drop-append_seam start text)
 
--- ends with equal fields are equal
 pub same : (a b : AafEnd) → a.tv ≡ b.tv → a.tu ≡ b.tu → a.mr ≡ b.mr → a.sparse ≡ b.sparse → a.evt ≡ b.evt → a.format ≡ b.format → a.nsr ≡ b.nsr
     → a.channels ≡ b.channels → a.depth ≡ b.depth → a.count ≡ b.count → a.data_length ≡ b.data_length → a ≡ b
 same a b tv tu mr sparse evt format nsr channels depth count bytes = λ i. record {

@@ -15,7 +15,7 @@ one_digit n h = length_one n h
 pub length_three : (n : ℕ) → 100 ≤ n → n < 1000 → length (decimal n) ≡ 3
 length_three n lo hi = let one = length_one (n / 100) (omega arith) in omega (arith, one, length_pair n lo (omega arith))
 
--- numbers between the same two powers of ten have equally many digits
+-- if two numbers are between the same two powers of ten, they have equally many digits
 pub as_long_one : (m n : ℕ) → m < 10 → n < 10 → length (decimal n) ≡ length (decimal m)
 as_long_one m n a b = length_one n b ∙ sym (length_one m a)
 
@@ -29,7 +29,6 @@ pub length_eight : (n : ℕ) → length (eight_digits n) ≡ 8
 unfolding eight_digits
 length_eight n = refl
 
--- if a number has more than eight digits, its digits are those of `n / 100000000` and then its last eight digits
 pub last_eight : (n : ℕ) → 100000000 ≤ n → n < 2 ^ 64 → decimal n ≡ decimal (n / 100000000) ++ eight_digits (n % 100000000)
 unfolding eight_digits
 last_eight n lo hi =
@@ -39,7 +38,6 @@ last_eight n lo hi =
     decimal_four n (omega arith) hi ∙ ap (λ front. front ++ four_digits (n % 10000)) (decimal_four (n / 10000) (omega arith) (omega arith))
     ∙ append_assoc (decimal (n / 10000 / 10000)) (four_digits (n / 10000 % 10000)) (four_digits (n % 10000)) ∙ rw (high, middle, low) refl
 
--- the digits of `high * 100000000 + low` are those of `high`, then eight digits for `low`
 pub with_eight : (high low : ℕ) → 1 ≤ high → low < 100000000 → high * 100000000 + low < 2 ^ 64 → decimal (high * 100000000 + low) ≡ decimal high ++ eight_digits low
 with_eight high low some small fits =
     let quotient : (high * 100000000 + low) / 100000000 ≡ high = omega (arith, small) in

@@ -35,6 +35,5 @@ part_overwritten s piece place n behind len ends =
     drop_at (take place s) (piece ++ drop n (drop place s)) place (length-take-le place s inside) ∙ ap (λ (x : List ℕ). piece ++ x) (drop-drop n place s ∙ ap (λ (k : ℕ). drop (place + k) s) (sym len)) in
     overwritten s (put_mid place n s piece) piece place behind (omega (arith, len, ends)) (take-put_mid_below place n s piece place (omega arith) inside) back
 
--- if `left` is as long as `lent`, refilling `lent` with `left` gives `left`
 pub all_left : (lent left : List ℕ) → length left ≡ length lent → refill (length lent) lent left ≡ left
 all_left lent left same = take_at left (drop (length left) lent) (length lent) same

@@ -34,7 +34,6 @@ prefix_before before now a b first = record {
   appends = first.appends;
 }
 
--- if `a` was written whole, a prefix of `a` was written
 pub prefix_whole : (before now : Option (List ℕ)) (a : List ℕ) → Appends before now a → AppendsPrefix before now a
 prefix_whole before now a appends = record { prefix = a; rest = []; split = sym (append-nil a); appends = appends }
 

@@ -20,21 +20,19 @@ range_split a (suc j) more =
     let here : (a + 1) + j ≡ a + suc j = omega arith in
     ap (range_with_len a) all ∙ ap (λ ns. a ∷ ns) (range_split (a + 1) j more ∙ ap (λ n. range_with_len (a + 1) j ++ n ∷ range_with_len (n + 1) more) here)
 
--- the numbers from 0 to `n - 1` are those below `j`, then `j`, then those above `j`
 numbers : (n j : ℕ) → j < n → range_with_len 0 n ≡ range_with_len 0 j ++ j ∷ range_with_len (j + 1) (n - j - 1)
 numbers n j lt =
     let all : n ≡ j + suc (n - j - 1) = omega (arith, lt) in
     let here : 0 + j ≡ j = omega arith in
     ap (range_with_len 0) all ∙ range_split 0 j (n - j - 1) ∙ ap (λ k. range_with_len 0 j ++ k ∷ range_with_len (k + 1) (n - j - 1)) here
 
--- the lines of `j + 1` numbers are the lines of `j` numbers and then one more line
 pub one_more : (line : ℕ → List ℕ) (j : ℕ) → flat_map line (range_with_len 0 (j + 1)) ≡ flat_map line (range_with_len 0 j) ++ line j
 one_more line j =
     let none : j + 1 - j - 1 ≡ 0 = omega arith in
     ap (flat_map line) (numbers (j + 1) j (omega arith) ∙ ap (λ k. range_with_len 0 j ++ j ∷ range_with_len (j + 1) k) none)
     ∙ flat_map-append line (range_with_len 0 j) (j ∷ []) ∙ ap (λ t. flat_map line (range_with_len 0 j) ++ t) (append-nil (line j))
 
--- if the first `j` lines were printed and the next one failed, the `n` lines were printed in part
+-- if the first `j` lines were printed and the next line failed, the `n` lines were printed in part
 pub lines_failed : {s t u : SinkState} {w w' w'' : List ℕ} {result : Result Unit Failed} {ok : Unit} {e : Failed} (line : ℕ → List ℕ) (n j : ℕ) → j < n → IsErr result
     → PrintsPart s t w w' (Ok ok) (flat_map line (range_with_len 0 j)) → PrintsPart t u w' w'' (Err e) (line j) → PrintsPart s u w w'' result (flat_map line (range_with_len 0 n))
 lines_failed line n j lt err first next =

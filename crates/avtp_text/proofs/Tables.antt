@@ -4,7 +4,7 @@ use Rattle.std.proofs.lemmas.Bool.{and_parts, eqb-true}
 use Rattle.hex.specs.Hex.{lower_digits}
 use Rattle.avtp_text.specs.declared.pairs.TheConstants.{DECIMAL, HEXADECIMAL}
 
--- the table has the two digits of `n`, then those of `n + 1`, and so on up to its end
+-- the table holds the two digits of `n`, then the two digits of `n + 1`, and so on to the table's end
 abbrev holds : (ℕ → ℕ) → (ℕ → ℕ) → ℕ → List ℕ → Bool
 holds first second n [] = true
 holds first second n (a ∷ []) = false

@@ -3,8 +3,8 @@ use Rattle.std.specs.Prelude.{List, ℕ, ℤ, ◌++◌, codes, decimal}
 use Rattle.std.specs.Fmt.{signed_decimal}
 use Rattle.avtp_text.specs.Pieces.{newline}
 
--- how the line of a difference begins: the numbers, from 1, of the packet's frames in the captures A and B, and the
--- packet's sequence number
+-- the start of the line of a difference: the number, from 1, of the packet's frame in capture A, the number of its
+-- frame in capture B, and its sequence number
 unfoldable pub differ_start : ℕ → ℕ → ℕ → List ℕ
 differ_start a b seq = codes "differ frame " ++ decimal a ++ codes " " ++ decimal b ++ codes " seq " ++ decimal seq ++ codes " "
 
@@ -21,8 +21,8 @@ differ_at_line a b seq sample at_a at_b =
 unfoldable pub differ_bytes_line : ℕ → ℕ → ℕ → ℕ → List ℕ
 differ_bytes_line a b seq sample = differ_start a b seq ++ codes "sample " ++ decimal sample ++ codes " bytes" ++ newline
 
--- the line at the end, with four counts of packets: both listeners present them, only the listener to A does, only the
--- listener to B does, both present them differently
+-- the last line, with four numbers of packets: those that both listeners present, those that only the listener to A
+-- presents, those that only the listener to B presents, and those that both present differently
 unfoldable pub end_agree_line : ℕ → ℕ → ℕ → ℕ → List ℕ
 end_agree_line matched only_a only_b differ =
     codes "end matched " ++ decimal matched

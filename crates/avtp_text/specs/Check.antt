@@ -24,7 +24,7 @@ packet_line number id finding = packet_start number id ++ finding ++ newline
 abbrev pub found : Bool → List ℕ → List (List ℕ)
 found is_found name = if is_found then name ∷ [] else []
 
--- the label and the number of a finding, or nothing if it has no number
+-- the label and the number of a finding, or nothing if the finding has no number
 abbrev pub counted : Option ℕ → List ℕ → List (List ℕ)
 counted count label = option_to_list (option_map (λ n. label ++ decimal n) count)
 

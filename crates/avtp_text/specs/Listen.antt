@@ -12,7 +12,7 @@ use Rattle.sample_schedule.specs.Batches.{Presented, sample_instant}
 use Rattle.listener.specs.declared.heard.Counts.{Counts}
 use Rattle.avtp_text.specs.Pieces.{newline}
 
--- the line of the capture that was opened
+-- the line that names the capture that was opened
 unfoldable pub capture_line : List ℕ → List ℕ
 capture_line name = codes "capture " ++ name ++ newline
 
@@ -64,8 +64,7 @@ shown_lines (Flag frame seq reason) = flag_line frame seq reason
 abbrev pub list_lines : List Shown → List ℕ
 list_lines list = flat_map shown_lines list
 
--- the line at the end of a capture: the numbers of its records, of the stream's packets, of presented items and of
--- flagged items
+-- the last line of a capture, with four counts: records, packets of the stream, presented items, and flagged items
 unfoldable pub end_listen_line : Counts → List ℕ
 end_listen_line counts =
     codes "end frames " ++ decimal counts.frames

@@ -1,7 +1,7 @@
 -- The line of a sample. It is reused for the next samples.
 use Rattle.std.specs.Prelude.{ℕ}
 
--- the packet whose samples a line is for: the number of its frame, its sequence number, and the size of a sample in
+-- the packet whose samples a line shows: the number of its frame, its sequence number, and the size of a sample in
 -- bytes
 pub record SamplePacket : Type 0 where
   pub frame : ℕ

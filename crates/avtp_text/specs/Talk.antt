@@ -17,6 +17,6 @@ fault_text Memory = codes "memory"
 unfoldable pub talk_input_line : TalkFault → List ℕ
 talk_input_line fault = codes "talk input: " ++ fault_text fault ++ newline
 
--- the line of a capture that was made: how many packets of the stream it has, and how many of the media clock
+-- the line of a capture that was made: how many stream packets and how many media clock packets it has
 unfoldable pub talk_line : ℕ → ℕ → List ℕ
 talk_line packets clocks = codes "talk packets " ++ decimal packets ++ codes " clock " ++ decimal clocks ++ newline

@@ -11,7 +11,7 @@ use crate::pairs::write_hex;
 use crate::show::{format_name, prepend_frame};
 use aaf_format::{AafFormat, AafView, rate_of};
 
-/// The most bytes of the end of a line.
+/// The maximum number of bytes in the end of a line.
 const LONGEST_END: usize = 138;
 
 /// The fields that the line of an AAF packet shows after the timestamp. They seldom change from packet to packet.
@@ -100,7 +100,7 @@ impl IdText {
     }
 }
 
-/// Prepends the part that differs from packet to packet to the end of a line.
+/// Puts the part that changes from packet to packet before the end of a line.
 #[inline(always)]
 fn prepend_start(line: &mut Line, id: &IdText, view: &AafView<'_>)
     requires id { id.now.id ≡ view.now.header.stream_id }
@@ -177,7 +177,7 @@ impl AafLine {
         self.end = end;
     }
 
-    /// Keeps only the end of the line. Writes the end anew if it is not `end`.
+    /// Keeps only the end of the line. If it is not the text of `end`, writes it anew.
     #[inline(always)]
     fn leave_end(&mut self, end: AafEnd)
         ensures text { IsEnd end self.new.line }

@@ -86,8 +86,8 @@ impl Text {
         self.print(out, line.as_slice())
     }
 
-    /// Prints four counts of packets: both listeners present them, only the first does, only the second does, both
-    /// present them differently.
+    /// Prints four numbers of packets: those that both listeners present, those that only the first presents, those
+    /// that only the second presents, and those that both present differently.
     #[tactic(auto, unfolding(crate::specs::Agree::end_agree_line))]
     pub fn end_agree<S: Sink>(
         &mut self,

@@ -16,7 +16,7 @@ use avtp_files::Sink;
 use std::alloc::Global;
 use std::marker::Model;
 
-/// The most bytes that a [`Text`] holds. A piece that is printed at once has no more bytes than this.
+/// The maximum number of bytes in a [`Text`]. A piece that is printed at once has at most this many bytes.
 pub const ROOM: usize = Buffer::ROOM;
 
 /// Text that is buffered until it is written to a sink. Contracts see it as the list of its bytes: at most 65,536.

@@ -9,7 +9,7 @@ use crate::pairs::{write_bytes, write_hex};
 use avtp_base::Refusal;
 use std::marker::Model;
 
-/// The most bytes that a line can have.
+/// The maximum number of bytes in a line.
 pub const LONGEST: usize = 256;
 
 /// A line of bounded length. Contracts see it as the list of its bytes. It is built from its end, because the digits of a

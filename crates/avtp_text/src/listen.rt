@@ -280,8 +280,8 @@ impl Text {
         Ok(())
     }
 
-    /// Prints that a capture ended, with the numbers of its records, of the stream's packets, of presented items and of
-    /// flagged items.
+    /// Prints that a capture ended, with four counts: its records, the stream's packets, presented items, and flagged
+    /// items.
     #[tactic(auto, unfolding(crate::specs::Listen::end_listen_line))]
     pub fn end_listen<S: Sink>(&mut self, out: &mut S, counts: &Counts) -> Result<(), Failed>
         ensures { Prints (S.state out.old) (S.state out.new) self.old self.new result (end_listen_line counts.now) }

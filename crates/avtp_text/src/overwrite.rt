@@ -7,7 +7,8 @@ ghost use Rattle.avtp_text.specs.state.Pairs.{eight_digits};
 
 use crate::pairs::{write_bytes, write_eight_digits, write_hex};
 
-/// Overwrites eight bytes of a text with the eight digits of `number`. The last `behind` bytes of the text follow them.
+/// Overwrites eight bytes of a text with the eight digits of `number`. The last `behind` bytes of the text follow the
+/// digits.
 #[inline(always)]
 pub fn overwrite_eight_digits(text: &mut [u8], number: u32, behind: usize)
     requires number { number < 100000000 }

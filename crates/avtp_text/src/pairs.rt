@@ -89,8 +89,8 @@ pub fn write_hex(bytes: &[u8], out: &mut [u8])
     }
 }
 
-/// Writes a piece of text. If the compiler knows its length, the loop becomes a few moves. A copy of slices would test
-/// for an overlap first.
+/// Writes a piece of text. If the compiler knows the piece's length, the loop becomes a few moves. A copy of slices
+/// would test for an overlap first.
 #[inline(always)]
 pub fn write_bytes(piece: &[u8], out: &mut [u8])
     requires { length out.old ≡ length piece.now }

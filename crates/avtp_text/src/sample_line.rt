@@ -12,10 +12,10 @@ use crate::overwrite::{overwrite_decimal, overwrite_eight_digits, overwrite_hex}
 use avtp_base::Buffer;
 use std::marker::Model;
 
-/// The line of a sample of at most this many bytes fits a [`Line`].
+/// If a sample has at most this many bytes, its line fits a [`Line`].
 pub const SHORT: usize = 64;
 
-/// How many instants differ only in their last eight digits: those of a tenth of a second.
+/// The number of instants that differ only in their last eight digits. They span a tenth of a second.
 const INSTANTS: i64 = 100_000_000;
 
 /// The longest line that is kept, in bytes. A longer line is built anew for each sample.
@@ -70,7 +70,8 @@ fn start_of(instant: i64) -> Option<i64>
     Some((high * INSTANTS as u64) as i64)
 }
 
-/// How many bytes of a line follow the instant, the number of the frame, and the sequence number.
+/// How many bytes of a line follow the instant, how many follow the number of the frame, and how many follow the
+/// sequence number.
 #[derive(Clone, Copy)]
 struct Behind {
     instant: usize,
@@ -78,7 +79,8 @@ struct Behind {
     seq: usize,
 }
 
-/// The whole line of a sample, and how many bytes follow the numbers in it.
+/// The whole line of a sample, and how many bytes of it follow the instant, the number of the frame, and the sequence
+/// number.
 #[tactic(auto, unfolding(crate::specs::state::SampleLines::behind_instant))]
 fn whole_line(instant: i64, frame: u64, seq: u8, j: u32, bytes: &[u8]) -> (Line, Behind)
     requires { length bytes.now ≤ SHORT }
@@ -105,8 +107,8 @@ fn whole_line(instant: i64, frame: u64, seq: u8, j: u32, bytes: &[u8]) -> (Line,
     (line, behind)
 }
 
-/// The last eight digits of `instant`, if the kept line fits the sample. It fits if it differs from the sample's line
-/// only in these digits, the sample's number, and the sample's bytes.
+/// The last eight digits of `instant`, if the kept line fits the sample. The kept line fits if it differs from the
+/// sample's line only in these digits, the sample's number, and the sample's bytes.
 #[inline(always)]
 fn low_of(from: i64, numbers: Numbers, instant: i64, j: u32) -> Option<u32>
     ensures { IfSome result (λ low. Fits from numbers instant j low) }
@@ -128,7 +130,7 @@ fn low_of(from: i64, numbers: Numbers, instant: i64, j: u32) -> Option<u32>
 /// The line that is kept for later samples. A line that is too long is not kept.
 #[derive(Clone, Copy)]
 struct KeptLine {
-    /// The line's bytes, then unused bytes. All are copied, because a copy of constant size needs no call.
+    /// The line's bytes, then unused bytes. All `KEPT` bytes are copied, because a copy of constant size needs no call.
     bytes: [u8; KEPT],
     len: usize,
     behind: Behind,
@@ -156,10 +158,10 @@ impl KeptLine {
     }
 }
 
-/// The line of a sample, which is kept for the next one. Contracts see it as the packet whose samples it is for.
+/// The line of a sample, which is kept for the next sample. Contracts see it as the packet whose samples it is for.
 /// Usually the next line differs only in the last eight digits of the instant, the sample's number, and the sample's
-/// bytes. Then only these are written, over a copy of the kept line. The line is built anew when the number gains a
-/// digit or other digits of the instant change.
+/// bytes. Then only these parts are written, over a copy of the kept line. The line is built anew when the sample's
+/// number gains a digit or other digits of the instant change.
 #[derive(Drop)]
 pub struct SampleLine {
     line: KeptLine,

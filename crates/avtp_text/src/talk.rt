@@ -27,7 +27,7 @@ fn prepend_fault(line: &mut Line, fault: TalkFault)
 }
 
 impl Text {
-    /// Prints how many packets of the stream the capture has that was made, and how many of the media clock.
+    /// Prints how many stream packets and how many media clock packets the new capture has.
     #[tactic(auto, unfolding(crate::specs::Talk::talk_line))]
     pub fn talk<S: Sink>(&mut self, out: &mut S, packets: u64, clocks: u64) -> Result<(), Failed>
         ensures { Prints (S.state out.old) (S.state out.new) self.old self.new result (talk_line packets clocks) }

@@ -25,7 +25,6 @@ use Rattle.avtp_words.proofs.Numbers.{same_spelled}
 use Rattle.avtp_words.proofs.Settings.{name-dash, same-true, found-dashes, setting-value, same_first}
 use Rattle.avtp_words.proofs.Operands.{names, samples, sampled}
 
--- if an option is given, its value is one that its row takes
 pub value_is : (rows : List Row) (name : List ℕ) (row : Row) (gs : List Setting) → row_named rows name ≡ Some row → All (IsSetting rows) gs → IfSome (value_in name gs) (IsValue row.takes)
 value_is rows name row [] is_row each = tt
 value_is rows name row (g ∷ gs) is_row each =
@@ -83,7 +82,6 @@ start (x ∷ before) rest = start before rest
 
 -- ---- options, then operands
 
--- the first operand, if any, does not begin with a dash
 first_operand : (operands : List Operand) (ns : List (List ℕ)) → AreOperands operands ns → IfSome (slice_get ns 0) (λ word. BeginsWithDash word → ⊥)
 first_operand operands [] are = tt
 first_operand operands (n ∷ ns) are = λ dash. name-dash n (All-head IsName n ns (names operands (n ∷ ns) are)) dash
@@ -114,7 +112,6 @@ stops_of_options rows operands words place s = record {
   go [] never = λ line. never (tail s.before line)
   go (word ∷ rest) never = λ b. never (record { more = b.more; whole = tail ((s.before ++ word ∷ []) ++ b.more) b.whole })
 
--- the word at index `place` is the first word after the options
 at_end : (rows : List Row) (words : List (List ℕ)) (place : ℕ) (o : AreOptionsTo rows words place) → slice_get words place ≡ slice_get o.rest 0
 at_end rows words place o = ap (slice_get words) o.here ∙ ap (λ ws. slice_get ws (length (flat_map words_of o.settings))) o.split ∙ start (flat_map words_of o.settings) o.rest
 
@@ -125,7 +122,6 @@ drop_before (x ∷ before) rest = drop_before before rest
 pub left_is : (rows : List Row) (words : List (List ℕ)) (place : ℕ) (o : AreOptionsTo rows words place) → drop place words ≡ o.rest
 left_is rows words place o = ap (λ n. drop n words) o.here ∙ ap (drop (length (flat_map words_of o.settings))) o.split ∙ drop_before (flat_map words_of o.settings) o.rest
 
--- the words after `word` do not change which word is the first
 first_of : (before more : List (List ℕ)) (word : List ℕ) (rest other : List (List ℕ)) → slice_get (before ++ word ∷ rest) 0 ≡ slice_get (before ++ word ∷ other) 0
 first_of [] more word rest other = refl
 first_of (x ∷ before) more word rest other = refl
@@ -167,7 +163,6 @@ stops_of_operands rows operands words place wrong e s = record {
         (subst (IsRest rows operands) (append_assoc (flat_map words_of o.settings ++ s.before) (word ∷ []) b.more ∙ append_assoc (flat_map words_of o.settings) s.before (word ∷ b.more)) b.whole));
   })
 
--- options up to index `place` and then valid operands are together all words after a command
 pub rest_to : (rows : List Row) (operands : List Operand) (words : List (List ℕ)) (place : ℕ) → EndsOptions rows words place → AreOperands operands (drop place words) → IsRestTo rows operands words place
 rest_to rows operands words place e are = record {
   rest = record { settings = e.options.settings; names = e.options.rest; spelled = e.options.split; options = e.options.options; named = subst (AreOperands operands) (left_is rows words place e.options) are };
@@ -177,11 +172,9 @@ rest_to rows operands words place e are = record {
 abbrev pub options_to : (rows : List Row) (operands : List Operand) (words : List (List ℕ)) (place : ℕ) → IsRestTo rows operands words place → AreOptionsTo rows words place
 options_to rows operands words place r = record { settings = r.rest.settings; rest = r.rest.names; split = r.rest.spelled; here = r.here; options = r.rest.options }
 
--- the slice of `words` from `place` on is the list without its first `place` words
 pub words_after : (words : List (String Global)) (place : ℕ) → texts (take (length words - place) (drop place words)) ≡ drop place (texts words)
 words_after words place = ap texts (take_all (length words - place) (drop place words) (omega (arith, length-drop place words))) ∙ sym (drop-map {X = String Global} {Y = List ℕ} string_bytes place words)
 
--- the index of the first operand is at most the number of words
 pub rest_within : (rows : List Row) (operands : List Operand) (words : List (String Global)) (place : ℕ) → IsRestTo rows operands (texts words) place → place ≤ length words
 rest_within rows operands words place r = omega (arith, r.here, ap length r.rest.spelled, length-append (flat_map words_of r.rest.settings) r.rest.names, length-map {A = String Global} {B = List ℕ} words string_bytes)
 
@@ -193,7 +186,7 @@ same_line form words gs hs ns ms p q =
 
 -- ---- what options give
 
--- the number that the code reads for an option is the one that the option gives
+-- the number `n` that the code reads for `option` is the number that the option gives
 pub number_given : (option : NumberOption) (default bound n : ℕ) (v : Option (List ℕ)) → option.default ≡ Some default → option.high < bound → IfSome v (IsValue (Number option.low option.high)) → IsRead bound default v n → MatchOption v (IsSomeAnd option.default (λ default. n ≡ default)) (λ word. IsNumber option.low option.high word n)
 number_given option default bound n None has small is reads = subst (λ d. IsSomeAnd d (λ default. n ≡ default)) (sym has) reads.absent
 number_given option default bound n (Some word) has small (m, is) reads =
@@ -220,14 +213,13 @@ pub format_given : (default format : AafFormat) (v : Option (List ℕ)) → IfSo
 format_given default format None is reads = reads.absent
 format_given default format (Some word) (named, is) reads = is ∙ ap format_name (sym (reads.read named is))
 
--- if an option's default is in its range, the option gives a number in its range
+-- if `default` is in the range of `option`, `n` is in that range
 pub within : (option : NumberOption) (default n : ℕ) (gs : List Setting) → option.default ≡ Some default → option.low ≤ default → default ≤ option.high → IsGiven option gs n → (option.low ≤ n) × (n ≤ option.high)
 within option default n gs has least most given = go (value_in option.name gs) given where
   go : (v : Option (List ℕ)) → MatchOption v (IsSomeAnd option.default (λ default. n ≡ default)) (λ word. IsNumber option.low option.high word n) → (option.low ≤ n) × (n ≤ option.high)
   go None given = let is : n ≡ default = subst (λ d. IsSomeAnd d (λ default. n ≡ default)) has given in (omega arith, omega arith)
   go (Some word) given = (given.least, given.most)
 
--- the settings give only one number for `option`
 pub same_number : (option : NumberOption) (m n : ℕ) (gs : List Setting) → option.high < 2 ^ 64 → IsGiven option gs m → IsGiven option gs n → m ≡ n
 same_number option m n gs small p q = go (value_in option.name gs) p q where
   fixed : (default : Option ℕ) → IsSomeAnd default (λ default. m ≡ default) → IsSomeAnd default (λ default. n ≡ default) → m ≡ n
@@ -246,7 +238,6 @@ same_number_if option a b gs small p q = go (value_in option.name gs) p q where
       let same : m ≡ n = decimal_injective m n (omega (arith, first.most, small)) (omega (arith, second.most, small)) (sym first.spelled ∙ second.spelled) in
       p ∙ ap Some same ∙ sym q
 
--- a word spells at most one stream id
 pub same_id : (word : List ℕ) (a b : ℕ) → IsId word a → IsId word b → a ≡ b
 same_id word a b p q =
     let both = sym p.digits ∙ q.digits in
@@ -271,7 +262,7 @@ same_signed option y z gs small p q = go (value_in option.name gs) p q where
   go None p q = p ∙ sym q
   go (Some word) p q = same_spelled word y z (omega (arith, p.size, small)) (omega (arith, q.size, small)) p.spelled q.spelled
 
--- a sample format by the fourth letter of its name, which differs between the formats
+-- the sample format whose name has this fourth letter, which differs between the formats
 by_fourth : ℕ → AafFormat
 by_fourth letter = if letter == 49 then Int16 else if letter == 50 then Int24 else if letter == 51 then Int32 else Float32
 
@@ -282,7 +273,6 @@ fourth_is Int24 = refl
 fourth_is Int32 = refl
 fourth_is Float32 = refl
 
--- a word names at most one sample format
 same_format : (a b : AafFormat) → format_name a ≡ format_name b → a ≡ b
 same_format a b e = sym (fourth_is a) ∙ ap (λ (name : List ℕ). by_fourth (get_or name 3 0)) e ∙ fourth_is b
 

@@ -109,7 +109,6 @@ offence_of_command words other = of_a_word 0 refl (record {
 pub words_are : (words rest : List (String Global)) (command : String Global) (name : List ℕ) → words ≡ command ∷ rest → string_bytes command ≡ name → texts words ≡ name ∷ texts rest
 words_are words rest command name e same = ap texts e ∙ ap (λ (first : List ℕ). first ∷ texts rest) same
 
--- a word that is not a command's name has no form
 no_form : (word : List ℕ) → (word ≡ codes "show" → ⊥) → (word ≡ codes "check" → ⊥) → (word ≡ codes "listen" → ⊥) → (word ≡ codes "talk" → ⊥) → (word ≡ codes "soak" → ⊥) → (word ≡ codes "agree" → ⊥) → (word ≡ codes "gateway" → ⊥) → form_named word ≡ None
 no_form word not_show not_check not_listen not_talk not_soak not_agree not_gateway = elim (cases_Bool (bytes_eq (codes "show") word)) [
   | inl same ↦ absurd (not_show (sym (same-true (codes "show") word same)))
@@ -193,7 +192,6 @@ listener_says form words place r id asked makes is read = record {
 
 -- ---- show
 
--- there is a word at the index of the first operand
 pub show_operand : (words : List (List ℕ)) (place : ℕ) → IsRestTo show_form.rows show_form.operands words place → slice_get words place ≡ None → ⊥
 show_operand words place r none = go r.rest.names r.rest.named (sym (first_operand show_form words place r) ∙ none) where
   go : (ns : List (List ℕ)) → AreOperands show_form.operands ns → slice_get ns 0 ≡ None → ⊥
@@ -255,7 +253,6 @@ id_and_names words place r = go r.rest.names r.rest.spelled r.rest.named (first_
 pub listen_stands : (words : List (List ℕ)) (place : ℕ) → IsRestTo listen_form.rows listen_form.operands words place → slice_get words place ≡ None → ⊥
 listen_stands words place r none = let t = id_and_names words place r in let both = sym t.at_id ∙ none in cc
 
--- the first operand of `listen` is a stream ID
 pub listen_id : (words : List (List ℕ)) (place : ℕ) (word : List ℕ) → IsRestTo listen_form.rows listen_form.operands words place → slice_get words place ≡ Some word → ((stream : ℕ) → IsId word stream → ⊥) → ⊥
 listen_id words place word r here none =
     let t = id_and_names words place r in
@@ -264,14 +261,12 @@ listen_id words place word r here none =
     let id = t.line.operands.0 in
     none id.0 (subst (λ w. IsId w id.0) same id.1)
 
--- the words fit the form of `listen` with the operands that were read
 listen_line : (words : List (List ℕ)) (place : ℕ) (settings : List Setting) (t : IdAndNames words place settings) (id : List ℕ) (files : List (List ℕ)) → slice_get words place ≡ Some id → drop (place + 1) words ≡ files → IsOf listen_form (codes "listen" ∷ words) settings (id ∷ files)
 listen_line words place settings t id files at_id at_files =
     let ids : t.id ≡ id = (let e = sym t.at_id ∙ at_id in cc) in
     let names : t.files ≡ files = sym t.at_files ∙ at_files in
     subst (λ (n : List (List ℕ)). IsOf listen_form (codes "listen" ∷ words) settings (id ∷ n)) names (subst (λ (n : List ℕ). IsOf listen_form (codes "listen" ∷ words) settings (n ∷ t.files)) ids t.line)
 
--- the word at index `k` of a list is also at index `k` if more words follow
 among_first : (ws more : List (List ℕ)) (k : ℕ) (word : List ℕ) → slice_get ws k ≡ Some word → slice_get (ws ++ more) k ≡ Some word
 among_first [] more k word e = absurd cc
 among_first (w ∷ ws) more zero word e = e
@@ -292,7 +287,7 @@ listen_says words place id asked r here is next read = record {
   gs : List Setting
   gs = r.rest.settings
 
-  -- the word at index `k` of the options is at index `k + 1` of the command line, which begins with the command
+  -- the word at index `k` of the options is at index `k + 1` of the command line, because the command is word 0
   after_command : (k : ℕ) (word : List ℕ) → slice_get (texts (take place words)) k ≡ Some word → slice_get (codes "listen" ∷ texts words) (k + 1) ≡ Some word
   after_command k word e =
       let before : texts (take place words) ≡ flat_map words_of gs = words_before listen_form.rows words place (options_to listen_form.rows listen_form.operands (texts words) place r) in
@@ -358,7 +353,6 @@ two_names words place r = go r.rest.names r.rest.spelled r.rest.named (first_ope
   }
   go (first ∷ second ∷ more ∷ ns) spelled named at_first at_second = absurd named.1.1
 
--- the words fit the form of `talk` with the two names that were read
 line_at : (words : List (List ℕ)) (place : ℕ) (settings : List Setting) (t : TwoNames words place settings) (first second : List ℕ) → slice_get words place ≡ Some first → slice_get words (place + 1) ≡ Some second → IsOf talk_form (codes "talk" ∷ words) settings (first ∷ second ∷ [])
 line_at words place settings t first second at_first at_second =
     let firsts : t.first ≡ first = (let e = sym t.at_first ∙ at_first in cc) in
@@ -468,7 +462,6 @@ few_rate (Aaf format sparse) = omega arith
 few_rate Am824 = omega arith
 few_rate (H264 last_stamp) = omega arith
 
--- the clock that words of `talk` ask for is within its limits
 pub talk_clock : (words : List (List ℕ)) (asked : Talking) → SaysTalk words asked → ClockIsWithin asked.crf asked.rate
 talk_clock words asked says =
     let rate = within (with_default limits.rate (default_rate asked.kind)) (default_rate asked.kind) asked.rate says.settings refl (some_rate asked.kind) (few_rate asked.kind) says.rate in
@@ -513,14 +506,12 @@ soak_is words place word packets r here is =
 
 -- ---- a stream and two captures
 
--- the slice from `place` on holds the operands
 operands_here : (form : Form) (words : List (String Global)) (place : ℕ) (r : IsRestTo form.rows form.operands (texts words) place) → texts (take (length words - place) (drop place words)) ≡ r.rest.names
 operands_here form words place r = words_after words place ∙ left_is form.rows (texts words) place (options_to form.rows form.operands (texts words) place r)
 
 pub are_operands : (form : Form) (words : List (String Global)) (place : ℕ) → IsRestTo form.rows form.operands (texts words) place → AreOperands form.operands (texts (take (length words - place) (drop place words)))
 are_operands form words place r = subst (AreOperands form.operands) (sym (operands_here form words place r)) r.rest.named
 
--- the words fit the command's form with the operands that were read
 line_named : (form : Form) (words : List (String Global)) (place stream : ℕ) (first second : List ℕ) (r : IsRestTo form.rows form.operands (texts words) place)
     → (n : NameStreamAndTwo (texts (take (length words - place) (drop place words))) stream first second) → IsOf form (form.command ∷ texts words) r.rest.settings (n.id ∷ first ∷ second ∷ [])
 line_named form words place stream first second r n =
@@ -540,7 +531,7 @@ agree_says words place stream asked r n is read = record {
 
 -- ---- gateway
 
--- the word that the code reads after `--to` is that option's value
+-- the word that the code reads after `--to` is the value of `--to`
 to_word : (words : List (String Global)) (place : ℕ) (r : IsRestTo gateway_form.rows gateway_form.operands (texts words) place) → value_after (codes "--to") (texts (take place words)) ≡ value_in (codes "--to") r.rest.settings
 to_word words place r = after_options gateway_form words place r (codes "--to") (record { name = codes "--to"; takes = takes.OutFormat }) refl refl refl
 
@@ -567,14 +558,13 @@ gateway_says words place stream asked r n is read to read_id = record {
 same_command : (form other : Form) (words : List (List ℕ)) (gs hs : List Setting) (ns ms : List (List ℕ)) → IsOf form words gs ns → IsOf other words hs ms → form.command ≡ other.command
 same_command form other words gs hs ns ms p q = cc (p.spelled, q.spelled)
 
--- the same words cannot ask for requests of two commands
 one_command : (words : List (List ℕ)) (r s : Request) (p : IsCommandLine words r) (q : IsCommandLine words s) → (line_of words r p).form.command ≡ (line_of words s q).form.command
 one_command words r s p q =
     let l = line_of words r p in
     let m = line_of words s q in
     same_command l.form m.form words l.settings m.settings l.names m.names l.line m.line
 
--- the first two letters of a command's name as a number, which differs between commands
+-- a number made of the first two letters of a command's name, which differs between commands
 abbrev mark : List ℕ → ℕ
 mark word = get_or word 0 0 * 256 + get_or word 1 0
 
@@ -602,7 +592,6 @@ aaf_h264 e = let first = ap (λ (word : List ℕ). get_or word 0 0) e in absurd 
 am824_h264 : codes "h264" ≡ codes "am824" → ⊥
 am824_h264 e = let first = ap (λ (word : List ℕ). get_or word 0 0) e in absurd (omega (arith, first))
 
--- words ask for only one kind of stream
 same_kind : (words : List (List ℕ)) (gs : List Setting) (a b : Kind) → SaysKind words gs a → SaysKind words gs b → a ≡ b
 same_kind words gs (Aaf format sparse) (Aaf other another) p q =
     let formats : format ≡ other = same_format_given (codes "--format") Int16 format other gs p.format_given q.format_given in
@@ -617,7 +606,6 @@ same_kind words gs Am824 (H264 last_stamp) p q = absurd (am824_h264 (let both : 
 same_kind words gs (H264 last_stamp) Am824 p q = absurd (am824_h264 (let both : Some (codes "h264") ≡ Some (codes "am824") = sym p.kind ∙ q in cc))
 same_kind words gs (H264 last_stamp) (H264 other) p q = ap H264 (same_flag last_stamp other (Contains words (codes "--last-stamp")) p.last_stamp_given q.last_stamp_given)
 
--- words of `talk` ask for only one thing
 same_talk : (words : List (List ℕ)) (a b : Talking) → SaysTalk words a → SaysTalk words b → a ≡ b
 same_talk words a b p q = same inputs outputs
     kinds
@@ -665,7 +653,6 @@ offence_of_rule words asked says breaks = offence_of_form talk_form words says.s
 
 -- ---- each line asks for one thing, and words have one offence
 
--- words ask for only one listener
 same_listener : (settings : List Setting) (id : List ℕ) (a b : ListenerOptions) → SaysListener settings id a → SaysListener settings id b → a ≡ b
 same_listener settings id a b p q = same
     (same_id id a.stream b.stream p.stream q.stream)
@@ -679,7 +666,6 @@ same_listener settings id a b p q = same
       same : a.stream ≡ b.stream → a.limit ≡ b.limit → a.buffer ≡ b.buffer → a.room ≡ b.room → a.look ≡ b.look → a.lead ≡ b.lead → a.clock ≡ b.clock → a.shift ≡ b.shift → a ≡ b
       same streams limits buffers rooms looks leads clocks shifts = rw (streams, limits, buffers, rooms, looks, leads, clocks, shifts) refl
 
--- words of `listen` ask for only one thing
 same_listen : (words : List (List ℕ)) (a b : Listening) → SaysListen words a → SaysListen words b → a ≡ b
 same_listen words a b p q = same
     (same_listener q.settings q.id a.listener b.listener (subst (λ word. SaysListener q.settings word a.listener) ids (subst (λ gs. SaysListener gs p.id a.listener) both.0 p.listener)) q.listener)
@@ -711,7 +697,6 @@ offence_of_names words asked says breaks = offence_of_form listen_form words say
   none (agree other) p same = absurd (omega (arith, same))
   none (gateway other) (s, rules) same = absurd (omega (arith, same))
 
--- words of `agree` ask for only one thing
 same_agree : (words : List (List ℕ)) (a b : Agreeing) → SaysAgree words a → SaysAgree words b → a ≡ b
 same_agree words a b p q = same
     (same_listener q.settings q.id a.listener b.listener (subst (λ word. SaysListener q.settings word a.listener) ids (subst (λ gs. SaysListener gs p.id a.listener) both.0 p.listener)) q.listener)
@@ -731,14 +716,12 @@ same_agree words a b p q = same
       same : a.listener ≡ b.listener → a.a ≡ b.a → a.b ≡ b.b → a ≡ b
       same listeners firsts seconds = rw (listeners, firsts, seconds) refl
 
--- a word names at most one format of `gateway`
 same_gateway_format : (a b : GatewayFormat) → gateway_format_name a ≡ gateway_format_name b → a ≡ b
 same_gateway_format format.Am824 format.Am824 e = refl
 same_gateway_format format.Am824 format.Aaf e = absurd (aaf_am824 e)
 same_gateway_format format.Aaf format.Am824 e = absurd (aaf_am824 (sym e))
 same_gateway_format format.Aaf format.Aaf e = refl
 
--- words of `gateway` ask for only one thing
 same_gateway : (words : List (List ℕ)) (a b : Turning) → SaysGateway words a → SaysGateway words b → a ≡ b
 same_gateway words a b p q = same listeners
     (same_gateway_format a.to b.to (let both : Some (gateway_format_name a.to) ≡ Some (gateway_format_name b.to) = sym p.to_given ∙ ap (value_in (codes "--to")) both.0 ∙ q.to_given in cc))
@@ -792,7 +775,6 @@ pub offence_of_output : (words : List (List ℕ)) (asked : Turning) → SaysGate
 offence_of_output words asked says breaks = offence_of_gateway words says.settings (says.id ∷ asked.input ∷ asked.output ∷ []) says.line
     (λ other s rules. breaks (subst KeepsOutput (same_gateway words other asked s says) rules))
 
--- the stream ID that `gateway` writes is below 2^64
 pub gateway_id : (words : List (List ℕ)) (asked : Turning) → SaysGateway words asked → asked.id < 2 ^ 64
 gateway_id words asked says = go (value_in (codes "--id") says.settings) says.id_given where
   go : (v : Option (List ℕ)) → MatchOption v (asked.id ≡ asked.listener.stream) (λ word. IsId word asked.id) → asked.id < 2 ^ 64
@@ -885,7 +867,7 @@ one_begins (x ∷ xs) (y ∷ ys) rest more e =
       | inr (m, whole, left) ↦ inr (m, ap (λ (first : List ℕ). first ∷ xs) heads ∙ ap (λ (ws : List (List ℕ)). y ∷ ws) whole, left)
     ]
 
--- if the word after `before` is not accepted, no longer prefix begins a line
+-- If the word after `before` is not accepted, no prefix that is longer than `before` begins a line.
 past : (before rest m : List (List ℕ)) (more : List (List ℕ)) → Stops IsLine before rest → rest ≡ m ++ more → Begins IsLine (before ++ m) → m ≡ []
 past before rest [] more stops split begins = refl
 past before [] (word ∷ m) more stops split begins = absurd (cc)
@@ -893,7 +875,6 @@ past before (first ∷ rest) (word ∷ m) more stops split begins =
     let same : first ≡ word = cc in
     absurd (stops (record { more = m ++ begins.more; whole = subst (λ w. IsLine ((before ++ w ∷ []) ++ (m ++ begins.more))) (sym same) (subst IsLine (append_assoc before (word ∷ m) begins.more ∙ sym (append_assoc before (word ∷ []) (m ++ begins.more))) begins.whole) }))
 
--- words have at most one first wrong word
 same_stop : (words : List (List ℕ)) (p q : ℕ) → StopsAt IsLine words p → StopsAt IsLine words q → p ≡ q
 same_stop words p q o r =
     elim (one_begins o.before r.before o.rest r.rest (sym o.split ∙ r.split)) [
@@ -905,14 +886,13 @@ same_stop words p q o r =
           omega (arith, o.here, r.here, ap length whole, length-append r.before m, ap length none))
     ]
 
--- words have at most one offence
 pub same_offence : (words : List (List ℕ)) (p q : ℕ) → IsOffence words p → IsOffence words q → p ≡ q
 same_offence words p q (of_a_word place here stops) (of_a_word other there others) = omega (arith, here, there, same_stop words place other stops others)
 same_offence words p q (of_a_word place here stops) (of_a_rule there fits none) = absurd (stopped words place stops fits)
 same_offence words p q (of_a_rule here fits none) (of_a_word place there stops) = absurd (stopped words place stops fits)
 same_offence words p q (of_a_rule here fits none) (of_a_rule there others nothing) = here ∙ sym there
 
--- the words ask for no other command than the one that was read from them
+-- the words ask only for the command that was read from them
 pub answered_only : (words : List (List ℕ)) (result : Result Command Offence) → IfOk result (λ command. IsCommandLine words (request_of command)) → IfErr result (λ offence. IsOffence words offence.position)
     → (request : Request) → IsCommandLine words request → IsOkAnd result (λ command. request_of command ≡ request)
 answered_only words (Ok command) ok err request line = same_request words (request_of command) request ok line

@@ -23,14 +23,13 @@ use Rattle.avtp_words.proofs.Settings.{name-dash, same-true, setting-value, take
 contains_at : (ws : List (List ℕ)) (k : ℕ) (word : List ℕ) → slice_get ws k ≡ Some word → Contains ws word
 contains_at ws k word e = (k, slice_get_within ws k word e, get_or_from_slice_get ws k word word e)
 
--- if no option has this name, which begins with two dashes, the name is not among the options and the operands
+-- If `name` begins with two dashes and no option has this name, no word of the options and operands is `name`.
 not_there : (rows : List Row) (gs : List Setting) (ns : List (List ℕ)) (name : List ℕ) → are_sound rows ≡ true → All (IsSetting rows) gs → All (λ s. s.name ≢ name) gs → All IsName ns → begins_with_dashes name ≡ true → Contains (flat_map words_of gs ++ ns) name → ⊥
 not_there rows gs ns name sound each apart named dashes within = elim (Contains-append_cases (flat_map words_of gs) ns name within) [
   | inl option ↦ taken rows gs name sound each apart dashes option
   | inr operand ↦ name-dash name (All-contains IsName ns name named operand) (one_dash name dashes)
 ]
 
--- options with different names still have different names without the first option
 later_once : (g : Setting) (gs : List Setting) → AllPairs (λ s t. s.name ≢ t.name) (g ∷ gs) → AllPairs (λ s t. s.name ≢ t.name) gs
 later_once g gs once i j d below inside = once (suc i) (suc j) d (omega arith) (omega arith)
 
@@ -42,7 +41,7 @@ one_place : (rows : List Row) (gs : List Setting) (ns : List (List ℕ)) (name :
 one_place rows [] ns name p q sound each once named dashes first second = absurd (name-dash name (All-contains IsName ns name named (contains_at ns p name first)) (one_dash name dashes))
 one_place rows (g ∷ gs) ns name p q sound each once named dashes first second =
     go p q first second (λ m n. one_place rows gs ns name m n sound (All-tail (IsSetting rows) g gs each) (later_once g gs once) named dashes) where
-      -- if the option `g` has this name, the words after the name do not contain it again
+      -- if the option `g` is named `name`, `name` is not among the words that follow
       past : (v : Option (List ℕ)) (n : ℕ) → g.value ≡ v → g.name ≡ name → slice_get ((option_to_list v ++ flat_map words_of gs) ++ ns) n ≡ Some name → ⊥
       past None n e is there = not_there rows gs ns name sound (All-tail (IsSetting rows) g gs each) (later_apart g gs name once is) named dashes (contains_at (flat_map words_of gs ++ ns) n name there)
       past (Some word) zero e is there = setting-value rows g word sound (All-head (IsSetting rows) g gs each) e (let same : word ≡ name = cc in rw same dashes)
@@ -121,11 +120,10 @@ none_from (w ∷ ws) name i e = elim (cases_Bool (bytes_eq (string_bytes w) name
   | inr other ↦ rw other (none_from ws name (i + 1) (rw other at e))
 ]
 
--- if `name` is not among the words, no word is read after it
 pub not_named : (words : List (String Global)) (name : List ℕ) → position (is_named name) words ≡ None → value_after name (texts words) ≡ None
 not_named words name e = none_from words name 0 (sym (position_from-zero (is_named name) words) ∙ e)
 
--- The first `name` in `words` is at index `far`, and the word after it is the one that is read. `place` is `i + far`.
+-- The first `name` in `words` is at index `far`, and `place` is `i + far`. The code reads the word at index `far + 1`.
 record FirstNamed (words : List (List ℕ)) (name : List ℕ) (i place : ℕ) : Type 0 where
   far : ℕ
   here : place ≡ i + far
@@ -149,7 +147,7 @@ first_from (w ∷ ws) name i place e = elim (cases_Bool (bytes_eq (string_bytes 
   })
 ]
 
--- the word at index `place` is `name`, and the word after it is what is read
+-- the word at index `place` is `name`, and the code reads the word at index `place + 1`
 pub named_at : (words : List (String Global)) (name : List ℕ) (place : ℕ) → position (is_named name) words ≡ Some place → (slice_get (texts words) place ≡ Some name) × (value_after name (texts words) ≡ slice_get (texts words) (place + 1))
 named_at words name place e =
     let f = first_from words name 0 place (sym (position_from-zero (is_named name) words) ∙ e) in (

@@ -1,4 +1,4 @@
--- What words of `talk` that lack an option do not ask for.
+-- What words of `talk` do not ask for if they lack an option.
 use Rattle.std.proofs.Common.{◌≡◌, ℕ, inl, inr, List, [], ◌∷◌, drop, flat_map, Option, Some, None, MatchOption, Contains, codes, arith, ap, subst, sym, refl, Bool}
 use Rattle.std.specs.Str.{bytes_eq}
 use Rattle.std.proofs.lemmas.Bool.{cases_Bool}

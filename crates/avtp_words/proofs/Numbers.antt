@@ -40,7 +40,6 @@ alone : (n : ℕ) → n < 2 ^ 64 → get_or (decimal n) 0 0 ≡ 48 → length (d
 alone zero small e = ap length (decimal_digit 0 (omega arith))
 alone (suc n) small e = absurd (omega (arith, first_decimal (suc n) (omega arith) small))
 
--- the decimal digits of a number begin as a number
 pub begins-decimal : (bytes : List ℕ) (n : ℕ) → n < 2 ^ 64 → bytes ≡ decimal n → BeginsAsNumber bytes
 begins-decimal bytes n small e = rw e (record {
   some = decimal_nonempty n small;
@@ -59,7 +58,6 @@ pub number_name : (word : List ℕ) (n : ℕ) → n < 2 ^ 64 → word ≡ decima
 number_name [] n small e = absurd (let begins : BeginsAsNumber [] = begins-decimal [] n small e in omega (arith, begins.some))
 number_name (first ∷ more) n small e = λ dash. no_dash (first ∷ more) n small e dash
 
--- a word that begins with two dashes begins with a dash
 pub one_dash : (word : List ℕ) → begins_with_dashes word ≡ true → BeginsWithDash word
 one_dash [] e = absurd cc
 one_dash (first ∷ []) e = absurd cc
@@ -75,12 +73,12 @@ no_dashes [] (negsuc n) small e both = absurd cc
 no_dashes (first ∷ []) (negsuc n) small e both = absurd cc
 no_dashes (first ∷ second ∷ more) (negsuc n) small e both = no_dash (second ∷ more) (suc n) (omega (arith, small)) (ap (drop 1) e) (second_dash first second more both)
 
--- if `digits` spell no number above 0, `-` and then `digits` spell no number below 0
+-- if `digits` spell no positive number, `-` followed by `digits` spells no negative number
 pub below_none : (digits : List ℕ) → ((n : ℕ) → 0 < n → n < 2 ^ 63 → digits ≢ decimal n) → (z : ℤ) → unsigned_abs z < 2 ^ 63 → (45 ∷ digits) ≢ signed_decimal z
 below_none digits none (pos n) small e = no_dash (45 ∷ digits) n (omega (arith, small)) e refl
 below_none digits none (negsuc n) small e = none (suc n) (omega arith) small (ap (drop 1) e)
 
--- if a word has no leading `-` and spells no number from 0 to 2^63 - 1, it spells no signed number either
+-- if a word has no leading `-` and spells no number from 0 to 2^63 - 1, it spells no signed number
 pub above_none : (word : List ℕ) → ((rest : List ℕ) → word ≢ 45 ∷ rest) → ((n : ℕ) → n < 2 ^ 63 → word ≢ decimal n) → (z : ℤ) → unsigned_abs z < 2 ^ 63 → word ≢ signed_decimal z
 above_none word plain none (pos n) small e = none n small e
 above_none word plain none (negsuc n) small e = plain (decimal (suc n)) e
@@ -89,11 +87,11 @@ mag_below : (z : ℤ) → unsigned_abs z < 2 ^ 63 → mag z < 2 ^ 63
 mag_below (pos n) small = small
 mag_below (negsuc n) small = omega (arith, small)
 
--- a word spells at most one number, even if numbers may be negative
+-- a word spells at most one signed number
 pub same_spelled : (word : List ℕ) (y z : ℤ) → unsigned_abs y < 2 ^ 63 → unsigned_abs z < 2 ^ 63 → word ≡ signed_decimal y → word ≡ signed_decimal z → y ≡ z
 same_spelled word y z small smaller p q = signed_decimal_injective y z (mag_below y small) (mag_below z smaller) (sym p ∙ q)
 
--- if `word` spells `y`, it spells a number in range exactly if `y` is in range
+-- if `word` spells `y`, the word is a valid value exactly if `y` is in range
 pub signed_is : (most : ℕ) (y : ℤ) (word : List ℕ) → unsigned_abs y < 2 ^ 63 → most < 2 ^ 63 → word ≡ signed_decimal y → IsTrue (nat_le (unsigned_abs y) most) ↔ ((z : ℤ) × IsSigned most word z)
 signed_is most y word small fits spelled = (
   (λ t. (y, record { size = leb-true (unsigned_abs y) most t; spelled = spelled })),
@@ -114,7 +112,7 @@ pub fits_after : (o : Option ℤ) (default : ℤ) → mag default < 2 ^ 63 → I
 fits_after None default is small = fits_mag default is
 fits_after (Some z) default is small = fits z small
 
--- the number that is read from a word is the one that the word spells
+-- the number that is read from a word is the number that the word spells
 pub signed_read_of : (word : List ℕ) (o : Option ℤ) (default : ℤ) → IfSome o (λ z. word ≡ signed_decimal z) → IfSome o (λ z. unsigned_abs z < 2 ^ 63) → IfNone o ((z : ℤ) → unsigned_abs z < 2 ^ 63 → word ≢ signed_decimal z) → IsReadSigned default (Some word) (unwrap_or o default)
 signed_read_of word (Some y) default spells small none = record { absent = tt; read = λ z below e. same_spelled word y z small below spells e }
 signed_read_of word None default spells small none = record { absent = tt; read = λ z below e. absurd (none z below e) }
@@ -123,11 +121,10 @@ pub where_none : {X : Type 0} {P : Type 0} (answer : Option X) → P → IfNone 
 where_none None holds = holds
 where_none (Some x) holds = tt
 
--- a word spells at most one number
 pub spells_one : (word : List ℕ) (m n : ℕ) → m < 2 ^ 64 → n < 2 ^ 64 → word ≡ decimal n → word ≡ decimal m → m ≡ n
 spells_one word m n small smaller e f = decimal_injective m n small smaller (sym f ∙ e)
 
--- if `word` spells `n`, it spells a number in range exactly if `n` is in range
+-- if `word` spells `n`, the word is a valid value exactly if `n` is in range
 pub is_number-then : (low high n : ℕ) (word : List ℕ) (least : low ≤ n) (spells : word ≡ decimal n) → n < 2 ^ 64 → high < 2 ^ 64 → IsTrue (nat_le n high) ↔ ((m : ℕ) × IsNumber low high word m)
 is_number-then low high n word least spells small fits = (
   (λ t. (n, record { least = least; most = leb-true n high t; spelled = spells })),
@@ -147,7 +144,7 @@ pub number_is : (word : List ℕ) (o : Option ℕ) (default n : ℕ) → unwrap_
 number_is word (Some m) default n fits spells none small e = decimal_injective m n fits small (sym spells ∙ e)
 number_is word None default n fits spells none small e = absurd (none n small e)
 
--- if a word is read as unsigned and then converted to signed, each number below 2^63 is read as it is spelled
+-- A number below 2^63 does not change when it is read as unsigned and then converted to signed.
 pub signed_read : {E : Type 0} (word : Option (List ℕ)) (default n : ℕ) (r : Result ℤ E) → default < 2 ^ 63 → OkIff r (FitsSigned w64 (pos n)) (pos n) → IsRead (2 ^ 64) default word n → (k : ℕ) × FitsSigned w64 (pos k) × (result_unwrap_or r (pos default) ≡ pos k) × IsRead (2 ^ 63) default word k
 signed_read word default n (Ok x) small (fits, is) reads = (n, fits, is, record { absent = reads.absent; read = lower word reads.read }) where
   lower : (word : Option (List ℕ)) → IfSome word (λ word. (k : ℕ) → k < 2 ^ 64 → word ≡ decimal k → n ≡ k) → IfSome word (λ word. (k : ℕ) → k < 2 ^ 63 → word ≡ decimal k → n ≡ k)
@@ -169,7 +166,7 @@ read_if {E = E} word n r given small spells tried is = record { absent = tt; rea
   go (Ok x) (fits, x_is) k below same = ap Some (x_is ∙ sym same)
   go (Err e) large k below same = absurd (large (omega (arith, below, same)))
 
--- a word without a leading `-` that spells a number of 2^63 or more spells no signed 64-bit number
+-- if a word without a leading `-` spells a number of 2^63 or more, it spells no signed 64-bit number
 pub unfit : {E : Type 0} (word : List ℕ) (n : ℕ) (r : Result ℤ E) (given : Option ℤ) → n < 2 ^ 64 → word ≡ decimal n → OkIff r (FitsSigned w64 (pos n)) (pos n) → given ≡ result_ok r → ((rest : List ℕ) → word ≢ 45 ∷ rest) → IfNone given ((z : ℤ) → unsigned_abs z < 2 ^ 63 → word ≢ signed_decimal z)
 unfit {E = E} word n r given small spells tried is plain = rw is (go r tried) where
   go : (r : Result ℤ E) → OkIff r (FitsSigned w64 (pos n)) (pos n) → IfNone (result_ok r) ((z : ℤ) → unsigned_abs z < 2 ^ 63 → word ≢ signed_decimal z)

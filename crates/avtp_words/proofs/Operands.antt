@@ -84,7 +84,7 @@ pub missing_of : (operand : Operand) (operands : List Operand) (words : List (St
 missing_of operand operands [] e = missing operand operands
 missing_of operand operands (word ∷ words) e = absurd (omega (arith, e))
 
--- if operands are valid, the first one is valid by itself
+-- if all words are valid operands, the first word is valid as the first operand
 first_is : (operand : Operand) (operands : List Operand) (word : List ℕ) (words : List (List ℕ)) → AreOperands (operand ∷ operands) (word ∷ words) → IsOperand operand word
 first_is Id operands word words are = are.0
 first_is Name operands word words are = are.0
@@ -107,7 +107,7 @@ rest_are Name operands word words single are = are.1
 rest_are Names operands word words single are = absurd cc
 rest_are Packets operands word words single are = are.1
 
--- if the first operand is valid, the first wrong word is that of the remaining operands
+-- if the first operand is valid, the first wrong word is the first wrong word among the remaining operands
 pub later : (operand : Operand) (operands : List Operand) (word : List ℕ) (words : List (List ℕ)) (place : ℕ) → takes_all operand ≡ false → IsOperand operand word → StopsAt (AreOperands operands) words place → StopsAt (AreOperands (operand ∷ operands)) (word ∷ words) (place + 1)
 later operand operands word words place single is s = record {
   before = word ∷ s.before;
@@ -121,7 +121,7 @@ later operand operands word words place single is s = record {
   go [] never = λ are. never (rest_are operand operands word s.before single are)
   go (next ∷ rest) never = λ b. never (record { more = b.more; whole = rest_are operand operands word ((s.before ++ next ∷ []) ++ b.more) single b.whole })
 
--- for `Names`, the first word that is not a name is the first wrong word
+-- if the operand is `Names`, the first word that is not a name is the first wrong word
 unnamed : (operands : List Operand) (words : List (List ℕ)) (place : ℕ) → IsFirstUnnamed words place → StopsAt (AreOperands (Names ∷ operands)) words place
 unfolding samples
 unnamed operands words place u = record {

@@ -1,4 +1,4 @@
--- Rules over several words: options that words lack, and options that need another.
+-- Rules over several words: options that are absent, and options that need another option.
 use Rattle.std.proofs.Common.{◌≡◌, Bool, true, false, not, List, [], ◌∷◌, Contains, IsTrue, ◌↔◌, inl, inr, ℕ, String, string_bytes, refl, sym, ◌∙◌}
 use Rattle.std.specs.List.{list_any}
 use Rattle.std.specs.Str.{bytes_eq}

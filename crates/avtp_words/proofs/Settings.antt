@@ -1,4 +1,4 @@
--- The options that a command line gives, and the only way to split words into options.
+-- The options that a command line gives. Words split into options in only one way.
 use Rattle.std.proofs.Common.{◌≡◌, ◌≢◌, ℕ, zero, suc, ◌<◌, ◌^◌, inl, inr, true, false, List, [], ◌∷◌, ◌++◌, flat_map, length, get_or, Option, Some, None, IsSomeAnd, arith, add-zero, sym, subst, ap, ◌∙◌, refl, append_assoc, length-append, All, AllPairs, Contains, IsTrue, option_to_list}
 use Rattle.std.specs.Str.{bytes_eq}
 use Rattle.std.proofs.lemmas.Bool.{cases_Bool, ltb-true, and_parts}
@@ -59,7 +59,6 @@ value-dashes OutFormat word sound (format, is) dashes = named format (subst (λ 
   named Aaf found = plain found
 value-dashes Nothing word sound is dashes = is
 
--- no word is a value of an option that takes no value
 alone : (takes : Takes) (word : List ℕ) → IsTrue (stands_alone takes) → IsValue takes word → ⊥
 alone (Number low high) word stands is = absurd cc
 alone (Signed most) word stands is = absurd cc
@@ -71,7 +70,6 @@ alone Silence word stands is = absurd cc
 alone OutFormat word stands is = absurd cc
 alone Nothing word stands is = is
 
--- if all rows are sound, the row that is found by a name is sound
 pub found-sound : (rows : List Row) (name : List ℕ) (row : Row) → are_sound rows ≡ true → row_named rows name ≡ Some row → is_sound row.takes ≡ true
 found-sound [] name row sound found = cc
 found-sound (r ∷ rows) name row sound found =
@@ -134,7 +132,7 @@ push rows gs s options is new = record { each = All-push (IsSetting rows) gs s o
 same_setting : (g h : Setting) → g.name ≡ h.name → g.value ≡ h.value → g ≡ h
 same_setting g h p q = ap (λ n. let s : Setting = record { name = n; value = g.value } in s) p ∙ ap (λ v. let s : Setting = record { name = h.name; value = v } in s) q
 
--- If words begin with the option `g` and with the option `h`, these two options are equal.
+-- If the same words begin with the option `g` and with the option `h`, `g` and `h` are equal.
 pub same_first : (rows : List Row) (g h : Setting) (xs ys : List (List ℕ)) → IsSetting rows g → IsSetting rows h → words_of g ++ xs ≡ words_of h ++ ys → (g ≡ h) × (xs ≡ ys)
 same_first rows g h xs ys g_is h_is e = go (row_named rows h.name) g.value h.value refl refl
     (subst (λ name. IsSomeAnd (row_named rows name) (λ row. IsTaken row.takes g.value)) names g_is.value) h_is.value (cc) where
@@ -150,8 +148,8 @@ same_first rows g h xs ys g_is h_is e = go (row_named rows h.name) g.value h.val
           let values : value ≡ other = cc in
           (same_setting g h names (v_is ∙ ap Some values ∙ sym w_is), cc)
 
--- `hs` is `gs`, then an option that `word` names, then `more`. `rest` is that option's value, if it has one, then the
--- words of `more`, then `names`.
+-- `hs` is the list `gs`, then the option named `word`, then `more`. `rest` is the value of that option, if any, then
+-- the words of `more`, then `names`.
 pub record Next (rows : List Row) (gs hs : List Setting) (word : List ℕ) (rest names : List (List ℕ)) : Type 0 where
   pub setting : Setting
   pub more : List Setting

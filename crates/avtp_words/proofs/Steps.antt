@@ -1,4 +1,4 @@
--- A step through the options: to the next option, or to a word that is not accepted.
+-- One step through the options: to the next option, or to a word that is not accepted.
 use Rattle.std.proofs.Common.{◌≡◌, ◌≢◌, ℕ, zero, suc, ◌+◌, ◌<◌, inl, inr, true, false, List, [], ◌∷◌, ◌++◌, map, flat_map, length, take, Option, Some, None, option_map, slice_get, IsSomeAnd, IfSome, option_to_list, codes, ◌≤◌, arith, add-one, sym, subst, ap, ◌∙◌, refl, append_assoc, length-append, All, AllPairs, Contains, Bool, IsTrue, ◌↔◌, decimal, pos, string_bytes, String}
 use Rattle.std.specs.List.{find, list_any}
 use Rattle.std.specs.Str.{bytes_eq}
@@ -21,7 +21,6 @@ use Rattle.avtp_words.specs.Options.{Row, row_named, Setting, words_of, IsValue,
 use Rattle.avtp_words.specs.Grammar.{Stops}
 use Rattle.avtp_words.proofs.Settings.{same-true, same-false, found-sound, setting-dashes, apart, push, next, fresh, taken}
 
--- if `word` is at the index at which `rest` begins, `rest` begins with `word`
 pub at : (before rest : List (List ℕ)) (word : List ℕ) → slice_get (before ++ rest) (length before) ≡ Some word → (more : List (List ℕ)) × (rest ≡ word ∷ more)
 at [] [] word e = absurd (cc)
 at [] (r ∷ rest) word e = (rest, cc)
@@ -36,7 +35,6 @@ pub found : (rows : List OptionRow) (name : List ℕ) → row_named (rows_of row
 found [] name = refl
 found (r ∷ rows) name = elim (cases_Bool (bytes_eq r.name.now name)) [ inl here ↦ rw here refl | inr other ↦ rw other (found rows name) ]
 
--- a list of one word contains only that word
 only : (word name : List ℕ) → Contains (word ∷ []) name → word ≡ name
 only word name (zero, lt, same) = same
 only word name (suc k, lt, same) = absurd (omega (arith, lt))
@@ -72,11 +70,10 @@ after_first first name words other = (
   λ within. elim (Contains-append_cases (first ∷ []) words name within) [ inl here ↦ absurd (other (only first name here)) | inr later ↦ later ],
 )
 
--- the words before index `place` are those of the options
+-- the words before index `place` are the words of the options
 pub words_before : (rows : List Row) (words : List (String Global)) (place : ℕ) (o : AreOptionsTo rows (texts words) place) → map string_bytes (take place words) ≡ flat_map words_of o.settings
 words_before rows words place o = sym (take-map string_bytes place words) ∙ ap (take place) o.split ∙ (rw o.here (take-append_seam (flat_map words_of o.settings) o.rest))
 
--- if `word` is at index `place`, the words after the options begin with `word`
 pub here : (rows : List Row) (words : List (List ℕ)) (place : ℕ) (o : AreOptionsTo rows words place) (word : List ℕ) → slice_get words place ≡ Some word → (more : List (List ℕ)) × (o.rest ≡ word ∷ more)
 here rows words place o word e = at (flat_map words_of o.settings) o.rest word (sym (ap (λ ws. slice_get ws (length (flat_map words_of o.settings))) o.split) ∙ sym (ap (slice_get words) o.here) ∙ e)
 
@@ -142,13 +139,12 @@ is_setting rows name value row dash e is =
 words-push : (gs : List Setting) (s : Setting) → flat_map words_of (gs ++ s ∷ []) ≡ flat_map words_of gs ++ words_of s
 words-push gs s = flat_map-append words_of gs (s ∷ []) ∙ ap (λ ws. flat_map words_of gs ++ ws) (append-nil (words_of s))
 
--- an option has a value that the row of its name takes
 value_of : (rows : List Row) (name : List ℕ) (row : Row) (s : Setting) → row_named rows name ≡ Some row → name ≡ s.name → IsSetting rows s → IsTaken row.takes s.value
 value_of rows name row s e same is =
     let found : row_named rows s.name ≡ Some row = ap (row_named rows) (sym same) ∙ e in
     subst (λ o. IsSomeAnd o (λ row. IsTaken row.takes s.value)) found is.value
 
--- if an option's name is not followed by a value that the option takes, the words stop being options and names there
+-- if the words after an option's name do not begin with a value that the option takes, the next word is not accepted
 stops_after : (rows : List Row) (gs : List Setting) (word : List ℕ) (row : Row) (more : List (List ℕ)) → AreSettings rows gs → BeginsWithDash word → row_named rows word ≡ Some row → stands_alone row.takes ≡ false → IfSome (slice_get more 0) (λ value. IsValue row.takes value → ⊥) → Stops (IsTail rows) (flat_map words_of gs ++ word ∷ []) more
 stops_after rows gs word row more options dash e wanted bad = go more bad where
   none_follows : (after : List (List ℕ)) → IfSome (slice_get after 0) (λ value. IsValue row.takes value → ⊥) → IsTail rows (flat_map words_of gs ++ word ∷ after) → ⊥
@@ -165,7 +161,6 @@ stops_after rows gs word row more options dash e wanted bad = go more bad where
   go [] bad = λ t. none_follows [] bad t
   go (value ∷ more) bad = λ b. none_follows (value ∷ b.more) bad (subst (IsTail rows) (append_assoc (flat_map words_of gs ++ word ∷ []) (value ∷ []) b.more ∙ append_assoc (flat_map words_of gs) (word ∷ []) (value ∷ b.more)) b.whole)
 
--- the word at index `place + 1` is the first word of `more`
 pub after_place : (rows : List Row) (words : List (List ℕ)) (place : ℕ) (o : AreOptionsTo rows words place) (word : List ℕ) (more : List (List ℕ)) → o.rest ≡ word ∷ more → slice_get words (place + 1) ≡ slice_get more 0
 after_place rows words place o word more e =
     let place_is : place + 1 ≡ suc (length (flat_map words_of o.settings)) = rw add-one (ap suc o.here) in
@@ -185,7 +180,6 @@ stops_next rows words place o word row sound e dash is_row new lacks =
       stops = stops_after rows o.settings word row h.0 o.options dash is_row lacks.wanted (subst (λ v. IfSome v (λ value. IsValue row.takes value → ⊥)) (after_place rows words place o word h.0 h.1) lacks.none);
     }
 
--- if the value, if any, is the first word of `more`, `more` is the value and then some rest
 left_after : (value : Option (List ℕ)) (more : List (List ℕ)) → IfSome value (λ word. slice_get more 0 ≡ Some word) → (rest : List (List ℕ)) × (more ≡ option_to_list value ++ rest)
 left_after None more here = (more, refl)
 left_after (Some word) [] here = absurd (cc)
@@ -219,7 +213,7 @@ repeated rows words place o name sound e dash given = stops_here (rows_of rows) 
     let within' : Contains (flat_map words_of o.settings) s.name = subst (Contains (flat_map words_of o.settings)) same within in
     taken (rows_of rows) o.settings s.name sound o.options.each new (setting-dashes (rows_of rows) s sound is) within')
 
--- an option that is not among the words before index `place` differs from each option there
+-- an option that is not among the words before index `place` differs from each option before that index
 pub first : (rows : List OptionRow) (words : List (String Global)) (place : ℕ) (o : AreOptionsTo (rows_of rows) (texts words) place) (name : List ℕ) → list_any (λ word. bytes_eq (string_bytes word) name) (take place words) ≡ false → All (λ s. s.name ≢ name) o.settings
 first rows words place o name not_given = fresh o.settings name (λ within. absent (take place words) name not_given (subst (λ ws. Contains ws name) (sym (words_before (rows_of rows) words place o)) within))
 

@@ -1,4 +1,4 @@
--- What an option gives: what its value spells, or the option's default if the option is not given.
+-- What an option gives: the number, stream ID or format that its value spells, or a default if the option is not given.
 use Rattle.std.specs.Prelude.{◌≡◌, ℕ, ℤ, List, Option, Some, None, MatchOption, IsSomeAnd, IfSome, codes}
 use Rattle.aaf_format.specs.declared.aaf.AafFormat.{AafFormat}
 use Rattle.avtp_words.specs.declared.device.Silence.{Silence}
@@ -8,8 +8,8 @@ use Rattle.avtp_words.specs.Limits.{NumberOption, SignedOption}
 use Rattle.avtp_words.specs.Word.{IsId}
 use Rattle.avtp_words.specs.Options.{Setting, value_in, format_name}
 
--- If the option is given, its value spells `n`, which is in the option's range. Otherwise `n` is the option's default,
--- which it must have.
+-- If the option is given, its value spells `n`, which is in the option's range. Otherwise the option has a default,
+-- which is `n`.
 abbrev pub IsGiven : NumberOption → List Setting → ℕ → Type 0
 IsGiven option settings n = MatchOption (value_in option.name settings) (IsSomeAnd option.default (λ default. n ≡ default)) (λ word. IsNumber option.low option.high word n)
 
@@ -35,7 +35,7 @@ IsGivenSigned option settings z = MatchOption (value_in option.name settings) (z
 abbrev pub IsGivenFormat : List ℕ → AafFormat → List Setting → AafFormat → Type 0
 IsGivenFormat name default settings format = MatchOption (value_in name settings) (format ≡ default) (λ word. word ≡ format_name format)
 
--- what silence is made of: what `--silence` says, or zeros if the option is not given
+-- silence is made of what `--silence` names, or of zeros if `--silence` is not given
 abbrev pub IsGivenSilence : List Setting → Silence → Type 0
 IsGivenSilence settings Zero = IfSome (value_in (codes "--silence") settings) (λ word. word ≡ codes "zero")
 IsGivenSilence settings Am824 = value_in (codes "--silence") settings ≡ Some (codes "am824")

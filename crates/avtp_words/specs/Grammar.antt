@@ -44,7 +44,7 @@ pub record NamedRaw : Type 0 where
   pub file : NamedFile
   pub silence : Silence
 
--- what `listen` is asked for: the stream and its listener, the number of items in the queue, the files to write, and
+-- what `listen` is asked for: the stream and its listener, the capacity of the queue in items, the files to write, and
 -- the captures in order
 pub record Listening : Type 0 where
   pub listener : ListenerOptions
@@ -292,8 +292,8 @@ pub record IsCheck (words : List (List ℕ)) (limit : ℕ) (files : List (List �
   pub line : IsOf check_form words settings files
   pub limit_given : IsGiven limits.limit settings limit
 
--- The option named `option` gives this file. The file's `place` is the index of its name in `words`: the name directly
--- follows the option.
+-- The option named `option` gives this file. The file's name directly follows the option, at index `file.place` of
+-- `words`.
 pub record NamesFile (words : List (List ℕ)) (settings : List Setting) (option : List ℕ) (file : NamedFile) : Type 0 where
   pub value : value_in option settings ≡ Some file.name
   pub before : ℕ
@@ -316,7 +316,7 @@ abbrev pub IsGivenRaw : List (List ℕ) → List Setting → Option NamedRaw →
 IsGivenRaw words settings None = value_in (codes "--raw") settings ≡ None
 IsGivenRaw words settings (Some raw) = SaysRaw words settings raw
 
--- The options ask for this listener, and the word `id` is the ID of its stream.
+-- The options ask for this listener, and the word `id` spells the listener's stream ID.
 pub record SaysListener (settings : List Setting) (id : List ℕ) (asked : ListenerOptions) : Type 0 where
   pub stream : IsId id asked.stream
   pub limit : IsGiven limits.limit settings asked.limit
@@ -414,9 +414,9 @@ pub record FitsSamples (format : AafFormat) (asked : Talking) : Type 0 where
   pub rate : (code : ℕ) × (rate_of code ≡ Some asked.rate)
   pub size : asked.count * frame_size asked.channels format ≤ limits.samples
 
--- IEC 61883-6 has a code for the sample rate. The blocks of a packet are at least an eighth of the SYT interval,
--- because then each 8 packets in a row have a stamped block. A block has at most 256 quadlets, and the blocks of a
--- packet take at most 1,468 bytes.
+-- IEC 61883-6 has a code for the sample rate. The number of blocks in a packet is at least an eighth of the SYT
+-- interval. Any 8 packets in a row then contain a timestamped block. A block has at most 256 quadlets, and the blocks
+-- of a packet take at most 1,468 bytes.
 pub record FitsBlocks (asked : Talking) : Type 0 where
   pub rate : (fdf : ℕ) × (rate_of_fdf fdf ≡ Some asked.rate) × IsSomeAnd (syt_interval fdf) (λ interval. interval ≤ 8 * asked.count)
   pub quadlets : asked.channels ≤ limits.quadlets
@@ -435,14 +435,14 @@ FitsKind (H264 last_stamp) asked = asked.rate ≤ limits.access_units
 abbrev pub spacing_of : Crf → ℕ → ℕ
 spacing_of crf rate = crf.interval * rate * pull_down crf.pull / (crf.rate * pull_up crf.pull)
 
--- The sample frames from one restart to the next, `packets` times `count`, take a multiple of 8 whole clock packets.
+-- Between two restarts there are `packets * count` sample frames. They span a multiple of 8 whole clock packets.
 -- Without restarts there is no condition.
 abbrev pub HasWholeRuns : Crf → ℕ → ℕ → Option ℕ → Type 0
 HasWholeRuns crf rate count None = ⊤
 HasWholeRuns crf rate count (Some packets) = packets * count % (8 * spacing_of crf rate * crf.points) ≡ 0
 
--- The clock fits a stream of `rate` sample frames a second, with `count` in a packet. The clock's timestamps are at
--- whole sample frames. Between two restarts there is a multiple of 8 whole clock packets.
+-- The clock fits a stream with `rate` sample frames a second and `count` sample frames in a packet. The clock's
+-- timestamps are at whole sample frames. Between two restarts there is a multiple of 8 whole clock packets.
 pub record FitsStream (crf : Crf) (rate count : ℕ) (restart : Option ℕ) : Type 0 where
   pub whole : crf.interval * rate * pull_down crf.pull % (crf.rate * pull_up crf.pull) ≡ 0
   pub runs : HasWholeRuns crf rate count restart
@@ -536,7 +536,7 @@ pub record IsLine (words : List (List ℕ)) : Type 0 where
   pub names : List (List ℕ)
   pub line : IsOf form words settings names
 
--- `words` begin a line of `L`: some further words complete them
+-- `words` begin a line of `L`: followed by further words, possibly none, they are a line of `L`
 pub record Begins (L : List (List ℕ) → Type 0) (words : List (List ℕ)) : Type 0 where
   pub more : List (List ℕ)
   pub whole : L (words ++ more)
@@ -547,8 +547,8 @@ abbrev pub Stops : (List (List ℕ) → Type 0) → List (List ℕ) → List (Li
 Stops L before [] = L before → ⊥
 Stops L before (next ∷ _) = Begins L (before ++ next ∷ []) → ⊥
 
--- The first `place` words begin a line of `L`. Together with the next word they begin none. If there is no next word,
--- they are not a line of `L`.
+-- The first `place` words begin a line of `L`, but the first `place + 1` words do not. If there are only `place` words,
+-- they are not a whole line of `L`.
 pub record StopsAt (L : List (List ℕ) → Type 0) (words : List (List ℕ)) (place : ℕ) : Type 0 where
   pub before : List (List ℕ)
   pub rest : List (List ℕ)
@@ -557,7 +557,7 @@ pub record StopsAt (L : List (List ℕ) → Type 0) (words : List (List ℕ)) (p
   pub begins : Begins L before
   pub stops : Stops L before rest
 
--- The position of what is wrong with the words, from 1.
+-- The position, counted from 1, of what is wrong with `words`.
 pub data IsOffence (words : List (List ℕ)) (position : ℕ) : Type 0 where
   -- The position of the first wrong word. The words before it begin a line, but the words up to and including it do
   -- not. If a word is missing, the position is one past the last word.

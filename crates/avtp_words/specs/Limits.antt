@@ -34,19 +34,19 @@ pub record SignedOption : Type 0 where
 abbrev pub signed : SignedOption → Row
 signed option = record { name = option.name; takes = Signed option.most }
 
--- show, check, listen, agree and gateway: the most bytes that are read of a capture
+-- show, check, listen, agree and gateway: the maximum number of bytes that are read from each capture
 abbrev pub limit : NumberOption
 limit = option (codes "--limit") 1 (2 ^ 40) (Some (2 ^ 40))
 
--- listen, agree and gateway: the most packets that are queued until their presentation time
+-- listen, agree and gateway: the maximum number of packets that are queued until their presentation time
 abbrev pub buffer : NumberOption
 buffer = option (codes "--buffer") 1 65536 (Some 4096)
 
--- listen, agree and gateway: the most bytes in the queued packets
+-- listen, agree and gateway: the maximum number of bytes in the queued packets
 abbrev pub room : NumberOption
 room = option (codes "--room") 1 (2 ^ 30) (Some (2 ^ 26))
 
--- listen: the most items in the queue between the two threads
+-- listen: the maximum number of items in the queue between the judging thread and the presenting thread
 abbrev pub ring : NumberOption
 ring = option (codes "--ring") 1 256 (Some 64)
 
@@ -112,26 +112,26 @@ crf_rate = option (codes "--crf-rate") 1 200000000 None
 abbrev pub crf_pull : NumberOption
 crf_pull = option (codes "--crf-pull") 0 5 (Some 0)
 
--- soak: the most packets
+-- soak: the maximum number of packets
 abbrev pub packets : ℕ
 packets = 1000000
 
--- talk: the default stream id
+-- talk: the default stream ID
 abbrev pub talk_id : ℕ
 talk_id = 0x0200000000010001
 
--- the most bytes of samples in a packet of AAF
+-- the maximum number of sample bytes in an AAF packet
 abbrev pub samples : ℕ
 samples = 1476
 
--- the most bytes of data blocks in a packet of AM824
+-- the maximum number of data block bytes in an AM824 packet
 abbrev pub blocks : ℕ
 blocks = 1468
 
--- the most access units of H.264 per second
+-- the maximum number of H.264 access units per second
 abbrev pub access_units : ℕ
 access_units = 240
 
--- the most quadlets of a data block of AM824, one for each channel
+-- the maximum number of quadlets in an AM824 data block, one for each channel
 abbrev pub quadlets : ℕ
 quadlets = 256

@@ -70,13 +70,13 @@ abbrev pub IsTaken : Takes → Option (List ℕ) → Type 0
 IsTaken takes None = IsTrue (stands_alone takes)
 IsTaken takes (Some word) = IsValue takes word
 
--- the table has the option, and the option's row takes the value
+-- the table has a row for the option, and the option's value is one that the row allows
 pub record IsSetting (rows : List Row) (s : Setting) : Type 0 where
   pub dash : BeginsWithDash s.name
   pub value : IsSomeAnd (row_named rows s.name) (λ row. IsTaken row.takes s.value)
 
--- The options are in any order, and each is given at most once. Each is in the table, with a value that it takes, or
--- without a value if it takes none.
+-- The options are in any order, and each option is given at most once. Each option is in the table, with a value that
+-- it takes, or without a value if it takes none.
 pub record AreSettings (rows : List Row) (settings : List Setting) : Type 0 where
   pub each : All (IsSetting rows) settings
   pub once : AllPairs (λ s t. s.name ≢ t.name) settings

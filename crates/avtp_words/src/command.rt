@@ -23,7 +23,7 @@ pub enum Command<'a> {
     Check { limit: u64, files: &'a [String] },
     /// Print the presentation time of each sample of a stream.
     Listen(Listen<'a>),
-    /// Make a capture of raw samples.
+    /// Make a capture of raw samples or of an H.264 byte stream.
     Talk(Talk<'a>),
     /// Listen to a stream of `packets` packets, 0 to 1,000,000, some of which are late, lost or repeated. Print what
     /// became of the packets.

@@ -86,7 +86,7 @@ impl Crf {
         u64::from(self.interval) * u64::from(rate) * pull_down(self.pull)
     }
 
-    /// Whether the sample frames from one restart to the next take a multiple of 8 whole clock packets. True if there
+    /// Whether the sample frames from one restart to the next span a multiple of 8 whole clock packets. True if there
     /// are no restarts.
     fn has_whole_runs(self, spacing: u64, rate: u32, count: u32, restart: Option<u32>) -> bool
         requires spacing { spacing ≡ spacing_of self rate }

@@ -47,7 +47,7 @@ pub fn file_after<'a>(options: &'a [String], name: &str) -> Option<DeviceFile<'a
     })
 }
 
-/// What silence is made of: what `--silence` says, or zeros if it is not given.
+/// Silence is made of what `--silence` names, or of zeros if it is not given.
 fn silence_after(options: &[String]) -> Silence
     ensures { IsReadSilence (value_after (codes "--silence") (texts options.now)) result }
 {
@@ -66,7 +66,8 @@ pub fn raw_after<'a>(options: &'a [String]) -> Option<RawFile<'a>>
     Some(RawFile { file, silence })
 }
 
-/// Whether `file`, which is written, has another name than each of `files`, which are read. True if there is no `file`.
+/// Whether the name of `file`, which is written, differs from each of `files`, which are read. True if there is no
+/// `file`.
 pub fn is_new(file: Option<DeviceFile<'_>>, files: &[String]) -> bool
     ensures { IsTrue result ↔ IfSome (option_map named_file file.entry) (λ file. Contains (texts files.now) file.name → ⊥) }
 {
@@ -76,7 +77,7 @@ pub fn is_new(file: Option<DeviceFile<'_>>, files: &[String]) -> bool
     }
 }
 
-/// Whether the file of raw audio has another name than each of `files`. True if there is no file of raw audio.
+/// Whether the name of the raw audio file differs from each of `files`. True if there is no raw audio file.
 pub fn is_new_raw(raw: Option<RawFile<'_>>, files: &[String]) -> bool
     ensures { IsTrue result ↔ IfSome (option_map named_raw raw.entry) (λ raw. Contains (texts files.now) raw.file.name → ⊥) }
 {

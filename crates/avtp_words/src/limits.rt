@@ -62,7 +62,7 @@ pub const TO: OptionRow = OptionRow {
     takes: Takes::OutFormat,
 };
 
-/// The most packets that are queued until their presentation time.
+/// The maximum number of packets that are queued until their presentation time.
 pub const BUFFER: OptionRow = OptionRow {
     name: "--buffer",
     takes: Takes::Number {
@@ -73,7 +73,7 @@ pub const BUFFER: OptionRow = OptionRow {
 
 pub const BUFFER_DEFAULT: u32 = 4_096;
 
-/// The most bytes in the queued packets: at most 1 GiB, by default 64 MiB.
+/// The maximum number of bytes in the queued packets: at most 1 GiB, by default 64 MiB.
 pub const ROOM: OptionRow = OptionRow {
     name: "--room",
     takes: Takes::Number {
@@ -229,7 +229,7 @@ pub const AUDIO_RATE_DEFAULT: u32 = 48_000;
 
 pub const VIDEO_RATE_DEFAULT: u32 = 30;
 
-/// The most access units of H.264 per second.
+/// The maximum number of H.264 access units per second.
 pub const MAX_VIDEO_RATE: u32 = 240;
 
 /// The number of channels of a sample frame.
@@ -352,12 +352,13 @@ pub const SOAK_OPTIONS: [OptionRow; 0] = [];
 /// The greatest number of packets that `soak` accepts.
 pub const MAX_PACKETS: u64 = 1_000_000;
 
-/// The most bytes of samples in an AAF packet. An Ethernet frame carries 1,500 bytes, and the header takes 24 of them.
+/// The maximum number of sample bytes in an AAF packet. An Ethernet frame carries 1,500 bytes, and the header takes 24
+/// of them.
 pub const MAX_SAMPLES: u64 = 1_476;
 
-/// The most bytes of data blocks in an AM824 packet. An Ethernet frame carries 1,500 bytes. The stream header takes 24
-/// of them, and the CIP header 8.
+/// The maximum number of data block bytes in an AM824 packet. An Ethernet frame carries 1,500 bytes. The stream header
+/// takes 24 of them, and the CIP header takes 8.
 pub const MAX_BLOCKS: u64 = 1_468;
 
-/// The most quadlets of a data block of AM824, one for each channel (IEC 61883-1).
+/// The maximum number of quadlets in an AM824 data block, one for each channel (IEC 61883-1).
 pub const MAX_QUADLETS: u16 = 256;

@@ -15,11 +15,11 @@ use crate::value::{id_if, number_after, signed_number_after, small_number_after}
 pub struct ListenerOptions {
     /// The stream ID.
     pub stream: u64,
-    /// The most bytes of each capture that are read, 1 to 2^40.
+    /// The maximum number of bytes that are read from each capture, 1 to 2^40.
     pub limit: u64,
-    /// The most packets that are queued until their presentation time, 1 to 65,536.
+    /// The maximum number of packets that are queued until their presentation time, 1 to 65,536.
     pub buffer: u32,
-    /// The most bytes in the queued packets, 1 to 1,073,741,824.
+    /// The maximum number of bytes in the queued packets, 1 to 1,073,741,824.
     pub room: u32,
     /// How many later items are read before an item is judged, 0 to 64.
     pub look: u32,

@@ -151,8 +151,8 @@ fn value_len(words: &[String], place: usize, takes: Takes) -> Option<usize>
     }
 }
 
-/// How many of `words`, the words after a command, belong to its options, which precede the operands. The error is the
-/// index of the first word that is not accepted or is missing.
+/// The number of words that options take up in `words`, the words after a command. The operands follow the options. If
+/// a word is missing or is not accepted, the error is the word's index.
 pub fn options_len(rows: &[OptionRow], words: &[String]) -> Result<usize, usize>
     requires { IsTrue (are_sound (rows_of rows.now)) }
     ensures ok { IfOk result (EndsOptions (rows_of rows.now) (texts words.now)) }

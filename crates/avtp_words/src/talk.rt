@@ -50,8 +50,8 @@ pub struct Talk<'a> {
     /// The number of channels of each sample frame: 1 to 1023, for AM824 at most 256. H.264 does not use `channels` and
     /// `count`.
     pub channels: u16,
-    /// The number of sample frames in a packet: at least 1, and together at most 1,476 bytes. For AM824 the number of
-    /// data blocks: at least an eighth of SYT_INTERVAL, and together at most 1,468 bytes.
+    /// The number of sample frames in a packet, at least 1. Together they take at most 1,476 bytes. For AM824, the
+    /// number of data blocks in a packet: at least an eighth of SYT_INTERVAL, and together at most 1,468 bytes.
     pub count: u32,
     /// The stream ID.
     pub id: u64,
@@ -207,7 +207,8 @@ impl Kind {
         }
     }
 
-    /// Whether the kind allows each option in `words`, and no option in `words` lacks another option that it needs.
+    /// Whether the kind allows each option in `words`, and `words` contain every option that another option in `words`
+    /// needs.
     fn fits_options(self, words: &[String]) -> bool
         ensures { IsTrue result ↔ FitsOptions self (texts words.now) }
     {
@@ -246,7 +247,7 @@ fn has_rate(codes: &[u8], rate: u32) -> bool
 const FDF_CODES: [u8; 7] = [0, 1, 2, 3, 4, 5, 6];
 
 /// Whether IEC 61883-6 has a code for the sample rate, and `count` data blocks are at least an eighth of that rate's
-/// SYT_INTERVAL. Then each eight packets in a row have a stamped block.
+/// SYT_INTERVAL. Any eight packets in a row then contain a timestamped block.
 fn suits_blocks(rate: u32, count: u32) -> bool
     ensures { IsTrue result ↔ ((fdf : ℕ) × (rate_of_fdf_code fdf ≡ Some rate) × IsSomeAnd (interval_of_code fdf) (λ interval. interval ≤ 8 * count)) }
 {

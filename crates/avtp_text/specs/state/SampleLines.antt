@@ -34,7 +34,7 @@ behind_instant frame seq number hex = codes " frame " ++ decimal frame ++ behind
 abbrev pub gapped : ℕ → List ℕ → ℕ → ℕ → List ℕ → List ℕ → List ℕ
 gapped high low frame seq number hex = codes "at " ++ decimal high ++ low ++ behind_instant frame seq number hex
 
--- The kept line is the line of a sample of this packet. Everything in it is known but the last eight digits of the
+-- The kept line is the line of a sample of this packet. Its text is known except for the last eight digits of the
 -- instant, the sample's number, and the sample's bytes.
 pub record HasGaps (line : KeptLine) (packet : SamplePacket) : Type 0 where
   pub high : ℕ

@@ -35,7 +35,7 @@ rows_of rows = map row_of rows
 abbrev pub names_of : List OptionRow → List (List ℕ)
 names_of rows = map (λ row. row.name.now) rows
 
--- some word is a value that the option takes, and each number that it takes has a size below 2^64
+-- If the option takes a number, its range is not empty and its numbers fit 64 bits.
 abbrev pub is_sound : Takes → Bool
 is_sound (Number low high) = nat_le low high && nat_lt high (2 ^ 64)
 is_sound (Signed most) = nat_lt most (2 ^ 63)
@@ -91,7 +91,7 @@ pub record IsReadFormat (default : AafFormat) (word : Option (List ℕ)) (format
   pub absent : IfNone word (format ≡ default)
   pub read : IfSome word (λ word. (named : AafFormat) → word ≡ format_name named → format ≡ named)
 
--- `n` is what is read for `option`, which has a default, from a list of options
+-- `n` is the number that is read from the words `options` for `option`, which has a default
 abbrev pub IsReadOf : ℕ → NumberOption → List (List ℕ) → ℕ → Type 0
 IsReadOf bound option options n = IsSomeAnd option.default (λ default. IsRead bound default (value_after option.name options) n)
 
@@ -108,7 +108,7 @@ abbrev pub IsReadFile : List ℕ → List (List ℕ) → Option NamedFile → Ty
 IsReadFile name options None = value_after name options ≡ None
 IsReadFile name options (Some file) = ReadsFile name options file
 
--- What silence is read from the value of `--silence`. Every value but `am824` is read as zeros.
+-- The silence that is read from the value of `--silence`. Every value except `am824` is read as zeros.
 abbrev pub IsReadSilence : Option (List ℕ) → RawSilence → Type 0
 IsReadSilence word silence.Zero = IfSome word (λ word. word ≢ codes "am824")
 IsReadSilence word silence.Am824 = word ≡ Some (codes "am824")
@@ -139,7 +139,8 @@ pub record AreHeard (options : List (List ℕ)) (asked : Listening) : Type 0 whe
   pub raw : IsReadRaw options asked.raw
   pub annexb : IsReadFile (codes "--annexb") options asked.annexb
 
--- The kind that is read is AAF. `tells` says whether `--sparse` is among the words after the command.
+-- The options are read as AAF with this format. `tells` is true exactly if `--sparse` is among the words after the
+-- command.
 pub record IsReadAaf (options : List (List ℕ)) (tells : Bool) (format : AafFormat) (sparse : Bool) : Type 0 where
   pub no_blocks : IfSome (value_after (codes "--kind") options) (λ word. word ≢ codes "am824")
   pub no_video : IfSome (value_after (codes "--kind") options) (λ word. word ≢ codes "h264")
@@ -191,14 +192,15 @@ pub record AreRead (options : List (List ℕ)) (asked : Talking) : Type 0 where
   pub jump : IsReadOf (2 ^ 32) limits.jump options asked.jump
   pub crf : IsReadClock options asked.rate asked.crf
 
--- the words from index `place` on begin with a value that the option takes; the value is `len` words long
+-- The words from index `place` on begin with a value that the option takes. The value is `len` words long. If the
+-- option takes no value, `len` is 0.
 pub record IsTakenAt (takes : Takes) (words : List (List ℕ)) (place len : ℕ) : Type 0 where
   pub value : Option (List ℕ)
   pub taken : IsTaken takes value
   pub here : IfSome value (λ word. slice_get words place ≡ Some word)
   pub size : len ≡ length (option_to_list value)
 
--- The option takes a value, and the word at index `place` is not such a value or is missing.
+-- The option takes a value, but the word at index `place` is missing or is not a value that the option takes.
 pub record LacksValue (takes : Takes) (words : List (List ℕ)) (place : ℕ) : Type 0 where
   pub wanted : stands_alone takes ≡ false
   pub none : IfSome (slice_get words place) (λ word. IsValue takes word → ⊥)
@@ -243,8 +245,8 @@ pub record EndsOptions (rows : List Row) (words : List (List ℕ)) (place : ℕ)
   pub options : AreOptionsTo rows words place
   pub ends : IfSome (slice_get words place) (λ word. BeginsWithDash word → ⊥)
 
--- The words before index `place` begin a list of options. Together with the word there, they do not begin a list of
--- options and names.
+-- The first `place` words begin a list of options. The first `place + 1` words do not begin a list of options and
+-- names. If there are only `place` words, they are not a list of options and names.
 pub record StopsOptions (rows : List Row) (words : List (List ℕ)) (place : ℕ) : Type 0 where
   pub before : List (List ℕ)
   pub rest : List (List ℕ)
@@ -253,8 +255,8 @@ pub record StopsOptions (rows : List Row) (words : List (List ℕ)) (place : ℕ
   pub begins : Begins (AreOptions rows) before
   pub stops : Stops (IsTail rows) before rest
 
--- The words after a command stop being a line of `L` at `position`, which is counted from 1 over all words of the
--- command line.
+-- The first wrong word is at `position`, which counts from 1 and includes the command. `words` are the words after the
+-- command, and a line of `L` has no wrong word.
 pub record StopsAfter (L : List (List ℕ) → Type 0) (words : List (List ℕ)) (position : ℕ) : Type 0 where
   pub place : ℕ
   pub here : position ≡ place + 2
@@ -266,7 +268,7 @@ pub record IsFirstUnnamed (words : List (List ℕ)) (place : ℕ) : Type 0 where
   pub named : All IsName (take place words)
   pub here : IsName (get_or words place []) → ⊥
 
--- there is an interval, and `count` blocks are at least an eighth of it
+-- there is an interval, and `count` blocks are at least an eighth of the interval
 abbrev pub is_long_enough : Option ℕ → ℕ → Bool
 is_long_enough None count = false
 is_long_enough (Some interval) count = nat_le interval (8 * count)
