@@ -17,7 +17,6 @@ use Rattle.stream_report.proofs.Counting.{Crossing, below-length, below-no, belo
 
 -- ---- the counts of the buckets
 
--- one more value in the bucket at index `k` adds to each sum that includes this bucket
 sum-past : (xs : List ℕ) (k y p : ℕ) → k < length xs → k < p → sum (take p (set xs k y)) + get_or xs k 0 ≡ sum (take p xs) + y
 sum-past xs k y p inside before =
     ap (λ (l : List ℕ). sum l + get_or xs k 0) (take-set-lt p xs k y before)
@@ -47,7 +46,7 @@ tells-none spread empty first count least greatest = record {
 
 -- ---- one more value
 
--- if one value is added in the bucket at index `k`, the counts of the buckets from index `from` on are still right
+-- after one more value in the bucket at index `k`, the counts of the buckets from index `from` on are still right
 counts-more : (from : ℕ) (xs : List ℕ) (v : ℤ) (values : List ℤ) (k p : ℕ) → from ≤ k → k < from + length xs → length values < most_values → p ≤ 2 * side → HasPlace v k
     → ((place : ℕ) → place ≤ 2 * side → sum (take (place - from) xs) ≡ number_below (edge place) values)
     → sum (take (p - from) (set xs (k - from) (min (get_or xs (k - from) 0 + 1) (2 ^ 32 - 1)))) ≡ number_below (edge p) (v ∷ values)

@@ -14,7 +14,6 @@ sum-zeros p n = none (sum_by-take-le (λ (m : ℕ). m) (replicate n 0) p) (sum_b
     none : {a b : ℕ} → a ≤ b → b ≡ n * 0 → a ≡ 0
     none le e = omega (arith, le, e)
 
--- counts of 0 before the others do not change the sums
 sum-before : (n : ℕ) (xs : List ℕ) (m : ℕ) → sum (take m (replicate n 0 ++ xs)) ≡ sum (take (m - n) xs)
 sum-before n xs m =
     elim (cases_lt n m) [
@@ -41,7 +40,6 @@ sum-before n xs m =
     none : m ≤ n → m - n ≡ 0
     none le = omega (arith, le)
 
--- counts of 0 after the others do not change the sums
 sum-after : (n : ℕ) (xs : List ℕ) (m : ℕ) → sum (take m (xs ++ replicate n 0)) ≡ sum (take m xs)
 sum-after n xs m =
     elim (cases_lt (length xs) m) [
@@ -64,7 +62,7 @@ sum-after n xs m =
     more : (s : ℕ) → s + 0 ≡ s
     more s = omega arith
 
--- if there are no counts, one count of 0 widens them
+-- if there are no counts, a single count of 0 for the bucket at index `place` widens them
 pub begun : (first place : ℕ) (old new : List ℕ) → place < 2 * side → old ≡ [] → new ≡ 0 ∷ [] → Widens first old place new place
 begun first place old new within none one = record {
   same = λ to. ap (λ (l : List ℕ). sum (take (to - place) l)) one ∙ sum-zeros (to - place) 1 ∙ sym (ap (λ (l : List ℕ). sum (take (to - first) l)) none ∙ empty (to - first));
@@ -76,7 +74,7 @@ begun first place old new within none one = record {
     empty : (n : ℕ) → sum (take n []) ≡ 0
     empty n = sum-zeros n 0
 
--- counts of 0 before the others widen the counts
+-- putting counts of 0 before `old` widens it down to the bucket at index `place`
 pub lower : (first place : ℕ) (old new : List ℕ) → place < first → new ≡ replicate (first - place) 0 ++ old → Widens first old place new place
 lower first place old new lt is = record {
   same = λ to. ap (λ (l : List ℕ). sum (take (to - place) l)) is ∙ sum-before (first - place) old (to - place) ∙ ap (λ (n : ℕ). sum (take n old)) (rest to);
@@ -91,7 +89,7 @@ lower first place old new lt is = record {
     size : length new ≡ first - place + length old
     size = ap (λ (l : List ℕ). length l) is ∙ length-append (replicate (first - place) 0) old ∙ ap (λ (n : ℕ). n + length old) (length-replicate {A = ℕ} (first - place) 0)
 
--- counts of 0 after the others widen the counts
+-- putting counts of 0 after `old` widens it up to the bucket at index `place`
 pub higher : (first place more : ℕ) (old new : List ℕ) → first ≤ place → place < 2 * side → length old + more ≡ place - first + 1
     → new ≡ take (place - first + 1) old ++ replicate more 0 → Widens first old place new first
 higher first place more old new le inside enough is = record {
@@ -107,7 +105,7 @@ higher first place more old new le inside enough is = record {
     size : length new ≡ length old + more
     size = ap (λ (l : List ℕ). length l) appended ∙ length-append old (replicate more 0) ∙ ap (λ (n : ℕ). length old + n) (length-replicate {A = ℕ} more 0)
 
--- counts that already include the bucket need no change
+-- if `old` already includes the bucket at index `place`, it needs no change
 pub kept : (first place : ℕ) (old : List ℕ) → first ≤ place → place - first + 1 ≤ length old → Widens first old place old first
 kept first place old le reached = record {
   same = λ to. refl;

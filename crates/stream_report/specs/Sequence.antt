@@ -1,6 +1,6 @@
--- The numbers of a stream's packets. A talker numbers its packets without end, and a packet's sequence number is its
--- number modulo 256. A stream is given by the number of its first packet and the list of the numbers of all later
--- packets, with the last packet first.
+-- The numbers of a stream's packets. A talker gives its packets successive numbers without an upper limit. A packet's
+-- sequence number is its number modulo 256. A stream is described by the number of the packet that arrives first, and a
+-- list of the numbers of all later packets. The list begins with the packet that arrived last.
 use Rattle.std.specs.Prelude.{◌≡◌, ℕ, zero, suc, ◌+◌, ◌-◌, ◌%◌, ◌≤◌, ◌<◌, ◌==◌, ◌||◌, max, min, nat_lt, Bool, if◌then◌else◌, List, [], ◌∷◌, length, ◌^◌}
 use Rattle.std.specs.Int.{bit_at}
 use Rattle.std.specs.List.{list_any}
@@ -22,8 +22,8 @@ greatest first (number ∷ later) = max number (greatest first later)
 abbrev pub has_come : ℕ → List ℕ → ℕ → Bool
 has_come first later number = first == number || list_any (λ come. come == number) later
 
--- The place of the next packet, given its number. If it is ahead of all others, the place says how many numbers it
--- skips. Otherwise it repeats a packet that has arrived, or it is late because its number was skipped, or it is from
+-- The place of the next packet, given the packet's number. If the number is ahead of all others, the place says how
+-- many numbers the packet skips. Otherwise the packet is a repeat, is late because its number was skipped, or is from
 -- before the stream's first packet.
 abbrev pub place_of : ℕ → List ℕ → ℕ → Place
 place_of first later number =
@@ -40,8 +40,8 @@ missing_among first later (suc count) = missing_among first later count + (if ha
 abbrev pub lost : ℕ → List ℕ → ℕ
 lost first later = missing_among first later (greatest first later - first)
 
--- The number of lost packets after a packet with this place. It rises by the number of packets that are skipped, and
--- falls by one if the packet is late.
+-- The number of lost packets after a packet with this place: the previous number plus the number of packets that are
+-- skipped. If the packet is late, it is the previous number minus one.
 abbrev pub lost_with : ℕ → Place → ℕ
 lost_with before (Ahead missing) = before + missing
 lost_with before Late = before - 1
@@ -53,7 +53,8 @@ abbrev pub repeats : ℕ → List ℕ → ℕ
 repeats first [] = 0
 repeats first (number ∷ later) = repeats first later + (if has_come first later number then 1 else 0)
 
--- how many packets are late: not ahead of all packets before them, and with a number that had not arrived
+-- How many packets are late. A late packet is not ahead of all packets that arrived earlier, and its number had not
+-- arrived.
 abbrev pub late : ℕ → List ℕ → ℕ
 late first [] = 0
 late first (number ∷ later) = late first later + (if nat_lt (greatest first later) number then 0 else if has_come first later number then 0 else 1)
@@ -91,8 +92,8 @@ pub record Few (first : ℕ) (later : List ℕ) : Type 0 where
   pub numbers : greatest first later < 2 ^ 64
   pub packets : length later < 2 ^ 64
 
--- The counts of a stream's packets are right: how many are lost, repeated and late, and the most that one packet
--- skipped.
+-- The counts of a stream's packets are right: how many are lost, repeated and late, and the maximum number that a
+-- single packet skipped.
 pub record CountsOf (order : Order) (first : ℕ) (later : List ℕ) : Type 0 where
   pub window : StandsFor order.window first later
   pub lost : order.lost.count ≡ lost first later

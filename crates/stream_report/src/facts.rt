@@ -197,7 +197,7 @@ fn first_point(view: &CrfView<'_>) -> Option<Stamp> {
 }
 
 impl Labels {
-    /// Counts one more label if it is not 0x40.
+    /// Counts a label if it is not 0x40.
     fn note(&mut self, label: u8) {
         if label == PLAIN_LABEL {
             return;

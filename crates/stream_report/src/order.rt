@@ -11,7 +11,7 @@ use crate::tally::{At, Tally};
 #[derive(Clone, Copy)]
 pub struct Order {
     window: Window,
-    /// Packets that are missing. `most_lost` is the most of them in a row.
+    /// Packets that are missing. `most_lost` is the greatest number of packets that are missing in a row.
     pub lost: Tally,
     pub most_lost: u64,
     /// Packets with a number that had arrived before.

@@ -46,7 +46,7 @@ pub struct Others {
     pub further: u64,
 }
 
-/// The most kinds that are counted separately.
+/// The maximum number of kinds that are counted separately.
 const MOST_KINDS: usize = 256;
 
 impl Others {
@@ -141,8 +141,8 @@ pub fn unread_format(subtype: u8, field: Field, pdu: &[u8]) -> Option<Other> {
     }
 }
 
-/// Whether an IEC 61883 packet is of a part other than IEC 61883-6. If it is, its header is whole, and it was refused
-/// at a field that differs between parts.
+/// Whether an IEC 61883 packet is of a part other than IEC 61883-6. Such a packet has a whole header, and was refused
+/// at a field that differs between the parts.
 fn is_other_part(field: Field, pdu: &[u8]) -> bool {
     let differs = matches!(field, Field::FnBits | Field::Qpc | Field::Sph | Field::Fmt);
     differs && pdu.len() >= 32 && byte_at(pdu, 28) % 64 != AM824

@@ -10,8 +10,8 @@ const PART_OF_PACKET: u64 = 8;
 
 const PART_OF_ADVANCE: u64 = 1024;
 
-/// The most that a timestamp may advance in a stream without a rate, in nanoseconds. In such a stream, successive
-/// packets share a timestamp or are an unknown time apart.
+/// The maximum advance of a timestamp in a stream without a rate, in nanoseconds. In such a stream, successive packets
+/// share a timestamp or are an unknown time apart.
 const MOST_ADVANCE: i64 = 1_000_000_000;
 
 /// A timestamp of 32 or 64 bits.
@@ -85,7 +85,7 @@ pub struct Stamped {
 #[derive(Clone, Copy)]
 pub struct Miss {
     pub at: At,
-    /// By how many nanoseconds the timestamp should have advanced. `found` is by how many it did.
+    /// The advance that the timestamp should have had, in nanoseconds. `found` is the advance that it had.
     pub wanted: u64,
     pub found: i64,
 }
@@ -96,7 +96,7 @@ pub struct Misses {
     pub count: u64,
     pub first: Option<Miss>,
     pub second: Option<Miss>,
-    /// Whether the first comparison missed: the first timestamp does not fit those that follow.
+    /// Whether the first comparison was a miss: the first timestamp does not fit the timestamps that follow.
     pub at_begin: bool,
 }
 
@@ -129,13 +129,13 @@ pub struct Pace {
     /// and `told` is the advance by the timestamps.
     pub nominal: u64,
     pub told: u64,
-    /// The misses if each timestamp belongs to the event that the standard says.
+    /// The misses if each timestamp belongs to the event that the standard names.
     pub by_anchor: Misses,
     /// The misses if each timestamp belongs to the packet's first event, as some talkers stamp.
     pub by_first: Misses,
-    /// The misses with swapped bytes, if each timestamp belongs to the event that the standard says. `swapped_by_first`
-    /// has the misses if each belongs to the packet's first event. Only timestamps that miss with unchanged bytes are
-    /// compared.
+    /// The misses with swapped bytes, if each timestamp belongs to the event that the standard names.
+    /// `swapped_by_first` has the misses with swapped bytes if each timestamp belongs to the packet's first event. Only
+    /// timestamps that miss with unchanged bytes are compared.
     pub swapped_by_anchor: Misses,
     pub swapped_by_first: Misses,
 }
@@ -143,11 +143,11 @@ pub struct Pace {
 /// How a timestamp compares with the previous one.
 #[derive(Clone, Copy, PartialEq, Eq)]
 pub enum Advance {
-    /// It is the first, or could not be compared.
+    /// The timestamp is the first, or could not be compared.
     Begun,
-    /// It advanced as it should.
+    /// The timestamp advanced as it should.
     Even,
-    /// It did not advance as it should.
+    /// The timestamp did not advance as it should.
     Missed,
 }
 
@@ -163,7 +163,8 @@ impl Pace {
         told: 0,
     };
 
-    /// From here on, timestamps are not compared with earlier ones. This is needed after a restart of the media clock.
+    /// Keeps the next timestamp from being compared with earlier timestamps. This is needed after a restart of the
+    /// media clock.
     pub fn restart(&mut self) {
         self.last = None;
     }
@@ -215,7 +216,7 @@ impl Pace {
         }
     }
 
-    /// Notes a timestamp of a stream with a rate. If `by_anchor` and `by_first` want the same advance, one comparison
+    /// Notes a timestamp of a stream with a rate. If `by_anchor` and `by_first` expect the same advance, one comparison
     /// is enough.
     fn note_paced(
         &mut self,

@@ -49,8 +49,8 @@ impl Rate {
     }
 }
 
-/// A rate, with the duration of as many events as most packets have. This duration is then not computed anew for each
-/// packet.
+/// A rate, and the duration of a packet with the usual number of events. The duration is kept, because computing it for
+/// each packet takes time.
 #[derive(Clone, Copy)]
 pub struct Beat {
     pub rate: Rate,

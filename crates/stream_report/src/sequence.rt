@@ -9,7 +9,8 @@ ghost use Rattle.stream_report.specs.state.Bits.{Moves, Marks};
 /// ahead belongs to an earlier packet.
 const FARTHEST: u8 = 192;
 
-/// For this many sequence numbers, up to and including the newest, the window knows whether they have arrived.
+/// The number of sequence numbers, up to and including the newest, for which the window knows whether they have
+/// arrived.
 const KNOWN: u64 = 64;
 
 /// The newest sequence number of a stream, and which of the 64 numbers up to the newest have arrived.
@@ -18,7 +19,7 @@ pub struct Window {
     newest: u8,
     /// Bit `i` is set if the number `i` before the newest has arrived.
     came: u64,
-    /// How far the number of the first packet is before the newest, or 64 if it is further.
+    /// How far the number of the first packet is before the newest, but at most 64.
     begin: u64,
 }
 
@@ -27,10 +28,10 @@ pub struct Window {
 pub enum Place {
     /// The packet follows the newest one, and `missing` packets are missing between them.
     Ahead { missing: u8 },
-    /// The number is between those of the first packet and the newest, and had not arrived. The packet is late, and was
+    /// The number is between the first packet's and the newest, and had not arrived. The packet is late, and was
     /// counted as missing.
     Late,
-    /// The number is before that of the first packet, and had not arrived. The packet is late, but was not counted as
+    /// The number is before the first packet's, and had not arrived. The packet is late, but was not counted as
     /// missing.
     Early,
     /// The number has arrived already.
@@ -111,7 +112,7 @@ impl Window {
     }
 }
 
-/// A law: if each packet is counted by its place when it arrives, the count is always the number of lost packets.
+/// A law: if a count is updated with the place of each packet that arrives, it is always the number of lost packets.
 /// Packets that arrived late or twice do not count as lost.
 pub fn places_tell_what_is_lost()
     ensures { (first : ℕ) → (later : List ℕ) → (number : ℕ)

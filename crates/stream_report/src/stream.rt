@@ -77,7 +77,8 @@ pub struct Stream {
     pub packet_time: u64,
     /// The number of packets that were not refused.
     pub packets: u64,
-    /// When the first packet that was not refused arrived. `last_arrival` is when the last one did.
+    /// When the first packet that was not refused arrived. `last_arrival` is when the last packet that was not refused
+    /// arrived.
     pub first_arrival: i64,
     pub last_arrival: i64,
     last: Option<Last>,
@@ -110,7 +111,7 @@ pub struct Stream {
     pub missing: Tally,
     pub unwanted: Tally,
     pub reserved: Tally,
-    /// Block counts (DBC) that do not continue that of the packet before.
+    /// Block counts (DBC) that do not continue the block count of the packet before.
     pub blocks: Tally,
     /// Quadlets with a label other than 0x40. `reserved_labels` are those with a reserved label.
     pub labels: Tally,
@@ -131,9 +132,9 @@ enum Step {
     Next,
     /// This many packets are missing before the packet.
     After(u64),
-    /// The packet arrived after later ones, and was counted as missing.
+    /// The packet arrived after later packets, and was counted as missing.
     Late,
-    /// The packet is from before the first one.
+    /// The packet is from before the first packet.
     Early,
     Repeat,
 }
@@ -149,8 +150,8 @@ impl Step {
 }
 
 impl Stream {
-    /// A stream whose first packet is in the frame `first`, with nothing counted yet. It has a `trace` if pictures of
-    /// it are wanted.
+    /// A stream whose first packet is in the frame `first`, with nothing counted yet. The stream has a `trace` if
+    /// pictures of it are wanted.
     pub fn new(
         alloc: Global,
         key: StreamKey,
@@ -239,7 +240,8 @@ impl Stream {
         trace.note(came.since, column)
     }
 
-    /// Counts the arrival of a packet. Returns how long after the previous packet it arrived, if there was one.
+    /// Counts the arrival of a packet. Returns the time since the previous packet's arrival, if there was a previous
+    /// packet.
     fn note_arrival(&mut self, arrival: i64) -> Result<Option<i64>, NoMemory> {
         let before = self.last_arrival;
         self.last_arrival = arrival;
@@ -310,12 +312,12 @@ impl Stream {
     }
 
     /// Packets that are missing. A gap of more than 191 packets is recognized only if the stream paused. Otherwise the
-    /// packet after the gap counts as an earlier one.
+    /// packet after the gap counts as an earlier packet.
     pub fn lost(&self) -> Tally {
         self.counted().lost
     }
 
-    /// The most packets that are missing in a row.
+    /// The greatest number of packets that are missing in a row.
     pub fn most_lost(&self) -> u64 {
         self.counted().most_lost
     }
@@ -325,7 +327,7 @@ impl Stream {
         self.counted().repeated
     }
 
-    /// Packets that arrived after later ones.
+    /// Packets that arrived after later packets.
     pub fn reordered(&self) -> Tally {
         self.counted().late
     }
@@ -349,7 +351,7 @@ impl Stream {
         }
     }
 
-    /// Counts what a packet shows together with the packet before it in the stream.
+    /// Counts what is found by comparing a packet with the packet before it in the stream.
     fn note_next(&mut self, came: &Came, facts: &Facts, step: Step, distance: Option<i64>) {
         let last = self.last;
         let restarted = self.note_restart(came.at, facts, step.missing());
@@ -368,7 +370,7 @@ impl Stream {
         }
     }
 
-    /// Counts a restart of the media clock, if `mr` has changed, and keeps the packet as the last one. Returns whether
+    /// Counts a restart of the media clock, if `mr` has changed, and keeps the packet as the newest. Returns whether
     /// there was a restart.
     fn note_restart(&mut self, at: At, facts: &Facts, missing: u64) -> bool {
         let (restarted, held) = match &self.last {
@@ -394,8 +396,8 @@ impl Stream {
         restarted
     }
 
-    /// Counts a block count that does not continue that of the packet directly before. Returns false only for such a
-    /// block count.
+    /// Counts the packet's block count if it does not continue the block count of the packet directly before. Returns
+    /// false only in this case.
     fn note_block_count(&mut self, at: At, facts: &Facts, last: Option<Last>) -> bool {
         let Some(last) = last else {
             return true;
@@ -425,7 +427,8 @@ impl Stream {
         }
     }
 
-    /// Counts a timestamp that is missing or unwanted. Compares a timestamp with the previous one.
+    /// Counts a packet that lacks a timestamp or has an unwanted one. Compares the packet's timestamp with the previous
+    /// timestamp.
     fn note_stamp(&mut self, came: &Came, facts: &Facts, restarted: bool) {
         if facts.stamp_wrong {
             match facts.stamp {

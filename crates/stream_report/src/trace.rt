@@ -4,7 +4,7 @@ use avtp_base::NoMemory;
 use std::alloc::Global;
 use std::mem;
 
-/// The most columns of a stream. If one more is needed, each pair of columns is merged into one.
+/// The maximum number of columns of a stream. If one more column is needed, each pair of columns is merged into one.
 const MOST_COLUMNS: usize = 512;
 
 /// The first columns are 2^16 ns wide, some 66 microseconds.

@@ -3,10 +3,11 @@
 /// Arrival times are counted in units of 2^20 ns, about a millisecond.
 const UNIT: u32 = 20;
 
-/// A lead that moves further than this, some 18 minutes, is not drift.
+/// If a lead moves further than this, some 18 minutes, the movement is not drift.
 const FARTHEST: i64 = 1 << 40;
 
-/// The most packets that are summed up: times are less than 2^44 and leads at most 2^40, so no sum reaches 2^127.
+/// The maximum number of packets that are summed up. Times are less than 2^44, and leads are at most 2^40. No sum over
+/// this many packets reaches 2^127.
 const MOST: u64 = 1 << 32;
 
 /// Sums of the times and leads of packets, for the straight line through them (least squares). Steps of the timestamps,

@@ -17,7 +17,8 @@ pub enum ClockGuess {
 /// A verdict. The kinds are in order, the worst first. Times are in nanoseconds.
 #[derive(Clone, Copy)]
 pub enum Verdict {
-    /// Most timestamps do not advance by their packets' durations. If `swapped` is true, they would with swapped bytes.
+    /// Most timestamps do not advance by their packets' durations. If `swapped` is true, they would do so with swapped
+    /// bytes.
     NotInOrder {
         off: u64,
         compared: u64,
@@ -39,7 +40,7 @@ pub enum Verdict {
     Senders {
         packets: Tally,
     },
-    /// Packets that are missing, and the most of them in a row.
+    /// Packets that are missing, and the greatest number of packets that are missing in a row.
     Lost {
         packets: Tally,
         most: u64,
@@ -61,7 +62,7 @@ pub enum Verdict {
         compared: u64,
         first: Miss,
     },
-    /// Block counts (DBC) that do not continue that of the packet before.
+    /// Block counts (DBC) that do not continue the block count of the packet before.
     Blocks {
         packets: Tally,
     },
@@ -69,7 +70,7 @@ pub enum Verdict {
     Repeated {
         packets: Tally,
     },
-    /// Packets that arrived after later ones.
+    /// Packets that arrived after later packets.
     Reordered {
         packets: Tally,
     },

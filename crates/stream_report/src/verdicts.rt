@@ -72,7 +72,7 @@ fn is_more(some: u64, of: u64, part: u64) -> bool {
     some.saturating_mul(part) > of
 }
 
-/// The verdict that most timestamps do not advance by their packets' durations, if they do not.
+/// The verdict that most timestamps do not advance by their packets' durations. `None` if most do.
 fn order_verdict(stream: &Stream) -> Option<Verdict> {
     let pace = &stream.pace;
     let compared = pace.compared;
@@ -88,8 +88,8 @@ fn order_verdict(stream: &Stream) -> Option<Verdict> {
     })
 }
 
-/// The verdict that presentation times are far from arrivals, if they are. The timestamps of a media clock may be in
-/// the past, because they are those of its events.
+/// The verdict that presentation times are far from arrivals. `None` if they are not. The timestamps of a media clock
+/// may be in the past, because they are the times of the clock's events.
 fn clocks_verdict(stream: &Stream) -> Option<Verdict> {
     let lead = stream.leads.percentile(50)?;
     let exact = stream.key.subtype == subtype::CRF;

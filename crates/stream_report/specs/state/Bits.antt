@@ -3,7 +3,7 @@
 use Rattle.std.specs.Prelude.{◌≡◌, ◌≢◌, ℕ, ◌+◌, ◌<◌}
 use Rattle.std.specs.Int.{bit_at}
 
--- the newest number moved ahead by `ahead`, and the numbers between have not arrived
+-- the newest number moved ahead by `ahead`, and the numbers that were skipped have not arrived
 pub record Moves (came ahead now : ℕ) : Type 0 where
   pub newest : bit_at now 0 ≡ 1
   pub between : (behind : ℕ) → 0 < behind → behind < ahead → behind < 64 → bit_at now behind ≡ 0

@@ -20,8 +20,8 @@ pub record Reaches (values : List ℤ) (rank place : ℕ) : Type 0 where
   pub before : number_below (edge place) values < rank
   pub reached : rank ≤ number_below (edge (place + 1)) values
 
--- Counts whose first bucket was at index `first` now have their first bucket at index `now`, and include the bucket at
--- index `place`. Below any bucket they count as many values as before.
+-- The counts `old` are those of the buckets from index `first` on, and the counts `new` are those of the buckets from
+-- index `now` on. `new` includes the bucket at index `place`. Below each bucket, `new` counts as many values as `old`.
 pub record Widens (first : ℕ) (old : List ℕ) (place : ℕ) (new : List ℕ) (now : ℕ) : Type 0 where
   pub same : (to : ℕ) → sum (take (to - now) new) ≡ sum (take (to - first) old)
   pub from : now ≤ place
