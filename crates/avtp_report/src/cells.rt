@@ -233,7 +233,7 @@ fn add_rates(alloc: Global, cells: &mut Vec<String>, stream: &Stream) -> Result<
     add_rate(alloc, cells, 1, i128::from(stream.packet_time))
 }
 
-/// Adds a rate in events per second: `count` events took `time` nanoseconds.
+/// Adds a rate in events per second, computed from `count` events in `time` nanoseconds.
 fn add_rate(
     alloc: Global,
     cells: &mut Vec<String>,

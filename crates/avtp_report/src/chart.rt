@@ -1,4 +1,5 @@
-//! The pictures of a stream. In a picture, each interval of time is a line from its least to its greatest value.
+//! The pictures of a stream. For each interval of time, a picture has a line from the least value in the interval to
+//! the greatest.
 
 use crate::units::Signed;
 use std::io::{self, Write};

@@ -11,7 +11,7 @@ use stream_report::{
     h264_facts, iec_facts, other_frame, unread_format,
 };
 
-/// The most streams that are counted separately.
+/// The maximum number of streams that are counted separately.
 pub const MOST_STREAMS: usize = 1024;
 
 /// The counts of all captures, which are read as if they were one capture.
@@ -23,8 +23,8 @@ pub struct Report {
     places: HashMap<StreamKey, usize>,
     /// The index of the last packet's stream.
     last: usize,
-    /// For each stream, the index of the stream whose packet last followed one of its packets. That stream is tried
-    /// first, because streams mostly take turns.
+    /// For each stream, the index of its follower: the other stream that last had a packet directly after a packet of
+    /// this stream. Streams mostly take turns, so the follower is likely to have the next packet.
     followers: Vec<usize>,
     /// The streams, in the order in which they were first seen.
     pub streams: Vec<Stream>,
@@ -131,8 +131,8 @@ impl Report {
         }
     }
 
-    /// The stream with this key. If it is new, it begins here. `None` if it is new and 1,024 streams are tracked
-    /// already.
+    /// The stream with this key. If there is no such stream yet, it is added. `None` if it would be added, but 1,024
+    /// streams are tracked already.
     fn stream(
         &mut self,
         key: StreamKey,
@@ -164,8 +164,8 @@ impl Report {
         }
     }
 
-    /// Finds the index of the stream with this key, and keeps it as the follower of the last packet's stream. If the
-    /// stream is new, it begins here.
+    /// Finds the index of the stream with this key, and keeps it as the follower of the last packet's stream. If there
+    /// is no such stream yet, it is added.
     #[inline(never)]
     fn find(&mut self, key: StreamKey, sender: &Sender, at: At) -> Result<usize, NoMemory> {
         let place = match self.places.get(&key).copied() {
@@ -178,7 +178,7 @@ impl Report {
         Ok(place)
     }
 
-    /// Begins a stream, and returns its index. If 1,024 streams are tracked already, no stream begins, and the index is
+    /// Adds a stream, and returns its index. If 1,024 streams are tracked already, no stream is added, and the index is
     /// past the end.
     fn begin(&mut self, key: StreamKey, sender: &Sender, at: At) -> Result<usize, NoMemory> {
         let place = self.streams.len();

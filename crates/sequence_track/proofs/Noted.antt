@@ -1,4 +1,4 @@
--- What a tracker keeps, and what it finds, when one more packet is noted.
+-- What a tracker keeps and what it finds when it notes one more packet.
 use Rattle.std.proofs.Common.{◌≡◌, ℕ, ◌+◌, ◌<◌, ◌≤◌, Bool, true, false, ◌||◌, cond, List, [], ◌∷◌, ◌++◌, length, map, take, drop, Some, None, refl, sym, ap, ◌∙◌, subst, arith}
 use Rattle.std.specs.List.{list_any}
 use Rattle.std.specs.Map.{lookup}
@@ -24,7 +24,6 @@ streams-more : (notes : List Seen) (seen : Seen) → streams (notes ++ seen ∷ 
 unfolding streams
 streams-more notes seen = map-append stream_of notes (seen ∷ [])
 
--- if one of the first items passes a test, one of all items does
 any-take : (test : StreamKey → Bool) (n : ℕ) (xs : List StreamKey) → list_any test (take n xs) ≡ true → list_any test xs ≡ true
 any-take test n xs e =
     ap (λ (l : List StreamKey). list_any test l) (sym (take-append-drop n xs)) ∙ list_any-append test (take n xs) (drop n xs) ∙ or_left _ _ e
@@ -34,7 +33,7 @@ has-notes : (stream : StreamKey) (notes : List Seen) → is_tracked stream notes
 has-notes stream notes e =
     sym (any-distinct stream (map stream_of notes)) ∙ any-take (same_stream stream) most_streams (distinct (map stream_of notes)) e
 
--- one more note of a stream that has notes leaves the tracked streams as they are
+-- one more note of a stream that already has notes does not change which streams are tracked
 tracked-known : (notes : List Seen) (seen : Seen) → list_any (same_stream (stream_of seen)) (map stream_of notes) ≡ true → tracked (notes ++ seen ∷ []) ≡ tracked notes
 unfolding streams
 tracked-known notes seen known =
@@ -48,7 +47,7 @@ tracked-new notes seen new =
     ap (λ (l : List StreamKey). take most_streams (distinct l)) (streams-more notes seen)
     ∙ ap (λ (l : List StreamKey). take most_streams l) (distinct-new (map stream_of notes) (stream_of seen) new)
 
--- if 1,024 streams are tracked, one more note leaves them as they are
+-- if 1,024 streams are tracked, one more note does not change which streams are tracked
 tracked-full : (notes : List Seen) (seen : Seen) → length (tracked notes) ≡ most_streams → tracked (notes ++ seen ∷ []) ≡ tracked notes
 tracked-full notes seen full = by_case (list_any (same_stream (stream_of seen)) (map stream_of notes)) refl
   where
@@ -59,7 +58,7 @@ tracked-full notes seen full = by_case (list_any (same_stream (stream_of seen)) 
     by_case true known = tracked-known notes seen known
     by_case false new = tracked-new notes seen new ∙ take-append-le most_streams (distinct (map stream_of notes)) (stream_of seen ∷ []) many
 
--- if fewer than 1,024 streams are tracked, all streams are
+-- if fewer than 1,024 streams are tracked, each stream that has a note is tracked
 all-tracked : (notes : List Seen) → length (tracked notes) < most_streams → tracked notes ≡ distinct (map stream_of notes)
 all-tracked notes few =
     let short : length (distinct (map stream_of notes)) < most_streams = omega (arith, length-take most_streams (distinct (map stream_of notes))) in
@@ -103,14 +102,14 @@ kept-none notes stream e = by_case (is_tracked stream notes) refl
     by_case true t = absurd (recent-some stream notes (has-notes stream notes t) (no-state (recent stream notes) (sym (cond-true _ _ _ t) ∙ e)))
     by_case false t = t
 
--- if the tracked streams are unchanged, one more note changes what is kept of its own stream alone
+-- If a note belongs to another stream and does not change whether `stream` is tracked, what is kept of `stream` stays
+-- the same.
 kept-other : (notes : List Seen) (seen : Seen) (stream : StreamKey) → is_tracked stream (notes ++ seen ∷ []) ≡ is_tracked stream notes
     → same_stream stream (stream_of seen) ≡ false → kept_of (notes ++ seen ∷ []) stream ≡ kept_of notes stream
 kept-other notes seen stream same apart =
     ap (λ (b : Bool). cond b (state_of (recent stream (notes ++ seen ∷ []))) None) same
     ∙ ap (λ (l : List Seen). cond (is_tracked stream notes) (state_of l) None) (recent-other stream notes seen apart)
 
--- what is kept of a tracked stream after one more of its notes is the state after that note
 kept-own : (notes : List Seen) (seen : Seen) (state : StreamState) → is_tracked (stream_of seen) (notes ++ seen ∷ []) ≡ true
     → state_of (seen ∷ recent (stream_of seen) notes) ≡ Some state → kept_of (notes ++ seen ∷ []) (stream_of seen) ≡ Some state
 kept-own notes seen state t e =
@@ -118,7 +117,7 @@ kept-own notes seen state t e =
 
 -- ---- a tracker that noted one more packet
 
--- one stream has a new state in the tracker, and the states of all others are unchanged
+-- the tracker has a new state for this stream, and the same states as before for all other streams
 abbrev pub Puts : List (StreamKey × StreamState) → List (StreamKey × StreamState) → StreamKey → StreamState → Type 0
 Puts old new stream state = (q : StreamKey) → lookup (same_stream q) new ≡ cond (same_stream stream q) (Some state) (lookup (same_stream q) old)
 
@@ -190,7 +189,6 @@ found-full old notes seen stands here full =
 
 -- ---- the first packet of a stream that is tracked
 
--- a list with one more stream has that stream, and has any other stream exactly if it had it before
 any-own : (stream : StreamKey) (xs : List StreamKey) → list_any (same_stream stream) (xs ++ stream ∷ []) ≡ true
 any-own stream xs = list_any-append (same_stream stream) xs (stream ∷ []) ∙ or_right _ _ (or_left _ _ (same-refl stream))
 

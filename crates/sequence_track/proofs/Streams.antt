@@ -1,4 +1,4 @@
--- How one more note changes the streams of a list of notes, and the notes of each stream.
+-- How one more note changes which streams a list of notes has, and which notes each stream has.
 use Rattle.std.proofs.Common.{◌≡◌, ℕ, ◌==◌, Bool, true, false, not, ◌||◌, cond, List, [], ◌∷◌, ◌++◌, map, filter, reverse, refl, sym, ap, ◌∙◌, subst}
 use Rattle.std.specs.List.{list_any}
 use Rattle.std.proofs.lemmas.Bool.{and_parts, and_from, eqb-true, eq-eqb, or_parts, both_ways}
@@ -53,7 +53,7 @@ or_first : (a b : Bool) → (a || b) ≡ true → b ≡ false → a ≡ true
 or_first true b e none = refl
 or_first false b e none = absurd cc
 
--- a stream is among the distinct ones exactly if it is in the list
+-- a stream is among the distinct streams of a list exactly if it is in the list
 pub any-distinct : (stream : StreamKey) (streams : List StreamKey) → list_any (same_stream stream) (distinct streams) ≡ list_any (same_stream stream) streams
 unfolding others
 any-distinct stream [] = refl
@@ -61,7 +61,6 @@ any-distinct stream (first ∷ rest) =
     or-same (same_stream stream first) (list_any (same_stream stream) (others first (distinct rest))) (list_any (same_stream stream) rest)
     (λ apart. any-others stream first (distinct rest) apart ∙ any-distinct stream rest)
 
--- one more stream is added to the others, unless it is the first one
 others-more : (first : StreamKey) (streams : List StreamKey) (stream : StreamKey) (r : Bool) → same_stream first stream ≡ r
     → others first (streams ++ stream ∷ []) ≡ cond r (others first streams) (others first streams ++ stream ∷ [])
 unfolding others
@@ -70,7 +69,6 @@ others-more first streams stream true e =
 others-more first streams stream false e =
     filter-append (λ other. not (same_stream first other)) streams (stream ∷ []) ∙ rw e refl
 
--- a stream that is not in the list adds one distinct stream
 pub distinct-new : (streams : List StreamKey) (stream : StreamKey) → list_any (same_stream stream) streams ≡ false → distinct (streams ++ stream ∷ []) ≡ distinct streams ++ stream ∷ []
 unfolding others
 distinct-new [] stream new = refl
@@ -79,7 +77,6 @@ distinct-new (first ∷ rest) stream new =
     ap (λ (l : List StreamKey). first ∷ others first l) (distinct-new rest stream parts.1)
     ∙ ap (λ (l : List StreamKey). first ∷ l) (others-more first (distinct rest) stream false (same-sym stream first false parts.0))
 
--- a stream that is in the list adds no distinct stream
 pub distinct-known : (streams : List StreamKey) (stream : StreamKey) → list_any (same_stream stream) streams ≡ true → distinct (streams ++ stream ∷ []) ≡ distinct streams
 unfolding others
 distinct-known [] stream known = absurd cc
@@ -105,7 +102,7 @@ unfolding own
 own-more stream notes seen true e = filter-append (λ note. same_stream stream (stream_of note)) notes (seen ∷ []) ∙ rw e refl
 own-more stream notes seen false e = filter-append (λ note. same_stream stream (stream_of note)) notes (seen ∷ []) ∙ rw e (append-nil _)
 
--- one more note is the newest of its own stream, and changes no other stream's notes
+-- one more note becomes the newest note of its own stream, and changes the notes of no other stream
 pub recent-own : (stream : StreamKey) (notes : List Seen) (seen : Seen) → same_stream stream (stream_of seen) ≡ true → recent stream (notes ++ seen ∷ []) ≡ seen ∷ recent stream notes
 unfolding own
 recent-own stream notes seen e =
@@ -115,7 +112,6 @@ pub recent-other : (stream : StreamKey) (notes : List Seen) (seen : Seen) → sa
 unfolding own
 recent-other stream notes seen e = ap (λ (l : List Seen). reverse l) (own-more stream notes seen false e)
 
--- a stream of which no packet was noted has no notes
 none-own : (stream : StreamKey) (notes : List Seen) → list_any (same_stream stream) (map stream_of notes) ≡ false → own stream notes ≡ []
 unfolding own
 none-own stream [] none = refl
@@ -127,7 +123,6 @@ pub recent-none : (stream : StreamKey) (notes : List Seen) → list_any (same_st
 unfolding own
 recent-none stream notes none = ap (λ (l : List Seen). reverse l) (none-own stream notes none)
 
--- a stream of which a packet was noted has notes
 some-own : (stream : StreamKey) (notes : List Seen) → list_any (same_stream stream) (map stream_of notes) ≡ true → own stream notes ≡ [] → ⊥
 unfolding own
 some-own stream [] some none = absurd cc

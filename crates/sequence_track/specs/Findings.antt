@@ -57,8 +57,8 @@ stood mr notes = prefix_len (λ note. beq note.mr mr) notes
 abbrev pub least_hold : ℕ
 least_hold = 8
 
--- For how many packets the media clock restart bit kept its value, if they are too few. The stream must have older
--- packets, because only then did the value begin with a change.
+-- Of the stream's `all` packets, the newest `packets` have the same media clock restart bit. The answer is `packets` if
+-- that number is less than 8. If it equals `all`, the answer is `None`, because the value did not begin with a change.
 abbrev pub early : ℕ → ℕ → Option ℕ
 early packets all = if nat_lt packets all && nat_lt packets least_hold then Some packets else None
 

@@ -1,4 +1,4 @@
-//! What a tracker notes about a packet, and what it finds in it.
+//! What a tracker notes about a packet, and what it finds in the packet.
 
 ghost use Rattle.std.specs.Prelude.{◌≡◌};
 ghost use Rattle.sequence_track.specs.Findings.{untracked_findings};
@@ -6,13 +6,13 @@ ghost use Rattle.sequence_track.specs.Findings.{untracked_findings};
 /// The facts of a packet that a tracker needs.
 #[derive(Clone, Copy, Debug, PartialEq, Eq)]
 pub struct Seen {
-    /// The stream id.
+    /// The stream ID.
     pub id: u64,
     /// The subtype of the packet (IEEE 1722-2016, table 6).
     pub subtype: u8,
     /// The sequence number.
     pub seq: u8,
-    /// The media clock restart.
+    /// The media clock restart bit.
     pub mr: bool,
     /// A reserved bit is set.
     pub reserved: bool,
@@ -25,13 +25,15 @@ pub struct Seen {
 pub struct Findings {
     /// A reserved bit is set.
     pub reserved: bool,
-    /// The sequence number minus that of the stream's previous packet, modulo 256, if the difference is not 1.
+    /// The sequence number minus the sequence number of the stream's previous packet, modulo 256, if the difference is
+    /// not 1.
     pub step: Option<u8>,
-    /// For how many packets of the stream the media clock restart kept its value, if it changes again after fewer than 8.
+    /// For how many packets of the stream the media clock restart bit kept its value, if the bit changes again after
+    /// fewer than 8 packets.
     pub hold: Option<u32>,
     /// The packet has a timestamp that it must not have, or lacks one that it must have.
     pub stamp: bool,
-    /// The stream is not tracked, because 1,024 others are.
+    /// The stream is not tracked, because 1,024 other streams are.
     pub untracked: bool,
 }
 

@@ -7,7 +7,7 @@ ghost use Rattle.sequence_track.specs.declared.seen.Seen.{Seen as SeenValue};
 
 use crate::seen::{Findings, Seen};
 
-/// The least number of packets for which a media clock restart must keep its value.
+/// The least number of packets for which the media clock restart bit must keep its value.
 const LEAST_HOLD: u32 = 8;
 
 /// What identifies a stream.
@@ -34,9 +34,10 @@ impl Seen {
 pub struct StreamState {
     /// The sequence number of the last packet.
     seq: u8,
-    /// The media clock restart of the last packet.
+    /// The media clock restart bit of the last packet.
     mr: bool,
-    /// For how many packets, counted up to 8, the media clock restart has kept its value, if that value came by a change.
+    /// For how many packets, counted up to 8, the media clock restart bit has kept its value. `None` if the value did
+    /// not begin with a change.
     held: Option<u32>,
 }
 
@@ -77,7 +78,7 @@ impl StreamState {
         if step == 1 { None } else { Some(step) }
     }
 
-    /// For how many packets the media clock restart kept its value, if it changes again too early.
+    /// For how many packets the media clock restart bit kept its value, if the bit changes again too early.
     fn hold(&self, seen: &Seen) -> Option<u32>
         ensures { (recent : List SeenValue) → state_of recent ≡ Some self.now → result ≡ hold_after recent seen.now }
     {

@@ -45,7 +45,7 @@ impl Tracker {
         Ok(Tracker { streams })
     }
 
-    /// Notes a packet that has a valid stream id, and returns the findings in it. Allocates nothing.
+    /// Notes a packet that has a valid stream ID, and returns the findings in it. Allocates nothing.
     pub fn note(&mut self, seen: Seen) -> Findings
         ensures noted { (notes : List SeenValue) → StandsFor self.old notes → StandsFor self.new (notes ++ seen ∷ []) }
         ensures found { (notes : List SeenValue) → StandsFor self.old notes → result ≡ findings notes seen }

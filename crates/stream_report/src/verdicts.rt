@@ -72,7 +72,8 @@ fn is_more(some: u64, of: u64, part: u64) -> bool {
     some.saturating_mul(part) > of
 }
 
-/// The verdict that most timestamps do not advance by their packets' durations. `None` if most do.
+/// The verdict that most timestamps do not advance by their packets' durations. `None` if at least half of the
+/// timestamps do.
 fn order_verdict(stream: &Stream) -> Option<Verdict> {
     let pace = &stream.pace;
     let compared = pace.compared;

@@ -7,7 +7,7 @@ use std::alloc::Global;
 use std::test::Fail;
 use vectors_avtp::{bytes_of, row_of};
 
-/// Pushes a packet, if it may be pushed. Its instant is its own timestamp.
+/// Pushes a packet, if it may be pushed. The instant of the packet is its own timestamp.
 fn push(assembler: &mut Assembler, frame: u64, packet: &[u8]) -> Option<Pushed>
     ensures { IfSome result (λ pushed. pushed.lost ≡ length assembler.new.lost) }
 {
@@ -42,8 +42,8 @@ fn given_up(alloc: Global, assembler: &Assembler, lost: u32) -> Result<String, F
     Ok(text)
 }
 
-/// What becomes of a packet: the frames that are given up because of it, then its piece, then the unit if that is
-/// complete.
+/// What becomes of a packet: the frames that are given up because of it, then its piece, then the bytes of the unit if
+/// the unit is complete.
 fn outcome(
     alloc: Global,
     assembler: &mut Assembler,
@@ -118,7 +118,7 @@ fn push_long(
     push(assembler, fragments, last)
 }
 
-/// The number of fragments, a fragment before the last, the last fragment, and what becomes of the last fragment.
+/// How many fragments a unit has, a fragment before the last, the last fragment, and what becomes of the last fragment.
 const LONG: [(u64, &str, &str, &str); 5] = [
     (
         4_096,

@@ -5,7 +5,7 @@ use std::alloc::Global;
 use std::test::Fail;
 use vectors_avtp::{bytes_of, row_of};
 
-/// Packets, and what is read of them.
+/// Packets, and what is read from each of them.
 const FIELDS: &str = "\
 aaf => subtype: 2, sv: true, mr: false, format_bits: 0, tv: true, seq: 0, tu: false, stream_id: 144115188075921409, timestamp: 1002000000, data_length: 24, format: Int16, nsr: 5, channels: 2, depth: 16, sparse: false, evt: 0, count: 6, reserved: false, stamp_is_wrong: false
 iec => subtype: 0, sv: true, mr: false, format_bits: 0, tv: true, seq: 0, tu: false, stream_id: 144115188075921409, timestamp: 1002000000, data_length: 56, gateway_info: 0, channel: 31, tcode: 10, sy: 0, sid: 63, dbs: 2, dbc: 0, fdf: 2, syt: 65535, count: 6, reserved: false, stamp_is_wrong: false
@@ -114,8 +114,8 @@ h264 => 1=06 3=fe 18=ff 19=ff 22=c0 23=ff
 h264 28=7c85 => 1=06 3=fe 18=ff 19=ff 22=c0 23=ff 29=20
 crf => 1=04";
 
-/// The reserved bits of the byte at offset `at`. A bit is reserved if the packet is still read with this bit inverted,
-/// and `reserved` is true of it.
+/// The reserved bits of the byte at offset `at`. A bit is reserved if the packet is still read after this bit is
+/// inverted, and `reserved` is then true of the packet.
 fn reserved_bits(packet: &mut [u8], at: usize) -> u8 {
     let mut bits = 0u8;
     for bit in [0x80u8, 0x40, 0x20, 0x10, 8, 4, 2, 1] {

@@ -1,4 +1,5 @@
-//! Prints each kind of line, in the order of `EVERY_LINE`, with short numbers and with the longest.
+//! Prints each kind of line, in the order of `EVERY_LINE`. Some lines have short numbers, and others have the longest
+//! numbers.
 
 use crate::packets::{CRF, DENSE, H264, IEC, OTHER, SPARSE};
 use aaf_format::{AafFormat, AafView};

@@ -1,4 +1,4 @@
-//! Packets of each format, with short numbers and with the longest.
+//! Packets of each format. Some have short numbers, and others have the longest numbers.
 
 use aaf_format::{AafFormat, AafView};
 use avtp_header::StreamHeader;

@@ -164,7 +164,7 @@ fn add_talk(text: &mut String, asked: &Talk<'_>) -> Result<(), AllocError> {
     add_name(text, asked.output)
 }
 
-/// Adds the media clock. Its default rate is that of the stream.
+/// Adds the media clock. The clock's default rate is the stream's rate.
 fn add_crf(text: &mut String, crf: &Crf, rate: u32) -> Result<(), AllocError> {
     write!(text, " crf {:016x}", crf.id)?;
     add(text, "crf-rate", crf.rate, rate)?;
