@@ -1,4 +1,4 @@
--- Command lines in general, and the first word that breaks one.
+-- Command lines in general, and the first word that breaks a command line.
 use Rattle.std.proofs.Common.{◌≡◌, ℕ, suc, ◌+◌, ◌-◌, ◌<◌, ◌≤◌, ◌^◌, inl, inr, true, false, List, [], ◌∷◌, ◌++◌, flat_map, length, take, drop, Option, Some, None, slice_get, IsSomeAnd, IfSome, MatchOption, option_to_list, get_or, ◌==◌, if◌then◌else◌, arith, sym, subst, ap, ◌∙◌, refl, append_assoc, length-append, All, string_bytes, String, ℤ}
 use Rattle.std.specs.Str.{bytes_eq}
 use Rattle.std.specs.declared.alloc.Global.{Global}
@@ -38,7 +38,7 @@ value_is rows name row (g ∷ gs) is_row each =
       valued None taken = tt
       valued (Some word) taken = taken
 
--- if an option takes a value, the word after the option's name is that value
+-- if the option `name` takes a value, the word after `name` is the option's value
 pub value-after : (rows : List Row) (gs : List Setting) (name : List ℕ) (row : Row) → are_sound rows ≡ true → All (IsSetting rows) gs → row_named rows name ≡ Some row → stands_alone row.takes ≡ false → value_after name (flat_map words_of gs) ≡ value_in name gs
 value-after rows [] name row sound each is_row wanted = refl
 value-after rows (g ∷ gs) name row sound each is_row wanted =
@@ -262,7 +262,7 @@ same_signed option y z gs small p q = go (value_in option.name gs) p q where
   go None p q = p ∙ sym q
   go (Some word) p q = same_spelled word y z (omega (arith, p.size, small)) (omega (arith, q.size, small)) p.spelled q.spelled
 
--- the sample format whose name has this fourth letter, which differs between the formats
+-- the sample format whose name has this fourth letter; no two formats share it
 by_fourth : ℕ → AafFormat
 by_fourth letter = if letter == 49 then Int16 else if letter == 50 then Int24 else if letter == 51 then Int32 else Float32
 

@@ -38,7 +38,7 @@ use Rattle.avtp_words.proofs.Numbers.{spells_one}
 use Rattle.avtp_words.proofs.Operands.{names}
 use Rattle.avtp_words.proofs.Steps.{words_before, after_first}
 
--- ---- Words that begin with a command's name are a line exactly if the rest fits the command's form.
+-- ---- words that begin with a command's name are a line exactly if the other words fit the command's form
 
 of_rest : (form : Form) (words : List (List ℕ)) (r : IsRest form.rows form.operands words) → IsOf form (form.command ∷ words) r.settings r.names
 of_rest form words r = record { spelled = ap (λ ws. form.command ∷ ws) r.spelled; options = r.options; operands = r.named }
@@ -142,7 +142,7 @@ none_first (word ∷ words) e = absurd (omega (arith, e))
 
 -- ---- what the code has read
 
--- if an option takes a value, the word after the option's name is that value
+-- if the option `name` takes a value, the word after `name` is the option's value
 after_options : (form : Form) (words : List (String Global)) (place : ℕ) (r : IsRestTo form.rows form.operands (texts words) place) (name : List ℕ) (row : Row) → are_sound form.rows ≡ true → row_named form.rows name ≡ Some row → stands_alone row.takes ≡ false → value_after name (texts (take place words)) ≡ value_in name r.rest.settings
 after_options form words place r name row sound is_row wanted = ap (value_after name) (words_before form.rows words place (options_to form.rows form.operands (texts words) place r)) ∙ value-after form.rows r.rest.settings name row sound r.rest.options.each is_row wanted
 
@@ -469,7 +469,7 @@ talk_clock words asked says =
 
 -- ---- soak
 
--- The words after `soak` have the number of packets at index `place`.
+-- The number of packets is the word at index `place` of the words after `soak`.
 pub record OneNumber (words : List (List ℕ)) (place : ℕ) (settings : List Setting) : Type 0 where
   pub number : List ℕ
   pub line : IsOf soak_form (codes "soak" ∷ words) settings (number ∷ [])
@@ -564,7 +564,7 @@ one_command words r s p q =
     let m = line_of words s q in
     same_command l.form m.form words l.settings m.settings l.names m.names l.line m.line
 
--- a number made of the first two letters of a command's name, which differs between commands
+-- a number made of the first two letters of a command's name; no two commands have the same number
 abbrev mark : List ℕ → ℕ
 mark word = get_or word 0 0 * 256 + get_or word 1 0
 
@@ -651,7 +651,7 @@ offence_of_rule words asked says breaks = offence_of_form talk_form words says.s
   none (agree other) p same = absurd (omega (arith, same))
   none (gateway other) (s, rules) same = absurd (omega (arith, same))
 
--- ---- each line asks for one thing, and words have one offence
+-- ---- a command line asks for only one request, and words have only one offence
 
 same_listener : (settings : List Setting) (id : List ℕ) (a b : ListenerOptions) → SaysListener settings id a → SaysListener settings id b → a ≡ b
 same_listener settings id a b p q = same
@@ -843,7 +843,7 @@ same_request words (talk asked) (listen other) p q = absurd (omega (arith, one_m
 same_request words (talk asked) (talk other) (p, rules) (q, others) = ap talk (same_talk words asked other p q)
 same_request words (listen asked) (listen other) (p, rules) (q, others) = ap listen (same_listen words asked other p q)
 
--- words that have a first wrong word do not fit the form of their command
+-- if words have a first wrong word, they do not fit the form of their command
 stopped : (words : List (List ℕ)) (place : ℕ) → StopsAt IsLine words place → IsLine words → ⊥
 stopped words place o line = go o.rest o.split o.stops where
   go : (rest : List (List ℕ)) → words ≡ o.before ++ rest → Stops IsLine o.before rest → ⊥

@@ -1,4 +1,4 @@
--- Words that spell numbers: `parse` reads the number that `{n}` writes.
+-- Words that spell numbers, and the numbers that `parse` reads from words.
 use Rattle.std.proofs.Common.{◌≡◌, ◌≢◌, ℕ, zero, suc, ◌^◌, ◌<◌, ◌≤◌, List, [], ◌∷◌, drop, length, get_or, Result, Ok, Err, Option, Some, None, IfSome, IfNone, unwrap_or, arith, sym, subst, ap, ◌∙◌, decimal, nat_le, true, IsTrue, ◌↔◌, refl, ℤ, pos, negsuc, unsigned_abs, w64, FitsSigned}
 use Rattle.std.specs.Result.{result_ok}
 use Rattle.std.specs.Str.Parse.{ParsesUnsigned, AllDigits, digits_value}

@@ -83,7 +83,7 @@ pub record Turning : Type 0 where
   pub input : List ℕ
   pub output : List ℕ
 
--- what a command line asks for, by command
+-- what a command line asks for: one case for each command
 pub data Request : Type 0 where
   show : (limit : ℕ) → (file : List ℕ) → Request
   check : (limit : ℕ) → (files : List (List ℕ)) → Request
@@ -435,14 +435,15 @@ FitsKind (H264 last_stamp) asked = asked.rate ≤ limits.access_units
 abbrev pub spacing_of : Crf → ℕ → ℕ
 spacing_of crf rate = crf.interval * rate * pull_down crf.pull / (crf.rate * pull_up crf.pull)
 
--- Between two restarts there are `packets * count` sample frames. They span a multiple of 8 whole clock packets.
--- Without restarts there is no condition.
+-- Between two restarts there are `packets * count` sample frames. They span whole clock packets, and the number of
+-- these packets is a multiple of 8. Without restarts there is no condition.
 abbrev pub HasWholeRuns : Crf → ℕ → ℕ → Option ℕ → Type 0
 HasWholeRuns crf rate count None = ⊤
 HasWholeRuns crf rate count (Some packets) = packets * count % (8 * spacing_of crf rate * crf.points) ≡ 0
 
 -- The clock fits a stream with `rate` sample frames a second and `count` sample frames in a packet. The clock's
--- timestamps are at whole sample frames. Between two restarts there is a multiple of 8 whole clock packets.
+-- timestamps are at whole sample frames. Whole clock packets fit between two restarts, and the number of these packets
+-- is a multiple of 8.
 pub record FitsStream (crf : Crf) (rate count : ℕ) (restart : Option ℕ) : Type 0 where
   pub whole : crf.interval * rate * pull_down crf.pull % (crf.rate * pull_up crf.pull) ≡ 0
   pub runs : HasWholeRuns crf rate count restart

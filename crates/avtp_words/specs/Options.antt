@@ -70,7 +70,7 @@ abbrev pub IsTaken : Takes → Option (List ℕ) → Type 0
 IsTaken takes None = IsTrue (stands_alone takes)
 IsTaken takes (Some word) = IsValue takes word
 
--- the table has a row for the option, and the option's value is one that the row allows
+-- the option is in the table, and is given with a value that its row takes, or without a value if its row takes none
 pub record IsSetting (rows : List Row) (s : Setting) : Type 0 where
   pub dash : BeginsWithDash s.name
   pub value : IsSomeAnd (row_named rows s.name) (λ row. IsTaken row.takes s.value)

@@ -1,4 +1,4 @@
-//! The commands, and how words are read as one.
+//! The commands, and how a command is read from words.
 
 ghost use Rattle.std.specs.Prelude.{◌≡◌, ℕ, ◌+◌, ◌-◌, ◌^◌, ◌<◌, ◌∷◌, codes, IfOk, IfErr, IsOkAnd, IsErrAnd};
 ghost use Rattle.avtp_words.specs.Grammar.{Request, request_of, IsCommandLine, IsOffence};

@@ -13,8 +13,9 @@ use crate::limits::{
 use crate::value::{byte_after, id_if, short_number_after, small_number_after};
 use clock_track::{pull_down, pull_up};
 
-/// A media clock that is sent with a stream (IEEE 1722-2016, 10). Its timestamps are at whole sample frames of the stream. If
-/// the stream restarts, there is a multiple of 8 whole clock packets between two restarts.
+/// A media clock that is sent with a stream (IEEE 1722-2016, 10). Its timestamps are at whole sample frames of the
+/// stream. If the stream restarts, whole clock packets fit between two restarts, and the number of these packets is a
+/// multiple of 8.
 #[derive(Clone, Copy, Debug, PartialEq, Eq)]
 pub struct Crf {
     /// The stream ID of the clock.
@@ -86,8 +87,8 @@ impl Crf {
         u64::from(self.interval) * u64::from(rate) * pull_down(self.pull)
     }
 
-    /// Whether the sample frames from one restart to the next span a multiple of 8 whole clock packets. True if there
-    /// are no restarts.
+    /// Whether whole clock packets fit from one restart to the next, and the number of these packets is a multiple of
+    /// 8. True if there are no restarts.
     fn has_whole_runs(self, spacing: u64, rate: u32, count: u32, restart: Option<u32>) -> bool
         requires spacing { spacing ≡ spacing_of self rate }
         requires some { 1 ≤ spacing }

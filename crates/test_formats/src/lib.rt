@@ -1,4 +1,4 @@
-//! Tests of the packet formats: what is read of packets, and how NAL units are put together from fragments.
+//! Tests of the packet formats: what is read from packets, and how NAL units are put together from fragments.
 #![tactic(auto)]
 
 #[cfg(test)]

@@ -1,4 +1,4 @@
-//! What is read of packets.
+//! What is read from packets.
 
 use avtp_packet::{read_packet, reserved, stamp_is_wrong, stream_of};
 use std::alloc::Global;
@@ -82,7 +82,7 @@ h264 1=80 => part: Single, stamp_is_wrong: true
 h264 1=80 28=7c85 => part: First, stamp_is_wrong: false
 ";
 
-/// The fields of what is read, each between a space and a comma.
+/// The fields that are read from a packet, each between a space and a comma.
 fn fields_of(alloc: Global, packet: &[u8]) -> Result<String, Fail> {
     let read = read_packet(packet);
     let wrong = read.as_ref().is_ok_and(|packet| stamp_is_wrong(packet));

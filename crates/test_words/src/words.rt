@@ -53,7 +53,7 @@ fn assert_offence(
     Ok(())
 }
 
-/// Tries an option with each value that it does not accept, without a value, twice, and after the names.
+/// Tries an option with each value that it does not accept. Also tries it without a value, twice, and after the names.
 fn assert_option(
     rt: &impl Abort,
     alloc: Global,

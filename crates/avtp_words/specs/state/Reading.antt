@@ -255,8 +255,8 @@ pub record StopsOptions (rows : List Row) (words : List (List ℕ)) (place : ℕ
   pub begins : Begins (AreOptions rows) before
   pub stops : Stops (IsTail rows) before rest
 
--- The first wrong word is at `position`, which counts from 1 and includes the command. `words` are the words after the
--- command, and a line of `L` has no wrong word.
+-- `words` are the words after a command. The first word that is wrong for a line of `L` is at `position` on the whole
+-- command line, counted from 1.
 pub record StopsAfter (L : List (List ℕ) → Type 0) (words : List (List ℕ)) (position : ℕ) : Type 0 where
   pub place : ℕ
   pub here : position ≡ place + 2
