@@ -1,4 +1,4 @@
-//! How a packet's sequence number relates to those that have arrived before.
+//! How a packet's sequence number relates to the sequence numbers that have arrived before.
 
 ghost use Rattle.std.specs.Prelude.{◌≡◌, ◌==◌, ◌%◌, ◌≤◌, ◌<◌, ℕ, List, [], ◌∷◌};
 ghost use Rattle.std.specs.Int.{bit_at};
@@ -23,7 +23,7 @@ pub struct Window {
     begin: u64,
 }
 
-/// How a packet's number relates to those that have arrived before.
+/// How a packet's number relates to the numbers that have arrived before.
 #[derive(Clone, Copy)]
 pub enum Place {
     /// The packet follows the newest one, and `missing` packets are missing between them.

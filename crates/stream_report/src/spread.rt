@@ -19,8 +19,8 @@ const NARROW: u64 = 128;
 #[derive(Drop)]
 pub struct Spread {
     counts: Vec<u32>,
-    /// The index of the lowest bucket in use, among all buckets. The buckets of negative values precede the others, and
-    /// the lowest bucket has index 0.
+    /// The index of the lowest bucket in use, among all buckets. The buckets of negative values precede the other
+    /// buckets, and the lowest bucket has index 0.
     first: usize,
     pub count: u64,
     pub least: i64,

@@ -37,7 +37,7 @@ pub struct Came {
     pub at: At,
     /// When the frame arrived, in nanoseconds of the capture's clock.
     pub arrival: i64,
-    /// How long after the capture's first frame the frame arrived, in nanoseconds.
+    /// The time since the arrival of the capture's first frame, in nanoseconds.
     pub since: u64,
 }
 
@@ -455,7 +455,7 @@ impl Stream {
     }
 
     /// Adds a timestamp to the trend, by the lead of its packet's first event. If the timestamps step, the lead counts
-    /// as unchanged. A timestamp that advances by its packets' durations is not a step, however late its packet
+    /// as unchanged. A timestamp that advances by the packets' durations is not a step, however late its packet
     /// arrives.
     fn note_trend(&mut self, arrival: i64, stamped: &Stamped, advance: Advance) {
         let before_anchor = match self.beat {

@@ -24,7 +24,7 @@ impl Tally {
         first: None,
     };
 
-    /// Counts one more, in the frame `at`.
+    /// Adds one to the count, for the frame `at`.
     pub fn note(&mut self, at: At)
         ensures count { self.new.count ≡ min (self.old.count + 1) (2 ^ 64 - 1) }
         ensures first { self.new.first ≡ option_or self.old.first (Some at) }
@@ -32,7 +32,7 @@ impl Tally {
         self.add(1, at);
     }
 
-    /// Adds `more` to the count, in the frame `at`.
+    /// Adds `more` to the count, for the frame `at`.
     pub fn add(&mut self, more: u64, at: At)
         ensures count { self.new.count ≡ min (self.old.count + more) (2 ^ 64 - 1) }
         ensures first { self.new.first ≡ (if more == 0 then self.old.first else option_or self.old.first (Some at)) }

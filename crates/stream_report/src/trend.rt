@@ -40,8 +40,8 @@ impl Trend {
         products: 0,
     };
 
-    /// Notes a packet that arrived `since` nanoseconds after the first. Its lead exceeds that of the previous packet by
-    /// `change`.
+    /// Notes a packet that arrived `since` nanoseconds after the first packet. The packet's lead exceeds the previous
+    /// packet's lead by `change`.
     pub fn note(&mut self, since: u64, change: i64) {
         let lead = self.lead.saturating_add(change);
         if lead.unsigned_abs() > FARTHEST.unsigned_abs() || self.count >= MOST {

@@ -45,13 +45,13 @@ pub enum Verdict {
         packets: Tally,
         most: u64,
     },
-    /// Packets that arrived after their presentation time, and by how much at most.
+    /// Packets that arrived after their presentation time, and the greatest delay.
     Late {
         packets: Tally,
         stamped: u64,
         most: u64,
     },
-    /// The first timestamp does not fit those that follow.
+    /// The first timestamp does not fit the timestamps that follow.
     FirstStamp {
         found: i64,
         wanted: u64,
@@ -90,7 +90,7 @@ pub enum Verdict {
     Drift {
         parts: i64,
     },
-    /// Uneven arrivals. If `bursts` is true, most packets arrive directly after the one before.
+    /// Uneven arrivals. If `bursts` is true, most packets arrive directly after the packet before.
     Jitter {
         packets: Tally,
         compared: u64,

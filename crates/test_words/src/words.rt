@@ -1,11 +1,11 @@
-//! Reads the words of each row, and compares the answer.
+//! Reads the words of each row, and compares the answer with the row.
 
 use crate::rows::{COMMANDS, OFFENCES, RULES, VALUES};
 use crate::told::answer;
 use std::alloc::{AllocError, Global};
 use std::process::Abort;
 
-/// Reads the words of each row, and compares the command, or the position of the offence.
+/// Reads the words of each row. The command, or the position of the offence, must be the one that the row states.
 fn assert_rows(rt: &impl Abort, alloc: Global, rows: &str) -> Result<(), AllocError> {
     for row in rows.lines() {
         let (line, stated) = row.split_once("=> ").unwrap_or((row, "no answer"));
@@ -42,7 +42,7 @@ fn names_of(command: &str) -> &'static str {
     }
 }
 
-/// Reads the words of a line, and compares the position of the offence.
+/// Reads the words of a line, and checks the position of the offence.
 fn assert_offence(
     rt: &impl Abort,
     alloc: Global,
