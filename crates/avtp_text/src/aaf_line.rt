@@ -177,7 +177,7 @@ impl AafLine {
         self.end = end;
     }
 
-    /// Keeps only the end of the line. If it is not the text of `end`, writes it anew.
+    /// Keeps only the end of the line. If the end is not the text of `end`, writes the end anew.
     #[inline(always)]
     fn leave_end(&mut self, end: AafEnd)
         ensures text { IsEnd end self.new.line }

@@ -19,8 +19,8 @@ use std::marker::Model;
 /// The maximum number of bytes in a [`Text`]. A piece that is printed at once has at most this many bytes.
 pub const ROOM: usize = Buffer::ROOM;
 
-/// Text that is buffered until it is written to a sink. Contracts see it as the list of its bytes: at most 65,536.
-/// Memory for all of them is reserved once.
+/// Text that is buffered until it is written to a sink. Contracts see it as the list of its bytes, which has at most
+/// 65,536 bytes. Memory for this many bytes is reserved once.
 ///
 /// Each call that may write takes the sink. All text that was written so far is what the sink holds, followed by what
 /// is buffered. A call that prints a text of bounded length appends all of it, or nothing if the sink fails. After such

@@ -13,7 +13,7 @@ pub enum Other {
     Ethertype(u16),
     /// AVTP in UDP over IPv4 or IPv6 (IEEE 1722-2016, annex J).
     Udp,
-    /// Two VLAN tags, of which the outer one was read.
+    /// A frame with two VLAN tags, of which only the outer tag was read.
     TwoTags,
     /// An AVTP packet of an unsupported subtype.
     Subtype(u8),

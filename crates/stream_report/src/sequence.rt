@@ -26,7 +26,7 @@ pub struct Window {
 /// How a packet's number relates to the numbers that have arrived before.
 #[derive(Clone, Copy)]
 pub enum Place {
-    /// The packet follows the newest one, and `missing` packets are missing between them.
+    /// The packet is ahead of the newest packet, and `missing` packets are missing between them.
     Ahead { missing: u8 },
     /// The number is between the first packet's and the newest, and had not arrived. The packet is late, and was
     /// counted as missing.

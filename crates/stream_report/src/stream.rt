@@ -61,11 +61,11 @@ struct Last {
 /// After a restart of the media clock, `mr` keeps its value for at least this many packets (IEEE 1722-2016, 4.4.4).
 const LEAST_HOLD: u64 = 8;
 
-/// If no packet arrives for this many packet durations, the next one counts as a later packet, whatever its sequence
+/// If no packet arrives for this many packet durations, the next packet counts as a later packet, whatever its sequence
 /// number is.
 const LONG_PAUSE: u64 = 64;
 
-/// What is counted for a stream. The fields that each packet changes are the first ones.
+/// What is counted for a stream. The fields that change with each packet are declared first.
 #[derive(Drop)]
 pub struct Stream {
     pub key: StreamKey,
