@@ -41,7 +41,8 @@ beside_then {a = a} {b} {c} {k} {name} first second = record {
 
 -- ---- a file that is written
 
--- a state that the shelf may have had before the file was made: the state now, with these files and slot k free
+-- A state that the shelf may have had before the file was made. It is the state now, but with these files and with slot
+-- k free.
 abbrev before_it : Option Files → ShelfState → ℕ → ShelfState
 before_it files s k = record s { files = files; slots = without s.slots k }
 
@@ -78,7 +79,7 @@ holds_more files s v w name bytes more h e =
       named = h.named;
     })
 
--- calls that keep the files, and the writer's slot, preserve `HoldsFile`
+-- calls that keep the files and the writer's slot preserve `HoldsFile`
 pub holds_beside : (files : Option Files) (s t : ShelfState) (w : Writing) (name bytes : List ℕ) → HoldsFile files s w name bytes → KeepsFiles s.files t.files → t.slots w.slot ≡ s.slots w.slot → HoldsFile files t w name bytes
 holds_beside files s t w name bytes h keeps same = record {
   held = h.held;
@@ -94,7 +95,7 @@ holds_beside files s t w name bytes h keeps same = record {
 pub none_written : (files : Option Files) (s : ShelfState) (v w : Writing) (name : List ℕ) → HoldsFile files s v name [] → w ≡ record v { waiting = v.waiting ++ header_spelling written_style } → HoldsCapture files s w name []
 none_written files s v w name h e = subst (HoldsFile files s w name) (sym (append-nil (header_spelling written_style))) (holds_more files s v w name [] (header_spelling written_style) h e)
 
--- If the bytes `header ++ frame` are the record `r`, appending them to a capture appends `r` to its records.
+-- If `header ++ frame` is the encoding of the record `r`, appending it to a capture appends `r` to the records.
 pub one_written : (records : List Record) (r : Record) (header frame : List ℕ) → header ++ frame ≡ record_spelling written_style r → (capture_bytes records ++ header) ++ frame ≡ capture_bytes (records ++ r ∷ [])
 one_written records r header frame e =
     append_assoc (capture_bytes records) header frame

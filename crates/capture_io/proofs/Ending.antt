@@ -20,7 +20,7 @@ pub at_limit_is : (limit : ℕ) (bytes : List ℕ) → limit < length bytes → 
 unfolding end_of
 at_limit_is limit bytes more = rw (lt-leb (length bytes) limit more) refl
 
--- the cause of a fault may be replaced by anything that follows from it
+-- `EndsAt` still holds if `fault` is replaced by a statement that follows from `fault`
 pub ends_weaker : (limit : ℕ) (told : Option (List ℕ)) (fault fault' : Type 0) (how : End) (prefix : List ℕ) → (fault → fault') → EndsAt limit told fault how prefix → EndsAt limit told fault' how prefix
 ends_weaker limit None fault fault' how prefix make ends = ends
 ends_weaker limit (Some bytes) fault fault' end.Whole prefix make ends = ends
@@ -55,7 +55,6 @@ ends_refused limit bytes fault r is =
 pub ends_limit : (limit : ℕ) (bytes prefix : List ℕ) (fault : Type 0) → limit < length bytes → take limit bytes ≡ prefix → certain_in prefix ≡ None → EndsAt limit (Some bytes) fault end.Limit prefix
 ends_limit limit bytes prefix fault more is none = (sym (at_limit_is limit bytes more ∙ ap (λ b. at_limit (certain_in b)) is ∙ ap at_limit none), sym is)
 
--- a prefix of the file, extended by the next bytes up to the limit, is all that may be read
 pub limited : (bytes prefix rest : List ℕ) (limit : ℕ) → bytes ≡ prefix ++ rest → length prefix ≤ limit → prefix ++ take (limit - length prefix) rest ≡ take limit bytes
 limited bytes prefix rest limit split fits =
     let sum : length prefix + (limit - length prefix) ≡ limit = omega arith in
@@ -67,7 +66,7 @@ ends_limited : (x : Option Refusal) (limit : ℕ) (bytes : List ℕ) (fault : Ty
 ends_limited None limit bytes fault e = (e, refl)
 ends_limited (Some r) limit bytes fault e = (e, refl)
 
--- without a fault of reading, the reading ends as `end_of` says
+-- if no read fails, the reading ends as `end_of` says
 pub ends_here : (limit : ℕ) (bytes : List ℕ) (fault : Type 0) → EndsAt limit (Some bytes) fault (end_of limit bytes) (take limit bytes)
 ends_here limit bytes fault =
     elim (cases_lt limit (length bytes)) [

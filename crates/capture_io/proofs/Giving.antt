@@ -75,7 +75,7 @@ given_first limit bytes remains source records given =
     let first = first_held source.reader fed.prefix (take (limit - length fed.prefix) rest) given.before fed.read in
     (first.0, ap records_in (sym all) ∙ (first.1 ∙ ap (λ (rs : List Record). rs ++ first.0) (sym given.given)))
 
--- If a source that has delivered these records releases the held one, its reader has released all of them.
+-- If a source has delivered `records` and then releases the held record, its reader has released all of `records`.
 pub released : (shelf : ShelfState) (old new : Sourcing) → new.pieces ≡ old.pieces → Releases old.reader new.reader → (limit : ℕ) (bytes : List ℕ) (records : List Record) → HasGivenOf limit bytes shelf old records → HasFedOf limit bytes shelf new records
 released shelf old new same releases limit bytes records given =
     subst (λ (p : Piecing). HasFed limit bytes (left_in shelf.slots p.slot) new records) (sym same)
@@ -86,7 +86,6 @@ released shelf old new same releases limit bytes records given =
       read = subst (HasRead new.reader given.fed.prefix) (sym given.given) (releases.given_up given.fed.prefix given.before given.fed.read);
     })
 
--- the held record is delivered after the released records
 holds_next_by : (limit : ℕ) (bytes : List ℕ) (remains : Option (List ℕ)) (source : Sourcing) (records : List Record) (h : Option Record) → held_in source ≡ h → IsSome h → source.ended ≡ None → HasFed limit bytes remains source records
     → (next : Record) × (h ≡ Some next) × HasGiven limit bytes remains source (records ++ next ∷ [])
 holds_next_by limit bytes remains source records None is some going fed = absurd cc

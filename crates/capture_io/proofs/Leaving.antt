@@ -38,7 +38,6 @@ reads_nothing s k live = record {
   asked = λ names stands. stands;
 }
 
--- if `j` is k, doing nothing counts as reading slot k
 pub reads_still : (s : ShelfState) (k j : ℕ) → j ≡ k → IsSome (s.slots k) → ReadsSlot s s k j
 reads_still s k j same live = subst (ReadsSlot s s k) (sym same) (reads_nothing s k live)
 

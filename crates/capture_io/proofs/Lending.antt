@@ -28,7 +28,7 @@ use Rattle.capture_io.proofs.Reader.{capture, feeds_as, format_feeds, format_rel
 
 -- ---- the reader
 
--- letting the reader take the next record from a piece feeds it the record's bytes
+-- taking the next record from a piece at once has the effect of feeding the record's bytes
 feeds_by : (format : Option Format) (r : CaptureReading) (piece : List ℕ) (size : ℕ) → r.format ≡ format → size ≤ length piece → IsNextBy format r (take size piece) → Feeds r piece (Ok size) (with_by format r (take size piece))
 feeds_by None r piece size is within next = absurd next
 feeds_by (Some Classic) r piece size is within next =
@@ -72,7 +72,7 @@ pub front_as : (f : Option Format) (format : Format) (front : List ℕ) (c c' : 
 front_as f format front c c' n n' is unused kept =
     subst (λ (g : Option Format). IsFront g front c' n') (sym is) (front_still format front c c' n n' (subst (λ (g : Option Format). IsFront g front c n) is unused) kept)
 
--- a view of the next record shows the record that the reader holds once it has taken the record's bytes
+-- a view of the next record shows the record that the reader will hold after taking that record's bytes
 pub classic_lends : (f : Option Format) (front : List ℕ) (c : classic.Reading) (n : ng.Reading) (bytes : List ℕ) (view : RecordView) → f ≡ Some Classic → classic.held (classic.with_part c bytes) ≡ Some (shown view) → IsRecordTime view.arrival
     → IsView (held (with_record (capture f front c n) bytes)) view
 classic_lends f front c n bytes view is exact time =
@@ -165,7 +165,6 @@ gives_after before after old mid next result gone gives = record {
   reads = subst (λ (p : Piecing). ReadsSlot before after p.slot (slot_of next)) gone.pieces gives.reads;
 }
 
--- if `o` is the size of the next record, lending that record delivers it
 pub lent_by : (shelf : ShelfState) (old mid : Sourcing) (o : Option ℕ) → IsSome (shelf.slots (slot_of old)) → GivesUp old mid → IfSome o (λ size. LiesAhead mid size) → is_some o ≡ true → GivesNext shelf shelf old (lending o mid) None
 lent_by shelf old mid None live gone ahead some = absurd cc
 lent_by shelf old mid (Some size) live gone ahead some = lends_next shelf old mid size live gone ahead
@@ -174,7 +173,7 @@ pub read_by : (before after : ShelfState) (old mid next : Sourcing) (o : Option 
 read_by before after old mid next None result gone none gives = gives_after before after old mid next result gone gives
 read_by before after old mid next (Some size) result gone none gives = absurd cc
 
--- a source advances if it releases the held record and then lends the next one, or finds none
+-- A source advances if it releases the held record and then lends the next record, if there is one.
 pub advances : (old mid : Sourcing) (o : Option ℕ) → GivesUp old mid → IfSome o (λ size. LiesAhead mid size) → Advances old (lending o mid) (is_some o)
 advances old mid None gone ahead = record {
   given = λ some. absurd cc;

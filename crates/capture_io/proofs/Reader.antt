@@ -133,7 +133,6 @@ not_zero n piece h nothing more free = elim (cases_lt 0 n) [
   ]
 ]
 
--- feeding the reader of the capture's layout feeds the reader of captures
 pub format_feeds : (format : Format) (front : List ℕ) (c c' : classic.Reading) (n n' : reading.Reading) (piece : List ℕ) (result : Result ℕ Refusal)
     → readers.Feeds (meaning_of format) (progress_by format c n) piece result (progress_by format c' n')
     → Feeds (record { format = Some format; front = front; classic = c; ng = n }) piece result (record { format = Some format; front = front; classic = c'; ng = n' })
@@ -210,7 +209,7 @@ joins front front' bytes piece more k same is =
     ∙ (ap (λ (b : List ℕ). front ++ b) (sym (append_assoc (take k piece) (drop k piece) more) ∙ ap (λ (b : List ℕ). b ++ more) (take-append-drop k piece))
     ∙ (sym (append_assoc front piece more) ∙ ap (λ (b : List ℕ). (b ++ piece) ++ more) (sym same))))
 
--- if the reader of their layout refuses the first four bytes, feeding refuses them
+-- If four bytes have arrived and the reader of their layout refuses them, feeding refuses them.
 pub front_rejected : (format : Format) (front front' piece : List ℕ) (c c' : classic.Reading) (n n' : reading.Reading) (k : ℕ) (why : Refusal) → k ≤ length piece → front' ≡ front ++ take k piece → length front' ≡ 4
     → format_in front' ≡ format → c ≡ classic.nothing_read → n ≡ reading.nothing_read → readers.Feeds (meaning_of format) (progress_by format c n) front' (Err why) (progress_by format c' n')
     → Feeds (record { format = None; front = front; classic = c; ng = n }) piece (Err why) (record { format = Some format; front = front'; classic = c'; ng = n' })
@@ -227,7 +226,6 @@ front_rejected format front front' piece c c' n n' k why within is size told unu
       subst (λ (b : List ℕ). RefusedAfter b records why) (joins front front' bytes piece more k h.stands.0 is) (subst (λ (rs : List Record). RefusedAfter (front' ++ rest) rs why) (sym h.stands.2) here);
 }
 
--- `Feeds` may be stated of a reader's fields or of the reader as contracts see it
 pub feeds_as : (f f' g g' : Option Format) (front front' : List ℕ) (c c' : classic.Reading) (n n' : reading.Reading) (old : CaptureReading) (piece : List ℕ) (result : Result ℕ Refusal) → f ≡ g → f' ≡ g' → record { format = f; front = front; classic = c; ng = n } ≡ old
     → Feeds (record { format = g; front = front; classic = c; ng = n }) piece result (record { format = g'; front = front'; classic = c'; ng = n' }) → Feeds old piece result (record { format = f'; front = front'; classic = c'; ng = n' })
 feeds_as f f' g g' front front' c c' n n' old piece result e e' is fed =
@@ -287,7 +285,7 @@ format_releases format front c c' n n' gone = record {
 pub still : {R : Type 0} (old new : R) (answer : Bool) (h : Option Record) → answer ≡ is_some h → (answer ≡ false → new ≡ old) → h ≡ None → new ≡ old
 still old new answer h is same none = same (is ∙ ap is_some none)
 
--- releasing in the readers of both layouts releases the record that the reader of captures holds
+-- if the readers of both layouts release what they hold, the reader of captures releases its held record
 pub both_release : (format : Option Format) (front : List ℕ) (c c' : classic.Reading) (n n' : reading.Reading) → IsFront format front c n → readers.Releases (classic.progress c) (classic.progress c')
     → readers.Releases (reading.progress n) (reading.progress n') → (classic.held c ≡ None → c' ≡ c) → (reading.held n ≡ None → n' ≡ n) → Releases (capture format front c n) (capture format front c' n')
 both_release None front c c' n n' unused first second same same' =
@@ -318,7 +316,6 @@ format_ends format front c n bytes records result ends h = record {
   first = ends.refusal bytes records h.stands.0 ∙ sym (refusal_by format bytes h.stands.2);
 }
 
--- `EndsHere` may be stated of a reader's fields or of the reader as contracts see it
 pub ends_as : (f g : Option Format) (front : List ℕ) (c : classic.Reading) (n : reading.Reading) (r : CaptureReading) (bytes : List ℕ) (records : List Record) (x : Option Refusal) → f ≡ g → record { format = f; front = front; classic = c; ng = n } ≡ r
     → (HasRead (record { format = g; front = front; classic = c; ng = n }) bytes records → EndsHere (record { format = g; front = front; classic = c; ng = n }) bytes records x) → HasRead r bytes records → EndsHere r bytes records x
 ends_as f g front c n r bytes records x e is ends =

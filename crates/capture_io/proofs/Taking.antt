@@ -17,12 +17,12 @@ opened_live None None name is = absurd is
 opened_live None (Some o) name is = refl
 opened_live (Some files) slot name is = rw is.0 refl
 
--- if the shelf shows its files, an opened slot has the name
+-- if the shelf shows its files, the slot of an opened file has the file's name
 pub opened_named : (files : Option Files) (slot : Option Open) (name : List ℕ) → IsOpened files slot name → IsSome files → option_and_then (λ (o : Open). o.name) slot ≡ Some name
 opened_named None slot name is told = absurd cc
 opened_named (Some files) slot name is told = rw is.0 refl
 
--- if the shelf shows its files, all bytes of the file are left to read in an opened slot
+-- if the shelf shows its files, all bytes of a file that was just opened are left to read in its slot
 opened_left : (files : Option Files) (slot : Option Open) (name : List ℕ) (told : Files) → IsOpened files slot name → files ≡ Some told
     → (bytes : List ℕ) × (told name ≡ Some bytes) × (option_and_then (λ (o : Open). o.left) slot ≡ Some bytes)
 opened_left None slot name told is e = absurd cc
@@ -31,7 +31,6 @@ opened_left (Some files) slot name told is e =
     let some = some_of (files name) is.1 in
     (some.0, ap (λ (m : Files). m name) (sym same) ∙ some.1, rw is.0 some.1)
 
--- no byte was taken of a file that was just opened
 pub nothing_taken : (limit : ℕ) (bytes : List ℕ) (remains : Option (List ℕ)) (p : Piecing) → remains ≡ Some bytes → p.waiting ≡ [] → p.left ≡ limit → p.over ≡ false → HasTaken limit bytes remains p []
 nothing_taken limit bytes remains p is none all more = record {
   rest = bytes;
@@ -95,7 +94,7 @@ read_more limit bytes old new p q prefix buf count within h more none takes fits
           let len : length (drop within (take count buf)) ≡ 0 = length-drop within (take count buf) ∙ ap (λ (n : ℕ). n - within) (length-take-le count buf fits) ∙ omega (arith, whole is) in
           c.1 ∙ ap (λ (r : List ℕ). Some (r ++ c.0)) (sym (no_bytes (drop within (take count buf)) len))
 
--- dropping n items from a range is starting the range n items later
+-- dropping n items from a range gives the range that begins n items later
 pub range_drop : (xs : List ℕ) (i j n : ℕ) → n ≤ j - i → slice_range xs (i + n) j ≡ drop n (slice_range xs i j)
 range_drop xs i j n fits =
     let rest : j - (i + n) ≡ (j - i) - n = omega arith in

@@ -42,16 +42,16 @@ HoldsCapture files shelf writer name records = HoldsFile files shelf writer name
 
 -- ---- all other slots
 
--- Every slot except slot k stays live or free and keeps its file. If the shelf shows its files, what is left to read
--- changes only in slots of the file `name`.
+-- In every slot except slot k, the same file stays open, or the slot stays free. If the shelf shows its files, what is
+-- left to read changes only in slots of the file `name`.
 pub record KeepsBeside (files : Option Files) (old new : Slots) (k : ℕ) (name : List ℕ) : Type 0 where
   pub same : (j : ℕ) → j ≢ k → option_map file_of (new j) ≡ option_map file_of (old j)
   pub left : IsSome files → (j : ℕ) → j ≢ k → name_in old j ≢ Some name → left_in new j ≡ left_in old j
 
 -- ---- calls
 
--- At `Ok` the file `name` was made for a capture, which has no record so far. At `Err` the file was not made. At
--- `Failed` the count of writing faults rose. In each case the name was asked for.
+-- At `Ok` the file `name` was made for a capture that has no record so far. At `Err` the file was not made. At `Failed`
+-- the count of writing faults rose. In each case the name was asked for.
 pub record BeginsCapture (before after : ShelfState) (name : List ℕ) (result : Result Writing OpenFault) : Type 0 where
   pub begun : IfOk result (λ writer. HoldsCapture before.files after writer name [])
   pub fresh : IfOk result (λ writer. before.slots writer.slot ≡ None)
@@ -62,8 +62,8 @@ pub record BeginsCapture (before after : ShelfState) (name : List ℕ) (result :
   pub counted : IsOpenCounted before.writing_faults after.writing_faults result
   pub asked : Asks (name ∷ []) before after
 
--- The record `r` was appended to the capture. If the shelf failed, the capture is unchanged. All other slots change
--- only as a write to the file may change them.
+-- The record `r` was appended to the capture. If the shelf failed, the capture is unchanged. In either case some
+-- buffered bytes may have been written to the file.
 pub record AddsRecord (before after : ShelfState) (old new : Writing) (r : Record) (result : Result Unit Failed) : Type 0 where
   pub added : OnOk result ((files : Option Files) (name : List ℕ) (records : List Record) → HoldsCapture files before old name records → HoldsCapture files after new name (records ++ r ∷ []))
   pub kept : OnErr result ((files : Option Files) (name : List ℕ) (records : List Record) → HoldsCapture files before old name records → HoldsCapture files after new name records)

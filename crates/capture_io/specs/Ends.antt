@@ -28,8 +28,8 @@ end_of limit bytes =
 
 -- How the reading of a file ends, if at most `limit` of its bytes may be read, and which bytes precede the end. The
 -- first option is the file's contents. `None` means that no file has the name, which counts as a fault of reading
--- before the first byte. In a file that exists, a fault has the cause `fault`, and follows some prefix in which nothing
--- is refused.
+-- before the first byte. If the file exists, the reading ends at a fault only if `fault` holds, and only after a prefix
+-- within the limit that is not certain to be refused.
 abbrev pub EndsAt : ℕ → Option (List ℕ) → Type 0 → End → List ℕ → Type 0
 EndsAt limit None fault how prefix = (how ≡ end.ReadFault) × (prefix ≡ [])
 EndsAt limit (Some bytes) fault end.ReadFault prefix =

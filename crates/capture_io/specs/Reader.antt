@@ -43,8 +43,8 @@ abbrev pub held : CaptureReading → Option Record
 held r = held_by r.format r
 
 -- Which bytes a reader has taken, and which records it has released. While the layout is unknown, the reader has fewer
--- than four bytes and has released no record. Once it is known, the reader of that layout has taken these bytes and
--- released these records.
+-- than four bytes and has released no record. Once the layout is known, the reader of that layout has taken these bytes
+-- and released these records.
 abbrev pub StandsFor : Option Format → CaptureReading → List ℕ → List Record → Type 0
 StandsFor None r bytes records = (bytes ≡ r.front) × (length bytes < 4) × (records ≡ [])
 StandsFor (Some format) r bytes records =
@@ -56,7 +56,7 @@ pub record HasRead (r : CaptureReading) (bytes : List ℕ) (records : List Recor
   pub stands : StandsFor r.format r bytes records
   pub uncertain : refusal_of r ≡ None → certain_in bytes ≡ None
 
--- `view` shows the held record, and its arrival is one that a capture can record
+-- `view` shows the held record, and the record's arrival is within the range that a capture can record
 pub record IsView (held : Option Record) (view : RecordView) : Type 0 where
   pub exact : held ≡ Some (shown view)
   pub time : IsRecordTime view.arrival

@@ -51,8 +51,8 @@ pub record NotMade (before after : ShelfState) : Type 0 where
   pub slots : KeepsSlots before.slots after.slots
   pub reading : after.reading_faults ≡ before.reading_faults
 
--- At `Ok` the file `name` was made, and is written through a buffer that is empty. At `Err` the file was not made. At
--- `Failed` the count of writing faults rose. In each case the name was asked for.
+-- At `Ok` the file `name` was made, and is written through an empty buffer. At `Err` the file was not made. At `Failed`
+-- the count of writing faults rose. In each case the name was asked for.
 pub record CreatesFile (before after : ShelfState) (name : List ℕ) (result : Result Writing OpenFault) : Type 0 where
   pub begun : IfOk result (λ writer. IsWriting before after writer name [])
   pub not_made : OnErr result (NotMade before after)
@@ -72,8 +72,8 @@ pub record PutsPrefix (old new : Option Files) (name bytes : List ℕ) : Type 0 
 abbrev pub MakesPrefix : Option Files → Option Files → List ℕ → List ℕ → Type 0
 MakesPrefix old new name bytes = KeepsFiles old new ⊎ PutsPrefix old new name bytes
 
--- Every slot stays live or free and keeps its file. If the shelf shows its files, what is left to read changes only in
--- slots of the file `name`.
+-- In every slot, the same file stays open, or the slot stays free. If the shelf shows its files, what is left to read
+-- changes only in slots of the file `name`.
 pub record KeepsSlotsBut (files : Option Files) (old new : Slots) (name : List ℕ) : Type 0 where
   pub same : (j : ℕ) → option_map file_of (new j) ≡ option_map file_of (old j)
   pub left : IsSome files → (j : ℕ) → name_in old j ≢ Some name → left_in new j ≡ left_in old j

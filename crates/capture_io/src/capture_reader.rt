@@ -73,8 +73,8 @@ impl CaptureReader {
         })
     }
 
-    /// Takes bytes from the front of the piece, at most up to the end of one record, and returns how many. As soon as
-    /// the bytes so far show the capture's first refusal, it returns that refusal instead.
+    /// Takes bytes from the front of the piece, at most up to the end of one record, and returns how many it took. As
+    /// soon as the bytes so far show the capture's first refusal, the call returns that refusal instead.
     pub fn feed(&mut self, piece: &[u8]) -> Result<usize, Refusal>
         requires { taken self.old + length piece.now ≤ 2 ^ 62 }
         ensures { Feeds self.old piece.now result self.new }
@@ -85,7 +85,7 @@ impl CaptureReader {
         }
     }
 
-    /// Holds bytes back until there are four, and feeds these to the reader of their layout.
+    /// Holds the first bytes back until there are four, and then feeds these four bytes to the reader of their layout.
     fn feed_front(&mut self, piece: &[u8]) -> Result<usize, Refusal>
         requires front { self.old.format ≡ None }
         ensures { Feeds self.old piece.now result self.new }
@@ -152,7 +152,8 @@ impl CaptureReader {
         }
     }
 
-    /// The next record, shown in these bytes of the piece: the record with its header, or its whole block.
+    /// A view of the next record in these bytes of the piece. The bytes are the record with its header, or the record's
+    /// whole block.
     #[inline(always)]
     pub fn lend<'a>(&self, bytes: &'a [u8]) -> RecordView<'a>
         requires { IsNext self.now bytes.now }
@@ -184,7 +185,7 @@ impl CaptureReader {
     }
 
     /// Whether the bytes so far are a whole capture; if not, returns their first refusal. The call changes nothing, and
-    /// more bytes may follow. Fewer than four bytes lack the magic number of a classic capture.
+    /// more bytes may follow. If there are fewer than four bytes, the magic number of a classic capture is missing.
     pub fn finish(&self) -> Result<(), Refusal>
         ensures { (bytes : List ℕ) (records : List Record) → HasRead self.now bytes records → EndsHere self.now bytes records (result_err result) }
     {

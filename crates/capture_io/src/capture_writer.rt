@@ -53,8 +53,8 @@ fn file_header() -> [u8; FILE_HEADER]
 }
 
 impl CaptureWriter {
-    /// Makes a file, or empties it, for a capture, which has no record so far. The buffer's memory was reserved before,
-    /// so if memory runs out the file is unchanged.
+    /// Makes or empties a file for a capture that has no record so far. The buffer's memory was reserved before, so if
+    /// memory runs out the file is unchanged.
     ///
     /// At `Failed` the writing count rose. `Memory` means that the shelf had no memory. After `Failed` or `Memory` the
     /// file is unchanged. Never returns `Missing`.

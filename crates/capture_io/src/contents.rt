@@ -21,7 +21,7 @@ pub struct Contents {
 /// Opens a file, reads it up to its end, a fault or `limit` bytes, and closes it.
 ///
 /// `Missing` is returned only if the shelf shows its files and none has the name. `Failed` means that the file could
-/// not be opened; the reading count rose. `Memory` means that memory ran out.
+/// not be opened, and that the reading count rose. `Memory` means that memory ran out.
 pub fn read_contents<F: Shelf>(
     alloc: Global,
     limit: u64,

@@ -13,8 +13,8 @@ use avtp_files::Shelf;
 use pcap_frames::RecordView;
 use std::marker::Model;
 
-/// A capture that is read from a shelf and fed to a reader in pieces. A record is either held by the reader, which has
-/// taken its bytes, or shown in the piece.
+/// A capture that is read from a shelf and fed to a reader in pieces. A record is held by the reader if the reader has
+/// taken the record's bytes. Otherwise the record is shown in the piece.
 #[derive(Drop)]
 pub struct Feed {
     pub pieces: Pieces,

@@ -29,8 +29,8 @@ impl Model for FileWriter {
 }
 
 impl FileWriter {
-    /// Makes a file, or empties it, to write it through this buffer, which must be empty. The buffer's memory was
-    /// reserved before, so if memory runs out the file is unchanged.
+    /// Makes or empties a file that is to be written through this buffer. The buffer must be empty. The buffer's memory
+    /// was reserved before, so if memory runs out the file is unchanged.
     ///
     /// At `Failed` the writing count rose. `Memory` means that the shelf had no memory. After `Failed` or `Memory` the
     /// file is unchanged. Never returns `Missing`.
@@ -42,8 +42,8 @@ impl FileWriter {
         Ok(FileWriter { slot, buffer })
     }
 
-    /// Adds the encoding of a value, at most [`Buffer::ROOM`] bytes, written in place. If the shelf fails, it adds
-    /// nothing.
+    /// Adds the encoding of a value, at most [`Buffer::ROOM`] bytes. The value is encoded in place. If the shelf fails,
+    /// the call adds nothing.
     #[inline(always)]
     pub fn add<F: Shelf, W: Spelled>(&mut self, shelf: &mut F, added: &W) -> Result<(), Failed>
         requires made { IsMadeIn (F.state shelf.old).slots self.old.slot }

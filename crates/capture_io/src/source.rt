@@ -82,8 +82,8 @@ impl Source {
         self.feed.next(shelf)
     }
 
-    /// Drops the held record. If the next record is complete in the bytes that were read, goes on to it and returns
-    /// `true`. Otherwise returns `false`, and leaves reading on to `next`, which may wait for the program that writes
+    /// Drops the held record. If the next record is complete in the bytes that were read, holds that record and returns
+    /// `true`. Otherwise returns `false`. The caller must then call `next`, which may wait for the program that writes
     /// the file.
     #[inline(always)]
     pub fn advance(&mut self) -> bool

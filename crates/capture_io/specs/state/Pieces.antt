@@ -29,8 +29,8 @@ pub record OpensPieces (before after : ShelfState) (limit : ℕ) (name : List �
   pub tries : TriesOpen (λ (pieces : Piecing). pieces.slot) before after name result
 
 -- A read that began with an empty buffer. At `None` some bytes are buffered now, at most `old.left` of them. Otherwise
--- the reading stopped, and the bytes taken are all bytes that were read. If a fault stopped it, the count of reading
--- faults rose; otherwise the count is unchanged.
+-- the reading stopped, and the bytes taken are all bytes that were read. If a fault stopped the reading, the count of
+-- reading faults rose; otherwise the count is unchanged.
 pub record ReadsPiece (before after : ShelfState) (old new : Piecing) (result : Option Stop) : Type 0 where
   pub more : result ≡ None → (limit : ℕ) (bytes prefix : List ℕ) → HasTakenOf limit bytes before old prefix → HasTakenOf limit bytes after new prefix
   pub stopped : IfSome result (λ stop. (limit : ℕ) (bytes prefix : List ℕ) → HasTakenOf limit bytes before old prefix → IsContents limit bytes stop prefix)
@@ -40,7 +40,8 @@ pub record ReadsPiece (before after : ShelfState) (old new : Piecing) (result : 
   pub counted : CountsStop result before.reading_faults after.reading_faults
   pub reads : ReadsSlot before after old.slot new.slot
 
--- From a file of which no byte had been taken, all pieces were read and joined, up to its end, a fault or the limit.
+-- No byte of the file had been taken before. All pieces were read and joined, up to the end of the file, a fault or the
+-- limit.
 pub record JoinsPieces (before after : ShelfState) (old new : Piecing) (result : Result Contents NoMemory) : Type 0 where
   pub read : IfOk result (λ contents. (limit : ℕ) (bytes : List ℕ) → HasTakenOf limit bytes before old [] → IsContents limit bytes contents.stop contents.bytes.items)
   pub bounded : IfOk result (λ contents. length contents.bytes.items ≤ old.left)

@@ -34,7 +34,7 @@ IsFront None front c n = (length front < 4) × (c ≡ classic.nothing_read) × (
 IsFront (Some Classic) front c n = n ≡ ng.nothing_read
 IsFront (Some Pcapng) front c n = c ≡ classic.nothing_read
 
--- the reader of the layout other than the given one was not changed
+-- the reader of the other layout was not changed
 abbrev pub KeepsOther : Format → classic.Reading → classic.Reading → ng.Reading → ng.Reading → Type 0
 KeepsOther Classic c c' n n' = n' ≡ n
 KeepsOther Pcapng c c' n n' = c' ≡ c
@@ -48,7 +48,7 @@ abbrev pub RefusedAfter : List ℕ → List Record → Refusal → Type 0
 RefusedAfter bytes records refusal = IsRefusedAfter meaning bytes records refusal
 
 -- What feeding a piece does. At `Ok(n)` the reader took n bytes from the front of the piece: at least one, unless the
--- piece is empty or a record is held. At `Err` the bytes so far, with the whole piece, are refused.
+-- piece is empty or a record is held. At `Err` the bytes so far, including the whole piece, are refused.
 pub record Feeds (old : CaptureReading) (piece : List ℕ) (result : Result ℕ Refusal) (new : CaptureReading) : Type 0 where
   pub within : IfOk result (λ n. n ≤ length piece)
   pub some : IfOk result (λ n. 0 < length piece → held old ≡ None → 0 < n)
@@ -70,7 +70,7 @@ pub record EndsHere (r : CaptureReading) (bytes : List ℕ) (records : List Reco
 
 -- ---- a record that is lent
 
--- the reader after it took these bytes, which are the next record; it holds this record
+-- The reader after it took these bytes, which are the next record. The reader now holds that record.
 abbrev pub with_by : Option Format → CaptureReading → List ℕ → CaptureReading
 with_by None r bytes = r
 with_by (Some Classic) r bytes = record r { classic = classic.with_part r.classic bytes }

@@ -18,7 +18,7 @@ HasFedOf limit bytes shelf source records = HasFed limit bytes (remains_of shelf
 
 -- The state after a call that read a piece or took buffered bytes. If the reading continues, no further record was
 -- released, and less work is left. If the reading ended, it ended after the released records, and `result` is how it
--- ended. If a fault ended it, the count of reading faults rose; otherwise the count is unchanged.
+-- ended. If a fault ended the reading, the count of reading faults rose; otherwise the count is unchanged.
 pub record ReadsOn (before after : ShelfState) (old new : Sourcing) (result : Option End) : Type 0 where
   pub more : result ≡ None → (limit : ℕ) (bytes : List ℕ) (records : List Record) → HasFedOf limit bytes before old records → HasFedOf limit bytes after new records
   pub ends : IfSome result (λ how. (limit : ℕ) (bytes : List ℕ) (records : List Record) → HasFedOf limit bytes before old records → EndsAfter limit bytes (Rose before.reading_faults after.reading_faults) how records)
@@ -52,7 +52,8 @@ pub record FindsAhead (source : Sourcing) (result : Option ℕ) : Type 0 where
   pub ahead : IfSome result (λ size. LiesAhead source size)
   pub none : result ≡ None → (size : ℕ) → LiesAhead source size → ⊥
 
--- What contracts see of a source that lends the record in the first `size` buffered bytes; at `None` it lends none.
+-- The source as contracts see it while it lends the record in the first `size` buffered bytes. At `None` the source
+-- lends no record.
 abbrev pub lending : Option ℕ → Sourcing → Sourcing
 lending None source = source
 lending (Some size) source = holding source size
