@@ -69,7 +69,7 @@ record_partial style start b part bytes records (Some r) e p f = inr (record {
   refused = rw f.begins e;
 })
 
--- if the capture ends with the bytes taken, it holds the released records and then the held one
+-- if the capture ends with the bytes taken, the capture holds the released records and then the held record
 pub ends_by : (refusal : Option Refusal) (style : Option Style) (start : ℕ) (part bytes : List ℕ) (records : List Record) → StandsFor refusal style start part bytes records → IsReading refusal style start part
     → Holds bytes (records ++ option_to_list (held_by refusal style start part)) (ending_by refusal style start part)
 ends_by (Some r) style start part bytes records stands keeps = rw append-nil stands

@@ -15,7 +15,7 @@ pub record_whole : (order : Order) (start : ℕ) (bytes : List ℕ) → record_r
 unfolding record_refusal
 record_whole order start bytes h = grind (arith, nat_tests)
 
--- once the captured length of a record was taken and not refused, it is within the limit
+-- if the captured length of a record was taken and not refused, the length is within the limit
 pub record_limit : (order : Order) (start : ℕ) (bytes : List ℕ) → 12 ≤ length bytes → certain (record_refusal order start bytes) ≡ None → number_at order 8 4 bytes ≤ 262144
 unfolding record_refusal
 record_limit order start bytes long h = grind (arith, nat_tests)
@@ -59,7 +59,7 @@ released (Some refusal) style start next_start part next h e = absurd (cc)
 released None None start next_start part next h e = absurd (cc)
 released None (Some style) start next_start part next h e = record_begins style.order next_start next e
 
--- if nothing in a file header is refused, it has a style
+-- if nothing in a file header is refused, the header has a style
 pub file_style : (bytes : List ℕ) → file_refusal bytes ≡ None → is_some (style_at bytes) ≡ true
 unfolding file_refusal style_at
 file_style bytes h = grind (arith, nat_tests)

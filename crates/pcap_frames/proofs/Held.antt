@@ -73,7 +73,7 @@ refused_goes_on refusal style start part r more e bytes records h =
     let stands = rw e at h.stands in
     record { style = h.style ∙ sym (style_after bytes more records r long stands); stands = rw e (refused_stays bytes more records r long stands); reading = h.reading }
 
--- the refusal of a reader is the first one of its bytes, whatever bytes follow
+-- the refusal of a reader is the first refusal of the capture, whatever bytes follow
 pub refused_for_good : (refusal : Option Refusal) (style : Option Style) (start : ℕ) (part : List ℕ) (r : Refusal) (bytes more : List ℕ) (records : List Record) → refusal ≡ Some r → HasRead (reading refusal style start part) bytes records → Holds (bytes ++ more) records (Some r)
 refused_for_good refusal style start part r bytes more records e h = refused_stays bytes more records r (rw e at h.reading) (rw e at h.stands)
 

@@ -25,7 +25,7 @@ holds_styled (Some r) style start part some = absurd cc
 holds_styled None None start part some = absurd cc
 holds_styled None (Some s) start part some = (s, refl)
 
--- if no byte of the next record was taken and the piece begins with a whole record, that is the next record
+-- if no byte of the next record was taken and the piece begins with a whole record, that record is the next record
 pub is_next : (refusal : Option Refusal) (style : Option Style) (s : Style) (start : ℕ) (part piece : List ℕ) (size : ℕ) → refusal ≡ None → style ≡ Some s → part ≡ []
     → size ≡ 16 + number_at s.order 8 4 piece → size ≤ 262160 → size ≤ length piece → IsNext (reading refusal style start part) (take size piece)
 is_next refusal style s start part piece size accepted styled untaken is limit fits = record {
@@ -64,7 +64,7 @@ next_goes_on r bytes next before records h =
     subst (λ (p : List ℕ). HasRead (with_part r p) (before ++ bytes) records) all
     (record_goes_on r.refusal r.style styled.0 r.start r.part bytes before records accepted styled.1 (subst (IsReading r.refusal r.style r.start) (sym all) next.reading) h)
 
--- taking the next record from a piece is a feed of the record's bytes
+-- taking the next record from a piece counts as feeding the record's bytes
 pub next_feeds : (r : Reading) (piece : List ℕ) (size : ℕ) → size ≤ length piece → IsNext r (take size piece)
     → Feeds meaning (progress r) piece (Ok size) (progress (with_part r (take size piece)))
 next_feeds r piece size within next =

@@ -47,7 +47,8 @@ spells_one style r first s =
     ∙ (ap (λ (n : ℕ). make (record_of style first).arrival n r.bytes) (sym s.orig_len)
     ∙ ap (λ (b : List ℕ). make (record_of style first).arrival (record_of style first).orig_len b) (sym s.packet_bytes))
 
--- what comes after the whole records: nothing if x is `None`; otherwise bytes whose first refusal as a record is x
+-- What follows the whole records. If x is `None`, nothing follows. Otherwise the bytes that follow, read as a record,
+-- have the first refusal x.
 abbrev pub Ends : Style → ℕ → List ℕ → Option Refusal → Type 0
 Ends style start rest x =
     ((rest ≡ []) × (x ≡ None))
@@ -140,7 +141,6 @@ split_refused bytes records r h = record {
   ends = inr (r, refl, h.some, h.refused);
 }
 
--- bytes have an accepted file header, or their file header is refused
 holds_by : (bytes : List ℕ) (records : List Record) (x : Option Refusal) → Holds bytes records x
     → Split bytes records x ⊎ ((r : Refusal) × (records ≡ []) × (x ≡ Some r) × (file_refusal bytes ≡ Some r))
 holds_by bytes records None h = inl (split_capture h.0 records bytes h.1)

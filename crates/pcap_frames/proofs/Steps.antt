@@ -27,7 +27,6 @@ style_stays bytes more s e =
     let long = file_whole bytes both.0 in
     rw (file_stays bytes more None both.0 refl, style_at_stays bytes more (omega arith)) both.1
 
--- the reader took more of the file header, but not all of it
 pub header_goes_on : (refusal : Option Refusal) (style : Option Style) (start : ℕ) (part more bytes : List ℕ) (records : List Record) (why : Refusal)
     → refusal ≡ None → style ≡ None → file_refusal (part ++ more) ≡ Some why → IsReading refusal style start (part ++ more)
     → HasRead (reading refusal style start part) bytes records → HasRead (reading refusal style start (part ++ more)) (bytes ++ more) records
@@ -35,7 +34,6 @@ header_goes_on refusal style start part more bytes records why ref sty e keeps h
     let s = rw (ref, sty) at h.stands in
     record { style = rw (sty, s.1, e) refl; stands = rw (ref, sty) (s.0, ap (λ (b : List ℕ). b ++ more) s.1); reading = keeps }
 
--- the reader took the rest of the file header
 pub header_ends : (refusal : Option Refusal) (old style : Option Style) (start : ℕ) (part more next bytes : List ℕ) (records : List Record)
     → refusal ≡ None → old ≡ None → file_refusal (part ++ more) ≡ None → length (part ++ more) ≡ 24 → style ≡ style_at (part ++ more) → next ≡ []
     → HasRead (reading refusal old start part) bytes records → HasRead (reading refusal style 24 next) (bytes ++ more) records
@@ -63,7 +61,6 @@ header_ends None None (Some s) start part more next bytes records ref sty e size
       reading = record_begins s.order 24 next none;
     }
 
--- a complete field of the file header is refused
 pub header_refuses : (refusal : Option Refusal) (style : Option Style) (start : ℕ) (part more rest bytes : List ℕ) (records : List Record) (why : Refusal) (left : List ℕ)
     → refusal ≡ None → style ≡ None → file_refusal (part ++ more) ≡ Some why → why.short ≡ false
     → HasRead (reading refusal style start part) bytes records → HasRead (reading (Some why) style start left) (bytes ++ (more ++ rest)) records
@@ -73,7 +70,6 @@ header_refuses refusal style start part more rest bytes records why left ref sty
     let stays : file_refusal (bytes ++ (more ++ rest)) ≡ Some why = rw whole (file_stays (part ++ more) rest (Some why) e long) in
     record { style = rw (sty, stays) refl; stands = inl (s.0, stays); reading = long }
 
--- the reader took more bytes of a record
 pub record_goes_on : (refusal : Option Refusal) (style : Option Style) (s : Style) (start : ℕ) (part more bytes : List ℕ) (records : List Record)
     → refusal ≡ None → style ≡ Some s → IsReading refusal style start (part ++ more)
     → HasRead (reading refusal style start part) bytes records → HasRead (reading refusal style start (part ++ more)) (bytes ++ more) records
@@ -85,7 +81,6 @@ record_goes_on refusal style s start part more bytes records ref sty keeps h =
       reading = keeps;
     }
 
--- a complete field of a record is refused
 pub record_refuses : (refusal : Option Refusal) (style : Option Style) (s : Style) (start : ℕ) (part more rest bytes : List ℕ) (records : List Record) (why : Refusal) (left : List ℕ)
     → refusal ≡ None → style ≡ Some s → record_refusal s.order start (part ++ more) ≡ Some why → why.short ≡ false → 0 < length (part ++ more)
     → HasRead (reading refusal style start part) bytes records → HasRead (reading (Some why) style start left) (bytes ++ (more ++ rest)) records
@@ -106,14 +101,13 @@ record_refuses refusal style s start part more rest bytes records why left ref s
       reading = long;
     }
 
--- the slice that the code takes after the first n bytes of a piece is the piece without these bytes
 rest_is : (n : ℕ) (piece : List ℕ) → take (length piece - n) (drop n piece) ≡ drop n piece
 rest_is n piece = take_all (length piece - n) (drop n piece) (omega (arith, length-drop n piece))
 
 pub rest_long : (n : ℕ) (piece : List ℕ) → length (take (length piece - n) (drop n piece)) ≡ length piece - n
 rest_long n piece = ap length (rest_is n piece) ∙ length-drop n piece
 
--- taking n bytes of a piece and then m further bytes takes its first n + m bytes
+-- taking n bytes of a piece and then m further bytes takes the first n + m bytes of the piece
 pub two_steps : (bytes : List ℕ) (n m : ℕ) (piece : List ℕ) → (bytes ++ take n piece) ++ take m (take (length piece - n) (drop n piece)) ≡ bytes ++ take (n + m) piece
 two_steps bytes n m piece =
     ap (λ (p : List ℕ). (bytes ++ take n piece) ++ take m p) (rest_is n piece)
@@ -147,7 +141,7 @@ steps_none r piece none = record {
   stopped = tt;
 }
 
--- a step followed by steps in the rest of the piece is one step
+-- a step and then steps in the rest of the piece together count as one step
 pub steps_on : (a b c : Progress) (n m : ℕ) (piece : List ℕ) → Steps a piece (Ok n) b → Steps b (take (length piece - n) (drop n piece)) (Ok m) c
     → Steps a piece (Ok (n + m)) c
 steps_on a b c n m piece first then = record {

@@ -28,7 +28,7 @@ empty_refused : (order : Order) (start : ℕ) → is_none (record_refusal order 
 unfolding record_refusal
 empty_refused order start = refl
 
--- if reading the bytes as a record refuses nothing, they begin with the bytes of a record
+-- if reading the bytes as a record refuses nothing, the bytes begin with the encoding of a record
 spells_front : (style : Style) (start : ℕ) (bytes : List ℕ) → record_refusal style.order start bytes ≡ None → Spells style (record_of style (take (record_size style bytes) bytes)) (take (record_size style bytes) bytes)
 spells_front style start bytes e =
     let z : ℕ = record_size style bytes in
@@ -48,7 +48,8 @@ spells_front style start bytes e =
       packet_bytes = refl;
     }
 
--- after the file header there are the bytes of these records, and then the bytes end as `x` says
+-- The bytes are those of these records, followed by an ending. If `x` is `None`, the ending is empty. Otherwise the
+-- first refusal of the ending, read as a record, is `x`.
 abbrev Cut : Style → ℕ → List ℕ → List Record → Option Refusal → Type 0
 Cut style start bytes records x =
     (front : List ℕ) × (rest : List ℕ) × (bytes ≡ front ++ rest) × SpellsAll style records front × Ends style (start + length front) rest x
@@ -95,7 +96,6 @@ cut (suc n) style start (b ∷ bytes) h =
     rw (is_none_anywhere style.order 0 start (b ∷ bytes))
     (cut_by n style start (b ∷ bytes) (record_refusal style.order start (b ∷ bytes)) refl (omega arith) (cut n style (start + z) (drop z (b ∷ bytes)) less))
 
--- if the file header is accepted and the bytes after it are cut into records, the whole bytes hold these records
 holds_cut : (style : Style) (bytes front rest : List ℕ) (records : List Record) (x : Option Refusal) → IsFileHeader style (take 24 bytes) → drop 24 bytes ≡ front ++ rest → SpellsAll style records front
     → Ends style (24 + length front) rest x → Holds bytes records x
 holds_cut style bytes front rest records x h e spelled ends =

@@ -42,7 +42,7 @@ pub record IsCapture (style : Style) (records : List Record) (bytes : List ℕ) 
   pub spelled : SpellsAll style records body
 
 -- The bytes are a capture of these records, followed by at least one byte. If the bytes after the capture are read as a
--- record, the refusal is at its first field that is cut off or refused.
+-- record, the refusal is at the record's first field that is cut off or refused.
 pub record IsRefusedInRecord (bytes : List ℕ) (records : List Record) (refusal : Refusal) : Type 0 where
   pub style : Style
   pub front : List ℕ
@@ -57,8 +57,8 @@ abbrev pub IsRefused : List ℕ → List Record → Refusal → Type 0
 IsRefused bytes records refusal =
     ((records ≡ []) × (file_refusal bytes ≡ Some refusal)) ⊎ IsRefusedInRecord bytes records refusal
 
--- Without a refusal, the bytes are a capture of these records. With a refusal, it is the first one of the bytes, and
--- these are the whole records before it.
+-- If there is no refusal, the bytes are a capture of these records. Otherwise the refusal is the first refusal of the
+-- bytes, and `records` are the whole records before it.
 abbrev pub Holds : List ℕ → List Record → Option Refusal → Type 0
 Holds bytes records None = (style : Style) × IsCapture style records bytes
 Holds bytes records (Some refusal) = IsRefused bytes records refusal
@@ -75,7 +75,7 @@ record_of style bytes = record {
   bytes = drop 16 bytes;
 }
 
--- the size in bytes of the record at the front of the bytes, including its header, according to this header
+-- the size in bytes of the record at the front of the bytes, header included, as the record's header states it
 abbrev pub record_size : Style → List ℕ → ℕ
 record_size style bytes = 16 + number_at style.order 8 4 bytes
 

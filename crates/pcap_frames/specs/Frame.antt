@@ -76,7 +76,7 @@ pub record SpellsFrame (bytes : List ℕ) (v : Frame) : Type 0 where
 abbrev pub tag_in : List ℕ → Tag
 tag_in bytes = record { pcp = bits 14 0 3 bytes; dei = is_set 14 3 bytes; vid = bits 14 4 12 bytes }
 
--- the frame that the bytes spell, if nothing refuses them
+-- the frame that the bytes spell, if nothing in the bytes is refused
 abbrev pub frame_of : List ℕ → Frame
 frame_of bytes =
     let tagged = is_tagged bytes in

@@ -27,7 +27,7 @@ abbrev pub magic_of : units.Unit → ℕ
 magic_of Micro = 0xA1B2C3D4
 magic_of Nano = 0xA1B23C4D
 
--- the style of this magic number, read as little-endian, if it is one of the four
+-- the style of a magic number that was read as little-endian, if it is one of the four magic numbers
 abbrev pub style_of_magic : ℕ → Option Style
 style_of_magic n =
     if nat_eq n 0xA1B2C3D4 then Some (record { order = Little; unit = Micro })
@@ -36,7 +36,7 @@ style_of_magic n =
     else if nat_eq n 0x4D3CB2A1 then Some (record { order = Big; unit = Nano })
     else None
 
--- the style of the magic number at the front of the bytes, if it is one of the four
+-- the style of the magic number at the front of the bytes, if it is one of the four magic numbers
 unfoldable pub style_at : List ℕ → Option Style
 style_at bytes = style_of_magic (number_at Little 0 4 bytes)
 

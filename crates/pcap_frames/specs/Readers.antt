@@ -14,9 +14,9 @@ pub record Meaning : Type 0 where
   pub refusal : List ℕ → Option Refusal
   pub certain : List ℕ → Option Refusal
 
--- The state of a reader between two calls. `has_read` holds for the bytes that it has taken and the records that it has
--- released of them, in order. `held` is the record that it holds. `taken` is how many bytes it has taken. `refusal` is
--- the refusal that it keeps returning.
+-- The state of a reader between two calls. `has_read` holds for the bytes that the reader has taken and the records
+-- that the reader has released, in order. `held` is the record that the reader holds. `taken` is the number of bytes
+-- that the reader has taken. `refusal` is the refusal that the reader keeps returning.
 pub record Progress : Type 1 where
   pub has_read : List ℕ → List Record → Type 0
   pub held : Option Record
@@ -27,7 +27,7 @@ pub record Progress : Type 1 where
 abbrev pub GoesOn : Progress → List ℕ → Progress → Type 0
 GoesOn old more new = (bytes : List ℕ) (records : List Record) → old.has_read bytes records → new.has_read (bytes ++ more) records
 
--- The bytes hold exactly these records, and are refused after them, whatever bytes follow.
+-- The bytes hold exactly these records, and then show this refusal, whatever bytes follow.
 pub record IsRefusedAfter (meaning : Meaning) (bytes : List ℕ) (records : List Record) (refusal : Refusal) : Type 0 where
   pub all : meaning.records bytes ≡ records
   pub certain : meaning.certain bytes ≡ Some refusal

@@ -10,7 +10,8 @@ use Rattle.pcap_frames.specs.Readers.{Meaning, Progress}
 pub use Rattle.pcap_frames.specs.Readers.{shown}
 
 -- The state of a reader. `style` is the style, once the file header was accepted. `start` is the offset of the file
--- header or record that is being read, and `part` are the bytes taken of it. `refusal` is the refusal, if any.
+-- header or record that is being read, and `part` are the bytes taken of that header or record. `refusal` is the
+-- refusal that the reader has returned, if any.
 pub record Reading : Type 0 where
   pub style : Option Style
   pub start : ℕ
@@ -52,8 +53,8 @@ pub record IsHeaderPart (start : ℕ) (part : List ℕ) : Type 0 where
   pub accepted : certain (file_refusal part) ≡ None
   pub partial : length part < 24
 
--- The invariant of a reader. A refusal is at a complete field. Without a refusal, `part` belongs to the file header, or
--- to a record once there is a style.
+-- The invariant of a reader. A refusal is at a complete field. Without a refusal, `part` belongs to the file header if
+-- there is no style, and to a record if there is a style.
 abbrev pub IsReading : Option Refusal → Option Style → ℕ → List ℕ → Type 0
 IsReading (Some refusal) style start part = refusal.short ≡ false
 IsReading None None start part = IsHeaderPart start part
@@ -98,7 +99,8 @@ GoesOn old more new = readers.GoesOn (progress old) more (progress new)
 abbrev pub with_part : Reading → List ℕ → Reading
 with_part r bytes = record r { part = bytes }
 
--- These bytes are the next whole record, and none of them was taken yet. If the reader takes them, it holds the record.
+-- These bytes are the next whole record, and none of them was taken yet. After taking them, the reader holds the
+-- record.
 pub record IsNext (r : Reading) (bytes : List ℕ) : Type 0 where
   pub untaken : r.part ≡ []
   pub reading : IsReading r.refusal r.style r.start bytes

@@ -121,8 +121,8 @@ fn read_either(frame: &[u8]) -> Result<FrameView<'_>, Refusal>
     Ok(read_tagged(frame))
 }
 
-/// Reads an Ethernet frame with at most one tag; everything after the header is payload. Refuses only the first field
-/// of the header that is cut off.
+/// Reads an Ethernet frame with at most one tag; everything after the header is payload. The only refusal is at the
+/// first field of the header that is cut off.
 #[inline(always)]
 pub fn read_frame(frame: &[u8]) -> Result<FrameView<'_>, Refusal>
     ensures exact { Reads frame_shape (frame_refusal frame.now) (frame_of frame.now) result }
@@ -214,7 +214,7 @@ pub fn write_frame(out: &mut [u8], frame: &FrameView<'_>) -> Result<usize, Room>
     }
 }
 
-/// A law: bytes encode exactly one frame; or they are refused, and encode none. The call does nothing.
+/// A law: bytes either encode exactly one frame, or are refused and encode none. The call does nothing.
 pub fn one_frame()
     ensures { (bytes : List ℕ) → IsSpelledOnce (frame_refusal bytes) (λ (v : Frame). SpellsFrame bytes v) }
 {}

@@ -26,7 +26,7 @@ pub const MAGIC_MICRO: u32 = 0xA1B2_C3D4;
 /// The magic number of a capture that counts nanoseconds.
 pub const MAGIC_NANO: u32 = 0xA1B2_3C4D;
 
-/// The two magic numbers with their bytes swapped, as a capture in the other byte order shows them.
+/// The two magic numbers with their bytes swapped, as they appear in a capture of the other byte order.
 const SWAPPED_MICRO: u32 = 0xD4C3_B2A1;
 
 const SWAPPED_NANO: u32 = 0x4D3C_B2A1;

@@ -22,14 +22,15 @@ use std::marker::Model;
 /// of any length, and holds one record at a time. Feed a piece until all of it is taken; after each call, look at the
 /// held record and release it.
 ///
-/// A record that is complete in a piece need not be copied. If `whole_ahead` finds such a record, use `lend` to see it
-/// in the piece and `pass` to skip it, instead of `feed`, `held` and `release`.
+/// A record that is complete in a piece need not be copied. If `whole_ahead` finds such a record, use `lend` to see the
+/// record in the piece and `pass` to skip the record, instead of `feed`, `held` and `release`.
 #[derive(Debug, Drop)]
 pub struct Reader {
     style: Option<Style>,
     /// The offset in the capture of the file header or the record that is being read.
     start: u64,
-    /// The bytes taken of the file header, or of the record: its header and its captured bytes share this buffer.
+    /// The bytes taken of the file header or of the record. The header and the captured bytes of a record share this
+    /// buffer.
     part: Vec<u8>,
     refusal: Option<Refusal>,
 }
@@ -210,7 +211,7 @@ impl Reader {
         layout::whole_size(style.order, piece)
     }
 
-    /// The next record, shown in these bytes of the piece, which include its header.
+    /// A view of the next record in these bytes of the piece, which include the record's header.
     pub fn lend<'a>(&self, bytes: &'a [u8]) -> RecordView<'a>
         requires { IsNext self.now bytes.now }
         ensures exact { held (with_part self.now bytes.now) ≡ Some (shown result) }
@@ -236,8 +237,9 @@ impl Reader {
 
     /// Whether the bytes so far are a whole capture: a file header and whole records.
     ///
-    /// If the capture is not whole, the call returns the earlier refusal, or else the first field with a missing byte,
-    /// with `short`. A held record counts as whole. The call changes nothing, and more bytes may follow.
+    /// If the capture is not whole, the call returns the earlier refusal. Without an earlier refusal, it returns the
+    /// first field with a missing byte, with `short` set. A held record counts as whole. The call changes nothing, and
+    /// more bytes may follow.
     pub fn finish(&self) -> Result<(), Refusal>
         ensures exact { (bytes : List ℕ) (records : List Record) → HasRead self.now bytes records → Holds bytes (records ++ option_to_list (held self.now)) (result_err result) }
         ensures ends { Ends meaning (progress self.now) result }
@@ -264,7 +266,8 @@ impl Reader {
     }
 }
 
-/// Adds bytes from the front of the piece to the part of a record, up to the end of the record, and returns how many.
+/// Adds bytes from the front of the piece to the part of a record, up to the end of the record, and returns how many
+/// bytes it added.
 fn fill_record(order: Order, start: u64, part: &mut Vec<u8>, piece: &[u8]) -> Result<usize, Refusal>
     requires part { IsPart order start part.old.items }
     requires room { 262160 ≤ vec_capacity part.old }

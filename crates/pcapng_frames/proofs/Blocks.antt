@@ -1,4 +1,4 @@
--- Bytes that follow do not change what is known of a block.
+-- Further bytes do not change what is known of a block.
 use Rattle.std.proofs.Common.{◌≡◌, ℕ, ℤ, zero, suc, ◌+◌, ◌≤◌, ◌<◌, false, nat_lt, if◌then◌else◌, List, [], ◌++◌, length, drop, Option, Some, None, refl, ap, sym, ◌∙◌, arith, inl, inr, length-append, length-drop}
 use Rattle.std.proofs.lemmas.Bool.{cases_lt}
 use Rattle.std.proofs.lemmas.Bool.Decides.{nat_tests}
@@ -31,7 +31,7 @@ kind_stays order bytes more h = ap kind_of (number_stays (order_or_little order)
 magic_stays : (bytes more : List ℕ) → 12 ≤ length bytes → number_at Little 8 4 (bytes ++ more) ≡ number_at Little 8 4 bytes
 magic_stays bytes more h = number_stays Little 8 4 bytes more h
 
--- once the magic number of a section header is there, bytes that follow do not change the byte order of the block
+-- if the magic number of a section header is complete, further bytes do not change the byte order of the block
 pub order_stays : (k : Kind) (order : Option Order) (bytes more : List ℕ) → (k ≡ kind.Section → 12 ≤ length bytes) → order_at k order (bytes ++ more) ≡ order_at k order bytes
 order_stays kind.Section order bytes more h = ap (λ (n : ℕ). order_or_little (order_of_magic n)) (magic_stays bytes more (h refl))
 order_stays kind.Interface order bytes more h = refl
@@ -46,7 +46,6 @@ section_kind_stays : (order : Order) (interfaces : List Interface) (start : ℕ)
 section_kind_stays order interfaces start bytes more x e h =
     grind (arith, nat_tests, magic_stays bytes more, number_stays order 4 4 bytes more, number_stays order 12 2 bytes more, length-append bytes more)
 
--- if a field of a section header is refused, or its head is whole, its magic number is there
 section_long : (order : Order) (interfaces : List Interface) (start : ℕ) (bytes : List ℕ) (x : Option Refusal) → first_refused start (length bytes) (kind_rows kind.Section order interfaces bytes) ≡ x → (x ≡ None → 16 ≤ length bytes) → 12 ≤ length bytes
 section_long order interfaces start bytes x e h = elim (cases_lt (length bytes) 12) [
   | inl short ↦ absurd (omega (arith, h (sym e ∙ none_before start order interfaces bytes short)))
@@ -78,8 +77,8 @@ block_stays_by k order interfaces start bytes more x long e h =
     (sym (long_enough (length bytes) 4 _ _ long) ∙ e)
     (λ f. kind_rows_stay k order interfaces start bytes more x f h)
 
--- Bytes that follow do not change the refusal of a block. If nothing is refused once the block's head is there, nothing
--- in the block is refused later.
+-- If a block is refused, further bytes do not change the refusal. If the head of a block is complete and nothing is
+-- refused, further bytes cause no refusal in the block.
 pub block_stays : (order : Option Order) (interfaces : List Interface) (start : ℕ) (bytes more : List ℕ) (x : Option Refusal) → first_refused start (length bytes) (block_rows (kind_at order bytes) order interfaces bytes) ≡ x
     → (x ≡ None → head_size (kind_at order bytes) ≤ length bytes) → first_refused start (length (bytes ++ more)) (block_rows (kind_at order (bytes ++ more)) order interfaces (bytes ++ more)) ≡ x
 block_stays order interfaces start bytes more x e h = elim (cases_lt (length bytes) 4) [
@@ -117,14 +116,15 @@ after_stays kind.Packet p total bytes more h packet =
     ∙ record_stays (packet_arrival (order_or_little p.order) p.interfaces bytes) (order_or_little p.order) bytes more (packet refl))
 after_stays kind.Other p total bytes more h packet = refl
 
--- once a block's head is there, and for a packet all its bytes, bytes that follow do not change the next place
+-- If the head of a block is complete, and all captured bytes of a packet are there, further bytes do not change the
+-- next place.
 pub place_stays : (p : Place) (bytes more : List ℕ) → head_size (kind_at p.order bytes) ≤ length bytes → (kind_at p.order bytes ≡ kind.Packet → 28 + number_at (order_or_little p.order) 20 4 bytes ≤ length bytes) → after_any p (bytes ++ more) ≡ after_any p bytes
 place_stays p bytes more h packet =
     ap (λ (k : Kind). after_block k p (number_at (order_at k p.order (bytes ++ more)) 4 4 (bytes ++ more)) (bytes ++ more)) (kind_stays p.order bytes more (omega (arith, rows_long (kind_at p.order bytes))))
     ∙ (ap (λ (n : ℕ). after_block (kind_at p.order bytes) p n (bytes ++ more)) (total_stays (kind_at p.order bytes) p.order bytes more h)
     ∙ after_stays (kind_at p.order bytes) p _ bytes more h packet)
 
--- once a block's head is there, bytes that follow do not change the number of bytes to the next place
+-- if the head of a block is complete, further bytes do not change the number of bytes to the next place
 pub size_stays : (order : Option Order) (bytes more : List ℕ) → head_size (kind_at order bytes) ≤ length bytes → size_of_any order (bytes ++ more) ≡ size_of_any order bytes
 size_stays order bytes more h =
     ap (λ (k : Kind). block_size k (number_at (order_at k order (bytes ++ more)) 4 4 (bytes ++ more))) (kind_stays order bytes more (omega (arith, rows_long (kind_at order bytes))))

@@ -88,7 +88,6 @@ part_block c interfaces part tail is b =
 pub head_none : (order : Option Order) (packet : Option PacketHead) (part : List ℕ) → packet ≡ None → HasHead order packet part
 head_none order packet part e = rw e tt
 
--- within the head of a block, the capture still holds the contents from the block's place on
 block_rest : (c : Cursor) (interfaces : List Interface) (part tail : List ℕ) (whole : Bool) (refusal : Option Refusal) (more : List ℕ) → refusal ≡ None → whole ≡ false → c.stage ≡ stage.Block → c.skip ≡ 0
     → rest_of (reading (place_of c interfaces part) c.skip (part_at c.stage part tail) whole refusal) more ≡ contents_past 0 (place_of c interfaces part) part more
 block_rest c interfaces part tail whole refusal more none partial is zero =
@@ -99,7 +98,6 @@ block_rest c interfaces part tail whole refusal more none partial is zero =
 same_place : (c : Cursor) (interfaces : List Interface) (a b : List ℕ) → c.packet ≡ None → place_of c interfaces a ≡ place_of c interfaces b
 same_place c interfaces a b e = ap (λ (r : Option Record). record (place_of c interfaces a) { packet = r }) (packet_none c.packet a e ∙ sym (packet_none c.packet b e))
 
--- the reader takes more bytes of the head of a block
 block_more : (c : Cursor) (interfaces : List Interface) (part tail front : List ℕ) (whole : Bool) (refusal : Option Refusal) (more : List ℕ) → refusal ≡ None → whole ≡ false → c.stage ≡ stage.Block → c.skip ≡ 0 → c.packet ≡ None
     → rest_of (reading (place_of c interfaces part) c.skip (part_at c.stage part tail) whole refusal) (front ++ more) ≡ contents_past 0 (place_of c interfaces (part ++ front)) (part ++ front) more
 block_more c interfaces part tail front whole refusal more none partial is zero packet =
@@ -119,7 +117,6 @@ block_takes c interfaces part tail front next whole refusal none partial is zero
 refused_by : (refusal : Option Refusal) (r : Reading) (why : Refusal) (more : List ℕ) → refusal ≡ Some why → rest_by refusal r.whole r more ≡ ends (Some (record { refusal = why; cut = false }))
 refused_by refusal r why more e = rw e refl
 
--- after a reader with a refusal, the capture still holds only this refusal
 pub refused_rest : (r : Reading) (why : Refusal) (more : List ℕ) → r.refusal ≡ Some why → rest_of r more ≡ ends (Some (record { refusal = why; cut = false }))
 refused_rest r why more e = refused_by r.refusal r why more e
 
@@ -160,7 +157,6 @@ inside_free stage.Block packet part interface e h = absurd (cc)
 inside_free stage.Option packet part interface e h = packet_none packet part h
 inside_free stage.Trailer packet part interface e h = tt
 
--- the bytes taken of a block show a refusal
 pub block_refuses : (c : Cursor) (interfaces : List Interface) (part tail piece next : List ℕ) (n : ℕ) (whole : Bool) (refusal : Option Refusal) (why : Refusal) (new : Reading) → refusal ≡ None → whole ≡ false → c.stage ≡ stage.Block → c.skip ≡ 0 → c.packet ≡ None → next ≡ part ++ take n piece
     → block_refused c.order interfaces c.start next ≡ Some why → new.refusal ≡ Some why
     → Takes (reading (place_of c interfaces part) c.skip (part_at c.stage part tail) whole refusal) piece new
@@ -174,7 +170,6 @@ block_refuses c interfaces part tail piece next n whole refusal why new none par
       ∙ sym (refused_rest new why more after))));
 }
 
--- the reader takes the last bytes of the head of a block
 pub block_ends : (c d : Cursor) (interfaces others : List Interface) (part tail front next clear : List ℕ) (whole : Bool) (refusal : Option Refusal) → refusal ≡ None → whole ≡ false → c.stage ≡ stage.Block → c.skip ≡ 0 → c.packet ≡ None → next ≡ part ++ front
     → 8 ≤ length next → length next ≡ block_need c.order next → block_refused c.order interfaces c.start next ≡ None
     → place_of d others next ≡ after_any (place_of c interfaces next) next → size_of_any c.order next ≡ length next + d.skip → is_inside d.stage ≡ true → clear ≡ []
@@ -188,7 +183,7 @@ block_ends c d interfaces others part tail front next clear whole refusal none p
       ∙ sym (going (place_of d others next) d.skip (part_at d.stage next clear) whole refusal more none partial))));
 }
 
--- after the head of a block, the reader is before an option or a trailer of which no byte was taken
+-- if the head of a block was taken, the reader is before an option or a trailer of which no byte was taken
 pub inside_part : (d : Cursor) (others : List Interface) (next clear front : List ℕ) (passed : ℕ) → HasEntered d front passed → IfSome d.interface (λ i. length others < 256) → clear ≡ []
     → IsPart (place_of d others next) d.skip (part_at d.stage next clear)
 inside_part d others next clear front passed entered room empty =
@@ -214,7 +209,6 @@ more_rest p skip part front whole refusal more none partial zero =
     going p skip part whole refusal (front ++ more) none partial
     ∙ (ap (λ (n : ℕ). contents_past n p part (front ++ more)) zero ∙ gathered p part front more)
 
--- the reader takes more bytes at a place
 pub takes_more : (p : Place) (skip : ℕ) (part front next : List ℕ) (whole : Bool) (refusal : Option Refusal) → refusal ≡ None → whole ≡ false → skip ≡ 0 → next ≡ part ++ front → Takes (reading p skip part whole refusal) front (reading p skip next whole refusal)
 takes_more p skip part front next whole refusal none partial zero e = record {
   same = λ more.
@@ -223,7 +217,6 @@ takes_more p skip part front next whole refusal none partial zero e = record {
       ∙ (ap (λ (n : ℕ). contents_past n p next more) (sym zero) ∙ sym (going p skip next whole refusal more none partial)));
 }
 
--- the bytes taken at a place show a refusal
 pub refuses_more : (p : Place) (skip : ℕ) (part piece next : List ℕ) (n : ℕ) (whole : Bool) (refusal : Option Refusal) (why : Refusal) (new : Reading) → refusal ≡ None → whole ≡ false → skip ≡ 0 → next ≡ part ++ take n piece
     → ((more : List ℕ) → contents_past 0 p next more ≡ ends (Some (record { refusal = why; cut = false }))) → new.refusal ≡ Some why → Takes (reading p skip part whole refusal) piece new
 refuses_more p skip part piece next n whole refusal why new none partial zero e stop after = record {
@@ -235,7 +228,6 @@ refuses_more p skip part piece next n whole refusal why new none partial zero e 
       ∙ (stop (drop n piece ++ more) ∙ sym (refused_rest new why more after))));
 }
 
--- the reader takes the last bytes at a place, and moves to the next place
 pub ends_more : (p q : Place) (skip skip' : ℕ) (part front next clear : List ℕ) (whole : Bool) (refusal : Option Refusal) → refusal ≡ None → whole ≡ false → skip ≡ 0 → next ≡ part ++ front
     → ((more : List ℕ) → contents_past 0 p next more ≡ contents_past skip' q [] more) → clear ≡ [] → Takes (reading p skip part whole refusal) front (reading q skip' clear whole refusal)
 ends_more p q skip skip' part front next clear whole refusal none partial zero e moved empty = record {
@@ -249,7 +241,7 @@ ends_more p q skip skip' part front next clear whole refusal none partial zero e
 pub holding : (p : Place) (skip : ℕ) (part : List ℕ) (held : Bool) (refusal : Option Refusal) (more : List ℕ) → refusal ≡ None → held ≡ true → rest_of (reading p skip part held refusal) more ≡ and_then p.packet (contents_at (after_trailer p) more)
 holding p skip part held refusal more none is = rw (none, is) refl
 
--- the reader takes the last bytes of the trailer of a packet's block, and holds the packet
+-- if the last bytes of the trailer of a packet's block are taken, the reader holds the packet
 pub holds_more : (p : Place) (skip : ℕ) (part front next : List ℕ) (whole held : Bool) (refusal : Option Refusal) → refusal ≡ None → whole ≡ false → held ≡ true → skip ≡ 0 → next ≡ part ++ front
     → ((more : List ℕ) → contents_past 0 p next more ≡ and_then p.packet (contents_at (after_trailer p) more)) → Takes (reading p skip part whole refusal) front (reading p skip next held refusal)
 holds_more p skip part front next whole held refusal none partial is zero e moved = record {

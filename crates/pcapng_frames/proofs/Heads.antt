@@ -10,7 +10,6 @@ use Rattle.pcapng_frames.specs.Fields.{first_refused}
 use Rattle.pcapng_frames.specs.Blocks.{kind_at, order_at, kind_rows, block_rows, block_refused, order_or_little}
 use Rattle.pcapng_frames.specs.state.Reading.{block_need, head_need}
 
--- if no row of a block refuses it, no row of the block's kind does
 kind_rows_accepted : (k : Kind) (order : Option Order) (interfaces : List Interface) (start : ℕ) (bytes : List ℕ) → 4 ≤ length bytes → first_refused start (length bytes) (block_rows k order interfaces bytes) ≡ None
     → first_refused start (length bytes) (kind_rows k (order_at k order bytes) interfaces bytes) ≡ None
 kind_rows_accepted k order interfaces start bytes long h = grind (arith, nat_tests)

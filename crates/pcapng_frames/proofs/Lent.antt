@@ -37,7 +37,7 @@ rows_anywhere start other len (r ∷ rows) e = grind (arith, nat_tests, rows_any
 padded_more : (n : ℕ) → n ≤ padded n
 padded_more n = omega arith
 
--- the captured bytes are within the block
+-- if no field of a packet's block is refused, the captured bytes are within the block
 pub accepted_fits : (order : Order) (interfaces : List Interface) (bytes : List ℕ) → 24 ≤ length bytes → first_refused 0 (length bytes) (packet_rows order interfaces bytes) ≡ None → 32 + number_at order 20 4 bytes ≤ number_at order 4 4 bytes
 accepted_fits order interfaces bytes long e = grind (arith, nat_tests, padded_more (number_at order 20 4 bytes))
 
@@ -45,7 +45,7 @@ none_or : {X : Type 0} (x : Option X) → is_none x ≡ false → is_some x ≡ 
 none_or None e = absurd cc
 none_or (Some x) e = refl
 
--- the packet has an arrival
+-- if no field of a packet's block is refused, the packet has an arrival
 pub accepted_time : (order : Order) (interfaces : List Interface) (bytes : List ℕ) → 24 ≤ length bytes → first_refused 0 (length bytes) (packet_rows order interfaces bytes) ≡ None → is_some (packet_arrival order interfaces bytes) ≡ true
 accepted_time order interfaces bytes long e = grind (arith, nat_tests, none_or (packet_arrival order interfaces bytes))
 
@@ -101,7 +101,7 @@ block_begins order interfaces bytes size b =
 
 -- ---- the next packet
 
--- after the packet of a block, the place is the one before the block's trailer
+-- the place after the body of a packet's block is the place before the block's trailer
 block_place : (p : Place) (block : List ℕ) → IsPacketBlock (order_or_little p.order) p.interfaces block → after_any p block ≡ after_block kind.Packet p (length block) block
 block_place p block b =
     ap (λ (k : Kind). after_block k p (number_at (order_at k p.order block) 4 4 block) block) b.kind
@@ -117,7 +117,6 @@ opened_rows : (order : Option Order) (interfaces : List Interface) (start : ℕ)
 opened_rows None interfaces start bytes long opened h = absurd cc
 opened_rows (Some order) interfaces start bytes long opened h = grind (arith, nat_tests)
 
--- no field of the packet's block is refused
 block_accepted : (p : Place) (block : List ℕ) → is_some p.order ≡ true → IsPacketBlock (order_or_little p.order) p.interfaces block → first_refused p.start (length block) (block_rows (kind_at p.order block) p.order p.interfaces block) ≡ None
 block_accepted p block opened b =
     ap (λ (k : Kind). first_refused p.start (length block) (block_rows k p.order p.interfaces block)) b.kind
@@ -130,7 +129,6 @@ trailer_accepted : (order : Order) (at total : ℕ) (bytes : List ℕ) → numbe
 unfolding trailer_refused
 trailer_accepted order at total bytes is = rw is (grind (arith, nat_tests))
 
--- after the reader took the block of the next packet, the capture still holds what it held before
 next_takes : (r : Reading) (block : List ℕ) → IsNext r block → Takes r block (with_block r block)
 next_takes r block next = record {
   same = λ more.
@@ -202,7 +200,7 @@ before_block r block next = omega (arith, passed_none r.place.stage r.skip r.pla
 after_the_block : (r : Reading) (block : List ℕ) → IsNext r block → taken (with_block r block) ≡ r.place.start + length block
 after_the_block r block next = omega (arith, length-drop (length block - 4) block, next.packet.long)
 
--- taking the block of the next packet from a piece is a feed of the block's bytes
+-- taking the block of the next packet from a piece counts as feeding the block's bytes
 pub next_feeds : (r : Reading) (piece : List ℕ) (size : ℕ) → size ≤ length piece → IsNext r (take size piece) → Feeds meaning (progress r) piece (Ok size) (progress (with_block r (take size piece)))
 next_feeds r piece size within next =
     let block : List ℕ = take size piece in
@@ -268,7 +266,7 @@ plain_same p bytes is =
     ∙ (rw (refusal_same p bytes is, size_same p bytes is, next_same p bytes is, cut_same p bytes is, none_in_block p.stage p.packet is) refl
     ∙ sym (unroll (plain p) bytes))
 
--- after the block of the next packet, the bytes that follow hold the same whether the block was taken or skipped
+-- if the block of the next packet was taken or skipped, the bytes after the block hold the same contents
 place_after : (r : Reading) (block more : List ℕ) → IsNext r block → contents_at (after_trailer (with_block r block).place) more ≡ contents_at (passing r block).place more
 place_after r block more next =
     ap (λ (xs : List Interface). contents_at (record (after_trailer (with_block r block).place) { interfaces = xs }) more) (append-nil r.place.interfaces)

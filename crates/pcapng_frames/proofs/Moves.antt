@@ -35,11 +35,10 @@ passed skip p part front more h =
 no_less : (n : ℕ) → nat_lt n 0 ≡ false
 no_less n = grind (arith, nat_tests)
 
--- if no bytes are to be skipped, all bytes that follow belong to the place
 pub past_none : (p : Place) (part more : List ℕ) → contents_past 0 p part more ≡ contents_at p (part ++ more)
 past_none p part more = rw no_less refl
 
--- it makes no difference whether bytes of a place were taken or follow
+-- moving `front` to the bytes taken does not change the contents
 pub gathered : (p : Place) (part front more : List ℕ) → contents_past 0 p part (front ++ more) ≡ contents_past 0 p (part ++ front) more
 gathered p part front more = past_none p part (front ++ more) ∙ (ap (contents_at p) (sym (append_assoc part front more)) ∙ sym (past_none p (part ++ front) more))
 
@@ -62,7 +61,7 @@ pub stops : (p : Place) (part more : List ℕ) (r : Refusal) → refusal_here p 
 stops p part more r e = past_none p part more ∙ (unroll p (part ++ more)
     ∙ ap (λ (x : Option Refusal). refused_or x (if nat_lt (length (part ++ more)) (size_here p (part ++ more)) then cut_short p (part ++ more) else and_then (packet_by p.stage p.packet) (contents_at (next_place p (part ++ more)) (drop (size_here p (part ++ more)) (part ++ more))))) e)
 
--- two successive steps take the bytes of the first and then those of the second
+-- two successive steps that take `x` and `y` together take `x ++ y`
 pub takes_twice : (a b c : Reading) (x y : List ℕ) → Takes a x b → Takes b y c → Takes a (x ++ y) c
 takes_twice a b c x y first second = record { same = λ more. ap (rest_of a) (append_assoc x y more) ∙ (first.same (y ++ more) ∙ second.same more) }
 
@@ -83,11 +82,9 @@ block_begins c interfaces front part at_block none no_interface no_packet e = rw
 abbrev pub reading : Place → ℕ → List ℕ → Bool → Option Refusal → Reading
 reading p skip part whole refusal = record { place = p; skip = skip; part = part; whole = whole; refusal = refusal }
 
--- if a reader has no refusal and holds no packet, the capture still holds the contents from the reader's place on
 pub going : (p : Place) (skip : ℕ) (part : List ℕ) (whole : Bool) (refusal : Option Refusal) (more : List ℕ) → refusal ≡ None → whole ≡ false → rest_of (reading p skip part whole refusal) more ≡ contents_past skip p part more
 going p skip part whole refusal more none partial = rw (none, partial) refl
 
--- the reader takes bytes that are to be skipped
 pub pass_takes : (p : Place) (skip : ℕ) (part : List ℕ) (whole : Bool) (refusal : Option Refusal) (front : List ℕ) (n : ℕ) → refusal ≡ None → whole ≡ false → length front ≡ n → n ≤ skip → Takes (reading p skip part whole refusal) front (reading p (skip - n) part whole refusal)
 pass_takes p skip part whole refusal front n none partial size h = record {
   same = λ more.

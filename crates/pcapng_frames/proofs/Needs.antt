@@ -45,7 +45,6 @@ head_keeps kind.Interface order bytes more room h = omega (arith, length-append 
 head_keeps kind.Packet order bytes more room h = packet_keeps order bytes more room h
 head_keeps kind.Other order bytes more room h = omega (arith, length-append bytes more)
 
--- If at most the bytes that a block still needs are added, the block has at most the bytes that it then needs.
 pub block_keeps : (order : Option Order) (bytes more : List ℕ) → length bytes < block_need order bytes → length more ≤ block_need order bytes - length bytes → length (bytes ++ more) ≤ block_need order (bytes ++ more)
 block_keeps order bytes more h room = elim (cases_lt (length bytes) 8) [
   | inl short ↦ omega (arith, need_short order bytes short, need_eight order (bytes ++ more), length-append bytes more)
@@ -78,7 +77,6 @@ option_short : (order : Order) (bytes : List ℕ) → length bytes < 4 → optio
 unfolding option_need
 option_short order bytes h = grind (arith, nat_tests)
 
--- If at most the bytes that an option still needs are added, the option has at most the bytes that it then needs.
 pub option_keeps : (order : Order) (bytes more : List ℕ) → length bytes < option_need order bytes → length more ≤ option_need order bytes - length bytes → length (bytes ++ more) ≤ option_need order (bytes ++ more)
 option_keeps order bytes more h room = elim (cases_lt (length bytes) 4) [
   | inl short ↦ omega (arith, option_short order bytes short, need_of_four order (bytes ++ more), length-append bytes more)
@@ -121,7 +119,7 @@ size_eight kind.Interface total = omega arith
 size_eight kind.Packet total = omega arith
 size_eight kind.Other total = omega arith
 
--- while needed bytes of a block that is not refused are missing, its bytes so far end before the next place
+-- while needed bytes of an accepted block are missing, the bytes so far end before the next place
 pub block_lacks : (order : Option Order) (interfaces : List Interface) (start : ℕ) (bytes : List ℕ) → block_refused order interfaces start bytes ≡ None → length bytes < block_need order bytes → length bytes < size_of_any order bytes
 block_lacks order interfaces start bytes h partial = elim (cases_lt (length bytes) 8) [
   | inl short ↦ omega (arith, size_eight (kind_at order bytes) (number_at (order_at (kind_at order bytes) order bytes) 4 4 bytes))

@@ -54,14 +54,14 @@ microsecond_instant interface x epoch unit =
     let long : x * 1000 ≡ x * 1000000000 / 1000000 = long_units x 6 (omega arith) in
     instant_is interface x (x * 1000) epoch (ap (λ (k : ℕ). x * 1000000000 / units k) unit ∙ sym long)
 
--- by a clock that counts nanoseconds from the epoch, the arrival is the timestamp
+-- if a clock counts nanoseconds from the epoch, the arrival is the timestamp
 pub nanosecond_arrival : (interface : Interface) (x : ℕ) → interface.offset ≡ pos 0 → interface.resolution ≡ 9 → x < 4294967296000000000 → arrival_of interface x ≡ Some (pos x)
 nanosecond_arrival interface x epoch unit early = in_time (instant interface x) x (nanosecond_instant interface x epoch unit) early
 
 pub nanosecond_late : (interface : Interface) (x : ℕ) → interface.offset ≡ pos 0 → interface.resolution ≡ 9 → 4294967296000000000 ≤ x → arrival_of interface x ≡ None
 nanosecond_late interface x epoch unit late = out_of_time (instant interface x) x (nanosecond_instant interface x epoch unit) late
 
--- by a clock that counts microseconds from the epoch, the arrival is 1000 times the timestamp
+-- if a clock counts microseconds from the epoch, the arrival is 1000 times the timestamp
 pub microsecond_arrival : (interface : Interface) (x : ℕ) → interface.offset ≡ pos 0 → interface.resolution ≡ 6 → x < 4294967296000000 → arrival_of interface x ≡ Some (pos (x * 1000))
 microsecond_arrival interface x epoch unit early = in_time (instant interface x) (x * 1000) (microsecond_instant interface x epoch unit) (omega arith)
 
@@ -76,7 +76,6 @@ time_limit x units h = omega (arith, div-le_self (x * 1000000000) units)
 pub one_resolved : (interfaces : List Interface) (id : ℕ) (d : Interface) → AllResolved interfaces → id < length interfaces → is_resolution (slice_index_or interfaces id d).resolution ≡ true
 one_resolved interfaces id d all h = All-get_or (λ (i : Interface). is_resolution i.resolution ≡ true) interfaces id d h all
 
--- the packet made of the fixed fields and the captured bytes is the packet of the block
 pub packet_is : (head : Option PacketHead) (arrival : Option ℤ) (order : Order) (part : List ℕ) → is_some head ≡ is_some arrival → IfSome head (λ h. arrival ≡ Some (pos h.arrival)) → IfSome head (λ h. h.orig_len ≡ number_at order 24 4 part)
     → length part ≡ 28 + number_at order 20 4 part → packet_of head part ≡ record_by arrival order part
 packet_is None None order part some e l size = refl

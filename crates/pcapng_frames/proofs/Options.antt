@@ -1,4 +1,4 @@
--- Bytes that follow do not change what is known of an option or a trailer.
+-- Further bytes do not change what is known of an option or a trailer.
 use Rattle.std.proofs.Common.{◌≡◌, ℕ, ◌⊎◌, ◌&&◌, not, ◌+◌, ◌-◌, ◌≤◌, ◌<◌, Bool, true, false, nat_lt, nat_eq, if◌then◌else◌, List, [], ◌∷◌, ◌++◌, length, drop, slice_index, Option, Some, None, refl, ap, sym, ◌∙◌, arith, inl, inr, length-append}
 use Rattle.std.proofs.lemmas.Bool.{cases_lt}
 use Rattle.std.proofs.lemmas.Bool.Decides.{nat_tests}
@@ -32,7 +32,6 @@ code_stays order bytes more h = number_stays order 0 2 bytes more (omega arith)
 length_stays : (order : Order) (bytes more : List ℕ) → 4 ≤ length bytes → option_length order (bytes ++ more) ≡ option_length order bytes
 length_stays order bytes more h = number_stays order 2 2 bytes more (omega arith)
 
--- a row that is checked with the option's header gives the same result after more bytes
 header_row : (field : Field) (b : Bool) (start len more : ℕ) (rows others : List Row) (x : Option Refusal) → 4 ≤ len → len ≤ more → first_refused start len (row field 0 4 b ∷ rows) ≡ x → (first_refused start len rows ≡ x → first_refused start more others ≡ x)
     → first_refused start more (row field 0 4 b ∷ others) ≡ x
 header_row field b start len more rows others x long less e h =
@@ -90,8 +89,8 @@ pub need_whole : (order : Order) (bytes : List ℕ) → 4 ≤ length bytes → o
 unfolding option_need
 need_whole order bytes h = grind (arith, nat_tests)
 
--- Bytes that follow do not change the refusal of an option. If nothing is refused once all that is read of the option
--- is there, nothing in the option is refused later.
+-- If an option is refused, further bytes do not change the refusal. If all bytes that are read of an option are there
+-- and nothing is refused, further bytes cause no refusal in the option.
 pub option_stays : (order : Order) (left start : ℕ) (bytes more : List ℕ) (x : Option Refusal) → first_refused start (length bytes) (option_rows (option_code order bytes) (option_length order bytes) left bytes) ≡ x
     → (x ≡ None → option_need order bytes ≤ length bytes)
     → first_refused start (length (bytes ++ more)) (option_rows (option_code order (bytes ++ more)) (option_length order (bytes ++ more)) left (bytes ++ more)) ≡ x
@@ -145,7 +144,7 @@ next_stays : (p : Place) (bytes more : List ℕ) → 4 ≤ length bytes → valu
 next_stays p bytes more h need =
     rw (described_stays (order_or_little p.order) p.interface bytes more h need, size_of_stays (order_or_little p.order) p.left bytes more h) refl
 
--- if all that is read of an option was taken and nothing in it is refused, the reader moves to the next place
+-- if all bytes that are read of an option were taken and nothing in them is refused, the reader moves to the next place
 pub option_moves : (p q : Place) (part more : List ℕ) (skip : ℕ) → p.stage ≡ stage.Option → 4 ≤ length part → length part ≡ option_need (order_or_little p.order) part → refusal_here p part ≡ None
     → next_by stage.Option p part ≡ q → size_of_option (order_or_little p.order) p.left part ≡ length part + skip → contents_past 0 p part more ≡ contents_past skip q [] more
 option_moves p q part more skip is long whole accepted next size =
@@ -222,7 +221,7 @@ with_resolved false false order interface bytes is h = is
 resolved_by : (code len start left n : ℕ) (order : Order) (interface : Interface) (bytes : List ℕ) → 4 ≤ n → n ≡ value_need code → first_refused start n (option_rows code len left bytes) ≡ None → is_resolution interface.resolution ≡ true → is_resolution (with_option order code interface bytes).resolution ≡ true
 resolved_by code len start left n order interface bytes long whole h is = with_resolved (nat_eq code 9) (nat_eq code 14) order interface bytes is (λ nine. resolved_nine code len start left n bytes nine long whole h)
 
--- the bytes that are needed of an accepted option are within the option
+-- the bytes that must be read of an accepted option are within the option
 pub option_fits : (order : Order) (start left : ℕ) (bytes : List ℕ) → 4 ≤ length bytes → 4 ≤ left → length bytes ≡ option_need order bytes → option_refused order start left bytes ≡ None
     → length bytes ≤ size_of_option order left bytes
 unfolding option_refused
@@ -245,7 +244,6 @@ need_by_code code len start left n bytes long some h = grind (arith, nat_tests)
 size_four : (order : Order) (left : ℕ) (bytes : List ℕ) → 4 ≤ size_of_option order left bytes
 size_four order left bytes = grind (arith, nat_tests)
 
--- while more bytes of an option are needed, its bytes so far end before the option does
 pub option_lacks : (order : Order) (at left : ℕ) (bytes : List ℕ) → 4 ≤ left → option_refused order at left bytes ≡ None → length bytes < option_need order bytes → length bytes < size_of_option order left bytes
 unfolding option_refused
 option_lacks order at left bytes some h partial = elim (cases_lt (length bytes) 4) [

@@ -1,4 +1,4 @@
--- The contents from a place on do not depend on the allowed number of places, if that number is large enough. The
+-- If the allowed number of places is large enough, the contents from a place on do not depend on that number. The
 -- contents are what the place holds, followed by the contents from the next place on.
 use Rattle.std.proofs.Common.{◌≡◌, ℕ, zero, suc, ◌+◌, ◌-◌, ◌≤◌, ◌<◌, Bool, true, false, nat_lt, nat_eq, if◌then◌else◌, List, length, drop, refl, ap, arith, length-drop}
 use Rattle.std.proofs.lemmas.Bool.Decides.{nat_tests}

@@ -45,7 +45,7 @@ cut_stage stage.Block p bytes = cut_is (nat_lt (length bytes) 4) (nat_lt (length
 cut_stage stage.Option p bytes = refl
 cut_stage stage.Trailer p bytes = refl
 
--- an ending because of missing bytes may still change
+-- if bytes are missing, later bytes may still change the ending
 settled_cut : (p : Place) (bytes : List ℕ) → settled (cut_short p bytes).ending ≡ None
 settled_cut p bytes = settled_if (ends_at p.stage p.order p.start (length bytes)) (cut_by p.stage p bytes) (cut_stage p.stage p bytes)
 
@@ -74,7 +74,6 @@ lacks_by_stage stage.Option p skip bytes is h =
     omega (arith, size_at_option p bytes is, option_lacks (order_or_little p.order) _ p.left bytes left (sym (at_option_place p bytes is) ∙ h.accepted) (omega (arith, h.partial, need)))
 lacks_by_stage stage.Trailer p skip bytes is h = omega (arith, size_at_trailer p bytes is, h.partial, need_in_trailer p.stage p.order bytes is)
 
--- while more bytes of a place are needed, the bytes so far end before the next place
 pub lacks_some : (p : Place) (skip : ℕ) (bytes : List ℕ) → IsPart p skip bytes → length bytes < size_here p bytes
 lacks_some p skip bytes h = lacks_by_stage p.stage p skip bytes refl h
 
@@ -103,7 +102,7 @@ uncertain r bytes records none keeps h =
 nothing_after : (records : List Record) (r : Refusal) → after_all records (ends (Some (record { refusal = r; cut = false }))) ≡ refused_after records r
 nothing_after records r = ap (λ (rs : List Record). refused_after rs r) (append-nil records)
 
--- the refusal of a reader is the first one of its bytes, whatever bytes follow
+-- the refusal of a reader is the first refusal of the capture, whatever bytes follow
 refused_for_good : (r : Reading) (why : Refusal) (bytes more : List ℕ) (records : List Record) → r.refusal ≡ Some why → HasRead r bytes records → IsRefusedAfter meaning (bytes ++ more) records why
 unfolding whole_records
 refused_for_good r why bytes more records e h =
@@ -137,7 +136,7 @@ refusal_if : (b : Bool) (e : Ending) → refusal_of (if b then ends None else en
 refusal_if true e = refl
 refusal_if false e = refl
 
--- What a reader holds and what the capture lacks, if no bytes follow.
+-- What a reader holds, and what the capture lacks if it ends after the bytes taken.
 pub record IsEnd (rest : Contents) (packet : Option Record) (lack : Option Refusal) : Type 0 where
   pub records : rest.records ≡ option_to_list packet
   pub refusal : refusal_of rest.ending ≡ lack
@@ -197,7 +196,6 @@ whole_opened refusal whole c interfaces held skip part none h head is =
     let w = is_whole refusal whole (place_of c interfaces held) skip part none is h in
     head_opened c.order c.packet held w.some head
 
--- what a reader without a refusal holds, and what the capture lacks, if no bytes follow
 pub ends_so : (c : Cursor) (interfaces : List Interface) (held : List ℕ) (skip : ℕ) (part : List ℕ) (whole : Bool) (refusal : Option Refusal) → refusal ≡ None → IsReading refusal whole (place_of c interfaces held) skip part → HasHead c.order c.packet held
     → IsEnd (rest_of (reading (place_of c interfaces held) skip part whole refusal) []) (held_by refusal whole (packet_of c.packet held)) (lacks_by whole (place_of c interfaces held) part)
 ends_so c interfaces held skip part whole refusal none h head =
@@ -206,12 +204,10 @@ ends_so c interfaces held skip part whole refusal none h head =
 all_of : (bytes : List ℕ) (records : List Record) (rest : Contents) → contents (bytes ++ []) ≡ after_all records rest → contents bytes ≡ after_all records rest
 all_of bytes records rest e = ap contents (sym (append-nil bytes)) ∙ e
 
--- the packets of the bytes are the released packets and the held one
 records_so : (bytes : List ℕ) (records : List Record) (rest : Contents) (packet : Option Record) (lack : Option Refusal) → contents (bytes ++ []) ≡ after_all records rest → IsEnd rest packet lack → records ++ option_to_list packet ≡ whole_records bytes
 unfolding whole_records
 records_so bytes records rest packet lack e end = sym (ap (λ (x : Contents). x.records) (all_of bytes records rest e) ∙ ap (λ (rs : List Record). records ++ rs) end.records)
 
--- the first refusal of the bytes is what the capture lacks
 refusal_so : (bytes : List ℕ) (records : List Record) (rest : Contents) (packet : Option Record) (lack : Option Refusal) → contents (bytes ++ []) ≡ after_all records rest → IsEnd rest packet lack → lack ≡ first_refusal bytes
 unfolding first_refusal
 refusal_so bytes records rest packet lack e end = sym (ap (λ (x : Contents). refusal_of x.ending) (all_of bytes records rest e) ∙ end.refusal)
@@ -219,7 +215,6 @@ refusal_so bytes records rest packet lack e end = sym (ap (λ (x : Contents). re
 none_held : (refusal : Option Refusal) (whole : Bool) (packet : Option Record) (why : Refusal) → refusal ≡ Some why → held_by refusal whole packet ≡ None
 none_held refusal whole packet why e = rw e refl
 
--- what a reader with a refusal holds, and what the capture lacks, if no bytes follow
 pub end_refused : (r : Reading) (why : Refusal) → r.refusal ≡ Some why → IsEnd (rest_of r []) (held r) (Some why)
 end_refused r why e = record {
   records = ap (λ (x : Contents). x.records) (refused_rest r why [] e) ∙ sym (ap option_to_list (none_held r.refusal r.whole r.place.packet why e));

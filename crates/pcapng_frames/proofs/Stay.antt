@@ -1,4 +1,4 @@
--- Bytes that follow do not change what the rows of a block's kind refuse.
+-- Further bytes do not change what the rows of a block's kind refuse.
 use Rattle.std.proofs.Common.{◌≡◌, ℕ, ◌≤◌, List, ◌++◌, length, Option, None, refl, arith, length-append}
 use Rattle.std.proofs.lemmas.Bool.Decides.{nat_tests}
 use Rattle.avtp_base.specs.declared.refusal.Refusal.{Refusal}

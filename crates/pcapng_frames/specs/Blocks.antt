@@ -21,8 +21,8 @@ use Rattle.pcapng_frames.specs.Fields.{kind_of, order_of_magic, padded, Row, row
 --
 -- `order` is the byte order of the section, or `None` before the first section. `interfaces` are the interfaces
 -- described in the section so far. `start` is the offset of the block, and `total` is its total length. In an interface
--- description, `interface` is what its options state so far, and `left` is the number of bytes of options that are
--- left. Before the trailer of a packet's block, `packet` is that packet.
+-- description, `interface` is what the options so far state, and `left` is the number of remaining bytes of options.
+-- Before the trailer of a packet's block, `packet` is that packet.
 pub record Place : Type 0 where
   pub stage : Stage
   pub order : Option Order
@@ -85,7 +85,7 @@ unfoldable pub block_refused : Option Order → List Interface → ℕ → List 
 block_refused order interfaces start bytes = first_refused start (length bytes) (block_rows (kind_at order bytes) order interfaces bytes)
 
 -- The first refused field of the option that the bytes begin with, among the fields that the bytes contain. `left`
--- bytes of options are left.
+-- bytes of options remain.
 unfoldable pub option_refused : Order → ℕ → ℕ → List ℕ → Option Refusal
 option_refused order at left bytes = first_refused at (length bytes) (option_rows (option_code order bytes) (option_length order bytes) left bytes)
 
@@ -93,7 +93,7 @@ option_refused order at left bytes = first_refused at (length bytes) (option_row
 abbrev pub trailer_rows : Order → ℕ → List ℕ → List Row
 trailer_rows order total bytes = row BlockTrailer 0 4 (not (nat_eq (number_at order 0 4 bytes) total)) ∷ []
 
--- if the bytes contain the trailer and it does not repeat the block's total length, the refusal of the trailer
+-- The refusal of a trailer that the bytes contain, if the trailer does not repeat the block's total length.
 unfoldable pub trailer_refused : Order → ℕ → ℕ → List ℕ → Option Refusal
 trailer_refused order at total bytes = first_refused at (length bytes) (trailer_rows order total bytes)
 
@@ -107,32 +107,32 @@ refusal_by stage.Trailer p bytes = trailer_refused (order_or_little p.order) (p.
 unfoldable pub refusal_here : Place → List ℕ → Option Refusal
 refusal_here p bytes = refusal_by p.stage p bytes
 
--- The number of bytes from the start of a block to the next place. In an interface description these are the fixed
--- fields. In any other block they are everything before the trailer.
+-- The number of bytes from the start of a block to the next place. For an interface description, that is the size of
+-- the fixed fields. For any other block, it is the size of everything before the trailer.
 abbrev pub block_size : Kind → ℕ → ℕ
 block_size kind.Section total = 16 + (total - 20)
 block_size kind.Interface total = 16
 block_size kind.Packet total = 28 + (total - 32)
 block_size kind.Other total = 8 + (total - 12)
 
--- in the block that the bytes begin with, the number of bytes to the next place
+-- the number of bytes from the start of the block that the bytes begin with to the next place
 abbrev pub size_of_any : Option Order → List ℕ → ℕ
 size_of_any order bytes =
     let k = kind_at order bytes in
     block_size k (number_at (order_at k order bytes) 4 4 bytes)
 
 -- The size in bytes of the option that the bytes begin with: its header and its padded value. The option that ends the
--- options has all bytes of options that are left.
+-- options takes up all remaining bytes of options.
 abbrev pub size_of_option : Order → ℕ → List ℕ → ℕ
 size_of_option order left bytes = if nat_eq (option_code order bytes) 0 then 4 + (left - 4) else 4 + padded (option_length order bytes)
 
--- the number of bytes to the next place: through the block, the option or the trailer at this place
+-- the number of bytes from this place to the next place
 abbrev pub size_by : Stage → Place → List ℕ → ℕ
 size_by stage.Block p bytes = size_of_any p.order bytes
 size_by stage.Option p bytes = size_of_option (order_or_little p.order) p.left bytes
 size_by stage.Trailer p bytes = 4
 
--- the number of bytes to the next place
+-- the number of bytes from this place to the next place
 unfoldable pub size_here : Place → List ℕ → ℕ
 size_here p bytes = size_by p.stage p bytes
 
@@ -145,8 +145,8 @@ record_by (Some arrival) order bytes = Some (record {
   bytes = take (number_at order 20 4 bytes) (drop 28 bytes);
 })
 
--- The place after the fixed fields of an interface description, the body of another block or an option. If bytes of
--- options are left, an option follows; otherwise the trailer follows.
+-- The place after the fixed fields of an interface description, after the body of another block, or after an option. If
+-- bytes of options remain, an option follows; otherwise the trailer follows.
 abbrev pub in_block : Place → Option Order → List Interface → Option Interface → ℕ → ℕ → Option Record → Place
 in_block p order interfaces interface total left packet = record {
   stage = if nat_eq left 0 then stage.Trailer else stage.Option;
@@ -179,7 +179,8 @@ abbrev pub described : Order → ℕ → Option Interface → List ℕ → Optio
 described order code None bytes = None
 described order code (Some interface) bytes = Some (with_option order code interface bytes)
 
--- The place after a block's trailer. An interface that the block described becomes the next one of its section.
+-- The place after a block's trailer. If the block described an interface, the interface is appended to the interfaces
+-- of the section.
 abbrev pub after_trailer : Place → Place
 after_trailer p = record {
   stage = stage.Block;
@@ -192,7 +193,7 @@ after_trailer p = record {
   packet = None;
 }
 
--- the next place: after the block's head, the option or the trailer at this place
+-- the place after the block's head, the option or the trailer at this place
 abbrev pub next_by : Stage → Place → List ℕ → Place
 next_by stage.Block p bytes = after_any p bytes
 next_by stage.Option p bytes =
@@ -200,7 +201,7 @@ next_by stage.Option p bytes =
     in_block p p.order p.interfaces (described order (option_code order bytes) p.interface bytes) p.total (p.left - size_by stage.Option p bytes) None
 next_by stage.Trailer p bytes = after_trailer p
 
--- the place after what follows at this place
+-- the next place: after the block's head, the option or the trailer at this place
 unfoldable pub next_place : Place → List ℕ → Place
 next_place p bytes = next_by p.stage p bytes
 
@@ -220,7 +221,7 @@ pub record Ending : Type 0 where
 abbrev pub short_at : Field → ℕ → Ending
 short_at field at = record { refusal = record { field = field; at = at; short = true }; cut = true }
 
--- how a capture ends if only these bytes of the block at this place are there
+-- how a capture ends if only these bytes of the block at this place are present
 abbrev pub cut_block : Place → List ℕ → Ending
 cut_block p bytes =
     if nat_lt (length bytes) 4 then short_at BlockType p.start
@@ -230,7 +231,7 @@ cut_block p bytes =
     else short_at BlockLength (p.start + 4))
     else short_at BlockBody (p.start + 8)
 
--- how a capture ends if only these bytes of the block, option or trailer at this place are there
+-- how a capture ends if only these bytes of the block, option or trailer at this place are present
 abbrev pub cut_by : Stage → Place → List ℕ → Ending
 cut_by stage.Block p bytes = cut_block p bytes
 cut_by stage.Option p bytes = short_at BlockBody (p.start + 8)
@@ -257,8 +258,8 @@ ends ending = record { records = []; ending = ending }
 abbrev pub and_then : Option Record → Contents → Contents
 and_then packet rest = record { records = option_to_list packet ++ rest.records; ending = rest.ending }
 
--- What the bytes hold if they end before the next place: no packet. If a capture that ends here is whole, there is no
--- refusal.
+-- What the bytes hold if they end before the next place: no packet. There is a refusal unless a capture that ends here
+-- is whole.
 abbrev pub cut_short : Place → List ℕ → Contents
 cut_short p bytes = if ends_at p.stage p.order p.start (length bytes) then ends None else ends (Some (cut_by p.stage p bytes))
 
@@ -289,7 +290,7 @@ first_place = record {
 }
 
 -- What a capture holds: the packets before its first refusal, and that refusal. Each place takes at least four bytes,
--- so this number of places is enough.
+-- so there are at most as many places as bytes.
 unfoldable pub contents : List ℕ → Contents
 contents bytes = contents_from (suc (length bytes)) first_place bytes
 

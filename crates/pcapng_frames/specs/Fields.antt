@@ -21,7 +21,7 @@ kind_of n =
     else if nat_eq n 6 then kind.Packet
     else kind.Other
 
--- the byte order of a section with this magic number, read as little-endian
+-- the byte order of a section whose magic number is this number when read as little-endian
 abbrev pub order_of_magic : ℕ → Option Order
 order_of_magic n = if nat_eq n 0x1A2B3C4D then Some Little else if nat_eq n 0x4D3C2B1A then Some Big else None
 
@@ -36,14 +36,14 @@ least_size kind.Other = 12
 abbrev pub padded : ℕ → ℕ
 padded n = (n + 3) / 4 * 4
 
--- A field that is checked once the bytes up to `end` are there, and whether it is refused.
+-- A field, and whether it is refused. The field is checked once the bytes up to `end` are present.
 pub record Row : Type 0 where
   pub field : Field
   pub offset : ℕ
   pub end : ℕ
   pub refuses : Bool
 
--- the row of a field at this offset, which is checked once the bytes up to `end` are there
+-- the row of a field at this offset, which is checked once the bytes up to `end` are present
 abbrev pub row : Field → ℕ → ℕ → Bool → Row
 row field offset end refuses = record { field = field; offset = offset; end = end; refuses = refuses }
 
@@ -51,9 +51,9 @@ row field offset end refuses = record { field = field; offset = offset; end = en
 abbrev pub refusal_at : Field → ℕ → Refusal
 refusal_at field at = record { field = field; at = at; short = false }
 
--- The first row of a table that refuses, among the rows whose bytes are within the first `len`. A table's rows are
--- ordered by `end`. Therefore no row is checked after a row whose bytes are missing. The bytes begin at offset `start`
--- of the capture.
+-- The refusal of the first row of a table that refuses, among the rows whose bytes are within the first `len`. A
+-- table's rows are ordered by `end`. Therefore no row is checked after a row whose bytes are missing. The bytes begin
+-- at offset `start` of the capture.
 abbrev pub first_refused : ℕ → ℕ → List Row → Option Refusal
 first_refused start len [] = None
 first_refused start len (r ∷ rows) =
@@ -115,8 +115,8 @@ option_code order bytes = number_at order 0 2 bytes
 abbrev pub option_length : Order → List ℕ → ℕ
 option_length order bytes = number_at order 2 2 bytes
 
--- The fields that are checked in an option with this code and this length of its value. `left` bytes of options are
--- left before the trailer.
+-- The fields that are checked in an option with this code, whose value has this length. `left` bytes of options remain
+-- before the trailer.
 abbrev pub option_rows : ℕ → ℕ → ℕ → List ℕ → List Row
 option_rows code len left bytes =
     if nat_eq code 0 then [] else

@@ -13,8 +13,8 @@ use Rattle.pcapng_frames.specs.Fields.{first_refused, kind_of, number_at, packet
 use Rattle.pcapng_frames.specs.Blocks.{Place, Contents, after_block, order_or_little, contents, contents_from, whole_records, first_refusal, settled, ends, and_then, first_place, after_trailer, short_at}
 
 -- The state of a reader. The reader has reached `place`, except that `skip` bytes are still to be skipped before that
--- place. `part` are the bytes taken at that place. `whole` tells whether the block's packet is whole. `refusal` is the
--- refusal, if any.
+-- place. `part` are the bytes taken at that place. `whole` tells whether the block's packet is whole. `refusal` is what
+-- the reader refused, if anything.
 pub record Reading : Type 0 where
   pub place : Place
   pub skip : ℕ
@@ -37,9 +37,9 @@ contents_past skip p part more =
     if nat_lt (length more) skip then ends (Some (short_at BlockBody (p.start + 8)))
     else contents_at p (part ++ drop skip more)
 
--- What the capture still holds after a reader in this state, if the bytes `more` follow. After a reader with a refusal,
--- that is only the refusal. After a reader that holds a packet, that is the packet and what follows the packet's block.
--- After any other reader, that is what the bytes from the place on hold.
+-- What the capture still holds after a reader in this state, if the bytes `more` follow. If the reader has a refusal,
+-- only that refusal follows. If the reader holds a packet, that packet and the contents after its block follow.
+-- Otherwise the contents from the place on follow.
 abbrev pub rest_by : Option Refusal → Bool → Reading → List ℕ → Contents
 rest_by (Some refusal) whole r more = ends (Some (record { refusal = refusal; cut = false }))
 rest_by None true r more = and_then r.place.packet (contents_at (after_trailer r.place) more)
@@ -58,7 +58,7 @@ after_all records rest = record { records = records ++ rest.records; ending = re
 pub record HasRead (r : Reading) (bytes : List ℕ) (records : List Record) : Type 0 where
   pub read : (more : List ℕ) → contents (bytes ++ more) ≡ after_all records (rest_of r more)
 
--- the packet that a reader in this state holds: the packet of the block, if it is whole and nothing is refused
+-- the packet that a reader in this state holds: the packet of the block, if the block is whole and nothing is refused
 abbrev pub held_by : Option Refusal → Bool → Option Record → Option Record
 held_by (Some refusal) whole packet = None
 held_by None true packet = packet
@@ -68,7 +68,7 @@ held_by None false packet = None
 abbrev pub held : Reading → Option Record
 held r = held_by r.refusal r.whole r.place.packet
 
--- the number of bytes of a block before this place, without those that are still to be skipped
+-- the number of bytes of a block before this place, excluding the bytes that are still to be skipped
 abbrev pub passed_by : Stage → ℕ → ℕ → ℕ → ℕ
 passed_by stage.Block skip left total = 0
 passed_by stage.Option skip left total = total - 4 - left - skip
@@ -105,7 +105,7 @@ pub record IsPacketBlock (order : Order) (interfaces : List Interface) (block : 
   pub trailer : number_at order 0 4 (drop (length block - 4) block) ≡ length block
   pub long : 32 ≤ length block
 
--- These bytes are the block of the next packet, and none of them was taken yet. If the reader takes them, it holds the
+-- These bytes are the block of the next packet, and none of them was taken yet. After taking them, the reader holds the
 -- packet.
 pub record IsNext (r : Reading) (block : List ℕ) : Type 0 where
   pub accepted : r.refusal ≡ None

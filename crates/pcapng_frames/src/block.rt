@@ -49,7 +49,7 @@ pub struct Cursor {
     pub start: u64,
     /// The block's total length.
     pub total: u32,
-    /// How many bytes of options are left.
+    /// How many bytes of options remain.
     pub left: u32,
     /// How many bytes are to be skipped first.
     pub skip: u32,

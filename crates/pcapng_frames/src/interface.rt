@@ -95,7 +95,7 @@ fn any_arrival(interface: Interface, timestamp: u64) -> Option<u64>
 
 /// The arrival of a packet, in nanoseconds. `None` if it is before the epoch, or at least 2^32 seconds after it.
 ///
-/// Most clocks count nanoseconds or microseconds from the epoch; then at most one product is needed.
+/// Most clocks count nanoseconds or microseconds from the epoch. For such a clock, one multiplication is enough.
 #[tactic(auto, using(crate::proofs::Numbers::nanosecond_arrival, crate::proofs::Numbers::microsecond_arrival, crate::proofs::Numbers::nanosecond_late, crate::proofs::Numbers::microsecond_late))]
 #[inline(always)]
 pub fn arrival(interface: Interface, timestamp: u64) -> Option<u64>

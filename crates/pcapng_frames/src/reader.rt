@@ -179,7 +179,7 @@ impl Ng {
         }
     }
 
-    /// The next packet, shown in its block.
+    /// A view of the next packet in the bytes of its block.
     #[inline(always)]
     pub fn lend<'a>(&self, block: &'a [u8]) -> RecordView<'a>
         requires { IsNext self.now block.now }
@@ -239,7 +239,7 @@ impl Ng {
         }
     }
 
-    /// Takes bytes that are to be skipped. Nothing is held of a skipped block, whatever its length.
+    /// Takes bytes that are to be skipped. None of these bytes is kept, so a skipped block may have any length.
     fn skip(&mut self, piece: &[u8]) -> usize
         requires going { IsGoing self.old piece.now }
         requires some { 0 < self.old.skip }

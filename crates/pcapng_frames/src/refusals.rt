@@ -124,7 +124,7 @@ pub fn other_refusal(order: Order, start: u64, bytes: &[u8]) -> Option<Refusal>
 }
 
 /// The first refused field of an option, among the fields that these bytes contain. The option begins at offset `at` of
-/// the capture, and `left` bytes of options are left before the trailer.
+/// the capture, and `left` bytes of options remain before the trailer.
 #[tactic(auto, unfolding(crate::specs::Blocks::option_refused))]
 pub fn option_refusal(order: Order, at: u64, left: u32, bytes: &[u8]) -> Option<Refusal>
     ensures { result ≡ refused_in_option order at left bytes.now }
@@ -229,8 +229,8 @@ pub fn trailer_refusal(order: Order, at: u64, total: u32, tail: &[u8]) -> Option
     None
 }
 
-/// What is missing of a block that is cut off at the end of the bytes, in a section with `count` interfaces. At the end
-/// of a block nothing is missing.
+/// What is missing of a block that is cut off at the end of the bytes, in a section with `count` interfaces. After the
+/// first section header, an empty `part` lacks nothing: the capture may end there.
 pub fn missing_of_block(
     order: Option<Order>,
     count: usize,

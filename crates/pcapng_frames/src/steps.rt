@@ -273,8 +273,8 @@ pub fn option_need(order: Order, tail: &[u8]) -> usize
     }
 }
 
-/// The length of an option, with its header and the padding of its value. The code 0 ends the options; then the length
-/// is all bytes of options that are left.
+/// The length of an option, with its header and the padding of its value. The code 0 ends the options. The length of
+/// that option is the number of all remaining bytes of options.
 #[tactic(auto, unfolding(crate::specs::Blocks::option_refused))]
 fn option_size(order: Order, at: u64, left: u32, tail: &[u8]) -> u32
     requires long { 4 ≤ length tail.now }

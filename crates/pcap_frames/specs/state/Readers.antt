@@ -5,7 +5,8 @@ use Rattle.avtp_base.specs.declared.refusal.Refusal.{Refusal}
 use Rattle.pcap_frames.specs.Capture.{Record}
 use Rattle.pcap_frames.specs.Readers.{Meaning, Progress, GoesOn, IsRefusedAfter}
 
--- A reader can take the bytes of a piece: it has no refusal, and with the piece it has taken at most 2^62 bytes.
+-- A reader can take the bytes of a piece: the reader has no refusal, and has taken at most 2^62 bytes in all, including
+-- the piece.
 pub record Accepts (reader : Progress) (piece : List ℕ) : Type 0 where
   pub accepted : reader.refusal ≡ None
   pub bounded : reader.taken + length piece ≤ 2 ^ 62
@@ -21,14 +22,14 @@ pub record Steps (old : Progress) (piece : List ℕ) (result : Result ℕ Refusa
   pub refused : IfErr result (λ refusal. new.refusal ≡ Some refusal)
   pub stopped : OnErr result (GoesOn old piece new)
 
--- Takes steps up to the end of one record or of the piece. If a record is held, no step is taken.
+-- The reader took steps up to the end of one record or of the piece. If a record was held, no step was taken.
 pub record Advances (old : Progress) (piece : List ℕ) (result : Result ℕ Refusal) (new : Progress) : Type 0 where
   pub steps : Steps old piece result new
   pub nothing : IfOk result (λ n. (n ≡ 0) ↔ ((length piece ≡ 0) ⊎ IsSome old.held))
   pub end : IfOk result (λ n. n < length piece → IsSome new.held)
 
--- If a reader has no refusal, the bytes taken are not certain to be refused. A refusal of the reader is the first one
--- of the capture, whatever bytes follow.
+-- If a reader has no refusal, the bytes taken are not certain to be refused. A refusal of the reader is the first
+-- refusal of the capture, whatever bytes follow.
 pub record IsSure (meaning : Meaning) (reader : Progress) : Type 0 where
   pub uncertain : reader.refusal ≡ None → (bytes : List ℕ) (records : List Record) → reader.has_read bytes records → meaning.certain bytes ≡ None
   pub refused : (why : Refusal) → reader.refusal ≡ Some why → (bytes more : List ℕ) (records : List Record) → reader.has_read bytes records

@@ -22,8 +22,8 @@ use Rattle.pcapng_frames.specs.state.Fields.{AllResolved}
 pub record Takes (old : Reading) (bytes : List ℕ) (new : Reading) : Type 0 where
   pub same : (more : List ℕ) → rest_of old (bytes ++ more) ≡ rest_of new more
 
--- How many bytes are taken at a place before more is known of it. At a block: its first 8 bytes, then its fixed fields,
--- then the bytes of a packet. At an option: its header, then its value if the value is read.
+-- How many bytes of a block must be taken before more is known of it. `head_need` applies once the type of the block is
+-- known: the fixed fields are needed, and then the captured bytes of a packet.
 abbrev pub head_need : Kind → Order → List ℕ → ℕ
 head_need kind.Section order part = 16
 head_need kind.Interface order part = 16
@@ -44,8 +44,8 @@ need_by stage.Block order part = block_need order part
 need_by stage.Option order part = option_need (order_or_little order) part
 need_by stage.Trailer order part = 4
 
--- How far a reader is in a block. Before a block, nothing is to be skipped. Within a block, the bytes to be skipped,
--- the bytes of options that are left, and the trailer fit the total length.
+-- How far a reader is in a block. Before a block, nothing is to be skipped. Within a block, three things together fit
+-- the total length: the bytes to be skipped, the remaining bytes of options, and the trailer.
 abbrev pub IsAhead : Stage → ℕ → ℕ → ℕ → Type 0
 IsAhead stage.Block skip left total = skip ≡ 0
 IsAhead stage.Option skip left total = (0 < left) × (left % 4 ≡ 0) × (skip + left + 4 ≤ total)
@@ -152,7 +152,7 @@ pub record IsAt (next : Stage) (r : Reading) (piece : List ℕ) : Type 0 where
   pub stage : r.place.stage ≡ next
   pub ready : r.skip ≡ 0
 
--- what is missing if the capture ends with the bytes of a reader in this state
+-- what is missing if the capture ends after the bytes taken by a reader in this state
 abbrev pub lacks_by : Bool → Place → List ℕ → Option Refusal
 lacks_by true p part = None
 lacks_by false p part = if ends_at p.stage p.order p.start (length part) then None else Some (cut_by p.stage p part).refusal
