@@ -17,7 +17,6 @@ KeepsFiles-trans (Some a) b None p q = tt
 KeepsFiles-trans (Some a) None (Some c) p q = absurd q
 KeepsFiles-trans (Some a) (Some b) (Some c) p q = λ name. q name ∙ p name
 
--- keeping all files and then putting a file puts that file
 pub KeepsFiles-puts : (a b c : Option Files) (name bytes : List ℕ) → KeepsFiles a b → PutsFile b c name bytes → PutsFile a c name bytes
 KeepsFiles-puts None None None name bytes p q = tt
 KeepsFiles-puts None None (Some c) name bytes p q = absurd q
@@ -26,7 +25,6 @@ KeepsFiles-puts (Some a) b None name bytes p q = tt
 KeepsFiles-puts (Some a) None (Some c) name bytes p q = absurd q
 KeepsFiles-puts (Some a) (Some b) (Some c) name bytes p q = (q.0, λ other differs. q.1 other differs ∙ p other)
 
--- putting a file and then keeping all files puts that file
 pub PutsFile-kept : (a b c : Option Files) (name bytes : List ℕ) → PutsFile a b name bytes → KeepsFiles b c → PutsFile a c name bytes
 PutsFile-kept None None None name bytes p q = tt
 PutsFile-kept None None (Some c) name bytes p q = absurd q
@@ -35,7 +33,6 @@ PutsFile-kept (Some a) b None name bytes p q = tt
 PutsFile-kept (Some a) None (Some c) name bytes p q = absurd q
 PutsFile-kept (Some a) (Some b) (Some c) name bytes p q = (q name ∙ p.0, λ other differs. q other ∙ p.1 other differs)
 
--- putting a file twice leaves the bytes of the second call
 pub PutsFile-again : (a b c : Option Files) (name before bytes : List ℕ) → PutsFile a b name before → PutsFile b c name bytes → PutsFile a c name bytes
 PutsFile-again None None None name before bytes p q = tt
 PutsFile-again None None (Some c) name before bytes p q = absurd q
@@ -50,8 +47,7 @@ more_of b c name held bytes has more =
     let same : more.0 ≡ held = cc in
     (more.2.0 ∙ ap (λ (x : List ℕ). Some (x ++ bytes)) same, more.2.1)
 
--- Putting a file and then appending to it puts both lists of bytes. If the files are shown, `of` must be the file's
--- name.
+-- Putting `held` and then appending `bytes` puts `held ++ bytes`. If the files are shown, `of` must be the file's name.
 pub PutsFile-appends : (a b c : Option Files) (name held bytes : List ℕ) (of : Option (List ℕ)) → (IsSome a → of ≡ Some name) → PutsFile a b name held → AppendsTo b c of bytes → PutsFile a c name (held ++ bytes)
 PutsFile-appends None None None name held bytes of named p q = tt
 PutsFile-appends None None (Some c) name held bytes of named p q = absurd q
@@ -82,7 +78,6 @@ named_as None (Some b) same = absurd cc
 named_as (Some a) None same = absurd cc
 named_as (Some a) (Some b) same = let e : file_of b ≡ file_of a = cc in ap (λ (p : _). p.1) e
 
--- writing the file in slot k twice changes the slots as writing it once does
 pub KeepsOtherFiles-trans : (a b c : Slots) (k : ℕ) → KeepsOtherFiles a b (name_in a k) → KeepsOtherFiles b c (name_in b k) → KeepsOtherFiles a c (name_in a k)
 KeepsOtherFiles-trans a b c k p q = record {
   same = λ j. q.same j ∙ p.same j;

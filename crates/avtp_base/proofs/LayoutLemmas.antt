@@ -65,7 +65,7 @@ bits-wide n at first width xs fits within =
 
 -- ---- numbers that adjacent fields spell
 
--- the highest bits of the packed number, before these fields, are n
+-- the bits of the packed number above these fields are n
 packed_front : {V : Type 0} (bs : List (Bits V)) (v : V) (n : ℕ) → FitsBits bs v → packed_behind n bs v / 2 ^ total_width bs ≡ n
 packed_front [] v n fits = div-one n
 packed_front (b ∷ bs) v n fits =

@@ -18,7 +18,6 @@ Appends-trans (Some x) b None bs cs p q = tt
 Appends-trans (Some x) None (Some z) bs cs p q = absurd q
 Appends-trans (Some x) (Some y) (Some z) bs cs p q = q ∙ ap (λ l. l ++ cs) p ∙ append_assoc x bs cs
 
--- appending bytes and then keeping all bytes appends those bytes
 pub Appends-kept : (a b c : Option (List ℕ)) (bs : List ℕ) → Appends a b bs → Keeps b c → Appends a c bs
 Appends-kept None None None bs p q = tt
 Appends-kept None None (Some z) bs p q = absurd q
@@ -27,7 +26,6 @@ Appends-kept (Some x) b None bs p q = tt
 Appends-kept (Some x) None (Some z) bs p q = absurd q
 Appends-kept (Some x) (Some y) (Some z) bs p q = q ∙ p
 
--- keeping all bytes and then appending some appends those bytes
 pub Keeps-appends : (a b c : Option (List ℕ)) (bs : List ℕ) → Keeps a b → Appends b c bs → Appends a c bs
 Keeps-appends None None None bs p q = tt
 Keeps-appends None None (Some z) bs p q = absurd q
@@ -42,7 +40,7 @@ Keeps-none a b p = Keeps-appends a b b [] p (Appends-nil b)
 
 -- ---- a buffer of bytes to be written
 
--- moving a prefix of the buffer to the writer does not change the written bytes followed by the buffered bytes
+-- moving `front` from the buffer to the writer does not change the written bytes followed by the buffered bytes
 pub append_known-moved : (a b : Option (List ℕ)) (front rest all : List ℕ) → Appends a b front → all ≡ front ++ rest → Keeps (append_known a all) (append_known b rest)
 append_known-moved None None front rest all p e = tt
 append_known-moved None (Some y) front rest all p e = absurd p

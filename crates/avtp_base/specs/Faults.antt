@@ -24,8 +24,8 @@ pub record IsCounted {T : Type 0} (before after : ℕ) (result : Result T Failed
   pub ok : OnOk result (after ≡ before)
   pub failed : OnErr result (Rose before after)
 
--- How a call that opens or makes a file, with this result, changes the count of faults. The count never falls. At `Ok`
--- it is unchanged; at `Failed` it rose. A missing file and missing memory are not counted.
+-- How a call that opens or makes a file changes the count of faults, if the call has this result. The count never
+-- falls. At `Ok` it is unchanged; at `Failed` it rose. A missing file and missing memory are not counted.
 pub record IsOpenCounted {T : Type 0} (before after : ℕ) (result : Result T OpenFault) : Type 0 where
   pub never_falls : before ≤ after
   pub ok : OnOk result (after ≡ before)

@@ -8,7 +8,7 @@ abbrev pub Files : Type 0
 Files = List ℕ → Option (List ℕ)
 
 -- An open file: whether it was made for writing, its name, and the bytes that are left to read. The name and the bytes
--- are there only if the shelf shows them.
+-- are present only if the shelf shows them.
 pub record Open : Type 0 where
   pub made : Bool
   pub name : Option (List ℕ)
@@ -69,13 +69,14 @@ IsOpened (Some files) slot name =
 abbrev pub IsMade : Option Files → Option Open → List ℕ → Type 0
 IsMade files slot name = IsSomeAnd slot (λ o. (o.made ≡ true) × (IsSome files → o.name ≡ Some name))
 
--- Every slot stays live or free and keeps its file. What is left to read changes only in slots of the file `name`.
+-- In every slot, the same file stays open, or the slot stays free. What is left to read changes only in slots of the
+-- file `name`.
 pub record KeepsOtherFiles (old new : Slots) (name : Option (List ℕ)) : Type 0 where
   pub same : (j : ℕ) → option_map file_of (new j) ≡ option_map file_of (old j)
   pub left : (j : ℕ) → name_in old j ≢ name → left_in new j ≡ left_in old j
 
--- Every slot except slot k stays live or free and keeps its file. What is left to read changes only in slot k and in
--- slots of the file `name`.
+-- In every slot except slot k, the same file stays open, or the slot stays free. What is left to read changes only in
+-- slot k and in slots of the file `name`.
 pub record KeepsOthersFiles (old new : Slots) (k : ℕ) (name : List ℕ) : Type 0 where
   pub same : (j : ℕ) → j ≢ k → option_map file_of (new j) ≡ option_map file_of (old j)
   pub left : (j : ℕ) → j ≢ k → name_in old j ≢ Some name → left_in new j ≡ left_in old j

@@ -1,5 +1,5 @@
--- Headers as tables, as the standards print them: part by part, which value each bit belongs to. The same table is used
--- for reading and for writing.
+-- Headers as tables, as the standards print them. A table says, part by part, which value each bit belongs to. The same
+-- table is used for reading and for writing.
 use Rattle.std.specs.Prelude.{◌≡◌, ℕ, ◌+◌, ◌*◌, ◌/◌, ◌^◌, ◌<◌, Bool, true, false, nat_lt, if◌then◌else◌, List, [], ◌∷◌, map, Option, Some, None, ⊤}
 use Rattle.std.specs.List.{flat_map}
 use Rattle.byteorder.specs.Endian.{big_bytes}
@@ -9,14 +9,14 @@ use Rattle.avtp_base.specs.Octets.{bits, Range, range}
 use Rattle.avtp_base.specs.Rows.{Row, first_row}
 
 -- Adjacent bits of a header: their width; the value that they hold, if a view of type `V` shows it; and whether they
--- are free (reserved). A packet may hold anything in free bits; a writer writes 0 there.
+-- are free (reserved). In a packet that is read, free bits may have any value. A writer writes free bits as 0.
 pub record Bits (V : Type 0) : Type 0 where
   pub width : ℕ
   pub shown : Option (V → ℕ)
   pub free : Bool
 
--- Whole bytes of a header from byte `at` on, and the field that refuses a packet that ends before the last of these
--- bytes.
+-- Whole bytes of a header from byte `at` on. If a packet ends before the last of these bytes, the refusal names
+-- `field`.
 pub record Part (V : Type 0) : Type 0 where
   pub field : Field
   pub at : ℕ
@@ -26,8 +26,8 @@ pub record Part (V : Type 0) : Type 0 where
 abbrev pub Layout : Type 0 → Type 0
 Layout V = List (Part V)
 
--- The part of a table with these bits from byte `at` on. If a packet ends before the last of them, it is refused by
--- this field.
+-- The part of a table with these bits from byte `at` on. If a packet ends before the last of these bits, the refusal
+-- names this field.
 abbrev pub part : {V : Type 0} → Field → ℕ → List (Bits V) → Part V
 part field at bits = record { field = field; at = at; bits = bits }
 
@@ -82,12 +82,12 @@ total_width (b ∷ bs) = b.width + total_width bs
 abbrev pub size_of : {V : Type 0} → Part V → ℕ
 size_of p = total_width p.bits / 8
 
--- the row of the refusal table that holds if n bytes cut off this part of the header
+-- the row that refuses a packet of n bytes if the packet cuts off this part of the header
 abbrev pub short_row : {V : Type 0} → ℕ → Part V → Row
 short_row n p =
     record { refusal = record { field = p.field; at = p.at; short = true }; holds = nat_lt n (p.at + size_of p) }
 
--- the refusal at the first part of the header that n bytes cut off, if any
+-- the refusal of a packet of n bytes at the first part of the header that is cut off, if any
 abbrev pub first_short : {V : Type 0} → Layout V → ℕ → Option Refusal
 first_short layout n = first_row (map (short_row n) layout)
 

@@ -4,7 +4,7 @@ use Rattle.std.specs.Prelude.{ℕ, ◌+◌, ◌-◌, ◌*◌, ◌/◌, ◌%◌, 
 use Rattle.byteorder.specs.Endian.{big_from}
 
 -- The number in `width` bits from bit `first` of byte `at` on, highest bit first. The bytes that contain these bits are
--- read as one big-endian number, and the bits are cut out of it.
+-- read as one big-endian number, and the bits are cut out of that number.
 unfoldable pub bits : ℕ → ℕ → ℕ → List ℕ → ℕ
 bits at first width bytes =
     let size = (first + width + 7) / 8 in

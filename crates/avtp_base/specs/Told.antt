@@ -1,5 +1,5 @@
--- What an object outside the program shows of the bytes that it holds. The object may show the bytes, not show them, or
--- stop showing them; then it never shows them again. A statement about the bytes holds if they are shown before and
+-- What an object outside the program shows of the bytes that it holds. The object may or may not show the bytes. If the
+-- object stops showing them, it never shows them again. A statement about the bytes holds if they are shown before and
 -- after.
 use Rattle.std.specs.Prelude.{◌≡◌, ℕ, List, ◌++◌, take, ⊤, Option, None, Some, Result, MatchResult, option_map}
 
@@ -21,6 +21,6 @@ Appends (Some xs) (Some ys) bs = ys ≡ xs ++ bs
 abbrev pub WriteAppends : {E : Type 0} → Option (List ℕ) → Option (List ℕ) → Result ℕ E → List ℕ → Type 0
 WriteAppends old new r piece = MatchResult r (λ n. Appends old new (take n piece)) (λ _. Keeps old new)
 
--- if the bytes are shown, these bytes followed by `bs`
+-- the bytes followed by `bs`, if the bytes are shown
 abbrev pub append_known : Option (List ℕ) → List ℕ → Option (List ℕ)
 append_known told bs = option_map (λ xs. xs ++ bs) told

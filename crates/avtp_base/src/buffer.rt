@@ -38,7 +38,7 @@ impl Buffer {
     pub fn new(alloc: Global) -> Result<Self, NoMemory>
         ensures { IfOk result (λ buffer. buffer ≡ []) }
     {
-        // The memory is filled here, because a slice can only show filled memory.
+        // The memory is filled with zeros here, because a slice can show only initialized memory.
         match vec![in alloc; 0; Self::ROOM] {
             Ok(bytes) => Ok(Buffer { bytes, len: 0 }),
             Err(_) => Err(NoMemory),
@@ -76,7 +76,7 @@ impl Buffer {
         self.len = end;
     }
 
-    /// Adds the encoding of a value at the end, written in place. There must be room for the encoding.
+    /// Adds the encoding of a value at the end. The value is encoded in place. There must be room for the encoding.
     #[inline(always)]
     pub fn add<W: Spelled>(&mut self, added: &W)
         requires { length self.old + length (W.spelling added.now) ≤ Self.ROOM }

@@ -27,7 +27,7 @@ pub struct RealFile<F> {
 }
 
 /// Real files, named by their paths. The shelf does not show their contents. If the system shows what its files hold, a
-/// read or a write moves exactly the bytes that it reports. A missing file counts as a fault.
+/// read or a write moves exactly the bytes that the call reports. A missing file counts as a fault.
 ///
 /// A file that was opened for reading is never made or emptied, under any of its paths. Standard output is not made or
 /// emptied either, if it is a file. In these cases `create_file` returns `Failed`, and the file is unchanged.

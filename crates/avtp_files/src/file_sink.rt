@@ -14,7 +14,7 @@ use std::io::{self, Eprint};
 use std::rt::Files;
 
 /// A real file. Contracts do not see what it holds. If the system shows what the file holds, a write adds exactly the
-/// bytes that it reports.
+/// bytes that the call reports.
 ///
 /// A file at one of the paths in `apart` is never made or emptied, under any of its paths. Standard output is not made
 /// or emptied either, if it is a file. In these cases `write` returns `Failed`, and the file is unchanged.
@@ -67,7 +67,7 @@ impl<R: Files + Eprint + Alloc> FileSink<R> {
         identity_of(&self.rt, STANDARD_OUTPUT) == Some(identity)
     }
 
-    /// Makes the file or empties it. Fails if it must not be written.
+    /// Makes the file or empties it. Fails if the file must not be written.
     fn make(&self) -> io::Result<R::File> {
         if self.is_taken() {
             return Err(already_used());
@@ -76,7 +76,7 @@ impl<R: Files + Eprint + Alloc> FileSink<R> {
     }
 
     // Makes or empties the file if that was not done yet, and then writes at least one byte to it. If the file could
-    // not be made, the next write tries again.
+    // not be made, the next write tries again to make it.
     fn write_some(&mut self, piece: &[u8]) -> io::Result<usize>
         ensures some { IfOk result (λ n. 0 < n) }
         ensures within { IfOk result (λ n. n ≤ length piece.now) }

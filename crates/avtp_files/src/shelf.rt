@@ -12,8 +12,9 @@ pub struct Slot(pub u32);
 /// Files by name, read and written in pieces through slots. A shelf counts faults of reading (`open_file` and `read`)
 /// and of writing (`create_file` and `write`) separately. A call raises only its own count.
 ///
-/// For each call, one relation says what the call does to every shelf. A ghost member (`opens` to `closes`) adds what
-/// the call does to one kind of shelf. If the kind does not define the member, it adds nothing.
+/// For each call, one relation says what the call does to every shelf. Each call also has a ghost member, from `opens`
+/// to `closes`. The member adds what the call does to one kind of shelf. If the kind does not define the member, it
+/// adds nothing.
 pub trait Shelf {
     ghost use Rattle.std.specs.Prelude.{ℕ, List, Result};
     ghost use Rattle.avtp_base.specs.declared.failed.Failed.{Failed};
@@ -22,8 +23,8 @@ pub trait Shelf {
     ghost use Rattle.avtp_base.specs.Files.{left_in, name_in};
     ghost use Rattle.avtp_base.specs.States.{ShelfState};
 
-    /// The files of the shelf (if it shows them), its open files, its counts of faults and the names that it was asked
-    /// for. A shelf may stop showing its files, and then never shows them again.
+    /// What contracts see of the shelf: its files, its open files, its counts of faults, and the names that it was
+    /// asked for. A shelf may not show its files, or may stop showing them. Then it never shows them again.
     ghost state: { Self → ShelfState };
 
     ghost opens: { Self → Self → List ℕ → Result Slot OpenFault → Type 0 } = { λ _ _ _ _. Unit {0} };
@@ -39,7 +40,7 @@ pub trait Shelf {
     /// Opens a file for reading, in a slot that was not live.
     ///
     /// Returns `Missing` only if the shelf shows its files and none has the name. If a shelf does not show its files,
-    /// it returns `Failed` for a missing name. At `Failed` the reading count rose.
+    /// it returns `Failed` or `Memory` for a missing name. At `Failed` the reading count rose.
     fn open_file(&mut self, name: &str) -> Result<Slot, OpenFault>
         ensures does { OpensInSlot (state self.old) (state self.new) name.now result }
         ensures own { opens self.old self.new name.now result };

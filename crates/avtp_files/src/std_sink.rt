@@ -6,8 +6,8 @@ use crate::sink::Sink;
 use avtp_base::Failed;
 use std::io::Write;
 
-/// Standard output, or another writer of the system. Contracts do not see what it holds. If the writer shows its bytes,
-/// a write adds exactly the bytes that it reports.
+/// Standard output, or another writer of the system. Contracts do not see what the writer holds. If the writer shows
+/// its bytes, a write adds exactly the bytes that the call reports.
 #[derive(Drop)]
 pub struct StdSink<W> {
     writer: W,

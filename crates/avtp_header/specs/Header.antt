@@ -8,8 +8,8 @@ use Rattle.avtp_base.specs.Layout.{Bits, Layout, part, holds, reserved, Spells, 
 use Rattle.avtp_header.specs.declared.header.StreamHeader.{StreamHeader}
 use Rattle.avtp_header.specs.declared.header.Peeked.{Peeked}
 
--- The table of the stream header, for a view that contains a header. Each format defines for itself two bits of byte 1,
--- bytes 16 to 19 and bytes 22 and 23.
+-- The table of the stream header, for a view that contains a header. Each format defines the meaning of two bits of
+-- byte 1, of bytes 16 to 19, and of bytes 22 and 23.
 abbrev pub stream_layout : {V : Type 0} → (V → StreamHeader) → List (Bits V) → Layout V → Layout V → Layout V
 stream_layout header format_bits format_data format_flags =
     part Subtype 0 (holds 8 (λ v. (header v).subtype) ∷ []) ∷
@@ -27,8 +27,8 @@ stream_layout header format_bits format_data format_flags =
     part StreamDataLength 20 (holds 16 (λ v. (header v).data_length) ∷ []) ∷
     format_flags)
 
--- the table of the stream header alone: it shows the two format bits, and leaves bytes 16 to 19, 22 and 23 to the
--- format
+-- The table of the stream header alone. The table shows the two format bits, and leaves bytes 16 to 19, 22 and 23 to
+-- the format.
 abbrev pub header_layout : Layout StreamHeader
 header_layout = stream_layout (λ h. h)
     (holds 2 (λ h. h.format_bits) ∷ [])
@@ -55,7 +55,7 @@ kind_refusal subtype bytes =
     or_else (first_short header_layout (length bytes))
     (first_row (subtype_row subtype bytes ∷ version_row bytes ∷ []))
 
--- the stated length exceeds the number of bytes after the header, in a packet of n bytes
+-- in a packet of n bytes, the stated length exceeds the number of bytes after the header
 abbrev pub exceeds : ℕ → ℕ → ℕ → Bool
 exceeds header stated n = nat_lt n (header + stated)
 
@@ -64,7 +64,7 @@ pub record SpellsHeader (bytes : List ℕ) (h : StreamHeader) : Type 0 where
   pub accepted : header_refusal bytes ≡ None
   pub fields : Spells header_layout h bytes
 
--- the stream header that the bytes begin with, if nothing refuses them
+-- the stream header that the bytes begin with, if nothing in the bytes is refused
 abbrev pub header_of : List ℕ → StreamHeader
 header_of bytes = record {
   subtype = bits 0 0 8 bytes;

@@ -68,8 +68,8 @@ pub record ReadsByNumber (old new : MemoryShelf) (k room : ℕ) (result : Result
   pub failed : IsErr result ↔ IsToFail old
   pub call : CountsCall old new
 
--- A write of `piece`. At `Ok` the write took the whole piece, but at most as many bytes as a call may move. If the
--- number of the write is among the failing ones, the write failed. The call was counted.
+-- A write of `piece`. At `Ok` the write took the whole piece, or as much of the piece as a call may move. If the number
+-- of the write is among the failing ones, the write failed. The call was counted.
 pub record WritesByNumber (old new : MemoryShelf) (piece : List ℕ) (result : Result ℕ Failed) : Type 0 where
   pub whole : IfOk result (λ n. n ≡ min (length piece) (most old))
   pub failed : IsToFail old → IsErr result

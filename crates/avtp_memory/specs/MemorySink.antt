@@ -24,8 +24,8 @@ most sink = sink.most
 abbrev pub fault_count : MemorySink → ℕ
 fault_count sink = sink.faults
 
--- What a write adds to what it does on every sink. At `Ok` the write took the whole piece, but at most as many bytes as
--- a call may take. If the number of the write is among the failing ones, the write failed. The call was counted. The
+-- What a write adds to what it does on every sink. At `Ok` the write took the whole piece, or as much of the piece as a
+-- call may take. If the number of the write is among the failing ones, the write failed. The call was counted. The
 -- failing calls, and the greatest number of bytes that a call takes, are unchanged.
 pub record TakesByNumber (old new : MemorySink) (piece : List ℕ) (result : Result ℕ Failed) : Type 0 where
   pub told : Contains (failing_calls old) (next_number (calls old)) → IsErr result

@@ -34,7 +34,7 @@ abbrev pub asked_of : QuietShelf → List (List ℕ) → Type 0
 asked_of shelf = StandsForNames shelf.asked
 
 -- The named file keeps as much of the piece as fits its room. Every other file is unchanged. If the whole piece does
--- not fit, `keeps_all` becomes false; otherwise it is unchanged.
+-- not fit, `keeps_all` becomes false; otherwise `keeps_all` is unchanged.
 abbrev pub KeepsPiece : QuietShelf → QuietShelf → Option (List ℕ) → List ℕ → Type 0
 KeepsPiece old new name piece =
     (fits : Bool) × KeepsPart (kept_files old) (kept_files new) name (room_of old) piece fits × (keeps_all new ≡ (keeps_all old && fits))
@@ -52,8 +52,8 @@ pub record OpensQuietly (old new : QuietShelf) (name : List ℕ) (result : Resul
   pub found : IfOk result (λ slot. IsOpened (Some (kept_files old)) (slots_of new slot.0) name)
   pub keeps : KeepsKept old new
 
--- At `Ok` the file with this name was made, and nothing of it is kept yet. At `Err` the kept bytes of every file are
--- unchanged.
+-- At `Ok` the file with this name was made, and no byte of the file is kept yet. At `Err` the kept bytes of every file
+-- are unchanged.
 pub record MakesQuietly (old new : QuietShelf) (name : List ℕ) (result : Result Slot OpenFault) : Type 0 where
   pub kept : OnOk result (PutsFile (Some (kept_files old)) (Some (kept_files new)) name [])
   pub as_before : OnErr result (KeepsFiles (Some (kept_files old)) (Some (kept_files new)))

@@ -3,7 +3,7 @@
 ghost use Rattle.std.specs.Prelude.{◌≡◌, ◌↔◌, Contains, IsTrue};
 ghost use Rattle.avtp_memory.specs.Calls.{next_number};
 
-/// Numbers the calls from 1, and holds the numbers of the calls that fail. The number stops at the greatest `u64`.
+/// Numbers the calls from 1, and holds the numbers of the calls that fail. The call number stops at the greatest `u64`.
 #[derive(Debug, Drop)]
 pub struct Calls {
     pub fails: Vec<u64>,

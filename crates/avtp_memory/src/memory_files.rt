@@ -28,8 +28,8 @@ impl MemoryFiles {
     ghost use Rattle.avtp_memory.specs.MemoryFiles.{files_in, slots_in, room_in, KeepsPart};
     ghost use Rattle.avtp_memory.specs.NamedFiles.{bytes_under};
 
-    /// Holds these files, each under its name; none is open. A file that is made gets memory for `room` bytes. If two
-    /// files have the same name, the first counts.
+    /// Files in memory, each under its name, and none of them open. A file that is made gets memory for `room` bytes.
+    /// If two files have the same name, the first counts.
     pub fn over(alloc: Global, files: Vec<(String, Vec<u8>)>, room: usize) -> Self
         ensures files { files_in result ≡ bytes_under files.items }
         ensures closed { (k : ℕ) → slots_in result k ≡ None }
@@ -91,8 +91,8 @@ impl MemoryFiles {
         Ok(slot)
     }
 
-    /// Moves bytes from the front of what is left to read into the buffer: as many as are left and fit, but at most
-    /// `most`.
+    /// Moves bytes that are left to read into the buffer, and returns how many it moved: as many as are left and fit,
+    /// but at most `most`.
     pub fn read(&mut self, slot: Slot, most: usize, buf: &mut [u8]) -> usize
         requires live { IsSome (slots_in self.old slot.0) }
         requires some { 0 < most }

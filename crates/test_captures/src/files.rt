@@ -27,7 +27,7 @@ impl Spelled for Piece<'_> {
     }
 }
 
-/// Makes a file, writes the piece to it twice, and returns whether all of it was written.
+/// Makes a file, writes the piece to it twice, and returns whether the file has both copies.
 fn write_twice<F: Shelf>(
     alloc: Global,
     shelf: &mut F,

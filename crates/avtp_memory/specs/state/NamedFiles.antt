@@ -5,7 +5,7 @@ use Rattle.std.specs.Global.{Vec, Global}
 use Rattle.avtp_memory.specs.Room.{kept_within, FitsRoom}
 use Rattle.avtp_memory.specs.NamedFiles.{has_name, bytes_under}
 
--- The file now has these bytes, and every other file is unchanged.
+-- The file `name` now has these bytes, and every other file is unchanged.
 pub record SetsFile (old new : List (String Global × Vec ℕ)) (name bytes : List ℕ) : Type 0 where
   pub set : bytes_under new name ≡ Some bytes
   pub others : (other : List ℕ) → other ≢ name → bytes_under new other ≡ bytes_under old other
