@@ -88,7 +88,6 @@ same_parts (part ∷ parts) v at xs ys laid p q h g k low high =
       | inr behind ↦ same_parts parts v (at + n) xs ys laid.2 p q h.1 g.1 k behind (omega arith)
     ]
 
--- if bits hold what a writer puts there, each value fits its bits
 holds_fit_bits : {V : Type 0} (bs : List (Bits V)) (v : V) (at first : ℕ) (bytes : List ℕ) → HoldsBits at first bs v bytes → FitsBits bs v
 holds_fit_bits [] v at first bytes h = tt
 holds_fit_bits (b ∷ bs) v at first bytes h =

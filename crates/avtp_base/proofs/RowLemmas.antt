@@ -52,7 +52,6 @@ pub read_only : {X V : Type 0} (shape : X → V) (refusal : Option Refusal) (vie
 read_only shape refusal view w (Ok x) reads accepted is = reads.1 ∙ sym is
 read_only shape refusal view w (Err e) reads accepted is = let refused = reads in absurd cc
 
--- what holds of the spelling holds of the bytes that were written
 pub written_so : (spelling old new : List ℕ) (Again : List ℕ → Type 0) (r : Result ℕ Room)
     → Writes spelling old new r → Again spelling → IfOk r (λ n. Again (take n new))
 written_so spelling old new Again (Ok n) writes again =

@@ -23,8 +23,8 @@ pub trait Shelf {
     ghost use Rattle.avtp_base.specs.Files.{left_in, name_in};
     ghost use Rattle.avtp_base.specs.States.{ShelfState};
 
-    /// What contracts see of the shelf: its files, its open files, its counts of faults, and the names that it was
-    /// asked for. A shelf may not show its files, or may stop showing them. Then it never shows them again.
+    /// What contracts see of the shelf: its files, if it shows them; its open files; its counts of faults; and the
+    /// names that it was asked for. If a shelf stops showing its files, it never shows them again.
     ghost state: { Self → ShelfState };
 
     ghost opens: { Self → Self → List ℕ → Result Slot OpenFault → Type 0 } = { λ _ _ _ _. Unit {0} };

@@ -1,4 +1,4 @@
--- What two successive calls leave of a shelf.
+-- What two successive calls together leave unchanged on a shelf.
 use Rattle.std.proofs.Common.{◌≡◌, ℕ, List, [], ◌∷◌, ◌++◌, refl, sym, subst, ◌∙◌, arith, append_assoc, append-nil}
 use Rattle.std.specs.Prelude.{IsSome, option_map}
 use Rattle.avtp_base.specs.Files.{KeepsOthers, file_of}
@@ -65,7 +65,7 @@ opens_then s t u name k j first second = record {
   asked = λ earlier stands. second.asked (earlier ++ name ∷ []) (first.asked earlier stands);
 }
 
--- opening a file, reading it and closing it again only reads
+-- opening a file, reading it and closing it again counts as a call that only reads
 pub only_reads_closed : (s t u : ShelfState) (name : List ℕ) (k : ℕ) → OpensSlot s t name k → ClosesSlot t u k → OnlyReads s u (name ∷ [])
 only_reads_closed s t u name k first second = record {
   files = KeepsFiles-trans s.files t.files u.files first.files second.files;

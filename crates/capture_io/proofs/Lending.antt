@@ -121,7 +121,6 @@ fed_more limit bytes remains source size records ahead fed =
       read = feeds.read fed.prefix records fed.read;
     }
 
--- lending the next record counts as reading on to it
 reads_ahead : (shelf : ShelfState) (source : Sourcing) (size : ℕ) → IsSome (shelf.slots (slot_of source)) → LiesAhead source size → ReadsOn shelf shelf source (holding source size) None
 reads_ahead shelf source size live ahead =
     let waiting = source.pieces.waiting in

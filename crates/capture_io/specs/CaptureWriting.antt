@@ -27,8 +27,8 @@ capture_bytes records = capture_spelling written_style records
 
 -- ---- the file that is written
 
--- The file `name` was made when the shelf had the files `files`, and it is open in the writer's slot. `bytes` are the
--- bytes of the file, then the buffered bytes. If the shelf shows its files, all other files are unchanged.
+-- The file `name` was made when the shelf had the files `files`, and is open in the writer's slot. `bytes` are the
+-- bytes of the file followed by the buffered bytes. If the shelf shows its files, all other files are unchanged.
 pub record HoldsFile (files : Option Files) (shelf : ShelfState) (writer : Writing) (name bytes : List ℕ) : Type 0 where
   pub held : List ℕ
   pub split : bytes ≡ held ++ writer.waiting
@@ -36,7 +36,7 @@ pub record HoldsFile (files : Option Files) (shelf : ShelfState) (writer : Writi
   pub made : IsMadeIn shelf.slots writer.slot
   pub named : IsSome files → name_in shelf.slots writer.slot ≡ Some name
 
--- the bytes of the file, then the buffered bytes, are a capture of these records
+-- the bytes of the file, followed by the buffered bytes, are a capture of these records
 abbrev pub HoldsCapture : Option Files → ShelfState → Writing → List ℕ → List Record → Type 0
 HoldsCapture files shelf writer name records = HoldsFile files shelf writer name (capture_bytes records)
 

@@ -12,8 +12,8 @@ use Rattle.capture_io.specs.Ends.{CountsStop}
 use Rattle.capture_io.specs.Reads.{OnlyReads}
 
 -- Which prefix of a file with these bytes was read. If the reading stopped at the end of the file, the prefix is the
--- whole file. If it stopped at a fault, the prefix is any within the limit. If it stopped at the limit, the prefix is
--- the first `limit` bytes of a longer file.
+-- whole file. If the reading stopped at a fault, the prefix is any prefix within the limit. If the reading stopped at
+-- the limit, the prefix is the first `limit` bytes of a longer file.
 abbrev pub IsContents : ℕ → List ℕ → Stop → List ℕ → Type 0
 IsContents limit bytes stop.End prefix = (bytes ≡ prefix) × (length prefix ≤ limit)
 IsContents limit bytes stop.Fault prefix = (rest : List ℕ) × (bytes ≡ prefix ++ rest) × (length prefix ≤ limit)

@@ -45,15 +45,15 @@ end_at stop.Limit lack = end.Limit
 
 -- ---- the count of reading faults
 
--- How a call changes the count of reading faults. The first end is how the reading had ended before the call, if it
--- had; the second is the call's result. If a fault of reading ended the reading in this call, the count rises;
--- otherwise it is unchanged.
+-- How a call changes the count of reading faults. The first end is how the reading had ended before the call, if it had
+-- ended. The second end is the call's result. If a fault of reading ended the reading in this call, the count rises;
+-- otherwise the count is unchanged.
 abbrev pub CountsFault : Option End → Option End → ℕ → ℕ → Type 0
 CountsFault None (Some end.ReadFault) before after = Rose before after
 CountsFault ended result before after = after ≡ before
 
--- what reading a file does to the count of reading faults: if a fault stopped the reading, it rises; otherwise it is
--- unchanged
+-- what reading a file does to the count of reading faults: if a fault stopped the reading, the count rises; otherwise
+-- the count is unchanged
 abbrev pub CountsStop : Option Stop → ℕ → ℕ → Type 0
 CountsStop (Some stop.Fault) before after = Rose before after
 CountsStop result before after = after ≡ before

@@ -1,4 +1,4 @@
--- What reading leaves unchanged of a shelf, and which names it asks for.
+-- What reading leaves unchanged on a shelf, and which names are asked for.
 use Rattle.std.specs.Prelude.{◌≡◌, ℕ, ◌≤◌, List, [], ◌∷◌, None, Some, IfOk, IsErrOf, IsSome, OnErr, Result, option_map}
 use Rattle.avtp_base.specs.declared.failed.OpenFault.{OpenFault}
 use Rattle.avtp_base.specs.declared.failed.OpenFault.TheVariants as open_fault

@@ -12,7 +12,8 @@ use Rattle.capture_io.specs.Pieces.{Piecing, HasTaken}
 use Rattle.capture_io.specs.Reader.{CaptureReading, HasRead, held, refusal_of}
 use Rattle.capture_io.specs.Reads.{ReadsSlot, TriesOpen}
 
--- A source of records: the pieces of its file, the reader that takes them, and how the reading ended, once it has.
+-- A source of records: the pieces of its file, the reader that takes the pieces, and the end of the reading once the
+-- reading has ended.
 pub record Sourcing : Type 0 where
   pub pieces : Piecing
   pub reader : CaptureReading
@@ -83,8 +84,8 @@ pub record GivesNext (before after : ShelfState) (old new : Sourcing) (result : 
   pub counted : CountsFault old.ended result before.reading_faults after.reading_faults
   pub reads : ReadsSlot before after (slot_of old) (slot_of new)
 
--- The held record was released. If the next record is complete in the bytes that were read, it is held now, and nothing
--- more was read. Otherwise a later `next` has the same effect as a `next` in place of this call.
+-- The held record was released. If the next record is complete in the bytes that were read, that record is held now,
+-- and nothing more was read. Otherwise a later `next` has the same effect as a `next` in place of this call.
 pub record Advances (old new : Sourcing) (at_hand : Bool) : Type 0 where
   pub given : at_hand ≡ true → (shelf : ShelfState) → IsSome (shelf.slots (slot_of old)) → GivesNext shelf shelf old new None
   pub further : at_hand ≡ false → (before after : ShelfState) (next : Sourcing) (result : Option End) → GivesNext before after new next result → GivesNext before after old next result

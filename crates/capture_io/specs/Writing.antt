@@ -14,8 +14,8 @@ pub record Writing : Type 0 where
   pub waiting : List ℕ
 
 -- Since the state `before`, the file `name` was made and opened in the writer's slot, which was free. `bytes` are the
--- bytes of the file, then the buffered bytes. All other files are unchanged, if the shelf shows them. All other slots
--- are unchanged, except that slots of this file may have other bytes left to read.
+-- bytes of the file followed by the buffered bytes. All other files are unchanged, if the shelf shows them. All other
+-- slots are unchanged, except that slots of this file may have other bytes left to read.
 pub record IsWriting (before after : ShelfState) (writer : Writing) (name bytes : List ℕ) : Type 0 where
   pub held : List ℕ
   pub split : bytes ≡ held ++ writer.waiting

@@ -26,7 +26,7 @@ abbrev pub is_short : Option Refusal → Bool
 is_short None = false
 is_short (Some refusal) = refusal.short
 
--- if the first refusal of a table is not due to missing bytes, appending bytes does not change it
+-- if the first refusal of a table is not due to missing bytes, appending bytes does not change the refusal
 table_stays : (order : Order) (start : ℕ) (rows : List Row) (bytes more : List ℕ) (x : Option Refusal) → first_refused order start rows bytes ≡ x → is_short x ≡ false → first_refused order start rows (bytes ++ more) ≡ x
 table_stays order start [] bytes more x e h = e
 table_stays order start (r ∷ rows) bytes more x e h =
@@ -51,7 +51,7 @@ pub style_at_stays : (bytes more : List ℕ) → 4 ≤ length bytes → style_at
 unfolding style_at
 style_at_stays bytes more h = ap style_of_magic (number_stays Little 0 4 bytes more h)
 
--- if the refusal of a file header is not due to missing bytes, appending bytes does not change it
+-- if the refusal of a file header is not due to missing bytes, appending bytes does not change the refusal
 pub file_stays : (bytes more : List ℕ) (x : Option Refusal) → file_refusal bytes ≡ x → is_short x ≡ false → file_refusal (bytes ++ more) ≡ x
 unfolding file_refusal
 file_stays bytes more x e h =
@@ -59,7 +59,7 @@ file_stays bytes more x e h =
     (λ y ey hy. table_stays Little 0 magic_number bytes more y ey hy)
     (λ none y ey hy. rw (style_at_stays bytes more (magic_whole bytes none)) (table_stays (order_of (style_at bytes)) 0 file_header bytes more y ey hy))
 
--- if the refusal of a record is not due to missing bytes, appending bytes does not change it
+-- if the refusal of a record is not due to missing bytes, appending bytes does not change the refusal
 pub record_stays : (order : Order) (start : ℕ) (bytes more : List ℕ) (x : Option Refusal) → record_refusal order start bytes ≡ x → is_short x ≡ false → record_refusal order start (bytes ++ more) ≡ x
 unfolding record_refusal
 record_stays order start bytes more x e h =

@@ -128,7 +128,6 @@ certain_by : (r why : Refusal) (b : Bool) → r.short ≡ b → cond b None (Som
 certain_by r why true s e = absurd (cc)
 certain_by r why false s e = let same : r ≡ why = cc in (e, rw (← same) s)
 
--- if a refusal cannot be changed by later bytes, it is the first refusal, and its field is complete
 pub certain_is : (x : Option Refusal) (why : Refusal) → certain x ≡ Some why → (x ≡ Some why) × (why.short ≡ false)
 certain_is None why e = absurd (cc)
 certain_is (Some r) why e = certain_by r why r.short refl e

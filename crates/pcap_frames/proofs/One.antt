@@ -120,7 +120,7 @@ split_one bytes records others x y p q =
     subst (λ (n : ℕ). Ends p.style n p.rest y) (sym fronts) (subst (λ (z : List ℕ). Ends p.style (length q.front) z y) (sym lists.1) ends) in
     (lists.0, ends_one p.style (length p.front) p.rest x y p.ends moved, style)
 
--- a capture is split into its file header, its records and nothing after them
+-- a capture splits into its file header and its records, with no bytes after them
 split_capture : (style : Style) (records : List Record) (bytes : List ℕ) → IsCapture style records bytes → Split bytes records None
 split_capture style records bytes c = record {
   style = style;

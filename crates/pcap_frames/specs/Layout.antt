@@ -118,7 +118,7 @@ abbrev pub scale : units.Unit → ℕ
 scale Micro = 1000
 scale Nano = 1
 
--- the instant of a record in nanoseconds; a fraction of one second or more is added as it is
+-- the instant of a record in nanoseconds; a fraction of one second or more is added unchanged
 abbrev pub instant : units.Unit → ℕ → ℕ → ℕ
 instant unit seconds fraction = seconds * 1000000000 + fraction * scale unit
 

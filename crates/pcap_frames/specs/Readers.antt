@@ -1,5 +1,5 @@
 -- What the readers of captures in each layout have in common: what the bytes mean, what the state of a reader is, and
--- what its calls do.
+-- what the calls of a reader do.
 use Rattle.std.specs.Prelude.{◌≡◌, ◌↔◌, ◌⊎◌, ℕ, ◌+◌, ◌<◌, ◌≤◌, List, ◌++◌, length, take, Option, None, Some, IfSome, IsSome, Result, Err, IfOk, IfErr, OnOk, OnErr, option_map, option_to_list}
 use Rattle.std.specs.Result.{result_err}
 use Rattle.avtp_base.specs.declared.refusal.Refusal.{Refusal}
@@ -8,7 +8,7 @@ use Rattle.pcap_frames.specs.Capture.{Record}
 use Rattle.pcap_frames.specs.Layout.{IsRecordTime}
 
 -- What the bytes of a capture mean in one layout. `records` are the whole records before the first refusal. `refusal`
--- is the first refusal of the bytes as they are. `certain` is the first refusal that no later bytes can change.
+-- is the first refusal of the bytes as they are. `certain` is that refusal, if no later bytes can change it.
 pub record Meaning : Type 0 where
   pub records : List ℕ → List Record
   pub refusal : List ℕ → Option Refusal
@@ -23,7 +23,7 @@ pub record Progress : Type 1 where
   pub taken : ℕ
   pub refusal : Option Refusal
 
--- the reader has taken the further bytes `more`, and released no record
+-- the reader took the bytes `more` next, and released no record
 abbrev pub GoesOn : Progress → List ℕ → Progress → Type 0
 GoesOn old more new = (bytes : List ℕ) (records : List Record) → old.has_read bytes records → new.has_read (bytes ++ more) records
 
@@ -57,7 +57,7 @@ pub record Releases (old new : Progress) : Type 0 where
   pub refusal : new.refusal ≡ old.refusal
 
 -- The result if the capture ends with the bytes so far. The released records and the held one are all records of the
--- capture, and the result is its first refusal.
+-- capture, and the result is the capture's first refusal.
 pub record Ends (meaning : Meaning) (reader : Progress) (result : Result Unit Refusal) : Type 0 where
   pub records : (bytes : List ℕ) (records : List Record) → reader.has_read bytes records → records ++ option_to_list reader.held ≡ meaning.records bytes
   pub refusal : (bytes : List ℕ) (records : List Record) → reader.has_read bytes records → result_err result ≡ meaning.refusal bytes

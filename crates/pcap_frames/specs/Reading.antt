@@ -40,14 +40,14 @@ held_by None (Some style) start part = whole_record style start part
 abbrev pub held : Reading → Option Record
 held r = held_by r.refusal r.style r.start r.part
 
--- The part of a record that was taken. Nothing in the part is refused, and the part does not extend past the end of the
--- record.
+-- `part` are the bytes of a record that were taken so far. Nothing in them is refused, and they do not extend past the
+-- end of the record.
 pub record IsPart (order : Order) (start : ℕ) (part : List ℕ) : Type 0 where
   pub accepted : certain (record_refusal order start part) ≡ None
   pub within : (length part ≤ 16) ⊎ (length part ≤ 16 + number_at order 8 4 part)
 
--- The part of a file header that was taken. The part is the start of the capture, and not the whole header. Nothing in
--- the part is refused.
+-- `part` are the bytes of a file header that were taken so far, from the start of the capture on. They are not the
+-- whole header, and nothing in them is refused.
 pub record IsHeaderPart (start : ℕ) (part : List ℕ) : Type 0 where
   pub begins : start ≡ 0
   pub accepted : certain (file_refusal part) ≡ None
@@ -89,13 +89,13 @@ meaning = record { records = whole_records; refusal = first_refusal; certain = �
 abbrev pub progress : Reading → Progress
 progress r = record { has_read = HasRead r; held = held r; taken = taken r; refusal = r.refusal }
 
--- the reader has taken the further bytes `more`, and released no record
+-- the reader took the bytes `more` next, and released no record
 abbrev pub GoesOn : Reading → List ℕ → Reading → Type 0
 GoesOn old more new = readers.GoesOn (progress old) more (progress new)
 
 -- ---- a record that is borrowed
 
--- the reader, with these bytes as the part that was taken of the header or record
+-- the reader after its `part` was replaced by these bytes
 abbrev pub with_part : Reading → List ℕ → Reading
 with_part r bytes = record r { part = bytes }
 

@@ -310,7 +310,7 @@ room_same None b n e h = tt
 room_same (Some i) None n e h = absurd (cc)
 room_same (Some i) (Some j) n e h = omega arith
 
--- `tail` are the bytes taken of a trailer, which has more bytes.
+-- `tail` are the bytes taken of a trailer that is not complete.
 pub record IsTrailerPart (c : Cursor) (interfaces : List Interface) (tail : List ℕ) : Type 0 where
   pub partial : length tail < 4
   pub within : c.skip + 4 ≤ c.total

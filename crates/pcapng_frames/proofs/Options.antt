@@ -89,7 +89,7 @@ pub need_whole : (order : Order) (bytes : List ℕ) → 4 ≤ length bytes → o
 unfolding option_need
 need_whole order bytes h = grind (arith, nat_tests)
 
--- If an option is refused, further bytes do not change the refusal. If all bytes that are read of an option are there
+-- If an option is refused, further bytes do not change the refusal. If all bytes that are read of an option are present
 -- and nothing is refused, further bytes cause no refusal in the option.
 pub option_stays : (order : Order) (left start : ℕ) (bytes more : List ℕ) (x : Option Refusal) → first_refused start (length bytes) (option_rows (option_code order bytes) (option_length order bytes) left bytes) ≡ x
     → (x ≡ None → option_need order bytes ≤ length bytes)

@@ -42,7 +42,7 @@ order_or_little (Some order) = order
 abbrev pub kind_at : Option Order → List ℕ → Kind
 kind_at order bytes = kind_of (number_at (order_or_little order) 0 4 bytes)
 
--- the byte order of the block that the bytes begin with; a section header states its own
+-- the byte order of the block that the bytes begin with; a section header states its own byte order
 abbrev pub order_at : Kind → Option Order → List ℕ → Order
 order_at kind.Section order bytes = order_or_little (order_of_magic (number_at Little 8 4 bytes))
 order_at kind.Interface order bytes = order_or_little order
@@ -115,7 +115,7 @@ block_size kind.Interface total = 16
 block_size kind.Packet total = 28 + (total - 32)
 block_size kind.Other total = 8 + (total - 12)
 
--- the number of bytes from the start of the block that the bytes begin with to the next place
+-- the number of bytes to the next place, if the bytes begin with a block
 abbrev pub size_of_any : Option Order → List ℕ → ℕ
 size_of_any order bytes =
     let k = kind_at order bytes in
@@ -258,8 +258,7 @@ ends ending = record { records = []; ending = ending }
 abbrev pub and_then : Option Record → Contents → Contents
 and_then packet rest = record { records = option_to_list packet ++ rest.records; ending = rest.ending }
 
--- What the bytes hold if they end before the next place: no packet. There is a refusal unless a capture that ends here
--- is whole.
+-- What the bytes hold if they end before the next place: no packet. The capture is refused unless it may end here.
 abbrev pub cut_short : Place → List ℕ → Contents
 cut_short p bytes = if ends_at p.stage p.order p.start (length bytes) then ends None else ends (Some (cut_by p.stage p bytes))
 
@@ -268,7 +267,7 @@ abbrev pub refused_or : Option Refusal → Contents → Contents
 refused_or (Some refusal) rest = ends (Some (record { refusal = refusal; cut = false }))
 refused_or None rest = rest
 
--- what the bytes from a place on hold, within the next n places
+-- what the bytes hold if they begin at this place, within the next n places
 abbrev pub contents_from : ℕ → Place → List ℕ → Contents
 contents_from zero p bytes = ends None
 contents_from (suc n) p bytes =

@@ -26,7 +26,7 @@ pub record Reading : Type 0 where
 abbrev pub nothing_read : Reading
 nothing_read = record { place = first_place; skip = 0; part = []; whole = false; refusal = None }
 
--- what the bytes from a place on hold
+-- what the bytes hold if they begin at this place
 abbrev pub contents_at : Place → List ℕ → Contents
 contents_at p bytes = contents_from (suc (length bytes)) p bytes
 
@@ -38,8 +38,8 @@ contents_past skip p part more =
     else contents_at p (part ++ drop skip more)
 
 -- What the capture still holds after a reader in this state, if the bytes `more` follow. If the reader has a refusal,
--- only that refusal follows. If the reader holds a packet, that packet and the contents after its block follow.
--- Otherwise the contents from the place on follow.
+-- the capture holds only that refusal. If the reader holds a packet, the capture holds that packet and the contents
+-- after the packet's block. Otherwise the capture holds the contents at the reader's place.
 abbrev pub rest_by : Option Refusal → Bool → Reading → List ℕ → Contents
 rest_by (Some refusal) whole r more = ends (Some (record { refusal = refusal; cut = false }))
 rest_by None true r more = and_then r.place.packet (contents_at (after_trailer r.place) more)
@@ -116,7 +116,7 @@ pub record IsNext (r : Reading) (block : List ℕ) : Type 0 where
   pub opened : is_some r.place.order ≡ true
   pub packet : IsPacketBlock (order_or_little r.place.order) r.place.interfaces block
 
--- the reader after it took the block of the next packet, which it then holds
+-- The reader after it took the block of the next packet. The reader now holds that packet.
 abbrev pub with_block : Reading → List ℕ → Reading
 with_block r block = record {
   place = after_block kind.Packet r.place (length block) block;

@@ -39,7 +39,7 @@ abbrev pub KeepsOther : Format → classic.Reading → classic.Reading → ng.Re
 KeepsOther Classic c c' n n' = n' ≡ n
 KeepsOther Pcapng c c' n n' = c' ≡ c
 
--- the reader has taken the further bytes `more`, and released no record
+-- the reader took the bytes `more` next, and released no record
 abbrev pub GoesOn : CaptureReading → List ℕ → CaptureReading → Type 0
 GoesOn old more new = readers.GoesOn (progress old) more (progress new)
 

@@ -107,7 +107,7 @@ place_of c interfaces part = record {
   packet = packet_of c.packet part;
 }
 
--- if there is a packet, its fixed fields are held, and it is in a section
+-- if there is a packet, its fixed fields are held, and the packet is in a section
 abbrev pub HasHead : Option Order → Option PacketHead → List ℕ → Type 0
 HasHead order None part = ⊤
 HasHead order (Some head) part = (28 ≤ length part) × (head.arrival ≤ 2 ^ 62) × (is_some order ≡ true)
@@ -146,7 +146,7 @@ pub record IsGoing (r : Reading) (piece : List ℕ) : Type 0 where
   pub more : 0 < length piece
   pub bounded : taken r + length piece ≤ 2 ^ 62
 
--- A reader can take the bytes of a piece before a block, an option or a trailer, and has nothing to skip.
+-- A reader before a block, an option or a trailer can take the bytes of a piece, and has nothing to skip.
 pub record IsAt (next : Stage) (r : Reading) (piece : List ℕ) : Type 0 where
   pub going : IsGoing r piece
   pub stage : r.place.stage ≡ next
