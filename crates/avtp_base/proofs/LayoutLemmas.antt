@@ -50,7 +50,7 @@ shifted s m k whole front rest e below within =
     let places : 8 * (s + m) - k ≡ 8 * m + (8 * s - k) = omega arith in
     rw (places, ← shr-shr whole (8 * m) (8 * s - k), high) refl
 
--- bits that lie within n bytes may be cut out of the number of these n bytes
+-- bits that lie within n bytes may be cut out of the number that these n bytes form
 pub bits-wide : (n at first width : ℕ) (xs : List ℕ) → AreBytesAt at n xs → first + width ≤ 8 * n
     → bits at first width xs ≡ big_from at n xs / 2 ^ (8 * n - (first + width)) % 2 ^ width
 unfolding bits

@@ -19,7 +19,7 @@ pub enum OpenFault {
     /// The shelf shows its files, and none has the name.
     #[error("no such file")]
     Missing,
-    /// A call of the shelf failed, and the shelf counted it.
+    /// A call of the shelf failed, and the shelf counted the failure.
     #[error("the file could not be opened")]
     Failed,
     /// Memory ran out.

@@ -35,8 +35,9 @@ impl Model for Feed {
 }
 
 impl Feed {
-    /// Drops the held record, and reads on to the next. At `None` the next record is held now; otherwise the result is
-    /// how the reading ended. Once the reading has ended, each further call returns the same end and reads nothing.
+    /// Drops the held record, and reads on to the next record. At `None` the next record is held now; otherwise the
+    /// result is how the reading ended. Once the reading has ended, each further call returns the same end and reads
+    /// nothing.
     #[inline(never)]
     pub fn next<F: Shelf>(&mut self, shelf: &mut F) -> Option<End>
         requires { IsSome ((F.state shelf.old).slots (slot_of self.old)) }

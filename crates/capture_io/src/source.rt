@@ -67,8 +67,9 @@ impl Source {
         Ok(Source { feed, lent: None })
     }
 
-    /// Drops the held record, and reads on to the next. At `None` the next record is held now; otherwise the result is
-    /// how the reading ended. Once the reading has ended, each further call returns the same end and reads nothing.
+    /// Drops the held record, and reads on to the next record. At `None` the next record is held now; otherwise the
+    /// result is how the reading ended. Once the reading has ended, each further call returns the same end and reads
+    /// nothing.
     #[inline(always)]
     pub fn next<F: Shelf>(&mut self, shelf: &mut F) -> Option<End>
         requires { IsSome ((F.state shelf.old).slots (slot_of self.old)) }
@@ -83,8 +84,8 @@ impl Source {
     }
 
     /// Drops the held record. If the next record is complete in the bytes that were read, holds that record and returns
-    /// `true`. Otherwise returns `false`. The caller must then call `next`, which may wait for the program that writes
-    /// the file.
+    /// `true`. Otherwise returns `false`. In that case `next` reads on, and may wait for the program that writes the
+    /// file.
     #[inline(always)]
     pub fn advance(&mut self) -> bool
         ensures { Advances self.old self.new result }

@@ -66,11 +66,12 @@ impl Reader {
         }
     }
 
-    /// Takes bytes up to the end of one record or of the piece, and returns how many.
+    /// Takes bytes up to the end of one record or of the piece, and returns how many it took.
     ///
     /// While nothing is refused, the call returns `Ok(0)` exactly if the piece is empty or a whole record is held. As
     /// soon as the bytes so far show the first refusal of the capture, the call returns that refusal. From then on
-    /// every `feed` and every `finish` returns it, no more bytes are taken, and the whole piece counts as taken.
+    /// every `feed` and every `finish` returns the same refusal, no more bytes are taken, and the whole piece counts as
+    /// taken.
     ///
     /// At most 2^62 bytes may be taken in all, including the piece.
     pub fn feed(&mut self, piece: &[u8]) -> Result<usize, Refusal>

@@ -217,7 +217,7 @@ pub record Ending : Type 0 where
   pub refusal : Refusal
   pub cut : Bool
 
--- an ending because bytes of this field are missing
+-- the ending if bytes of this field are missing
 abbrev pub short_at : Field → ℕ → Ending
 short_at field at = record { refusal = record { field = field; at = at; short = true }; cut = true }
 

@@ -82,11 +82,11 @@ impl Ng {
         })
     }
 
-    /// Takes bytes up to the end of one packet's block or of the piece, and returns how many.
+    /// Takes bytes up to the end of one packet's block or of the piece, and returns how many it took.
     ///
     /// While nothing is refused, the call returns `Ok(0)` exactly if the piece is empty or a whole packet is held. As
     /// soon as the bytes so far show the first refusal of the capture, the call returns that refusal. From then on
-    /// every `feed` and every `finish` returns it.
+    /// every `feed` and every `finish` returns the same refusal.
     ///
     /// At most 2^62 bytes may be taken in all, including the piece.
     pub fn feed(&mut self, piece: &[u8]) -> Result<usize, Refusal>
@@ -204,8 +204,8 @@ impl Ng {
 
     /// Whether the bytes so far are a whole capture: whole blocks, the first of which is a section header.
     ///
-    /// If the capture is not whole, the call returns the earlier refusal, or else what the bytes lack, usually with
-    /// `short`. The call changes nothing, and more bytes may follow.
+    /// If the capture is not whole, the call returns the earlier refusal. Without an earlier refusal, it returns what
+    /// the bytes lack, usually with `short` set. The call changes nothing, and more bytes may follow.
     pub fn finish(&self) -> Result<(), Refusal>
         ensures { Ends meaning (progress self.now) result }
     {
