@@ -31,7 +31,7 @@ pub record IsReadCounted (before after : ℕ) (result : Result Contents OpenFaul
 -- At `Ok` the file `name` was opened, read up to its end, a fault or the limit, and closed again. At `Err` the file was
 -- not opened, or memory ran out. Nothing else was done.
 pub record ReadsContents (before after : ShelfState) (limit : ℕ) (name : List ℕ) (result : Result Contents OpenFault) : Type 0 where
-  -- if the shelf shows its files, the bytes are those of the file
+  -- if the shelf shows its files, the bytes are a prefix of the file, as `IsContents` says
   pub read : IfOk result (λ contents. (files : Files) → before.files ≡ Some files → (bytes : List ℕ) × (files name ≡ Some bytes) × IsContents limit bytes contents.stop contents.bytes.items)
   pub bounded : IfOk result (λ contents. length contents.bytes.items ≤ limit)
   -- the shelf shows its files, and none has the name

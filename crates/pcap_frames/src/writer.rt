@@ -48,7 +48,8 @@ pub fn write_header(out: &mut [u8], style: Style) -> Result<usize, Room>
 ///
 /// `arrival` is in nanoseconds, with at most 32 bits of seconds. In a capture that counts microseconds, it is a
 /// multiple of 1000. `orig_len` is the frame's length on the wire, and there are at most 262,144 `bytes`. The call
-/// returns `Room` exactly if `out` is shorter than the 16-byte header and `bytes` together; then nothing is written.
+/// returns `Room` exactly if `out` is shorter than the 16-byte header and `bytes` together. In that case nothing is
+/// written.
 pub fn write_record(
     out: &mut [u8],
     style: Style,

@@ -218,7 +218,7 @@ pub fn block_refusal(
     kind_refusal(kind, order, interfaces, start, bytes)
 }
 
-/// Refuses a trailer whose bytes are there and differ from the total length.
+/// Refuses a trailer that is complete and differs from the total length.
 #[tactic(auto, unfolding(crate::specs::Blocks::trailer_refused))]
 pub fn trailer_refusal(order: Order, at: u64, total: u32, tail: &[u8]) -> Option<Refusal>
     ensures { result ≡ refused_in_trailer order at total tail.now }
