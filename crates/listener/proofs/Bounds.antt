@@ -1,4 +1,4 @@
--- What a listener makes of a packet is within the limits of a schedule.
+-- The items that a listener makes of packets are within the limits of a schedule.
 use Rattle.std.proofs.Common.{◌≡◌, ℕ, ◌+◌, ◌*◌, ◌/◌, ◌%◌, ◌^◌, ◌<◌, ◌≤◌, Bool, true, false, List, length, drop, Option, Some, None, refl, arith}
 use Rattle.std.proofs.Math.Nat.{div-le_self}
 use Rattle.std.proofs.lemmas.Bool.{ltb-false}
@@ -81,7 +81,6 @@ no_more fdf size = by (fdf == no_data)
 few_blocks : (count block fdf size : ℕ) → count * block ≡ data_size fdf size → 1 ≤ block → size < 2 ^ 16 → count ≤ 65535
 few_blocks count block fdf size e some below = let least = le-mul_of_pos_right count some in let most = no_more fdf size in omega arith
 
--- if there are data blocks, they are all that follows the CIP header
 whole_blocks : (fdf count block size : ℕ) → count * block ≡ data_size fdf size → 1 ≤ block → 1 ≤ count → size % count ≡ 0
 whole_blocks fdf count block size e some there = by (fdf == no_data) e
   where

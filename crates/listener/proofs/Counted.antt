@@ -1,4 +1,4 @@
--- Each packet of the stream is shown once, and packets of the clock never, so the counts add up.
+-- Each packet of the stream is shown once, and packets of the clock are never shown. Hence the counts add up.
 use Rattle.std.proofs.Common.{◌≡◌, ℕ, zero, suc, ◌+◌, ◌-◌, ◌≤◌, Bool, true, false, List, [], ◌∷◌, All, length, Option, Some, None, refl, sym, ap, ◌∙◌, arith, take_all, inl, inr}
 use Rattle.std.specs.Prelude.{⊤, ◌==◌, ◌||◌, if◌then◌else◌, count_by, slice_get, take, map, filter}
 use Rattle.std.specs.List.{enumerate_from, list_any}
@@ -27,7 +27,6 @@ use Rattle.listener.specs.Laws.{fragments_in}
 use Rattle.listener.proofs.Made.{IsStreamed, OfEach, all_made, count-append, is_streamed, items_all, last_streamed, tally, tally-cons}
 use Rattle.listener.proofs.Places.{counted, at, below, count-next, below-next, none-below, all-below, presented-or-flagged}
 
--- an item of the stream, and not a packet of the clock
 abbrev is_item : Entry → Bool
 is_item (OfItem item) = true
 is_item (OfClock arrival row) = false
@@ -42,7 +41,6 @@ items-next [] (suc n) = refl
 items-next (e ∷ es) zero = omega (arith, count-next is_item e [], due-one e)
 items-next (e ∷ es) (suc n) = omega (arith, count-next is_item e (take (suc n) es), count-next is_item e (take n es), items-next es n)
 
--- if each item is shown once, as many of the first `n` entries are shown as there are items among them
 each-below : (n : ℕ) (es : List Entry) (gs : List Given) → ((i : ℕ) → count_by (at i) gs ≡ times_due (slice_get es i)) → count_by (below n) gs ≡ count_by is_item (take n es)
 each-below zero es gs each = none-below gs
 each-below (suc n) es gs each = omega (arith, below-next n gs, each-below n es gs each, each n, items-next es n)
@@ -126,8 +124,6 @@ streamed-counted stream clock i (r ∷ records) =
 
 -- ---- each delivery of the stream is an item, or a fragment of a unit before its last
 
--- Of an item's sources, those that belong to the stream are its last delivery and the earlier ones. A packet of the
--- clock has none.
 record IsWeighed (m : MadeItem) : Type 0 where
   weight : count_by is_streamed (sources m) ≡ counted (is_item m.entry) + length m.earlier
 

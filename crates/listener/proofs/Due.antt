@@ -47,14 +47,13 @@ due_stays plan records others =
     let more = entries_more plan records others in
     subst (λ (es : List Entry). IsPrefix (due_of plan records) (due clock_spot (schedule_plan plan) es)) (sym more.1) (due-grows clock_spot (schedule_plan plan) (entries_so_far_in plan records) more.0)
 
--- what is due of `es` is a prefix of what is shown of `es ++ more`
 pub first_of_more : (plan : SchedulePlan) (es more : List Entry) → IsPrefix (due clock_spot plan es) (shown clock_spot plan (es ++ more))
 first_of_more plan es more =
     let a = due-grows clock_spot plan es more in
     let b = due-first clock_spot plan (es ++ more) in
     (a.0 ++ b.0, sym (append_assoc (due clock_spot plan es) a.0 b.0) ∙ (ap (λ (l : List Shown). l ++ b.0) a.1 ∙ b.1))
 
--- the entries of a list that has ended are those so far, then those of the fragments that only the end gives up
+-- The entries of all records are the entries so far, and then those of the fragments that are given up only at the end.
 pub entries_at_end : (plan : ListenPlan) (records : List Record) → entries_in plan records ≡ entries_so_far_in plan records ++ map made_entry (left_at_end (deliveries_of plan records))
 entries_at_end plan records = map-append made_entry (items_so_far (deliveries_of plan records)) (left_at_end (deliveries_of plan records))
 

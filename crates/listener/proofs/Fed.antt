@@ -1,4 +1,4 @@
--- A listener that is fed bytes: its state after a piece of a capture and after each item that it returns.
+-- A listener that is fed bytes: its state after each piece of a capture, and after each item that it returns.
 use Rattle.std.proofs.Common.{◌≡◌, ◌↔◌, ◌⊎◌, inl, inr, ℕ, zero, suc, ◌+◌, ◌-◌, ◌<◌, ◌≤◌, Bool, true, false, List, [], ◌∷◌, ◌++◌, length, take, Option, Some, None, IsSome, refl, sym, ap, ◌∙◌, subst, arith, append-nil, append_assoc, length-append}
 use Rattle.std.specs.Prelude.{IfNone, IfSome, Result, Ok, Err, slice_get}
 use Rattle.std.specs.Option.{option_to_list}
@@ -31,7 +31,6 @@ pub if_none : {X P : Type 0} (o : Option X) → IfNone o P → o ≡ None → P
 if_none None p e = p
 if_none (Some x) p e = absurd cc
 
--- a reader that accepts bytes was not refused
 pub accepted : (refusal : Option Refusal) (n : ℕ) → IfSome refusal (λ r. ◌≡◌ {A = Result ℕ Refusal} (Ok n) (Err r)) → refusal ≡ None
 accepted None n e = refl
 accepted (Some r) n e = absurd cc
@@ -64,19 +63,17 @@ nothing_more xs (Some r) e = absurd (omega (arith, ap length e, length-append xs
 
 -- ---- what was read
 
--- if no record is held, all whole records were returned
 pub all_read : (r : Reading) (bytes : List ℕ) (records : List Record) → HasRead r bytes records → held r ≡ None → records ≡ whole_records bytes
 all_read r bytes records read free =
     sym (append-nil records) ∙ (ap (λ (o : Option Record). records ++ option_to_list o) (sym free) ∙ records_are r bytes records read)
 
--- if all whole records were returned, no record is held
 pub none_held : (r : Reading) (bytes : List ℕ) → HasRead r bytes (whole_records bytes) → held r ≡ None
 none_held r bytes read = nothing_more (whole_records bytes) (held r) (records_are r bytes (whole_records bytes) read)
 
 pub refused_free : (r : Reading) (refusal : Refusal) → r.refusal ≡ Some refusal → held r ≡ None
 refused_free r refusal e = ap (λ (o : Option Refusal). held_by o r.style r.start r.part) e
 
--- a record that is read takes at least one byte of the piece
+-- a record that was read took at least one byte of the piece
 pub held_few : (old new : Reading) (bytes piece : List ℕ) (n : ℕ) → HasRead old bytes (whole_records bytes) → GoesOn old (take n piece) new → length (option_to_list (held new)) ≤ n
 held_few old new bytes piece zero read goes =
     let same : bytes ++ [] ≡ bytes = append-nil bytes in
@@ -89,7 +86,6 @@ held_some old new bytes piece n read goes some = omega (arith, held_few old new 
 
 -- ---- a piece
 
--- if nothing is due, the listener has heard all bytes that it was fed
 pub heard_here : (bytes : List ℕ) (given : ℕ) (fed : Feeding) → StandsFor bytes given fed → fed.out_of_memory ≡ false → fed.next ≡ None → HasHeard bytes given fed.reader fed.listener
 heard_here bytes given fed st memory quiet =
     let count : given + length (option_to_list fed.next) ≡ given = omega (arith, ap (λ (o : Option Shown). length (option_to_list o)) quiet) in
@@ -99,7 +95,6 @@ heard_here bytes given fed st memory quiet =
       stands = subst (λ (n : ℕ). RecordsStandFor (whole_records bytes) n fed.listener) count st.stands;
     }
 
--- `HasHeard` still holds after the reader has read more bytes
 pub heard_on : (bytes more : List ℕ) (given : ℕ) (fed : Feeding) (new : Reading) → StandsFor bytes given fed → fed.out_of_memory ≡ false → fed.next ≡ None → GoesOn fed.reader more new
     → HasHeard (bytes ++ more) given new fed.listener
 heard_on bytes more given fed new st memory quiet goes =
@@ -121,7 +116,7 @@ lent_nothing size piece next some within quiet = (
   none_due None none due = absurd cc
   none_due (Some x) none due = absurd cc
 
--- the state after a record was read and given to the listener, whose next item is due
+-- the listener's state after a record was read and given to it
 pub stands_fed : (bytes : List ℕ) (given : ℕ) (reader : Reading) (mid new : ListenState) (x : Option Shown) (b : Bool) → HasHeard bytes given reader mid → held reader ≡ None
     → ((records : List Record) (given : ℕ) → RecordsStandFor records given mid → x ≡ slice_get (out_of mid records) given)
     → ((records : List Record) (given : ℕ) → RecordsStandFor records given mid → RecordsStandFor records (given + length (option_to_list x)) new)
@@ -153,7 +148,7 @@ uncounted : (counts : Counts) (x : Shown) → without_shown (with_shown counts x
 uncounted counts (Present batch) = let back : counts.presented + 1 - 1 ≡ counts.presented = omega arith in ap (λ (n : ℕ). record counts { presented = n }) back
 uncounted counts (Flag frame seq reason) = let back : counts.flagged + 1 - 1 ≡ counts.flagged = omega arith in ap (λ (n : ℕ). record counts { flagged = n }) back
 
--- the counts without the item that is due next
+-- the counts before the next item was returned
 pub counted_before : (plan : ListenPlan) (records : List Record) (list : List Shown) (given : ℕ) (x : Shown) → Some x ≡ slice_get list given
     → without_shown (counts_of plan records (take (given + 1) list)) x ≡ counts_of plan records (take given list)
 counted_before plan records list given x is =
@@ -207,7 +202,6 @@ given_still bytes list old new has stands keeps =
 pub given_all : (bytes : List ℕ) (list : List Shown) (old new : Feeding) → HasGiven bytes list old → None ≡ slice_get (out old bytes) (length list) → Keeps old new → list ≡ out new bytes
 given_all bytes list old new has is keeps = prefix-all list (out old bytes) has.first (sym is) ∙ sym (out_kept bytes old new keeps)
 
--- what is shown of `bytes` is a prefix of what is shown of `bytes ++ more`
 out_on : (bytes more : List ℕ) (old new : Feeding) → HasRead old.reader bytes (whole_records bytes) → is_ended old ≡ false → is_ended new ≡ false → new.listener.plan ≡ old.listener.plan
     → IsPrefix (out old bytes) (out new (bytes ++ more))
 out_on bytes more old new read opened still plan =
@@ -217,7 +211,7 @@ out_on bytes more old new read opened still plan =
 pub prefix_twice : (xs ys zs : List Shown) → IsPrefix xs ys → IsPrefix ys zs → IsPrefix xs zs
 prefix_twice xs ys zs first second = (first.0 ++ second.0, sym (append_assoc xs first.0 second.0) ∙ (ap (λ (l : List Shown). l ++ second.0) first.1 ∙ second.1))
 
--- the list of all returned items is unchanged after more bytes were fed
+-- the list of returned items stays valid when more bytes are fed
 pub given_on : (bytes more : List ℕ) (list : List Shown) (old new : Feeding) → HasGiven bytes list old → old.out_of_memory ≡ false → is_ended old ≡ false → is_ended new ≡ false → new.listener.plan ≡ old.listener.plan
     → StandsFor (bytes ++ more) (length list) new → HasGiven (bytes ++ more) list new
 given_on bytes more list old new has memory opened still plan stands = record {
@@ -225,7 +219,7 @@ given_on bytes more list old new has memory opened still plan stands = record {
   first = prefix_twice list (out old bytes) (out new (bytes ++ more)) has.first (out_on bytes more old new (has.stands.read memory) opened still plan);
 }
 
--- the list of all returned items is unchanged after the capture has ended
+-- the list of returned items stays valid when the capture ends
 pub given_ended : (bytes : List ℕ) (list : List Shown) (old new : Feeding) → HasGiven bytes list old → is_ended old ≡ false → is_ended new ≡ true → new.listener.plan ≡ old.listener.plan
     → StandsFor bytes (length list) new → HasGiven bytes list new
 given_ended bytes list old new has opened ended plan stands =
@@ -238,7 +232,6 @@ given_none list fed empty stands = record {
   first = subst (λ (l : List Shown). IsPrefix l (out fed [])) (sym empty) (out fed [], refl);
 }
 
--- If the capture has ended and all items were returned, the list and the counts are what a listener shows of the bytes.
 pub heard_whole : (plan : ListenPlan) (bytes : List ℕ) (list : List Shown) (fed : Feeding) (counts : Counts) (refused : Option Refusal) → fed.listener.plan ≡ plan → is_ended fed ≡ true → list ≡ out fed bytes
     → counts ≡ counts_of fed.listener.plan (whole_records bytes) (take (length list) (out fed bytes)) → refused ≡ first_refusal bytes
     → record { shown = list; counts = counts; refused = refused } ≡ heard_of plan bytes
@@ -257,7 +250,6 @@ heard_whole plan bytes list fed counts refused same ended all counted first =
     heard_with : List Shown → Counts → Option Refusal → Heard
     heard_with shown counts refused = record { shown = shown; counts = counts; refused = refused }
 
--- if nothing is due, all items that are counted were returned
 pub stands_quiet : (bytes : List ℕ) (given : ℕ) (fed : Feeding) → StandsFor bytes given fed → fed.next ≡ None → RecordsStandFor (whole_records bytes) given fed.listener
 stands_quiet bytes given fed st quiet =
     let same : given + length (option_to_list fed.next) ≡ given = ap (λ (o : Option Shown). given + length (option_to_list o)) quiet ∙ none given in

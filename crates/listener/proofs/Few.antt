@@ -22,7 +22,6 @@ use Rattle.listener.specs.Items.{items_of, items_so_far, made_entry}
 use Rattle.listener.proofs.Made.{items_few, so_far_few}
 use Rattle.listener.proofs.Places.{at, below, below-next, none-below, all-below}
 
--- if each entry is shown at most once, at most `n` of the first `n` entries are shown
 most-below : (n : ℕ) (gs : List Given) → ((i : ℕ) → count_by (at i) gs ≤ 1) → count_by (below n) gs ≤ n
 most-below zero gs each = omega (arith, none-below gs)
 most-below (suc n) gs each = omega (arith, below-next n gs, most-below n gs each, each n)
@@ -64,7 +63,6 @@ so-far-few plan records =
     let ds = deliveries_of plan records in
     omega (arith, length-map (items_of ds) made_entry, length-map (items_so_far ds) made_entry, so_far_few ds)
 
--- a listener shows at most as many items as it was given records
 pub few : (b : Bool) (clock : Clock) (schedule : SchedulePlan) (plan : ListenPlan) (records : List Record)
     → length (if b then shown clock schedule (entries_in plan records) else due clock schedule (entries_so_far_in plan records)) ≤ length records
 few b clock schedule plan records = omega (arith, out-few b clock schedule (entries_in plan records) (entries_so_far_in plan records) (so-far-few plan records), entries-few plan records)

@@ -24,7 +24,7 @@ picks stream clock p = is_delivered stream clock p.1.bytes
 abbrev made_of : ℕ × Record → Delivery
 made_of p = delivery p.0 p.1
 
--- the deliveries of records, the first of which has this number
+-- the deliveries of records that are numbered from `n` on
 abbrev deliveries_from : ℕ → Option ℕ → ℕ → List Record → List Delivery
 deliveries_from stream clock n records = map made_of (filter (picks stream clock) (enumerate_from n records))
 
@@ -51,7 +51,7 @@ more_by false stream clock records r out =
     let none : length (deliveries stream clock records) ≡ length (deliveries stream clock records) + 0 = omega arith in
     ap length (none_more stream clock records r out) ∙ none
 
--- ---- which deliveries are of the stream
+-- ---- which deliveries belong to the stream
 
 no_clock_subtype : (s : ℕ) → list_any (λ kind. s == kind) stream_kinds ≡ true → (s == crf_subtype) ≡ false
 no_clock_subtype s e = grind (arith, nat_tests)
@@ -73,7 +73,6 @@ none_by_clock : (clock : Option ℕ) (bytes : List ℕ) → belongs_to_clock clo
 none_by_clock None bytes e = absurd cc
 none_by_clock (Some id) bytes e = clock_subtype (peeked_of (packet_in bytes)).subtype (first_of_four (is_avtp bytes) _ (peeked_of (packet_in bytes)).sv ((peeked_of (packet_in bytes)).stream_id == id) e)
 
--- a record that is delivered belongs to the stream unless its packet is of the clock
 pub of_stream : (stream : ℕ) (clock : Option ℕ) (bytes : List ℕ) → is_delivered stream clock bytes ≡ true → is_delivered stream None bytes ≡ not ((peeked_of (packet_in bytes)).subtype == crf_subtype)
 of_stream stream clock bytes e =
     by_both (belongs stream_kinds stream bytes) (belongs_to_clock clock bytes) ((peeked_of (packet_in bytes)).subtype == crf_subtype) e

@@ -1,4 +1,4 @@
--- The items that a stream's units hold after one more delivery.
+-- The items that the units of a stream hold after one more delivery.
 use Rattle.std.proofs.Common.{◌≡◌, ◌⊎◌, ℕ, zero, suc, ◌+◌, ◌-◌, Bool, true, false, List, [], ◌∷◌, ◌++◌, All, length, map, drop, take, Option, Some, None, refl, sym, ap, ◌∙◌, subst, inl, inr, arith, append-nil, length-append}
 use Rattle.std.specs.Prelude.{◌==◌, ◌&&◌, not, if◌then◌else◌, IfSome, slice_get}
 use Rattle.std.specs.List.{list_any}
@@ -110,7 +110,6 @@ drop-map {X} {Y} f zero xs = refl
 drop-map {X} {Y} f (suc n) [] = refl
 drop-map {X} {Y} f (suc n) (x ∷ xs) = drop-map f n xs
 
--- the last `length run` events are those of the last `length run` deliveries
 pub last_events : (xs : List Delivery) (front : List Event) (run : List Fragment) → map event_of xs ≡ front ++ map packet run → map event_of (last_ones (length run) xs) ≡ map packet run
 last_events xs front run e =
     let long : length xs ≡ length front + length run = sym (length-map xs event_of) ∙ (ap length e ∙ (length-append front (map packet run) ∙ ap (λ (n : ℕ). length front + n) (length-map run packet))) in
@@ -149,7 +148,6 @@ waiting_marks ds = by (is_within (last_stretch (events ds)) && not (is_complete 
     by true = stretch_marks ds (last_stretch (events ds)) (some_stretch (events ds))
     by false = ap (map mark_of) (none_last (in_stream ds))
 
--- the deliveries whose fragments an event gives up have the same marks as these fragments
 given_marks : (ds : List Delivery) (e : Event) → map mark_of (last_ones (length (given_up (events ds ++ e ∷ []))) (in_stream ds)) ≡ map mark_in (given_up (events ds ++ e ∷ []))
 given_marks ds e = by (is_joined (last_stretch (events ds ++ e ∷ [])))
   where
@@ -163,7 +161,6 @@ flags_are : (why : Reason) (xs : List Delivery) → map item_entry (map (lost_it
 flags_are why [] = refl
 flags_are why (x ∷ xs) = ap (λ (l : List Entry). item_entry (lost_item why (mark_of x)) ∷ l) (flags_are why xs)
 
--- the items that were not yet taken after an event
 left_by : (new : Gathered) (es : List Event) → StandsFor new.assembly es → new.taken ≡ 0 → new.why ≡ reason es
     → map item_entry (left new) ≡ map item_entry (map (lost_item (lost_for (reason es))) (map mark_in (given_up es))) ++ map item_entry (option_to_list new.own)
 left_by new es s none why =
@@ -187,24 +184,22 @@ gives_by ds d new s none why streamed own =
 pub has_more : (ds : List Delivery) (d : Delivery) (new : Gathered) → StandsFor new.assembly (events_to ds d) → (d.subtype == crf_subtype) ≡ false → HasUnits (ds ++ d ∷ []) new
 has_more ds d new s streamed = record { assembly = subst (λ (es : List Event). StandsFor new.assembly es) (sym (events_more ds d streamed)) s }
 
--- if two states of the units have equal assemblies, they are of the same deliveries
 pub has_as : {ds : List Delivery} {old new : Gathered} → new.assembly ≡ old.assembly → HasUnits ds old → HasUnits ds new
 has_as {ds} {old} {new} same has = record { assembly = subst (λ (a : Assembly). StandsFor a (events ds)) (sym same) has.assembly }
 
--- the units after a cut, before the first item is taken
+-- the units after a delivery that no unit continues across
 abbrev pub when_cut : Item → Assembly → Gathered
 when_cut item assembly = record { assembly = assembly; why = Broken; taken = 0; own = Some item }
 
 pub cuts_of : (item : Item) (old : Gathered) (assembly : Assembly) → ((es : List Event) → StandsFor old.assembly es → StandsFor assembly (es ++ cut ∷ [])) → Cuts item old (when_cut item assembly)
 cuts_of item old assembly stands = record { stands = stands; why = refl; taken = refl; own = refl }
 
--- if no fragment was given up, the delivery's own item is its only item
 pub first_alone : (marks : List Mark) (item : Item) → length marks ≡ 0
     → map (lost_item (lost_for Broken)) (drop 0 marks) ++ option_to_list (Some item) ≡ item ∷ (map (lost_item (lost_for Broken)) (drop 0 marks) ++ [])
 first_alone [] item none = refl
 first_alone (mark ∷ marks) item none = absurd cc
 
--- a delivery that ends the current unit yields the fragments before it, and then its own item
+-- a delivery that ends the current unit yields the fragments of that unit, and then its own item
 pub cut_gives_all : (ds : List Delivery) (d : Delivery) (item : Item) (old new : Gathered) → (d.subtype == crf_subtype) ≡ false → event_of d ≡ cut → item_entry item ∷ [] ≡ map made_entry (own_by ds d)
     → HasUnits ds old → Cuts item old new → Gives ds d new
 cut_gives_all ds d item old new streamed event own has c =
@@ -236,7 +231,7 @@ push_gives_all ds d old new video good has p =
     own_is Held = refl
     own_is (Lost why) = refl
 
--- the end of the stream gives up the fragments of a unit that is not whole
+-- at the end of the stream, the fragments of an incomplete unit are given up
 pub end_gives : (ds : List Delivery) (new : Gathered) → StandsFor new.assembly (events ds ++ cut ∷ []) → new.taken ≡ 0 → new.why ≡ Broken → new.own ≡ None → map item_entry (left new) ≡ map made_entry (left_at_end ds)
 end_gives ds new s none why own =
     let so : new.why ≡ reason (events ds ++ cut ∷ []) = rw (last_cut (events ds)) why in
@@ -251,7 +246,6 @@ end_gives ds new s none why own =
 
 -- ---- one item is taken
 
--- if one of the fragments that were given up is taken, the other items are left
 pub next_left : (u v : Gathered) (m : Mark) → slice_get u.assembly.lost u.taken ≡ Some m → v ≡ record u { taken = u.taken + 1 } → left u ≡ lost_item (lost_for u.why) m ∷ left v
 next_left u v m there same =
     ap (λ (l : List Mark). map (lost_item (lost_for u.why)) l ++ option_to_list u.own) (drop_next u.assembly.lost u.taken m there)
@@ -291,7 +285,7 @@ video_stream d e = rw e refl
 video_test : (d : Delivery) → d.subtype ≡ cvf_subtype → (d.subtype == cvf_subtype) ≡ true
 video_test d e = rw e refl
 
--- a packet that has a flaw yields the fragments before it, and then its own flagged item
+-- a packet with a flaw yields the fragments before it, and then its own flagged item
 flawed_taken : (ds : List Delivery) (d : Delivery) (reason : Reason) (old new : Gathered) → d.subtype ≡ cvf_subtype → flaw_of d ≡ Some reason → HasUnits ds old → Cuts (lost_item reason (mark_of d)) old new → Gives ds d new
 flawed_taken ds d reason old new video flaw has c =
     let own : own_by ds d ≡ video_by ds d (Some reason) = ap (λ (b : Bool). if b then video_by ds d (flaw_of d) else made_of_one d ∷ []) (video_test d video) ∙ ap (video_by ds d) flaw in

@@ -1,4 +1,4 @@
--- What each item is: one delivery by itself, one that is flagged, or a whole unit.
+-- Each item is one audio packet, one flagged delivery, or a whole unit.
 use Rattle.std.proofs.Common.{◌≡◌, ◌⊎◌, ℕ, zero, suc, Bool, true, false, List, [], ◌∷◌, ◌++◌, All, length, map, Option, Some, None, refl, sym, ◌∙◌, subst, inl, inr, arith, append_assoc}
 use Rattle.std.specs.Prelude.{◌==◌, if◌then◌else◌, slice_get}
 use Rattle.std.proofs.lemmas.Bool.{eqb-true}
@@ -24,7 +24,7 @@ pub record IsOneOf (ds : List Delivery) (made : MadeItem) : Type 0 where
   pub other : IsOther delivery
   pub same : made_of_one delivery ≡ made
 
--- The item is flagged: its delivery is not presented.
+-- The item is a flagged delivery, which is not presented.
 pub record IsFlagOf (made : MadeItem) : Type 0 where
   pub why : Reason
   pub delivery : Delivery

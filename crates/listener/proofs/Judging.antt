@@ -26,11 +26,9 @@ get_first (z ∷ xs) ys (suc i) x e = get_first xs ys i x e
 of_prefix : (xs ys : List Shown) (i : ℕ) (x : Shown) → IsPrefix xs ys → Some x ≡ slice_get xs i → Some x ≡ slice_get ys i
 of_prefix xs ys i x p e = subst (λ (l : List Shown). Some x ≡ slice_get l i) p.1 (get_first xs p.0 i x e)
 
--- if no item is queued, all entries are judged
 all_judged : (entries : List Entry) (given : ℕ) (judge : JudgeState) (units : Gathered) → left units ≡ [] → (j : Judges entries given judge units) → j.judged ≡ entries
 all_judged entries given judge units none j = sym (append-nil j.judged) ∙ (ap (λ (l : List Item). j.judged ++ map item_entry l) (sym none) ∙ j.all)
 
--- if the judge shows an item of the entries that it has judged, the same item is shown at the same index of all entries
 found_in : (ended : Bool) (judge : JudgeState) (units : Gathered) (entries : List Entry) (given : ℕ) (x : Shown) → (j : Judges entries given judge units) → (judge.closed ≡ true → (ended ≡ true) × (left units ≡ []))
     → Some x ≡ slice_get (judge_out clock_spot judge j.judged) given → Some x ≡ slice_get (shown_by ended judge.plan entries) given
 found_in ended judge units entries given x j over is = by judge.closed ended refl refl is
@@ -53,7 +51,6 @@ pub found_out : (ended : Bool) (judge : JudgeState) (units : Gathered) (entries 
 found_out ended judge units entries given None some j over is = absurd cc
 found_out ended judge units entries given (Some x) some j over is = found_in ended judge units entries given x j over is
 
--- if the judge shows no further item and no item is queued, no further item is shown of all entries
 pub none_in : (ended : Bool) (judge : JudgeState) (units : Gathered) (entries : List Entry) (given : ℕ) → (j : Judges entries given judge units) → left units ≡ [] → (judge.closed ≡ true → ended ≡ true) → (ended ≡ true → judge.closed ≡ true)
     → None ≡ slice_get (judge_out clock_spot judge j.judged) given → None ≡ slice_get (shown_by ended judge.plan entries) given
 none_in ended judge units entries given j none to from is =
@@ -69,7 +66,7 @@ none_in ended judge units entries given j none to from is =
 pub judges_on : (entries : List Entry) (given more : ℕ) (old new : JudgeState) (units : Gathered) → ((es : List Entry) (n : ℕ) → JudgeStandsFor clock_spot es n old → JudgeStandsFor clock_spot es (n + more) new) → Judges entries given old units → Judges entries (given + more) new units
 judges_on entries given more old new units goes j = record { judged = j.judged; stands = goes j.judged given j.stands; all = j.all }
 
--- the judge after it has judged the next queued item
+-- the judge after the next queued item
 pub judges_item : (entries : List Entry) (given : ℕ) (old new : JudgeState) (before after : Gathered) (item : Item) → left before ≡ item ∷ left after
     → ((es : List Entry) (n : ℕ) → JudgeStandsFor clock_spot es n old → JudgeStandsFor clock_spot (es ++ OfItem item ∷ []) n new) → Judges entries given old before → Judges entries given new after
 judges_item entries given old new before after item first goes j = record {
@@ -78,7 +75,7 @@ judges_item entries given old new before after item first goes j = record {
   all = append_assoc j.judged (OfItem item ∷ []) (map item_entry (left after)) ∙ (ap (λ (l : List Item). j.judged ++ map item_entry l) (sym first) ∙ j.all);
 }
 
--- the judge if all items of a delivery are queued
+-- the judge after a delivery whose items are all queued
 pub judges_given : (entries : List Entry) (given : ℕ) (judge : JudgeState) (old new : Gathered) (more : List Entry) → left old ≡ [] → map item_entry (left new) ≡ more → Judges entries given judge old → Judges (entries ++ more) given judge new
 judges_given entries given judge old new more none gives j = record {
   judged = j.judged;
@@ -86,7 +83,7 @@ judges_given entries given judge old new more none gives j = record {
   all = ap (λ (l : List Entry). j.judged ++ l) gives ∙ ap (λ (l : List Entry). l ++ more) (all_judged entries given judge old none j);
 }
 
--- the judge after it has judged a delivery's first item, with the other items queued
+-- the judge after the first item of a delivery; the delivery's other items are queued
 pub judges_first : (entries : List Entry) (given : ℕ) (old new : JudgeState) (before after : Gathered) (item : Item) (more : List Entry) → left before ≡ [] → item_entry item ∷ map item_entry (left after) ≡ more
     → ((es : List Entry) (n : ℕ) → JudgeStandsFor clock_spot es n old → JudgeStandsFor clock_spot (es ++ OfItem item ∷ []) n new) → Judges entries given old before → Judges (entries ++ more) given new after
 judges_first entries given old new before after item more none gives goes j = record {
@@ -97,7 +94,7 @@ judges_first entries given old new before after item more none gives goes j = re
       ∙ (ap (λ (l : List Entry). j.judged ++ l) gives ∙ ap (λ (l : List Entry). l ++ more) (all_judged entries given old before none j));
 }
 
--- the judge after it has judged an entry that was not queued
+-- the judge after an entry that was not queued
 pub judges_entry : (entries : List Entry) (given : ℕ) (old new : JudgeState) (units : Gathered) (entry : Entry) → left units ≡ []
     → ((es : List Entry) (n : ℕ) → JudgeStandsFor clock_spot es n old → JudgeStandsFor clock_spot (es ++ entry ∷ []) n new) → Judges entries given old units → Judges (entries ++ entry ∷ []) given new units
 judges_entry entries given old new units entry none goes j = record {

@@ -1,4 +1,4 @@
--- If an item's timestamp or clock reference is known by the journal's packets that came, it is known to the listener.
+-- If the packets that came make an item's timestamp or clock reference known, the listener knows it.
 use Rattle.std.proofs.Common.{◌≡◌, ◌≢◌, inl, inr, ℕ, zero, suc, ◌+◌, ◌%◌, ◌^◌, ◌<◌, Bool, true, false, ℤ, pos, List, [], ◌∷◌, All, Option, Some, None, is_some, refl, sym, ap, ◌∙◌, subst}
 use Rattle.std.specs.Prelude.{if◌then◌else◌, map, slice_get, take, IfSome, option_map, option_and_then}
 use Rattle.std.specs.List.{cons_option, filter_map}

@@ -11,12 +11,12 @@ use Rattle.stream_journal.specs.FoundLines.{ArePointsAtHand, IsKept}
 use Rattle.stream_journal.specs.Known.{IsCoveredBy}
 use Rattle.stream_journal.proofs.FoundLines.{some_line}
 
--- the row is a copy of the clock's packet `m`, and its timestamps are used
+-- the row is a copy of the clock's packet `m`, and the row's timestamps are used
 pub record IsUsableRow (c : ClockJournal) (shift : ℤ) (m : ℕ) (row : ClockRow) : Type 0 where
   pub usable : row.usable ≡ true
   pub is : IsRowOf c shift m row
 
--- each row is a copy of the packet whose number is at the same index
+-- each row is a copy of the clock's packet whose number is at the same index
 abbrev pub AreRows : ClockJournal → ℤ → List ℕ → List ClockRow → Type 0
 AreRows c shift [] [] = Unit {0}
 AreRows c shift [] (row ∷ rows) = ⊥
@@ -66,7 +66,6 @@ kept c shift ms rows m are came =
     let h = row_of c shift (last_of 64 ms) (last_of 64 rows) m came.0 last came.1 came.2 in
     record { row = h.row; kept = rw all h.there; is = h.is }
 
--- if the timestamps of two packets that came cover an instant, the listener finds a line for that instant
 pub covered_line : (c : ClockJournal) (shift : ℤ) (rate : ℕ) (ms : List ℕ) (rows : List ClockRow) (instant : ℤ) → IsClock c → AreRows c shift ms rows → IsCoveredBy c shift rate ms instant → clock_spot rows shift instant rate ≢ None
 covered_line c shift rate ms rows instant is are by =
     let hand : ArePointsAtHand c shift rows by.earlier by.later = record {

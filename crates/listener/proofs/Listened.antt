@@ -93,7 +93,6 @@ out_same old new records plan closed =
     ap (λ (p : ListenPlan). if is_closed new then shown_of p records else due_of p records) plan
     ∙ ap (λ (b : Bool). if b then shown_of old.plan records else due_of old.plan records) closed
 
--- what an open listener shows of `records` is a prefix of what it shows of more records, even if it is closed by then
 pub out_further : (old new : ListenState) (records more : List Record) → is_closed old ≡ false → is_closed new ≡ false → new.plan ≡ old.plan → IsPrefix (out old records) (out new (records ++ more))
 out_further old new records more opened still plan =
     let all = records ++ more in
@@ -105,7 +104,6 @@ out_at_end old new records opened closed plan =
     let after : out new records ≡ shown_of old.plan records = out_ended new records closed ∙ ap (λ (p : ListenPlan). shown_of p records) plan in
     subst (λ (l : List Shown). IsPrefix l (out new records)) (sym (out_open old records opened)) (subst (IsPrefix (due_of old.plan records)) (sym after) (due_first old.plan records))
 
--- a listener shows what its judge shows of the entries
 pub out_judged : (l : ListenState) (records : List Record) → l.judge.plan ≡ schedule_plan l.plan → shown_by (is_closed l) l.judge.plan (entries_by (is_closed l) l.plan records) ≡ out l records
 out_judged l records plan = ap (λ (p : SchedulePlan). shown_by (is_closed l) p (entries_by (is_closed l) l.plan records)) plan ∙ by (is_closed l)
   where
@@ -132,7 +130,7 @@ never {X} false e f = absurd cc
 
 -- ---- one more record
 
--- the listener after one more record, whose entries are `more`
+-- the listener's state after one more record, whose entries are `more`
 further : (records : List Record) (r : Record) (given : ℕ) (old new : ListenState) (more : List Entry) (b : Bool) → StandsFor records given old
     → new.plan ≡ old.plan → is_closed old ≡ false → is_closed new ≡ false → new.judge.plan ≡ old.judge.plan → new.judge.closed ≡ false
     → HasUnits (deliveries_of old.plan (records ++ r ∷ [])) new.units
@@ -165,7 +163,7 @@ judge_open records given l st opened = by l.judge.closed refl
 pub judges_open : (records : List Record) (given : ℕ) (l : ListenState) → StandsFor records given l → is_closed l ≡ false → Judges (entries_so_far_in l.plan records) given l.judge l.units
 judges_open records given l st opened = judges_as _ _ given l.judge l.units (entries_open l records opened) st.judges
 
--- the listener after a record that belongs neither to the stream nor to its clock
+-- the listener's state after a record that belongs neither to the stream nor to its clock
 pub stands_without : (records : List Record) (r : Record) (given : ℕ) (old new : ListenState) → StandsFor records given old
     → is_closed old ≡ false → is_delivered old.plan.stream old.plan.clock r.bytes ≡ false
     → new.plan ≡ old.plan → is_closed new ≡ false → new.judge ≡ old.judge → new.units ≡ old.units → new.counts ≡ with_record old.counts false
@@ -181,7 +179,7 @@ stands_without records r given old new st opened out_of_it plan still judge unit
     (subst (λ (j : JudgeState). Judges (entries_so_far_in old.plan records ++ []) given j new.units) (sym judge) (subst (λ (u : Gathered). Judges (entries_so_far_in old.plan records ++ []) given old.judge u) (sym units) judges))
     (of_none old.plan.stream old.plan.clock r.bytes out_of_it) counts
 
--- the listener after a record that belongs to the stream or to its clock
+-- the listener's state after a record that belongs to the stream or to its clock
 pub stands_with : (records : List Record) (r : Record) (given : ℕ) (old new : ListenState) → StandsFor records given old
     → is_closed old ≡ false → is_delivered old.plan.stream old.plan.clock r.bytes ≡ true
     → new.plan ≡ old.plan → is_closed new ≡ false → new.judge.plan ≡ old.judge.plan → new.judge.closed ≡ false
@@ -202,7 +200,7 @@ stands_with records r given old new st opened in_it plan still schedule lasting 
 
 -- ---- an item is shown
 
--- `new` differs from `old` only in that the next item was taken from it.
+-- The two states differ only in that `new` has returned one more item.
 pub record Goes (old new : ListenState) : Type 0 where
   pub plan : new.plan ≡ old.plan
   pub closed : is_closed new ≡ is_closed old
@@ -238,7 +236,7 @@ stands_next records given old new (Some y) x same st is goes judges counts =
 
 -- ---- the end
 
--- the judge after the end: the entries of the fragments that only the end gives up are queued
+-- the state of the judge after the end, when the entries of the last fragments are queued
 ended_judges : (plan : ListenPlan) (records : List Record) (given : ℕ) (judge : JudgeState) (old new : Gathered) → left old ≡ [] → map item_entry (left new) ≡ map made_entry (left_at_end (deliveries_of plan records))
     → Judges (entries_so_far_in plan records) given judge old → Judges (entries_in plan records) given judge new
 ended_judges plan records given judge old new none more j = record {
@@ -276,7 +274,7 @@ entries_few : (b : Bool) (plan : ListenPlan) (records : List Record) → length 
 entries_few true plan records = entries-few plan records
 entries_few false plan records = omega (arith, so-far-few plan records, entries-few plan records)
 
--- each entry that the judge took or that is queued has a record of its own
+-- each entry that was judged or is queued has a record of its own
 pub taken_few : (records : List Record) (given : ℕ) (l : ListenState) → StandsFor records given l → taken l.judge + length (left l.units) ≤ l.counts.frames
 taken_few records given l st =
     let j = st.judges in
@@ -294,7 +292,6 @@ pub packets_few : (records : List Record) (given : ℕ) (l : ListenState) → St
 packets_few records given l st =
     omega (arith, ap (λ (c : Counts). c.packets) st.counts, ap (λ (c : Counts). c.frames) st.counts, deliveries-few l.plan.stream None records)
 
--- if one more item is shown, fewer items than records were shown before
 pub shown_few : (records : List Record) (given : ℕ) (l : ListenState) (x : Shown) → StandsFor records given l → Some x ≡ slice_get (out l records) given → l.counts.presented + l.counts.flagged < l.counts.frames
 shown_few records given l x st is =
     let within = slice_get_within (out l records) given x (sym is) in
@@ -350,7 +347,6 @@ still_rests old new closed judge units rests = record {
   };
 }
 
--- after an item was shown, at least one item fewer may still be shown
 pub work_less : (old new : Counts) (x : Shown) → new ≡ with_shown old x → old.presented + old.flagged < old.frames
     → new.frames - (new.presented + new.flagged) + 1 ≤ old.frames - (old.presented + old.flagged)
 work_less old new (Present batch) e some = omega (arith, some, ap (λ (c : Counts). c.frames) e, ap (λ (c : Counts). c.presented) e, ap (λ (c : Counts). c.flagged) e)

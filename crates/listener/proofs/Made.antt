@@ -36,7 +36,6 @@ last_more {X} n xs x =
 
 -- ---- one more event
 
--- an event gives up either all fragments that waited or none
 pub gives_all_or_none : (es : List Event) (e : Event) → (length (given_up (es ++ e ∷ [])) ≡ 0) ⊎ (length (given_up (es ++ e ∷ [])) ≡ length (held es))
 gives_all_or_none es e = by (is_joined (last_stretch (es ++ e ∷ [])))
   where
@@ -69,8 +68,8 @@ lost_holds (x ∷ xs) why e = by (is_within (x ∷ xs)) (is_complete (x ∷ xs))
     by true false p e = absurd cc
     by false c p e = refl
 
--- Counts of fragments when a packet with this outcome is added: `h` waited before, the packet gives up `g`, `s` are in
--- its unit, and `w` wait after it.
+-- How many fragments a packet moves, by the packet's outcome: `h` were held before it, `g` are given up, `s` are in its
+-- stretch, and `w` are held after it.
 abbrev Adds : Piece → ℕ → ℕ → ℕ → ℕ → Type 0
 Adds Whole h g s w = (g + (s - 1) ≡ h) × (w ≡ 0)
 Adds Held h g s w = g + w ≡ h + 1
@@ -105,7 +104,7 @@ adds_up es f pk e = by pk e
 
 -- ---- one more delivery
 
--- how many deliveries that pass a test the items were made of
+-- the number of the items' deliveries that pass a test
 abbrev pub tally : (Delivery → Bool) → List MadeItem → ℕ
 tally p ms = sum_by (λ (m : MadeItem). count_by p (sources m)) ms
 
@@ -148,7 +147,8 @@ waiting_more before d e =
     ap (λ (es : List Event). last_ones (length (held es)) (in_stream (before ++ d ∷ []))) (events_more before d e)
     ∙ ap (last_ones (length (held (events_to before d)))) (stream_more before d e)
 
--- Of the deliveries that pass a test, as many are in the new items or wait afterwards as waited before or are `d`.
+-- Deliveries that pass a test are counted before and after `d`: those that waited, and `d`, are now either in an item
+-- or still waiting.
 Keeps : (Delivery → Bool) → List Delivery → Delivery → List MadeItem → Type 0
 Keeps p before d own = tally p (given_up_by before d ++ own) + count_by p (last_ones (length (held (events_to before d))) (in_stream before ++ d ∷ [])) ≡ count_by p (waiting before) + count_by p (d ∷ [])
 
@@ -246,13 +246,12 @@ none_waits : waiting [] ≡ []
 unfolding last_stretch
 none_waits = rw waits_none refl
 
--- each delivery is in exactly one item
 pub all_made : (p : Delivery → Bool) (ds : List Delivery) → tally p (items_of ds) ≡ count_by p ds
 all_made p ds =
     let nothing = ap (count_by p) none_waits in
     omega (arith, tally-append p (items_so_far ds) (left_at_end ds), tally-flagged p BrokenUnit (waiting ds), after_tally p [] ds, nothing)
 
--- A fact about an item that follows from a fact about each of its deliveries, for each way to make an item.
+-- If `P` holds for each delivery of an item, `Q` holds for the item. There is one field for each way to make an item.
 pub record OfEach (P : Delivery → Type 0) (Q : MadeItem → Type 0) : Type 0 where
   pub one : (d : Delivery) → P d → Q (made_of_one d)
   pub flag : (why : Reason) (d : Delivery) → P d → is_streamed d ≡ true → Q (flagged why d)
@@ -395,7 +394,6 @@ two_in p (x ∷ ms) zero (suc k) m n e f lt some others =
     omega (arith, tally-cons p x ms, here, some, rest)
 two_in p (x ∷ ms) (suc i) (suc k) m n e f lt some others = let rest = two_in p ms i k m n e f (omega arith) some others in omega (arith, tally-cons p x ms, rest)
 
--- if only one delivery passes the test, two items that each have a delivery that passes it are at the same index
 pub same_place : (p : Delivery → Bool) (ms : List MadeItem) (i k : ℕ) (m n : MadeItem) → tally p ms ≤ 1 → slice_get ms i ≡ Some m → slice_get ms k ≡ Some n → 1 ≤ count_by p (sources m) → 1 ≤ count_by p (sources n) → i ≡ k
 same_place p ms i k m n few e f some others = elim (cases_lt i k) [
   | inl before ↦ let two = two_in p ms i k m n e f before some others in absurd (omega arith)
@@ -405,7 +403,7 @@ same_place p ms i k m n few e f some others = elim (cases_lt i k) [
   ]
 ]
 
--- An item that has a delivery which passes the test, and its index.
+-- An item with a delivery that passes the test, and the item's index.
 pub record HasOne (p : Delivery → Bool) (ms : List MadeItem) : Type 0 where
   pub place : ℕ
   pub item : MadeItem

@@ -1,4 +1,4 @@
--- How many items are shown of the entries below index n, and how many shown items are presented or flagged.
+-- How many items are shown of the entries below index n, and how many of these items are presented or flagged.
 use Rattle.std.proofs.Common.{◌≡◌, ℕ, suc, ◌+◌, ◌<◌, ◌≤◌, Bool, cond, List, [], ◌∷◌, length, refl, arith, inl, inr}
 use Rattle.std.specs.Prelude.{◌==◌, count_by, nat_lt}
 use Rattle.std.proofs.lemmas.Bool.{cases_lt}
@@ -43,7 +43,6 @@ same k = grind (arith, nat_tests)
 passes : (k n : ℕ) → k < n → counted (nat_lt k n) ≡ 1
 passes k n lt = grind (arith, nat_tests)
 
--- if nothing is shown of the entries from index `n` on, all that is shown is of the entries below `n`
 pub all-below : (n : ℕ) (gs : List Given) → ((i : ℕ) → n ≤ i → count_by (at i) gs ≡ 0) → count_by (below n) gs ≡ length gs
 all-below n [] none = refl
 all-below n (g ∷ gs) none =

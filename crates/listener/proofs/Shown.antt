@@ -34,7 +34,7 @@ use Rattle.cvf_format.specs.Stretches.{last_stretch}
 use Rattle.listener.proofs.ItemKinds.{at_place}
 use Rattle.listener.proofs.Made.{OfEach, all_made, count-cons, find_one, items_all, last_all, last_counts, same_place, tally}
 
--- ---- each record is at most one delivery
+-- ---- each record gives at most one delivery
 
 abbrev kept : ℕ → Option ℕ → List (ℕ × Record) → List (ℕ × Record)
 kept stream clock xs = filter (λ numbered. is_delivered stream clock numbered.1.bytes) xs
@@ -79,7 +79,6 @@ rising stream clock n [] i k d e f g before = absurd cc
 rising stream clock n (r ∷ records) i k d e f g before =
     rising_here n r (kept stream clock (enumerate_from (n + 1) records)) (is_delivered stream clock r.bytes) (least stream clock (n + 1) records) (rising stream clock (n + 1) records) i k d e f g before
 
--- the frame numbers of a capture's deliveries increase
 pub deliveries_rise : (plan : ListenPlan) (records : List Record) → Rising (deliveries_of plan records)
 deliveries_rise plan records = rising plan.stream plan.clock 1 records
 
@@ -98,7 +97,7 @@ distinct ds rises i k d e f g same = elim (cases_lt i k) [
 
 -- ---- the item of a delivery
 
--- An item has the frame number and the sequence number of its delivery.
+-- The item has the frame number and the sequence number of the delivery.
 record IsItemOf (d : Delivery) (item : Item) : Type 0 where
   frame : item_frame item ≡ d.frame
   seq : item_seq item ≡ d.seq
@@ -127,7 +126,7 @@ item_by d item e = by (d.subtype == crf_subtype) e
 
 -- ---- items and their entries
 
--- The item of an entry has the frame number and the sequence number of its last delivery.
+-- If an entry is an item, the item has the frame number and the sequence number of its last delivery.
 record IsOwn (m : MadeItem) : Type 0 where
   of_last : (item : Item) → m.entry ≡ OfItem item → IsItemOf m.last item
 
@@ -151,7 +150,7 @@ all_there (d ∷ ds) = All-cons (λ (d : Delivery). ⊤) d ds tt (all_there ds)
 all_own : (ds : List Delivery) → All IsOwn (items_of ds)
 all_own ds = items_all (λ d. ⊤) IsOwn ds owns (all_there ds)
 
--- The item is that of the entry at index `n`.
+-- The entry at index `n` is this item.
 record IsMade (ms : List MadeItem) (n : ℕ) (item : Item) : Type 0 where
   made : MadeItem
   there : slice_get ms n ≡ Some made
@@ -278,7 +277,7 @@ each_in_one_item plan records k d within =
     let ds = deliveries_of plan records in
     in_one_item ds k (slice_index_or ds k d) (deliveries_rise plan records) (slice_get-get_or ds k d within)
 
--- ---- what is shown of a frame is what is shown of its item
+-- ---- what is shown of a frame is what is shown of the frame's item
 
 given_frame : (place : ℕ) (item : Item) (r : Result Accepted Reason) → IfOk r (λ a. a.batch.frame ≡ item_frame item) → frame_of (given_shown (given_by place item r)) ≡ item_frame item
 given_frame place item (Ok a) so = so
@@ -296,7 +295,6 @@ same_tests a b c d to from = elim (cases_lt a b) [
     apart : ¬ (a ≡ b) → (a == b) ≡ (c == d)
     apart other = rw (unequal a b other, unequal c d (λ e. other (from e))) refl
 
--- the entry is an item that can be presented
 abbrev pub is_presentable : Entry → Bool
 is_presentable (OfItem (OfPacket packet)) = true
 is_presentable (OfItem (OfUnit whole)) = true
@@ -313,7 +311,6 @@ not_bad clock plan es place (OfPacket packet) is = refl
 not_bad clock plan es place (OfUnit whole) is = refl
 not_bad clock plan es place (OfBad bad) is = absurd is
 
--- each thing that is shown is shown of an item, by the item's verdict
 shown_as : (plan : ListenPlan) (records : List Record) (g : Given) → IsJudged clock_spot (schedule_plan plan) (entries_in plan records) g → IsShownItem plan records (given_shown g)
 shown_as plan records g j =
     let ms = items_in plan records in
@@ -338,7 +335,7 @@ no_other_shown plan records =
     shown_by_each (IsShownItem plan records) (given clock_spot (schedule_plan plan) (entries_in plan records))
     (λ g here. shown_as plan records g (all-judged clock_spot (schedule_plan plan) (entries_in plan records) g here))
 
--- What is shown is at the index of an item, and has the item's frame number.
+-- The shown item is that of an entry at some index, and has that entry's frame number.
 pub record IsPlaced (ms : List MadeItem) (g : Given) : Type 0 where
   pub made : MadeItem
   pub there : slice_get ms (place_of g) ≡ Some made

@@ -1,4 +1,4 @@
--- What is presented of copies of packets is at the journal's instants.
+-- If a batch is made of copies of the journal's packets, its samples are presented at the journal's instants.
 use Rattle.std.proofs.Common.{Ok, is_some, ◌≡◌, ℕ, ◌+◌, ◌%◌, ◌^◌, ◌<◌, ◌≤◌, Bool, true, false, ℤ, pos, ◌+ℤ◌, List, All, Option, Some, None, refl, sym, subst, arith}
 use Rattle.std.specs.Prelude.{◌==◌, neg_ℤ, nat_lt, if◌then◌else◌, option_map, option_and_then, IfSome, Result, Err, IfOk}
 use Rattle.std.specs.List.{filter_map}
@@ -50,7 +50,6 @@ either : (b : Bool) (r : Option ℕ) → (if b then r else r) ≡ r
 either true r = refl
 either false r = refl
 
--- if a packet has a timestamp, it has the sample to which the timestamp belongs, so the timestamp is usable
 usable_by : (rule : HeadRule) (n count : ℕ) (r : Option ℕ) → 1 ≤ count → is_some r ≡ is_stamped rule n count
     → (if nat_lt (stamped_index rule) count then option_map (λ (instant : ℕ). instant % 2 ^ 32) r else None) ≡ option_map (λ (instant : ℕ). instant % 2 ^ 32) r
 usable_by Own n count r some stamped = rw (some_count count some) refl
@@ -58,7 +57,6 @@ usable_by Eight n count r some stamped = rw (some_count count some) refl
 usable_by (Blocks dbc interval) n count None some stamped = either (nat_lt (stamped_index (Blocks dbc interval)) count) None
 usable_by (Blocks dbc interval) n count (Some instant) some stamped = rw (sym stamped) refl
 
--- each timestamp of a copy is usable
 pub usable : (j : Journal) (n frame arrival : ℕ) (bytes : List ℕ) → IsAudio j → n < j.packets → heads.usable_stamp (sent j n frame arrival bytes) ≡ option_map (λ (instant : ℕ). instant % 2 ^ 32) (j.stamp n)
 usable j n frame arrival bytes is known = rw (not_zero j.rate is.rate_from) (usable_by (rule_of j.kind n) n j.count (j.stamp n) is.some (is.stamps n known))
 
@@ -90,7 +88,7 @@ from_stamp j n far (Some stamp) h = h
 eight : (n : ℕ) → n % 256 % 8 ≡ n % 8
 eight n = omega arith
 
--- the sequence number of a packet suffices to tell how far its head is
+-- a packet's sequence number suffices to compute the distance to its head
 pub same_distance : (rule : HeadRule) (n count : ℕ) → distance rule (n % 256) count ≡ distance rule n count
 same_distance Own n count = refl
 same_distance Eight n count = rw (eight n) refl
@@ -139,7 +137,7 @@ at_clock SparseAaf j n k instant heard at = at
 at_clock (Am824 interval dbc) j n k instant heard at = at
 at_clock (H264 part) j n k instant heard at = absurd heard
 
--- The samples that are counted from `spot` are at their instants in the journal.
+-- Samples that are counted from `spot` are at their instants in the journal.
 abbrev IsTrueSpot : Bool → Journal → ℕ → Spot → Type 0
 IsTrueSpot by j n spot = (k : ℕ) → IsAt by j n k (instant_at spot.line (spot.from +ℤ pos k))
 
@@ -147,20 +145,20 @@ by_line : (j : Journal) (n : ℕ) (h : Head) (o : Option Spot) → IsAudioKind j
 by_line j n h None heard t at = tt
 by_line j n h (Some spot) heard t at = λ k. at_clock j.kind j n k _ heard (spot_sample j n k h spot t at)
 
--- The listener's plan follows the journal's stream and, if it has a clock, the journal's clock.
+-- The listener's plan names the journal's stream and, if it names a clock, the journal's clock.
 pub record IsFollowed (shift : ℤ) (j : Journal) (plan : SchedulePlan) : Type 0 where
   pub audio : IsAudio j
   pub kind : IsAudioKind j.kind
   pub clock : IsClock j.clock
   pub shifted : plan.clock ≡ true → plan.shift ≡ shift
 
--- The entries that a listener knows are copies of the journal's packets.
+-- The entries that the listener has read are copies of the journal's packets.
 pub record IsTruePrefix (shift : ℤ) (j : Journal) (prefix : List Entry) : Type 0 where
   pub stamps : All (IsTrue j) (heads.stamps_of prefix)
   pub rows : All (IsTrueRow j.clock shift) (filter_map row_of prefix)
 
--- The samples that are counted from a packet's true head are at the journal's instants. They are on the nominal line of
--- the head, or on the clock's line, whatever copies of the clock's packets the listener has.
+-- Samples that are counted from a packet's true head are at the journal's instants: on the nominal line of the head, or
+-- on the clock's line. It does not matter which copies of the clock's packets the listener has.
 spot_true : (shift : ℤ) (j : Journal) (plan : SchedulePlan) (n : ℕ) (prefix : List Entry) (h : Head) (by : Bool) → plan.clock ≡ by → IsFollowed shift j plan → IsTruePrefix shift j prefix → IsTrueHead j n h
     → IfSome (if by then option_map (moved h.first) (clock_spot (filter_map row_of prefix) plan.shift h.instant j.rate) else Some (nominal_spot j.rate h)) (IsTrueSpot by j n)
 spot_true shift j plan n prefix h true on is known t =
@@ -168,7 +166,7 @@ spot_true shift j plan n prefix h true on is known t =
     (subst (λ (x : ℤ). IfSome (clock_spot (filter_map row_of prefix) x h.instant j.rate) (IsSpotAt j h.instant)) (sym (is.shifted on)) (true_spot j shift h.instant (filter_map row_of prefix) is.clock known.rows))
 spot_true shift j plan n prefix h false off is known t = λ k. at_nominal j.kind j n k _ is.kind (record { head = h; is_head = t; at = refl })
 
--- The batch is of a copy of packet `n`, with this frame number.
+-- The batch is packet `n` of the journal, and has the frame number `frame`.
 pub record IsBatchOf (by : Bool) (p : PacketJournal) (n frame : ℕ) (batch : Presented) : Type 0 where
   pub is : IsOfPacket by p n batch
   pub frame_is : batch.frame ≡ frame

@@ -1,4 +1,4 @@
--- The item of a copy of a packet has that packet's content.
+-- The item that is made of a copy of a packet has that packet's content.
 use Rattle.std.proofs.Common.{◌≡◌, ℕ, ◌%◌, ◌^◌, ◌<◌, Bool, true, false, ℤ, pos, List, [], ◌∷◌, All, Option, Some, None, refl, sym, ap, ◌∙◌, subst, inl, inr}
 use Rattle.std.specs.Prelude.{◌==◌, ◌⊎◌, is_some, if◌then◌else◌, unwrap_or, option_map, IfSome, map, filter}
 use Rattle.std.specs.List.{enumerate_from}
@@ -58,7 +58,7 @@ same_packet : (frame : ℕ) (a a' : ℤ) (s s' : ℕ) (m m' : Bool) (u u' : Bool
     ≡ OfPacket (record { frame = frame; arrival = a'; seq = s'; mr = m'; tu = u'; stamp = t'; rule = r'; rate = f'; count = c'; bytes = bytes })
 same_packet frame a a' s s' m m' u u' t t' r r' f f' c c' bytes e1 e2 e3 e4 e5 e6 e7 e8 = rw (e1, e2, e3, e4, e5, e6, e7, e8) refl
 
--- The fields of a delivery are those in its packet's bytes.
+-- The fields of a delivery are those in the bytes of its packet.
 pub record Shows (d : Delivery) : Type 0 where
   pub subtype : d.subtype ≡ bits 0 0 8 d.packet
   pub seq : d.seq ≡ bits 2 0 8 d.packet
@@ -131,7 +131,7 @@ view_copy j (Am824 interval dbc) stream n arrival (Am824Data v) d k heard is s a
 view_copy j (Am824 interval dbc) stream n arrival (H264Data v) d k heard is s arrived shows = absurd is
 view_copy j (H264 part) stream n arrival view d k heard is s arrived shows = absurd heard
 
--- ---- each delivery is a copy of a packet of the stream or of its clock
+-- The delivery is a copy of a packet of the stream or of its clock.
 
 pub record IsCopied (p : PacketJournal) (lead : ℕ) (d : Delivery) : Type 0 where
   pub origin : Origin
@@ -148,7 +148,6 @@ all_copied p lead (o ∷ os) (d ∷ ds) s from =
 pub deliveries_copied : (p : PacketJournal) (clock : Option ℕ) (lead stream : ℕ) (os : List Origin) (records : List Record) → AreFrom p lead os (deliveries stream clock records) → All (IsCopied p lead) (deliveries stream clock records)
 deliveries_copied p clock lead stream os records from = all_copied p lead os (deliveries stream clock records) (all_shown stream clock records) from
 
--- the item of a copy of packet `n` is that packet with its samples
 pub copy_item : (shift : ℤ) (p : PacketJournal) (lead n : ℕ) (d : Delivery) → IsConforming shift p → IsAudioKind p.times.kind → (copy : IsCopyOf p lead n d) → Shows d
     → item_of d ≡ OfPacket (sent p.times n d.frame copy.arrival (carried (p.packet n)))
 copy_item shift p lead n d is heard copy shows = view_copy p.times p.times.kind p.stream n copy.arrival (p.packet n) d refl heard (is.packets n copy.delivered.known) copy.spelled copy.arrived shows
@@ -182,14 +181,13 @@ audio_kind j (Am824 interval dbc) stream n (Am824Data v) d heard is s shows = in
 audio_kind j (Am824 interval dbc) stream n (H264Data v) d heard is s shows = absurd is
 audio_kind j (H264 part) stream n view d heard is s shows = absurd heard
 
--- the entry of a copy of packet `n` is that packet with its samples
 pub copy_entry : (shift : ℤ) (p : PacketJournal) (lead n : ℕ) (d : Delivery) → IsConforming shift p → IsAudioKind p.times.kind → (copy : IsCopyOf p lead n d) → Shows d
     → entry_of d ≡ OfItem (OfPacket (sent p.times n d.frame copy.arrival (carried (p.packet n))))
 copy_entry shift p lead n d is heard copy shows =
     let kind = audio_kind p.times p.times.kind p.stream n (p.packet n) d heard (is.packets n copy.delivered.known) copy.spelled shows in
     rw (not_of_clock d.subtype kind) (ap OfItem (copy_item shift p lead n d is heard copy shows))
 
--- the row is that of the clock's packet `m`, and its timestamps are used
+-- the row is a copy of the clock's packet `m`, and the row's timestamps are used
 pub record IsCopiedRow (c : ClockJournal) (shift : ℤ) (m : ℕ) (row : ClockRow) : Type 0 where
   pub usable : row.usable ≡ true
   pub is : IsRowOf c shift m row
@@ -251,7 +249,6 @@ audio_one j (H264 part) stream n (H264Data v) d is s shows other =
     let kind : d.subtype ≡ cvf_subtype = shows.subtype ∙ (read.fields.0.0 ∙ is.writable.subtype) in
     absurd (let none = rw kind at other in cc)
 
--- a packet of the stream that is not H.264 is audio
 pub audio_other : (shift : ℤ) (p : PacketJournal) (lead n : ℕ) (d : Delivery) → IsConforming shift p → IsCopyOf p lead n d → Shows d → IsOther d → IsAudioKind p.times.kind
 audio_other shift p lead n d is copy shows other = audio_one p.times p.times.kind p.stream n (p.packet n) d (is.packets n copy.delivered.known) copy.spelled shows other
 

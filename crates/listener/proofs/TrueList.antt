@@ -1,4 +1,4 @@
--- What is presented of a capture consists of packets of the journal.
+-- Each batch that is presented of a capture is a packet of the journal.
 use Rattle.std.proofs.Common.{◌≡◌, ◌≢◌, ℕ, zero, suc, ◌+◌, Bool, true, false, cond, ℤ, List, [], ◌∷◌, All, length, Option, Some, None, refl, sym, ap, ◌∙◌, subst, inl, inr, arith}
 use Rattle.std.specs.Prelude.{◌⊎◌, ◌==◌, if◌then◌else◌, Contains, is_some, int_lt, option_and_then, IfSome, Result, Ok, Err, IfOk, map, fold, slice_get}
 use Rattle.std.specs.List.{cons_option, filter_map}
@@ -57,7 +57,7 @@ pub record IsStreamEntry (items : List MadeItem) (p : PacketJournal) (lead : ℕ
   pub listed : Contains items (made_of_one delivery)
   pub same : e ≡ OfItem (OfPacket (sent p.times number delivery.frame copy.arrival (carried (p.packet number))))
 
--- The entry is a unit that was made of copies of all packets of the unit.
+-- The entry is a unit that was made of copies of all packets of a unit.
 pub record IsUnitEntry (items : List MadeItem) (p : PacketJournal) (lead : ℕ) (e : Entry) : Type 0 where
   pub part : ℕ → Part
   pub kind : p.times.kind ≡ H264 part
@@ -86,7 +86,6 @@ audio_of SparseAaf j heard is = is.0
 audio_of (Am824 interval dbc) j heard is = is.0
 audio_of (H264 part) j heard is = absurd heard
 
--- a conforming stream of audio has one rate and one number of samples per packet
 pub audio : (p : PacketJournal) → IsAudioKind p.times.kind → Conforms p.times → IsAudio p.times
 audio p heard is = audio_of p.times.kind p.times heard is.kind
 
@@ -134,7 +133,7 @@ video_kind_by (H264 part) d other e = record { part = part; same = refl }
 pub video_kind : (shift : ℤ) (p : PacketJournal) (lead : ℕ) (d : Delivery) → IsConforming shift p → IsCopied p lead d → (d.subtype == cvf_subtype) ≡ true → IsVideoKind p.times.kind
 video_kind shift p lead d is c e = video_kind_by p.times.kind d (λ heard. copied_other shift p lead d is heard c) e
 
--- The deliveries of a capture are copies, and adjacent ones are near each other.
+-- The deliveries of a capture are copies of packets, and the packets of adjacent fragments are near each other.
 pub record AreHeard (shift : ℤ) (p : PacketJournal) (lead : ℕ) (ds : List Delivery) : Type 0 where
   pub conforming : IsConforming shift p
   pub copied : All (IsCopied p lead) ds
@@ -368,7 +367,7 @@ batches_are [] = refl
 batches_are (Presents a ∷ gs) = ap (λ (l : List Presented). a.batch ∷ l) (batches_are gs)
 batches_are (Flags place item reason ∷ gs) = batches_are gs
 
--- each batch that is presented of a capture is heard from an item, and is ordered by its first instant
+-- each batch that is presented of a capture is heard from an item, and the batches are ordered by their first instants
 given_heard : (shift : ℤ) (p : PacketJournal) (plan : ListenPlan) (records : List Record) → HearsTalker shift p plan records
     → All (IsHeardAccepted (by_clock plan) (items_in plan records) p plan.lead) (presented (given clock_spot (schedule_plan plan) (entries_in plan records)))
 given_heard shift p plan records h =

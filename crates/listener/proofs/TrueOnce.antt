@@ -1,5 +1,5 @@
--- No packet is presented twice. Two listeners present the same samples of a packet, if both use the clock or neither
--- does.
+-- No packet is presented twice. If two listeners both use the clock, or neither does, they present the same samples of
+-- a packet.
 use Rattle.std.proofs.Common.{◌≡◌, ℕ, ◌+◌, ◌%◌, ◌<◌, Bool, true, false, ℤ, pos, List, [], ◌∷◌, All, refl, sym, ap, ◌∙◌, subst, inl, inr, arith}
 use Rattle.std.specs.Prelude.{AllPairs, map}
 use Rattle.std.specs.List.{AllByRecursion}
@@ -30,7 +30,6 @@ use Rattle.listener.proofs.TrueUnits.{video}
 
 -- ---- copies of one packet have the same samples
 
--- if two units end with the same packet, they begin with the same packet
 one_start : (part : ℕ → Part) (from other n : ℕ) → AreUnit part from n → AreUnit part other n → from ≡ other
 one_start part from other n (inl a) (inl b) = a.0 ∙ sym b.0
 one_start part from other n (inl a) (inr b) = absurd (let e = sym a.1 ∙ b.last in cc)
@@ -108,7 +107,6 @@ at_nominal SparseAaf j n k instant heard at = at
 at_nominal (Am824 interval dbc) j n k instant heard at = at
 at_nominal (H264 part) j n k instant heard at = absurd heard
 
--- without a clock, a packet's first instant is the instant at which it is due
 pub nominal_due : (j : Journal) (n : ℕ) (instant : ℤ) → IsAudioKind j.kind → IsAudio j → n < j.packets → IsAt false j n 0 instant → instant ≡ pos (j.due n)
 nominal_due j n instant heard is known at =
     let x = at_nominal j.kind j n 0 instant heard at in
@@ -126,16 +124,13 @@ due_once j n m is here there same = elim (cases_lt n m) [
   ]
 ]
 
--- If two audio packets have the same sequence number and the same first instant, they are the same packet, with a clock
--- or without.
 audio_packet : (by : Bool) (p : PacketJournal) (n m : ℕ) (x : ℤ) → IsAudioKind p.times.kind → Conforms p.times → n < p.times.packets → m < p.times.packets → n % 256 ≡ m % 256 → IsAt by p.times n 0 x → IsAt by p.times m 0 x → n ≡ m
 audio_packet true p n m x heard is here there seq a b = told_apart p.times n m x is heard here there seq a b
 audio_packet false p n m x heard is here there seq a b =
     let sound = audio p heard is in
     due_once p.times n m sound here there (one_due (p.times.due n) (p.times.due m) x (nominal_due p.times n x heard sound here a) (nominal_due p.times m x heard sound there b))
 
--- If two packets are fewer than 255 apart and have the same sequence number, they are the same packet. (An access unit
--- has at most 255 packets.)
+-- An access unit has at most 255 packets, so its packets have different sequence numbers.
 few_apart : (n m : ℕ) → n % 256 ≡ m % 256 → n < m + 255 → m < n + 255 → n ≡ m
 few_apart n m e low high = omega arith
 
@@ -152,7 +147,6 @@ packet_by SparseAaf by p n m x kind is here there seq a b = audio_packet by p n 
 packet_by (Am824 interval dbc) by p n m x kind is here there seq a b = audio_packet by p n m x (rw kind tt) is here there seq a b
 packet_by (H264 part) by p n m x kind is here there seq a b = video_packet by p part n m x kind (video p part kind is) here there seq a b
 
--- if two packets have the same sequence number and the same first instant, they are the same packet
 pub one_packet : (by : Bool) (p : PacketJournal) (n m : ℕ) (x : ℤ) → Conforms p.times → n < p.times.packets → m < p.times.packets → n % 256 ≡ m % 256 → IsAt by p.times n 0 x → IsAt by p.times m 0 x → n ≡ m
 one_packet by p n m x is here there seq a b = packet_by p.times.kind by p n m x refl is here there seq a b
 

@@ -30,18 +30,18 @@ use Rattle.listener.specs.Laws.{HearsTalker, ComesBefore, presented_of}
 use Rattle.listener.proofs.Shown.{IsPlaced, Rising, all_placed, deliveries_rise, is_presentable}
 use Rattle.listener.proofs.TrueList.{batches_are, given_true}
 
--- The accepted batch's instant is its first instant, and its index is that of its item.
+-- The accepted batch's instant is the batch's first instant, and the batch is made of the item at its index.
 record IsPut (ms : List MadeItem) (a : Accepted) : Type 0 where
   instant : a.instant ≡ first_instant a.batch
   placed : IsPlaced ms (Presents a)
 
--- the frame numbers of the items that may be presented increase
+-- the items that may be presented have increasing frame numbers
 unfoldable RisingItems : List MadeItem → Type 0
 RisingItems ms = (i k : ℕ) (m n : MadeItem) → slice_get ms i ≡ Some m → slice_get ms k ≡ Some n → is_presentable m.entry ≡ true → is_presentable n.entry ≡ true → i < k → m.last.frame < n.last.frame
 
 -- ---- the items are in the order of their last deliveries
 
--- the frame numbers of the deliveries increase, and are at least `low`
+-- the deliveries have increasing frame numbers, all of them at least `low`
 Climbs : ℕ → List Delivery → Type 0
 Climbs low [] = ⊤
 Climbs low (d ∷ ds) = (low ≤ d.frame) × Climbs (suc d.frame) ds
@@ -54,7 +54,7 @@ climbs low (d ∷ ds) rises above = (above 0 d refl, climbs (suc d.frame) ds (λ
 abbrev next_low : Bool → ℕ → ℕ → ℕ
 next_low presentable low frame = if presentable then suc frame else low
 
--- the frame numbers of the items that may be presented increase, and are at least `low`
+-- the items that may be presented have increasing frame numbers, all of them at least `low`
 Ascends : ℕ → List MadeItem → Type 0
 Ascends low [] = ⊤
 Ascends low (m ∷ ms) = (is_presentable m.entry ≡ true → low ≤ m.last.frame) × Ascends (next_low (is_presentable m.entry) low m.last.frame) ms
@@ -68,7 +68,6 @@ lower low high (m ∷ ms) under all = ((λ e. let h = all.0 e in omega arith), b
     by true more rest = rest
     by false more rest = more rest
 
--- the frame numbers still increase with one more item in front
 one_ascends : (low : ℕ) (m : MadeItem) (ms : List MadeItem) → low ≤ m.last.frame → Ascends (suc m.last.frame) ms → Ascends low (m ∷ ms)
 unfolding Ascends
 one_ascends low m ms above rest = ((λ e. above), by (is_presentable m.entry))
@@ -77,7 +76,6 @@ one_ascends low m ms above rest = ((λ e. above), by (is_presentable m.entry))
     by true = rest
     by false = lower low (suc m.last.frame) ms (omega (arith, above)) rest
 
--- the frame numbers still increase with flagged items in front
 flags_ascend : (low : ℕ) (why : Reason) (ds : List Delivery) (ms : List MadeItem) → Ascends low ms → Ascends low (map (flagged why) ds ++ ms)
 unfolding Ascends
 flags_ascend low why [] ms all = all

@@ -70,7 +70,7 @@ entry_there ds n d others e = entry_at (items_of ds) n (made_of_one d) (item_the
 one_instant_of : (x y : ℤ) → same_instant x y ≡ true → x ≡ y
 one_instant_of x y e = grind (arith, ints)
 
--- An accepted item counts as a copy if it has this first instant and this sequence number.
+-- The accepted item has this first instant and this sequence number.
 record IsLike (instant : ℤ) (seq : ℕ) (a : Accepted) : Type 0 where
   instant_is : a.instant ≡ instant
   seq_is : a.batch.seq ≡ seq
@@ -124,13 +124,12 @@ verdict_is : (plan : SchedulePlan) (now : ℤ) (earlier : List Accepted) (place 
 unfolding verdict
 verdict_is plan now earlier place r batch e h fresh room = rw (e, lt_false (first_instant batch) now h, fresh, room) refl
 
--- a further copy is flagged as a repeat, whether there is room or not
 verdict_repeats : (plan : SchedulePlan) (now : ℤ) (earlier : List Accepted) (place : ℕ) (r : Result Presented Reason) (batch : Presented) → r ≡ Ok batch → now ≤ℤ first_instant batch
     → list_any (is_copy (first_instant batch) batch.seq) earlier ≡ true → verdict plan now earlier place r ≡ Err Repeat
 unfolding verdict
 verdict_repeats plan now earlier place r batch e h copied = rw (e, lt_false (first_instant batch) now h, copied) refl
 
--- The listener finds the instants of the item's samples.
+-- The listener can compute the instants of the item's samples.
 record IsTimed (p : PacketJournal) (plan : ListenPlan) (records : List Record) (place n : ℕ) (made : MadeItem) : Type 0 where
   item : Item
   entry : made.entry ≡ OfItem item
@@ -185,7 +184,6 @@ unit_timed shift p plan records place n made h v w =
       is = record { is = unit_packet (by_clock plan) p kind.part plan.lead n made kind.same u; frame_is = u.frame };
     }
 
--- an item that cannot be presented is not known
 flag_unknown : (plan : SchedulePlan) (prefix : List Entry) (made : MadeItem) → IsFlagOf made → is_known plan prefix made.entry ≡ true → ⊥
 flag_unknown plan prefix made flag = subst (λ (m : MadeItem). is_known plan prefix m.entry ≡ true → ⊥) flag.same (λ e. cc)
 

@@ -122,14 +122,13 @@ fragment_is p part lead n d f copy c e =
 next_of : (n m : ℕ) → m % 256 ≡ (n % 256 + 1) % 256 → n ≤ m + 254 → m ≤ n + 254 → m ≡ suc n
 next_of n m e low high = omega arith
 
--- packets that are due at the same instant are at most 254 apart
 close : (j : Journal) (part : ℕ → Part) (n m : ℕ) → IsVideo j part → n < j.packets → m < j.packets → j.due n ≡ j.due m → (n ≤ m + 254) × (m ≤ n + 254)
 close j part n m is here there e =
     let low = is.few m n here (sym e) in
     let high = is.few n m there e in
     (omega arith, omega arith)
 
--- if two packets both have a stamp, the stamps are equal
+-- if two packets both have a timestamp, the timestamps are equal
 abbrev Agrees : Option ℕ → Option ℕ → Type 0
 Agrees r s = IfSome r (λ (x : ℕ). IfSome s (λ (y : ℕ). x ≡ y))
 
@@ -219,7 +218,6 @@ follow_on shift p part lead n t f (x ∷ xs) (g ∷ fs) is kind a (m, (copy, (ne
     let more = follow_on shift p part lead m t g xs fs is kind b chain (All-tail Shows x xs shows) events (λ front y z rest q. goes (f ∷ front) y z rest (ap (λ (l : List Fragment). f ∷ l) q)) later in
     subst (λ (k : ℕ). IsCopyOf p lead k x × AreCopiesFrom p lead (suc k) xs) same (copy, more)
 
--- the deliveries are copies of consecutive packets
 pub record HasRun (p : PacketJournal) (lead : ℕ) (xs : List Delivery) : Type 0 where
   pub from : ℕ
   pub copies : AreCopiesFrom p lead from xs
@@ -250,7 +248,7 @@ pub copies_all : (p : PacketJournal) (lead n m : ℕ) (xs : List Delivery) (d : 
 copies_all p lead n m [] d e all last = let same : m ≡ n = omega (arith, e) in (subst (λ (k : ℕ). IsCopyOf p lead k d) same last, tt)
 copies_all p lead n m (x ∷ xs) d e all last = (all.0, copies_all p lead (suc n) m xs d (omega (arith, e)) all.1 last)
 
--- each fragment is that of a packet of the journal, and the packets are consecutive from packet `n` on
+-- The fragments are those of consecutive packets of the journal, from packet `n` on.
 abbrev pub AreFragmentsFrom : PacketJournal → (ℕ → Part) → ℕ → List Fragment → Type 0
 AreFragmentsFrom p part n [] = ⊤
 AreFragmentsFrom p part n (f ∷ fs) = IsFragmentOf p part n f × AreFragmentsFrom p part (suc n) fs
@@ -282,7 +280,7 @@ unit_is p part n m f fs to all =
 
 -- ---- the parts of a unit's packets
 
--- The packets after packet `n` continue its unit, and packet `m` is the last of it.
+-- The packets after packet `n` continue its unit, and packet `m` is the unit's last packet.
 record Goes (part : ℕ → Part) (n m : ℕ) : Type 0 where
   middle : (k : ℕ) → n < k → k < m → part k ≡ Middle
   last : n < m → part m ≡ Last
@@ -311,7 +309,6 @@ single_of FirstNal e h = absurd cc
 single_of MiddleNal e h = absurd cc
 single_of LastNal e h = absurd cc
 
--- if packet `n + 1` is in the middle of a unit that ends with packet `m`, the unit of packet `n` ends with packet `m`
 next_goes : (part : ℕ → Part) (n m : ℕ) → suc n < m → part (suc n) ≡ Middle → Goes part (suc n) m → Goes part n m
 next_goes part n m before here more = record {
   middle = λ k low high. elim (cases_lt (suc n) k) [
@@ -420,8 +417,8 @@ run_shows before d n all here =
     All-append Shows (last_ones n (in_stream before)) (d ∷ []) (All-drop Shows (length (in_stream before) - n) (in_stream before) (All-filter is_streamed Shows before all))
     (All-cons Shows d [] here (All-nil Shows))
 
--- if a unit was made of copies of consecutive packets, its packets are one unit of the journal, and its bytes are
--- theirs
+-- if a unit was made of copies of consecutive packets, these packets are one unit of the journal, and the bytes are
+-- that unit's
 unit_by_run : (shift : ℤ) (p : PacketJournal) (part : ℕ → Part) (lead n : ℕ) (before : List Delivery) (d : Delivery) (run : List Fragment) → IsConforming shift p → p.times.kind ≡ H264 part → All Shows before → Shows d → (copy : IsMadeOf p lead n (unit_by before d))
     → last_stretch (events_to before d) ≡ run → IsWholeRun (events_to before d) run → AreUnit part copy.from n × (whole_unit (events_to before d) ≡ unit_bytes p copy.from n)
 unit_by_run shift p part lead n before d [] is kind all here copy same r = absurd (let some = r.some in omega arith)

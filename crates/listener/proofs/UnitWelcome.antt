@@ -1,4 +1,4 @@
--- If the packets of a unit of H.264 came in order at the beginning of a capture, the unit must be presented.
+-- If the packets of an H.264 unit came in order at the beginning of a capture, the unit must be presented.
 use Rattle.std.proofs.Common.{◌≡◌, ◌⊎◌, ℕ, zero, suc, ◌+◌, ◌%◌, ◌<◌, ◌≤◌, Bool, true, false, ℤ, pos, ◌≤ℤ◌, List, [], ◌∷◌, ◌++◌, All, drop, length, map, Option, Some, None, refl, sym, ap, ◌∙◌, subst, inl, inr, arith, append-nil, append_assoc, eq-eqb, length-append}
 use Rattle.std.specs.Prelude.{◌-◌, ◌==◌, nat_lt, not, if◌then◌else◌, slice_get, Contains, IfSome, option_map}
 use Rattle.std.specs.List.{flat_map}
@@ -224,7 +224,6 @@ stretch p part from n f fs is unit byte known high all =
 
 -- ---- the limits
 
--- the fragments at the beginning of a unit have at most as many bytes as the unit
 shorter : (f : Fragment) (fs gs : List Fragment) → length (unit_of (f ∷ fs)) ≤ length (unit_of (f ∷ (fs ++ gs)))
 shorter f fs gs =
     let all = ap length (flat_map-append (λ (h : Fragment). h.body) (f ∷ fs) gs) in
@@ -276,7 +275,6 @@ none_given (x ∷ before) d b =
     let none : given_up (events_to (x ∷ before) d) ≡ [] = ap (λ (t : Bool). if t then [] else held (before_last (events_to (x ∷ before) d))) on in
     ap (λ (l : List Fragment). last_ones (length l) (in_stream (x ∷ before))) none ∙ none_last (in_stream (x ∷ before))
 
--- the next delivery of a unit yields only its own item
 gives_own : (before : List Delivery) (d : Delivery) (pk : Piece) → Begins before d → piece (events_to before d) ≡ pk → given_by before d ≡ piece_by before d pk
 gives_own before d pk b is =
     let none : given_up_by before d ≡ [] = ap (map (flagged (lost_for (reason (events_to before d))))) (none_given before d b) in
@@ -352,7 +350,6 @@ begin_at p part lead from n all before d rest b same =
     at_end [] x all = All-head IsGood x [] all
     at_end (y ∷ xs) x all = at_end xs x (All-tail IsGood y (xs ++ x ∷ []) all)
 
--- the fragment of the delivery at index k is the part of packet `from` + k
 part_at : (p : PacketJournal) (part : ℕ → Part) (lead from n : ℕ) (all before : List Delivery) (d : Delivery) (rest : List Delivery) → IsBegin p part lead from n all → all ≡ (before ++ d ∷ []) ++ rest → part_of (fragment_at d).part ≡ part (from + length before)
 part_at p part lead from n all before d rest b same =
     let split : fragments_at all ≡ run_at before d ++ fragments_at rest = ap fragments_at same ∙ map-append fragment_at (before ++ d ∷ []) rest in
@@ -360,7 +357,6 @@ part_at p part lead from n all before d rest b same =
     fragments_last p part from (fragments_at before) (fragment_at d) (subst (λ (l : List Fragment). AreFragmentsFrom p part from l) (more_run before d) here)
     ∙ ap (λ (k : ℕ). part (from + k)) (length-map before fragment_at)
 
--- each delivery except the last yields no item
 waits : (p : PacketJournal) (part : ℕ → Part) (lead from n : ℕ) (all before : List Delivery) (d x : Delivery) (rest : List Delivery) → IsBegin p part lead from n all → all ≡ (before ++ d ∷ []) ++ x ∷ rest → given_by before d ≡ []
 waits p part lead from n all before d x rest b same =
     let begin = begin_at p part lead from n all before d (x ∷ rest) b same in
@@ -490,7 +486,6 @@ unit_welcome shift p plan records part from n earlier last rest h kind same u ea
 
 -- ---- a unit whose packets came in order, anywhere in a capture
 
--- the events up to `last` are those of `front`, then those of the unit's packets
 events_after : (before front earlier : List Delivery) (last : Delivery) → in_stream before ≡ front ++ earlier → Begins earlier last → events_to before last ≡ map event_of front ++ map packet (run_at earlier last)
 events_after before front earlier last split b =
     let own : events before ≡ map event_of front ++ map event_of earlier = ap (map event_of) split ∙ map-append event_of front earlier in
@@ -553,7 +548,7 @@ shows_after ds before front earlier last rest same split all =
     let run : All Shows earlier = All-back Shows front earlier (subst (λ (l : List Delivery). All Shows l) split streamed) in
     All-append Shows earlier (last ∷ []) run (All-cons Shows last [] (All-head Shows last rest (All-back Shows before (last ∷ rest) there)) (All-nil Shows))
 
--- The unit that `last` completes is an item, and its earlier deliveries are `earlier`.
+-- `last` and the deliveries `earlier` before it make a whole unit, which is one of the items.
 pub record IsMadeUnit (items : List MadeItem) (before earlier : List Delivery) (last : Delivery) : Type 0 where
   pub listed : Contains items (unit_by before last)
   pub of : (unit_by before last).earlier ≡ earlier

@@ -1,4 +1,4 @@
--- The time at which the first entry of a capture is judged, and the room that there is for it.
+-- When the first entry of a capture is judged, and how much room the buffer has for it.
 use Rattle.std.proofs.Common.{◌≡◌, ℕ, ◌+◌, ◌≤◌, Bool, true, false, ℤ, pos, ◌≤ℤ◌, List, [], ◌∷◌, Option, Some, None, refl, ap, arith}
 use Rattle.std.specs.Prelude.{◌==◌, nat_le, nat_lt, if◌then◌else◌, slice_get}
 use Rattle.std.specs.Int.{int_max}
@@ -33,7 +33,6 @@ has_room plan now size some fits = by (nat_le plan.buffer 0) (nat_lt plan.room (
     by : (a b : Bool) → a ≡ false → b ≡ false → (if a then true else b) ≡ false
     by a b e f = rw (e, f) refl
 
--- the item of a delivery has the delivery's arrival, even if its reader refuses it
 refused_arrival : (d : Delivery) (o : Option Refusal) (item : Item) → item_arrival item ≡ d.arrival → item_arrival (refused_or d o item) ≡ d.arrival
 refused_arrival d None item e = e
 refused_arrival d (Some refusal) item e = refl

@@ -8,8 +8,8 @@ use Rattle.listener.specs.declared.listener.ListenFault.{ListenFault}
 use Rattle.listener.specs.declared.listener.ListenFault.TheVariants.{Refused, Memory}
 use Rattle.listener.specs.Listening.{ListenState, StandsFor as RecordsStandFor, is_closed, out as out_of, work as listener_work}
 
--- A listener that is fed bytes: its reader; the listener of the records that were read; the item that is due next; and
--- whether memory has run out.
+-- A listener that is fed bytes: its reader of records, the listener that the records are given to, the item that is due
+-- next, and whether memory has run out.
 pub record Feeding : Type 0 where
   pub reader : Reading
   pub listener : ListenState
@@ -20,7 +20,7 @@ pub record Feeding : Type 0 where
 abbrev pub IsQuiet : Feeding → Type 0
 IsQuiet fed = fed.next ≡ None
 
--- nothing is due, and memory has not run out: the listener takes more bytes
+-- nothing is due, and memory has not run out, so the listener takes more bytes
 pub record IsReady (fed : Feeding) : Type 0 where
   pub quiet : IsQuiet fed
   pub memory : fed.out_of_memory ≡ false
@@ -29,12 +29,13 @@ pub record IsReady (fed : Feeding) : Type 0 where
 abbrev pub is_ended : Feeding → Bool
 is_ended fed = is_closed fed.listener
 
--- what is shown of a capture's bytes: what is due while more may follow, and all once it has ended
+-- what is shown of the whole records in these bytes: only what is due while more bytes may follow, and everything once
+-- the capture has ended
 abbrev pub out : Feeding → List ℕ → List Shown
 out fed bytes = out_of fed.listener (whole_records bytes)
 
--- The listener was fed `bytes`, and has returned `given` of the items that it shows of them. If memory has run out,
--- `bytes` are those fed before the call of `feed` for which it ran out.
+-- The listener was fed `bytes`, and has returned the first `given` items of what is shown of them. If memory ran out in
+-- a call of `feed`, `bytes` are the bytes before that call.
 pub record StandsFor (bytes : List ℕ) (given : ℕ) (fed : Feeding) : Type 0 where
   pub read : fed.out_of_memory ≡ false → HasRead fed.reader bytes (whole_records bytes)
   pub stands : RecordsStandFor (whole_records bytes) (given + length (option_to_list fed.next)) fed.listener
@@ -59,7 +60,7 @@ is_memory (Err Memory) = true
 abbrev pub work : Feeding → ℕ
 work fed = listener_work fed.listener + length (option_to_list fed.next)
 
--- what was read, the plan, whether the capture has ended, and whether memory has run out are unchanged
+-- the records that were read, the plan, whether the capture has ended, and whether memory has run out are unchanged
 pub record Keeps (old new : Feeding) : Type 0 where
   pub reader : new.reader ≡ old.reader
   pub plan : new.listener.plan ≡ old.listener.plan

@@ -1,4 +1,4 @@
--- The units of a stream between two deliveries, and the items that wait to be judged.
+-- The units of a stream between two deliveries, and the items that are queued for the judge.
 use Rattle.std.specs.Prelude.{ℕ, List, ◌++◌, drop, map, Option}
 use Rattle.std.specs.Option.{option_to_list}
 use Rattle.cvf_format.specs.Assembly.{Assembly, StandsFor}
@@ -14,8 +14,8 @@ use Rattle.packet_journal.specs.Deliveries.{Delivery}
 use Rattle.listener.specs.Items.{lost_for}
 use Rattle.listener.specs.Units.{events}
 
--- The state of a stream's units: their assembly; why the last fragments were given up, and how many of them were taken
--- since; and the last delivery's own item.
+-- The state of a stream's units. It holds the fragments of the current unit, why the last fragments were given up, how
+-- many of those were taken, and the last delivery's own item.
 pub record Gathered : Type 0 where
   pub assembly : Assembly
   pub why : LostFor
@@ -30,11 +30,10 @@ lost_item reason mark = OfBad (record { frame = mark.frame; arrival = mark.arriv
 abbrev pub item_entry : Item → Entry
 item_entry item = OfItem item
 
--- the items of the last delivery that were not taken yet
+-- the items of the last delivery that were not yet taken
 abbrev pub left : Gathered → List Item
 left u = map (lost_item (lost_for u.why)) (drop u.taken u.assembly.lost) ++ option_to_list u.own
 
--- The units are those of the deliveries `ds`, and their assembly holds the fragments that wait for the rest of their
--- unit.
+-- The units are those of the deliveries `ds`. The assembly holds the fragments of the current, incomplete unit.
 pub record HasUnits (ds : List Delivery) (u : Gathered) : Type 0 where
   pub assembly : StandsFor u.assembly (events ds)

@@ -1,4 +1,4 @@
--- What a listener shows of a talker that keeps the rules, whatever a capture loses, repeats or reorders.
+-- What a listener shows of a talker that keeps the rules, whatever packets a capture loses, repeats or reorders.
 use Rattle.std.specs.Prelude.{◌≡◌, ◌≤◌, ℕ, ℤ, List, [], ◌∷◌, length, All, AllPairs, Any, slice_get, Some}
 use Rattle.clock_track.specs.Rows.{clock_spot}
 use Rattle.pcap_frames.specs.Capture.{Record}
@@ -17,18 +17,18 @@ use Rattle.listener.specs.Laws.{Agree, AreOther, HearsTalker, IsFurther, IsHeard
 
 -- What is shown of the records of a capture keeps the headline.
 pub record KeepsHeadline (shift : ℤ) (p : PacketJournal) (plan : ListenPlan) (records : List Record) (shown : List Shown) : Type 0 where
-  -- Each batch that is presented is the packet that its item was made of, with that packet's bytes. Each of its samples
-  -- is at the talker's own nanosecond.
+  -- Each batch that is presented is the packet that its item was made of, and has that packet's bytes. Each of its
+  -- samples is at the talker's own nanosecond.
   pub genuine : All (IsHeardFrom (by_clock plan) (items_in plan records) p plan.lead) (presented_of shown)
   -- no packet is presented twice
   pub once : AllPairs (AreOther (by_clock plan) p) (presented_of shown)
   -- first instants never decrease, and batches with equal first instants are in the order of the items
   pub in_order : AllPairs ComesBefore (presented_of shown)
-  -- an item is presented if its timestamp or clock reference is known, it came in time, it found room, and no copy of
-  -- its packet was accepted before
+  -- an item is presented if its timestamp or clock reference is known, it came in time, the buffer had room for it, and
+  -- no copy of its packet was accepted before
   pub known : (place n : ℕ) (made : MadeItem) → IsWelcome p plan records place n made → Any (IsPresentedOf (by_clock plan) p n made) (presented_of shown)
-  -- a further copy of a packet that was accepted is flagged as a repeat, if its timestamp or clock reference is known
-  -- and it came in time
+  -- if a copy of a packet was accepted, a further copy is flagged as a repeat; its timestamp or clock reference must be
+  -- known, and it must have come in time
   pub repeats : (place n : ℕ) (made : MadeItem) → IsFurther p plan records place n made → shown_of_frame made.last.frame shown ≡ Flag made.last.frame made.last.seq Repeat ∷ []
   -- each delivery of the stream and of its clock is in one item
   pub each_made : All (IsInOneItem (items_in plan records)) (deliveries_of plan records)
@@ -37,9 +37,9 @@ pub record KeepsHeadline (shift : ℤ) (p : PacketJournal) (plan : ListenPlan) (
       → shown_of_frame made.last.frame shown ≡ shown_by made.last (verdict_of plan records place item) ∷ []
   -- nothing else is shown
   pub no_other : All (IsShownItem plan records) shown
-  -- If another listener hears the talker, and both or neither use its clock, they agree. For each packet that both
-  -- present, both have the same bytes, and each sample at the same nanosecond.
+  -- If another listener hears the talker, and both or neither use the talker's clock, the two listeners agree. For each
+  -- packet that both present, both have the same bytes, and each sample at the same nanosecond.
   pub agrees : (other : ListenPlan) (others : List Record) → HearsTalker shift p other others → by_clock other ≡ by_clock plan → All (λ a. All (Agree (by_clock plan) p a) (presented_of (shown_of other others))) (presented_of shown)
-  -- whenever an item is judged, at most `buffer` batches wait, with together at most `room` bytes
+  -- whenever an item is judged, at most `buffer` batches wait, and they have at most `room` bytes together
   pub buffer : (place : ℕ) → length (waiting_at clock_spot (schedule_plan plan) (entries_in plan records) place) ≤ plan.buffer
   pub room : (place : ℕ) → total_bytes (waiting_at clock_spot (schedule_plan plan) (entries_in plan records) place) ≤ plan.room

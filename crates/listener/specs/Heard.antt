@@ -28,7 +28,7 @@ schedule_plan plan = record {
 abbrev pub deliveries_of : ListenPlan → List Record → List Delivery
 deliveries_of plan records = deliveries plan.stream plan.clock records
 
--- the items that a list of records makes, with the deliveries that each was made of
+-- the items that are made of a list of records, with the deliveries that each was made of
 abbrev pub items_in : ListenPlan → List Record → List MadeItem
 items_in plan records = items_of (deliveries_of plan records)
 
@@ -36,7 +36,7 @@ items_in plan records = items_of (deliveries_of plan records)
 abbrev pub entries_in : ListenPlan → List Record → List Entry
 entries_in plan records = entries (deliveries_of plan records)
 
--- the entries that a list of records makes while more records may follow
+-- the entries that are made of a list of records while more records may follow
 abbrev pub entries_so_far_in : ListenPlan → List Record → List Entry
 entries_so_far_in plan records = entries_so_far (deliveries_of plan records)
 
@@ -58,7 +58,7 @@ abbrev pub is_flag : Shown → Bool
 is_flag (Present batch) = false
 is_flag (Flag frame seq reason) = true
 
--- The counts of a listener: the records, those of the stream, and the items presented and flagged.
+-- The counts of a listener: the records, the records of the stream, the items presented, and the items flagged.
 abbrev pub counts_of : ListenPlan → List Record → List Shown → Counts
 counts_of plan records list = record {
   frames = length records;
@@ -67,8 +67,8 @@ counts_of plan records list = record {
   flagged = count_by is_flag list;
 }
 
--- What a listener shows of a capture's bytes: the schedule of the whole records before the first refusal; its counts; and the
--- first refusal, if there is one.
+-- What a listener shows of a capture's bytes: what is shown of the whole records before the first refusal, the counts,
+-- and the first refusal, if there is one.
 abbrev pub heard_of : ListenPlan → List ℕ → Heard
 heard_of plan bytes =
     let records = whole_records bytes in

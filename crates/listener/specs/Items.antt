@@ -25,9 +25,9 @@ use Rattle.packet_journal.specs.Deliveries.{Delivery}
 use Rattle.listener.specs.Units.{event_of, events, flaw_of, in_stream, last_ones, waiting}
 use Rattle.packet_journal.specs.Packets.{audio_sample_type}
 
--- A packet of AAF (IEEE 1722-2016, 7). Its timestamp is used if it is valid. In sparse mode, a packet without a
--- timestamp is counted from the last packet before it whose sequence number is a multiple of 8. The code of a
--- user-specified rate gives no rate.
+-- The item of an AAF packet (IEEE 1722-2016, 7). Its timestamp is used if it is valid. In sparse mode, a packet without
+-- a timestamp is counted from the last earlier packet whose sequence number is a multiple of 8. If the rate is
+-- user-specified, the item has no rate.
 abbrev pub samples_of : Delivery → Aaf → Item
 samples_of d v = OfPacket (record {
   frame = d.frame;
@@ -42,15 +42,15 @@ samples_of d v = OfPacket (record {
   bytes = v.payload;
 })
 
--- Which data block of an IEC 61883-6 packet is stamped, given its block count and the SYT interval of its rate. A no-data packet
--- has neither rate nor interval.
+-- Which data block of an IEC 61883-6 packet is stamped, given the packet's block count and the SYT interval of its
+-- rate. A no-data packet has neither rate nor interval.
 abbrev pub block_rule : ℕ → Option ℕ → HeadRule
 block_rule dbc None = Own
 block_rule dbc (Some interval) = Blocks dbc interval
 
--- A packet of IEC 61883-6, each of whose data blocks is a sample. Its timestamp is used if it is valid, and belongs to
--- the block whose block count is a multiple of the interval. A packet without that block is counted from the last such
--- block before it. A no-data packet has no samples.
+-- The item of an IEC 61883-6 packet. Each data block is a sample. The timestamp is used if it is valid, and belongs to
+-- the block whose block count is a multiple of the interval. If a packet has no such block, it is counted from the last
+-- such block in an earlier packet. A no-data packet has no samples.
 abbrev pub blocks_of : Delivery → Iec → Item
 blocks_of d v = OfPacket (record {
   frame = d.frame;
@@ -74,7 +74,7 @@ malformed d refusal = OfBad (record {
   reason = Malformed refusal.field;
 })
 
--- the item of a delivery: the malformed item if its reader refuses it, else this item
+-- the item of a delivery: if the packet's reader refuses it, the malformed item; otherwise `item`
 abbrev pub refused_or : Delivery → Option Refusal → Item → Item
 refused_or d None item = item
 refused_or d (Some refusal) item = malformed d refusal
@@ -94,7 +94,7 @@ item_of d = if d.subtype == aaf_subtype then aaf_item d else iec_item d
 -- ---- the media clock
 
 -- The timestamps of a packet of the media clock (IEEE 1722-2016, 10). They are used if the packet is of the type for
--- audio samples and its times are certain.
+-- audio samples and does not have the timestamp-uncertain bit.
 abbrev pub points_of : Crf → ClockRow
 points_of v = record {
   usable = (v.kind == audio_sample_type) && not v.tu;
@@ -106,7 +106,7 @@ points_of v = record {
   payload = v.payload;
 }
 
--- what a packet of the media clock gives if its reader refuses it: no timestamps
+-- the row of a clock packet that its reader refuses: it has no timestamps
 abbrev pub no_points : ClockRow
 no_points = record { usable = false; seq = 0; mr = false; base_frequency = 0; pull = 0; interval = 0; payload = [] }
 
@@ -121,19 +121,19 @@ clock_row d = points_or_none (crf_refusal d.packet) (crf_of d.packet)
 
 -- ---- items
 
--- The entry of a delivery: of the clock, its timestamps; of audio, an item. A delivery of the clock is never shown,
--- whether it has valid timestamps or not.
+-- The entry of a delivery. A packet of the clock gives its timestamps, and is never shown, whether these are valid or
+-- not. A packet of audio gives an item.
 abbrev pub entry_of : Delivery → Entry
 entry_of d = if d.subtype == crf_subtype then OfClock d.arrival (clock_row d) else OfItem (item_of d)
 
 -- An entry of a schedule, with the deliveries that it was made of: the earlier ones, in order, and the last one. The
--- entry has the last one's frame number and sequence number.
+-- entry has the frame number and the sequence number of the last delivery.
 pub record MadeItem : Type 0 where
   pub entry : Entry
   pub earlier : List Delivery
   pub last : Delivery
 
--- the deliveries that an item was made of
+-- the deliveries that an item was made of, in order
 abbrev pub sources : MadeItem → List Delivery
 sources made = made.earlier ++ made.last ∷ []
 
@@ -150,25 +150,24 @@ flagged reason d = record {
   last = d;
 }
 
--- the reason with which fragments are flagged, for each cause of giving them up
+-- the reason with which fragments are flagged, by the cause for which they were given up
 abbrev pub lost_for : LostFor → Reason
 lost_for Broken = BrokenUnit
 lost_for Long = LongUnit
 
 -- ---- the items of a delivery
 
--- the events of the stream up to a delivery
+-- the events of the stream up to and including a delivery
 abbrev pub events_to : List Delivery → Delivery → List Event
 events_to before d = events before ++ event_of d ∷ []
 
--- the flagged items of the fragments that are given up because of a delivery
+-- the flagged items of the fragments that a delivery makes the listener give up
 abbrev pub given_up_by : List Delivery → Delivery → List MadeItem
 given_up_by before d =
     map (flagged (lost_for (reason (events_to before d)))) (last_ones (length (given_up (events_to before d))) (in_stream before))
 
 -- The unit that a delivery completes. Its frame number, arrival, sequence number and presentation time are those of
--- that delivery, which is the last of the unit. The unit's other deliveries are the stream's last ones before that
--- delivery.
+-- that delivery. The unit's earlier deliveries are the stream's last ones before that delivery.
 abbrev pub unit_by : List Delivery → Delivery → MadeItem
 unit_by before d = record {
   entry = OfItem (OfUnit (record {
@@ -182,29 +181,29 @@ unit_by before d = record {
   last = d;
 }
 
--- the items of an H.264 packet without a flaw: the unit that it completes; none if it waits for the rest of its unit; or a
--- flagged item if it is lost
+-- The items of an H.264 packet without a flaw. If the packet completes a unit, the unit; if it waits for the rest of
+-- its unit, none; if it is lost, a flagged item.
 abbrev pub piece_by : List Delivery → Delivery → Piece → List MadeItem
 piece_by before d Whole = unit_by before d ∷ []
 piece_by before d Held = []
 piece_by before d (Lost why) = flagged (lost_for why) d ∷ []
 
--- the items of a packet of H.264: a flagged item if it has a flaw, else those of a packet without a flaw
+-- the items of an H.264 packet: a flagged item if the packet has a flaw, otherwise what the packet does to the current
+-- unit
 abbrev pub video_by : List Delivery → Delivery → Option Reason → List MadeItem
 video_by before d None = piece_by before d (piece (events_to before d))
 video_by before d (Some reason) = flagged reason d ∷ []
 
--- the item that a delivery of the stream makes, or none if the delivery is a fragment that waits for the rest of its
--- unit
+-- the item that a delivery of the stream makes itself, or none if it is a fragment that waits for the rest of its unit
 abbrev pub own_by : List Delivery → Delivery → List MadeItem
 own_by before d = if d.subtype == cvf_subtype then video_by before d (flaw_of d) else made_of_one d ∷ []
 
--- The items that a delivery yields after `before`. A delivery of the clock yields its timestamps. A delivery of the
--- stream yields the fragments that are given up because of it, in order, and then its own item.
+-- The items that a delivery yields after the deliveries `before`. A delivery of the clock yields its timestamps. A
+-- delivery of the stream yields the fragments that are given up because of it, in order, and then its own item.
 abbrev pub given_by : List Delivery → Delivery → List MadeItem
 given_by before d = if d.subtype == crf_subtype then made_of_one d ∷ [] else given_up_by before d ++ own_by before d
 
--- the items that further deliveries yield, one after another, after the deliveries before them
+-- the items that a second list of deliveries yields after a first list
 abbrev pub given_after : List Delivery → List Delivery → List MadeItem
 given_after before [] = []
 given_after before (d ∷ ds) = given_by before d ++ given_after (before ++ d ∷ []) ds

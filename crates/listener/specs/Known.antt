@@ -1,4 +1,4 @@
--- When the timestamp or clock reference of an item is known, in terms of the journal's packets that came.
+-- When an item's timestamp or clock reference is known, in terms of which of the journal's packets came.
 use Rattle.std.specs.Prelude.{◌≡◌, ℕ, ◌+◌, List, [], ◌∷◌, is_some, take}
 use Rattle.pcap_frames.specs.Capture.{Record}
 use Rattle.sample_schedule.specs.declared.entry.Entry.TheVariants.{Item as OfItem}
@@ -19,13 +19,15 @@ clock_numbers [] = []
 clock_numbers (OfStream n ∷ os) = clock_numbers os
 clock_numbers (OfClock m ∷ os) = m ∷ clock_numbers os
 
--- the packets that have come when the delivery at index `place` is judged: all up to it, and the next `look`
+-- the packets that have come when the delivery at index `place` is judged: those up to that delivery, and the next
+-- `look`
 abbrev pub came_by : ListenPlan → ℕ → List Origin → List Origin
 came_by plan place origins = take (place + plan.look + 1) origins
 
--- The delivery at index `place` is a copy of an audio packet whose samples can be timed when it is judged. The packet
--- has a timestamp, or the packet that it is counted from is among the last 16 + `look` that came. If the listener has
--- the clock, two adjacent CRF timestamps cover that timestamp, and their packets are among the last 64 that came.
+-- The delivery at index `place` is a copy of an audio packet whose samples can be timed when it is judged. Either the
+-- packet has a timestamp, or the packet that it is counted from is among the last 16 + `look` that came. If the
+-- listener has the clock, two adjacent CRF timestamps cover that timestamp, and the packets of these CRF timestamps are
+-- among the last 64 that came.
 pub record IsKnownCopy (p : PacketJournal) (plan : ListenPlan) (records : List Record) (place : ℕ) (c : Copy) : Type 0 where
   pub origins : List Origin
   pub from : AreFrom p plan.lead origins (deliveries_of plan records)

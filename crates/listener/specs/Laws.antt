@@ -26,8 +26,7 @@ use Rattle.listener.specs.Heard.{entries_in, items_in, schedule_plan}
 use Rattle.listener.specs.Items.{MadeItem, sources}
 use Rattle.listener.specs.Known.{IsKnownItem}
 
--- The listener has no clock, or it has the talker's clock and adds to the clock's timestamps the shift that makes them
--- the timestamps of the journal.
+-- Either the listener has no clock; or it has the talker's clock, and adds `shift` to the clock's timestamps.
 abbrev pub FollowsClock : ℤ → PacketJournal → ℤ → Option ℕ → Type 0
 FollowsClock shift p added None = ⊤
 FollowsClock shift p added (Some id) = (id ≡ p.clock) × (added ≡ shift)
@@ -46,13 +45,13 @@ pub record HearsTalker (shift : ℤ) (p : PacketJournal) (plan : ListenPlan) (re
 abbrev pub by_clock : ListenPlan → Bool
 by_clock plan = is_some plan.clock
 
--- the batches that are presented among the items that are shown, in their order
+-- the batches that are presented, in the order in which they are shown
 abbrev pub presented_of : List Shown → List Presented
 presented_of [] = []
 presented_of (Present batch ∷ rest) = batch ∷ presented_of rest
 presented_of (Flag frame seq reason ∷ rest) = presented_of rest
 
--- how many samples a batch of a stream has: as many as a packet of audio, or one for a unit of H.264
+-- the number of samples in a batch: that of an audio packet, or 1 for a unit of H.264
 abbrev pub sample_count : Kind → ℕ → ℕ
 sample_count DenseAaf count = count
 sample_count SparseAaf count = count
@@ -60,8 +59,8 @@ sample_count (Am824 interval dbc) count = count
 sample_count (H264 part) count = 1
 
 -- The batch is packet n of the journal: it has the packet's sequence number, number of samples and bytes. Each sample
--- is at its instant in the journal, by the talker's clock if `by` is true. For H.264, the batch is the unit that ends
--- with packet n: it has the bytes that all packets of the unit carry, and their one instant.
+-- is at its instant in the journal; if `by` is true, at its instant by the talker's clock. For H.264, the batch is the
+-- unit that ends with packet n: it has the bytes of all packets of the unit, and all at one instant.
 pub record IsOfPacket (by : Bool) (p : PacketJournal) (n : ℕ) (batch : Presented) : Type 0 where
   pub known : n < p.times.packets
   pub seq : batch.seq ≡ n % 256
@@ -78,7 +77,8 @@ pub record IsOfJournal (by : Bool) (p : PacketJournal) (batch : Presented) : Typ
 abbrev pub AreOther : Bool → PacketJournal → Presented → Presented → Type 0
 AreOther by p a b = (n : ℕ) → IsOfPacket by p n a → ¬ IsOfPacket by p n b
 
--- The first instant of a batch is before that of another; or it is equal, and the batch's frame has the lower number.
+-- Batch `a` has an earlier first instant than batch `b`; or the first instants are equal, and `a` has the lower frame
+-- number.
 abbrev pub ComesBefore : Presented → Presented → Type 0
 ComesBefore a b = (sample_instant a 0 <ℤ sample_instant b 0) ⊎ ((sample_instant a 0 ≡ sample_instant b 0) × (a.frame < b.frame))
 
@@ -102,7 +102,7 @@ pub record IsInOneItem (items : List MadeItem) (d : Delivery) : Type 0 where
   pub in_it : Contains (sources item) d
   pub only : (k : ℕ) (other : MadeItem) → slice_get items k ≡ Some other → Contains (sources other) d → k ≡ place
 
--- how many fragments are in the whole units among the items, without the last fragment of each unit
+-- the number of fragments in the whole units among the items, not counting the last fragment of each unit
 abbrev pub fragments_in : List MadeItem → ℕ
 fragments_in items = sum_by (λ (made : MadeItem). length made.earlier) items
 
@@ -112,7 +112,7 @@ AreCopiesFrom p lead n [] = ⊤
 AreCopiesFrom p lead n (d ∷ ds) = IsCopyOf p lead n d × AreCopiesFrom p lead (suc n) ds
 
 -- The item was made of copies of consecutive packets, of which packet n is the last. An audio item is made of a copy of
--- packet n alone. Two packets may have equal bytes, so each copy's packet is named by its number.
+-- packet n alone. Each copy's packet is named by its number, because two packets may have equal bytes.
 pub record IsMadeOf (p : PacketJournal) (lead n : ℕ) (made : MadeItem) : Type 0 where
   pub from : ℕ
   pub to : from + length made.earlier ≡ n
@@ -120,7 +120,7 @@ pub record IsMadeOf (p : PacketJournal) (lead n : ℕ) (made : MadeItem) : Type 
   pub last : IsCopyOf p lead n made.last
 
 -- The unit of an item is the journal's unit that ends with packet n. The item was made of one copy of each packet of
--- that unit, in their order, and has the unit's bytes and its instant.
+-- that unit, in their order. It has the bytes and the instant of that unit.
 pub record IsUnitFrom (p : PacketJournal) (part : ℕ → Part) (lead n : ℕ) (made : MadeItem) (unit : WholeUnit) : Type 0 where
   pub copies : IsMadeOf p lead n made
   pub packets : AreUnit part copies.from n
@@ -140,11 +140,11 @@ pub record AreOfUnit (p : PacketJournal) (part : ℕ → Part) (lead from n : �
 
 -- ---- what must be presented
 
--- what a listener has accepted before it judges the item at an index
+-- the batches that a listener has accepted before it judges the item at an index
 abbrev pub accepted_before : ListenPlan → List Record → ℕ → List Accepted
 accepted_before plan records i = accepted clock_spot (schedule_plan plan) (entries_in plan records) i
 
--- the time at which the item at an index is judged: the greatest arrival up to it
+-- the time at which the item at index `place` is judged: the greatest arrival of the items up to and including it
 abbrev pub time_of : ListenPlan → List Record → ℕ → ℤ
 time_of plan records i = now_at (entries_in plan records) i
 
@@ -169,17 +169,17 @@ pub record IsWelcome (p : PacketJournal) (plan : ListenPlan) (records : List Rec
   pub content : IsContent p n bytes
   pub room : is_full (schedule_plan plan) (standing (time_of plan records place) (accepted_before plan records place)) (length bytes) ≡ false
 
--- The item at index `place` is a further copy of packet n: it is timely, and a copy was accepted before.
+-- The item at index `place` is a further copy of packet n: it is timely, and a copy of packet n was accepted before.
 pub record IsFurther (p : PacketJournal) (plan : ListenPlan) (records : List Record) (place n : ℕ) (made : MadeItem) : Type 0 where
   pub timely : IsTimely p plan records place n made
   pub before : Any (λ a. IsOfPacket (by_clock plan) p n a.batch) (accepted_before plan records place)
 
--- the batch is what is presented of an item that is packet n
+-- the batch is presented for an item that is packet n
 pub record IsPresentedOf (by : Bool) (p : PacketJournal) (n : ℕ) (made : MadeItem) (batch : Presented) : Type 0 where
   pub frame : batch.frame ≡ made.last.frame
   pub is : IsOfPacket by p n batch
 
--- The batch is what is presented of one of the items, and is the packet that this item was made of.
+-- The batch is presented for one of the items, and is the packet that this item was made of.
 pub record IsHeardFrom (by : Bool) (items : List MadeItem) (p : PacketJournal) (lead : ℕ) (batch : Presented) : Type 0 where
   pub item : MadeItem
   pub number : ℕ
@@ -202,8 +202,8 @@ shown_of_frame frame list = filter (λ s. frame_of s == frame) list
 abbrev pub verdict_of : ListenPlan → List Record → ℕ → Item → Result Accepted Reason
 verdict_of plan records place item = verdict_in clock_spot (schedule_plan plan) (entries_in plan records) place item
 
--- What is shown of an item, given its last delivery and its verdict: it is presented if accepted, else flagged with the
--- reason.
+-- What is shown of an item with this last delivery and this verdict: if it is accepted, it is presented; otherwise it
+-- is flagged with the reason.
 abbrev pub shown_by : Delivery → Result Accepted Reason → Shown
 shown_by d (Ok a) = Present a.batch
 shown_by d (Err reason) = Flag d.frame d.seq reason

@@ -1,4 +1,4 @@
--- A listener that was given a capture's records one at a time, and what it has shown of them.
+-- A listener that takes a capture's records one at a time, and what it has shown of them.
 use Rattle.std.specs.Prelude.{◌≡◌, ◌≤◌, ℕ, ◌+◌, ◌-◌, Bool, true, false, if◌then◌else◌, List, [], ◌++◌, length, map, take}
 use Rattle.clock_track.specs.Rows.{clock_spot}
 use Rattle.pcap_frames.specs.Capture.{Record}
@@ -10,9 +10,9 @@ use Rattle.listener.specs.declared.plan.ListenPlan.{ListenPlan}
 use Rattle.listener.specs.Gathering.{Gathered, HasUnits, item_entry, left}
 use Rattle.listener.specs.Heard.{counts_of, deliveries_of, due_of, entries_in, entries_so_far_in, schedule_plan, shown_of}
 
--- A listener: its plan; the units of its stream, with the items of the last delivery that wait to be judged; the judge
--- of the items; whether no more records follow; and its counts of records, of the stream's records, and of items
--- presented and flagged.
+-- A listener: its plan; the units of its stream and the queued items of the last delivery; the judge of the items;
+-- whether the list of records has ended; and the counts of records, of the stream's records, and of items presented and
+-- flagged.
 pub record ListenState : Type 0 where
   pub plan : ListenPlan
   pub units : Gathered
@@ -24,11 +24,12 @@ pub record ListenState : Type 0 where
 abbrev pub is_closed : ListenState → Bool
 is_closed listener = listener.ended
 
--- what a listener shows of a list of records: the items that are due, or all if no more records follow
+-- what a listener shows of a list of records: what is due while more records may follow, and everything once no more
+-- follow
 abbrev pub out : ListenState → List Record → List Shown
 out listener records = if is_closed listener then shown_of listener.plan records else due_of listener.plan records
 
--- the entries of a list of records: all if no more follow, else those that are made so far
+-- the entries of a list of records: all entries if no more records follow, otherwise those that are made so far
 abbrev pub entries_by : Bool → ListenPlan → List Record → List Entry
 entries_by ended plan records = if ended then entries_in plan records else entries_so_far_in plan records
 
@@ -37,19 +38,20 @@ pub record IsIdle (listener : ListenState) : Type 0 where
   pub judge : IsIdleJudge listener.judge
   pub none : left listener.units ≡ []
 
--- The judge has taken the first of `entries`, and has returned `given` of the items that it shows of them. The other
--- entries wait.
+-- The judge has taken a prefix of `entries`, and has returned the first `given` items of what it shows. The other
+-- entries are queued.
 pub record Judges (entries : List Entry) (given : ℕ) (judge : JudgeState) (units : Gathered) : Type 0 where
   pub judged : List Entry
   pub stands : JudgeStandsFor clock_spot judged given judge
   pub all : judged ++ map item_entry (left units) ≡ entries
 
--- The listener was given these records, has shown `given` items of them, and has counted both.
+-- The listener was given these records, has shown the first `given` items of what is due, and has counted the records
+-- and the items.
 pub record StandsFor (records : List Record) (given : ℕ) (listener : ListenState) : Type 0 where
   pub plan : listener.judge.plan ≡ schedule_plan listener.plan
   pub units : is_closed listener ≡ false → HasUnits (deliveries_of listener.plan records) listener.units
   pub judges : Judges (entries_by (is_closed listener) listener.plan records) given listener.judge listener.units
-  -- the judge is closed only if no more records follow and nothing waits
+  -- the judge is closed only if no more records follow and no item is queued
   pub ends : listener.judge.closed ≡ true → (is_closed listener ≡ true) × (left listener.units ≡ [])
   pub within : given ≤ length (out listener records)
   pub counts : listener.counts ≡ counts_of listener.plan records (take given (out listener records))

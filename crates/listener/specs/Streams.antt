@@ -4,12 +4,12 @@ use Rattle.avtp_header.specs.Header.{peeked_of}
 use Rattle.packet_journal.specs.Deliveries.{packet_in}
 use Rattle.listener.specs.declared.delivery.StreamPacket.{StreamPacket}
 
--- A packet of a stream and its subtype, without its location in memory.
+-- A packet of a stream and its subtype, without the packet's location in memory.
 pub record PacketOfStream : Type 0 where
   pub subtype : ℕ
   pub bytes : List ℕ
 
--- the packet that a view shows, without its location in memory
+-- the packet that a view shows, without the packet's location in memory
 abbrev pub stream_packet_shape : StreamPacket → PacketOfStream
 stream_packet_shape p = record { subtype = p.subtype; bytes = p.bytes.now }
 

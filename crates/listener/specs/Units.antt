@@ -45,22 +45,22 @@ fragment_in d v = record {
 
 -- ---- events
 
--- what a delivery of H.264 does to units: a packet without a flaw is added to them, and a packet with a flaw ends the
--- current unit
+-- The effect of a delivery of H.264 on units: a packet without a flaw is added to the current unit or begins one, and a
+-- packet with a flaw ends the current unit.
 abbrev pub event_by : Delivery → Option Reason → Event
 event_by d None = packet (fragment_in d (cvf_of d.packet))
 event_by d (Some reason) = cut
 
--- What a delivery of the stream does to units: a packet of H.264 without a flaw is added to them, and no unit continues across
--- any other delivery.
+-- The effect of a delivery of the stream on units: a packet of H.264 without a flaw is added to the current unit or
+-- begins one. Any other delivery ends the current unit.
 abbrev pub event_of : Delivery → Event
 event_of d = if d.subtype == cvf_subtype then event_by d (flaw_of d) else cut
 
--- the deliveries of the stream among those of the stream and of its clock
+-- the deliveries of the stream, without the deliveries of its clock
 abbrev pub in_stream : List Delivery → List Delivery
 in_stream ds = filter (λ (d : Delivery). not (d.subtype == crf_subtype)) ds
 
--- what the deliveries of the stream do to units, in order
+-- the effects of the stream's deliveries on units, in order
 abbrev pub events : List Delivery → List Event
 events ds = map event_of (in_stream ds)
 
@@ -68,6 +68,6 @@ events ds = map event_of (in_stream ds)
 abbrev pub last_ones : {X : Type 0} → ℕ → List X → List X
 last_ones n xs = drop (length xs - n) xs
 
--- the deliveries that wait for the rest of their unit
+-- the stream's last deliveries, whose fragments wait for the rest of their unit
 abbrev pub waiting : List Delivery → List Delivery
 waiting ds = last_ones (length (held (events ds))) (in_stream ds)

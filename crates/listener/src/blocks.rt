@@ -26,7 +26,7 @@ fn block_rule(cip: Cip) -> HeadRule
     }
 }
 
-/// The data blocks of a packet, copied.
+/// Copies the data blocks of a packet into an item.
 pub fn blocks_of(
     alloc: Global,
     pool: &mut BufferPool,

@@ -5,17 +5,17 @@ ghost use Rattle.std.specs.Prelude.{◌≡◌, ◌≤◌, [], vec_capacity, IfOk
 use avtp_base::{Bytes, NoMemory};
 use std::alloc::Global;
 
-/// The most buffers that a pool keeps.
+/// The maximum number of buffers that a pool keeps.
 const MOST: usize = 64;
 
-/// Buffers of samples that were given back. Their memory is used for later samples before more is allocated.
+/// Buffers of samples that were given back. Later samples use their memory before more is allocated.
 #[derive(Drop)]
 pub struct BufferPool {
     buffers: Vec<Vec<u8>>,
 }
 
 impl BufferPool {
-    /// A pool of no buffers. Reserves the memory for its list of them.
+    /// An empty pool. Reserves the memory for its list of buffers.
     pub fn new(alloc: Global) -> Result<Self, NoMemory> {
         let buffers = Vec::with_capacity(alloc, MOST)?;
         Ok(BufferPool { buffers })
@@ -29,9 +29,9 @@ impl BufferPool {
         }
     }
 
-    /// An empty buffer with room for this many bytes: one of the pool's, or else a new one. A buffer of the pool that
-    /// is too small is freed. A buffer with more than about twice the room is freed, too: small packets must not hold
-    /// the memory of large ones.
+    /// An empty buffer with room for this many bytes: one of the pool's, or else a new one. If the pool's buffer is too
+    /// small, it is freed. If it has more than about twice the room, it is freed, too: small packets must not hold the
+    /// memory of large ones.
     #[inline(always)]
     pub fn take(&mut self, alloc: Global, size: usize) -> Result<Vec<u8>, NoMemory>
         ensures empty { IfOk result (λ buffer. buffer.items ≡ []) }
@@ -49,7 +49,7 @@ impl BufferPool {
         Ok(buffer)
     }
 
-    /// A copy of samples.
+    /// A copy of these samples.
     #[inline(always)]
     pub fn copy(&mut self, alloc: Global, samples: &[u8]) -> Result<Bytes, NoMemory>
         ensures { IfOk result (λ bytes. bytes ≡ samples.now) }

@@ -19,7 +19,7 @@ use avtp_base::{NoMemory, Refusal};
 use sample_schedule::Shown;
 use std::alloc::Global;
 
-/// Puts all that is due into a list.
+/// Puts all items that are due into a list.
 pub(crate) fn give_all(listener: &mut Listener, list: &mut Vec<Shown>) -> Result<(), NoMemory>
     ensures given { OnOk result ((bytes : List ℕ) → HasGiven bytes list.old.items listener.old → HasGiven bytes list.new.items listener.new) }
     ensures all { OnOk result ((bytes : List ℕ) → HasGiven bytes list.old.items listener.old → list.new.items ≡ out listener.new bytes) }
@@ -32,7 +32,8 @@ pub(crate) fn give_all(listener: &mut Listener, list: &mut Vec<Shown>) -> Result
     Ok(())
 }
 
-/// Feeds the whole piece, or the part before the capture's first refusal, and puts all that becomes due into a list.
+/// Feeds the whole piece, or the part before the capture's first refusal, and puts all items that become due into a
+/// list.
 pub(crate) fn feed_piece(
     alloc: Global,
     listener: &mut Listener,

@@ -1,4 +1,4 @@
-//! The points of a media clock.
+//! The timestamps of a media clock.
 
 ghost use Rattle.std.specs.Prelude.{◌≡◌};
 ghost use Rattle.clock_track.specs.Limits.{IsNotable};

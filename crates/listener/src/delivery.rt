@@ -37,14 +37,14 @@ pub struct StreamPacket<'a> {
     pub bytes: &'a [u8],
 }
 
-/// A packet of AVTP that has a stream id, whether that is valid or not.
+/// An AVTP packet that has a stream ID, whether the ID is valid or not.
 #[derive(Clone, Copy)]
 pub(crate) struct AvtpPacket<'a> {
     pub peeked: Peeked,
     pub bytes: &'a [u8],
 }
 
-/// The packet in a readable Ethernet frame of AVTP, if the packet is long enough for a stream id.
+/// The packet in a readable Ethernet frame of AVTP, if the packet is long enough to hold a stream ID.
 #[inline(always)]
 fn avtp_packet(frame: &[u8]) -> Option<AvtpPacket<'_>>
     ensures { option_map avtp_shape result ≡ (if is_avtp frame.now then Some (record { peeked = peeked_of (packet_in frame.now); bytes = packet_in frame.now }) else None) }
@@ -62,7 +62,7 @@ fn avtp_packet(frame: &[u8]) -> Option<AvtpPacket<'_>>
     })
 }
 
-/// The subtype is one that a listener reads as a stream: IEC 61883, AAF or CVF.
+/// Whether a listener reads packets of this subtype as a stream: IEC 61883, AAF or CVF.
 fn is_read(subtype: u8) -> bool
     ensures { result ≡ list_any (λ kind. subtype == kind) stream_kinds }
 {
@@ -84,8 +84,8 @@ fn is_of_clock(clock: Option<u64>, peeked: Peeked) -> bool
     }
 }
 
-/// The packet in a record's bytes, if the record belongs to the stream with this id. The record must be a readable
-/// Ethernet frame of AVTP with a packet of IEC 61883, AAF or CVF. The packet's stream id must be valid and equal to
+/// The packet in a record's bytes, if the record belongs to the stream with this ID. The record must be a readable
+/// Ethernet frame of AVTP with a packet of IEC 61883, AAF or CVF. The packet's stream ID must be valid and equal to
 /// this one. The packet need not be well formed. A listener of the stream takes the same records.
 #[inline(always)]
 pub fn packet_of_stream(stream: u64, frame: &[u8]) -> Option<StreamPacket<'_>>
@@ -101,9 +101,9 @@ pub fn packet_of_stream(stream: u64, frame: &[u8]) -> Option<StreamPacket<'_>>
     })
 }
 
-/// The record as a delivery of the plan's stream or of its clock, if it belongs to one of them. The record must be a
-/// readable Ethernet frame of AVTP. Its packet must be of IEC 61883, AAF or CVF for the stream, and of CRF for the
-/// clock. Its stream id must be valid and the plan's id of the stream or of the clock.
+/// The record as a delivery, if it belongs to the plan's stream or to its clock. The record must be a readable Ethernet
+/// frame of AVTP. For the stream, its packet must be of IEC 61883, AAF or CVF; for the clock, of CRF. The packet's
+/// stream ID must be valid and equal to the plan's ID of the stream or of the clock.
 pub fn delivery_of<'a>(
     plan: &ListenPlan,
     frame: u64,

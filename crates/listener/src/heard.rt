@@ -7,7 +7,7 @@ use avtp_base::Refusal;
 use sample_schedule::Shown;
 use std::marker::Model;
 
-/// The items that are shown, in their order. Contracts see them as a list.
+/// The items that are shown, in the order in which they are shown. Contracts see them as a list.
 #[derive(Debug, Drop)]
 pub struct ShownList {
     items: Vec<Shown>,
@@ -55,7 +55,8 @@ pub struct Counts {
 pub struct Heard {
     pub shown: ShownList,
     pub counts: Counts,
-    /// The first field of the capture that is cut off or refused. Only the records before it are shown.
+    /// The first field of the capture that is cut off or refused, if there is one. Only the records before it are
+    /// heard.
     pub refused: Option<Refusal>,
 }
 
@@ -72,7 +73,7 @@ impl Counts {
         }
     }
 
-    /// The counts with one more record. `in_stream` says whether it belongs to the stream.
+    /// The counts after one more record. `in_stream` says whether the record belongs to the stream.
     pub(crate) fn with_record(self, in_stream: bool) -> Self
         requires within { self.packets ≤ self.frames }
         requires few { self.frames < 2 ^ 63 }
@@ -85,7 +86,7 @@ impl Counts {
         }
     }
 
-    /// The counts with one more item that is shown.
+    /// The counts after one more item is shown.
     pub(crate) fn with_shown(self, shown: &Shown) -> Self
         requires { self.presented + self.flagged < self.frames }
         ensures { result ≡ with_shown_of self shown.now }
@@ -102,7 +103,7 @@ impl Counts {
         }
     }
 
-    /// The counts without this item, which was counted last.
+    /// The counts before this item was shown.
     pub(crate) fn without_shown(self, shown: &Shown) -> Self
         ensures { result ≡ without_shown_of self shown.now }
     {

@@ -26,7 +26,7 @@ pub(crate) fn malformed(delivery: &DeliveryView<'_>, refusal: Refusal) -> Item
     })
 }
 
-/// The samples of a packet, copied.
+/// Copies the samples of a packet into an item.
 fn samples_of(
     alloc: Global,
     pool: &mut BufferPool,
@@ -80,7 +80,8 @@ fn iec_item(
     }
 }
 
-/// The item of a delivery of audio: its samples, or the field that refuses its packet.
+/// The item of a delivery of audio. If its packet is refused, the item names the refused field; otherwise it holds the
+/// samples.
 pub fn item_of(
     alloc: Global,
     pool: &mut BufferPool,

@@ -26,16 +26,16 @@ ghost use Rattle.listener.specs.Units.{in_stream};
 use packet_journal::laws::records_of_both_are_delivered;
 
 /// Each packet of the stream is shown once, or is a fragment of one unit that is shown. A packet of the clock is never
-/// shown. So the number of stream packets is the sum of three numbers: the items presented, the items flagged, and the
-/// fragments that units have before their last.
+/// shown. Hence the number of stream packets is the sum of three numbers: the items presented, the items flagged, and
+/// the fragments in whole units, not counting the last fragment of each unit.
 pub fn each_packet_is_shown_once()
     ensures { (plan : ListenPlan) (records : List Record) → (counts_of plan records (shown_of plan records)).presented + (counts_of plan records (shown_of plan records)).flagged + fragments_in (items_in plan records) ≡ (counts_of plan records (shown_of plan records)).packets }
 {}
 
 /// Each packet of the stream and of its clock is in one item: it is an item by itself, or a fragment of one whole unit.
-/// That unit has the frame number of its last fragment. Each item of the stream is shown once, as its verdict says: it
-/// is presented, or flagged with the first reason that applies. So if a frame of the stream is not presented, the list
-/// says why. Nothing else is shown.
+/// Such a unit has the frame number of its last fragment. Each item of the stream is shown once, as its verdict says:
+/// it is presented, or flagged with the first reason that applies. Nothing else is shown. Hence, if a frame of the
+/// stream is not presented, the list says why.
 pub fn each_delivery_is_shown()
     ensures in_one_item { (plan : ListenPlan) (records : List Record) → All (IsInOneItem (items_in plan records)) (deliveries_of plan records) }
     ensures shown { (plan : ListenPlan) (records : List Record) (place : ℕ) (made : MadeItem) (item : Item) → slice_get (items_in plan records) place ≡ Some made → made.entry ≡ Entry.Item item
@@ -43,16 +43,17 @@ pub fn each_delivery_is_shown()
     ensures no_other { (plan : ListenPlan) (records : List Record) → All (IsShownItem plan records) (shown_of plan records) }
 {}
 
-/// What is due of the records so far does not change, whatever records follow: what is due of more records begins with
-/// it. If no record follows, what is shown begins with it.
+/// Items that are due stay due: whatever records follow, what is due of all records begins with what was due before. If
+/// no record follows, what is shown begins with it.
 pub fn what_is_due_stays()
     ensures longer { (plan : ListenPlan) (records others : List Record) → IsPrefix (due_of plan records) (due_of plan (records ++ others)) }
     ensures first { (plan : ListenPlan) (records : List Record) → IsPrefix (due_of plan records) (shown_of plan records) }
 {}
 
-/// Records may carry any selection of the packets of a talker that keeps the rules and of its clock, in any order. They
-/// meet the whole premise of the laws below, for listeners with the clock and without. H.264 has one condition: if two
-/// fragments are adjacent and at least one of them has no timestamp, their packets are at most 254 apart.
+/// Records may carry any selection of the packets of a talker that keeps the rules and of its clock, in any order. Such
+/// records meet the whole premise of the laws below, for listeners with the clock and without it. H.264 has one
+/// condition: if two fragments are adjacent and at least one of them has no timestamp, their packets are at most 254
+/// apart.
 pub fn carried_packets_are_heard()
     ensures audio { (shift : ℤ) (p : PacketJournal) (plan : ListenPlan) (origins : List Origin) (records : List Record) → IsConforming shift p → IsAudioKind p.times.kind → plan.stream ≡ p.stream → FollowsClock shift p plan.shift plan.clock → AllCarryFrom p plan.lead origins records → HearsTalker shift p plan records }
     ensures h264 { (shift : ℤ) (p : PacketJournal) (plan : ListenPlan) (origins : List Origin) (records : List Record) → IsConforming shift p → plan.stream ≡ p.stream → FollowsClock shift p plan.shift plan.clock → AllCarryFrom p plan.lead origins records → AreNear p.times (stream_numbers origins) → HearsTalker shift p plan records }
@@ -60,25 +61,24 @@ pub fn carried_packets_are_heard()
     records_of_both_are_delivered();
 }
 
-/// A listener without a clock follows the talker. A listener with the talker's clock follows the talker, too, if the
-/// listener's shift makes the clock's timestamps those of the journal.
+/// A listener without a clock always follows the talker. A listener with the talker's clock follows the talker if
+/// adding the listener's shift to the clock's timestamps gives those of the journal.
 pub fn clocks_are_followed()
     ensures without { (shift added : ℤ) (p : PacketJournal) → FollowsClock shift p added None }
     ensures with_it { (shift : ℤ) (p : PacketJournal) → FollowsClock shift p shift (Some p.clock) }
 {}
 
-/// A capture may lose, repeat or reorder the H.264 packets of a talker that keeps the rules: fragments are still put
-/// together truly. Each whole unit was made of one copy of each packet of one unit of the talker, in their order. It
-/// has the bytes and the instant of that unit. Sequence numbers alone would not distinguish packets that are 256 apart.
-/// Timestamps distinguish them. Fragments without a timestamp are distinguished by the condition that their packets are
-/// at most 254 apart.
+/// A capture may lose, repeat or reorder the H.264 packets of a talker that keeps the rules. Each whole unit was still
+/// made of one copy of each packet of one unit of the talker, in their order. It has the bytes and the instant of that
+/// unit. Sequence numbers alone do not distinguish packets that are 256 apart, but timestamps do. Fragments without a
+/// timestamp are distinguished by the condition that their packets are at most 254 apart.
 pub fn units_are_true()
     ensures { (shift : ℤ) (p : PacketJournal) (plan : ListenPlan) (records : List Record) (place : ℕ) (made : MadeItem) (unit : Unit) (part : ℕ → Part) → HearsTalker shift p plan records → p.times.kind ≡ H264 part → slice_get (items_in plan records) place ≡ Some made → made.entry ≡ Entry.Item (Item.Unit unit)
         → (n : ℕ) × IsUnitFrom p part plan.lead n made unit }
 {}
 
-/// A unit is made if all its packets came. Suppose that one copy of each packet of a unit of the talker came, in their
-/// order and with no other packet of the stream between them. Then the unit is among the items, made of exactly these
+/// A unit is made if all its packets came. Suppose that one copy of each packet of a talker's unit came, in order and
+/// with no other packet of the stream between them. Then the unit is among the items, and is made of exactly these
 /// copies. Each packet must carry the unit's first byte, and the unit must be within the limits of units.
 pub fn units_are_whole()
     ensures made { (shift : ℤ) (p : PacketJournal) (plan : ListenPlan) (records : List Record) (part : ℕ → Part) (from n : ℕ) (before front earlier : List Delivery) (last : Delivery) (rest : List Delivery) → HearsTalker shift p plan records → p.times.kind ≡ H264 part
@@ -88,66 +88,66 @@ pub fn units_are_whole()
 {}
 
 /// What is presented is true. A capture may lose, repeat or reorder the packets of a talker that keeps the rules and of
-/// its clock, and the media clock may restart anywhere. Each batch that is presented is one of the talker's packets or
-/// units, with its bytes, and is the packet that its own item was made of. Each of its samples is at the nanosecond of
-/// gPTP that the talker gave it, or that is counted from the timestamp to which the sample belongs. Samples are counted
-/// at the nominal rate. For a listener with the clock, they are on the line through the two CRF timestamps that cover
-/// that timestamp.
+/// its clock, and the media clock may restart anywhere. Each batch that is presented is a packet or unit of the talker,
+/// with its bytes: the one that the batch's own item was made of. Each of its samples is at the nanosecond of gPTP that
+/// the talker gave it, or that is counted from the timestamp to which the sample belongs. Without a clock, samples are
+/// counted at the nominal rate. With the clock, they are on the line through the two CRF timestamps that cover that
+/// timestamp.
 pub fn presented_are_true()
     ensures origin { (shift : ℤ) (p : PacketJournal) (plan : ListenPlan) (records : List Record) → HearsTalker shift p plan records → All (IsHeardFrom (by_clock plan) (items_in plan records) p plan.lead) (presented_of (shown_of plan records)) }
     ensures packet { (shift : ℤ) (p : PacketJournal) (plan : ListenPlan) (records : List Record) → HearsTalker shift p plan records → All (IsOfJournal (by_clock plan) p) (presented_of (shown_of plan records)) }
 {}
 
-/// A batch is at most one packet of the talker: if it is packet n and packet m, n equals m. A unit of H.264 has the number of
-/// its last packet.
+/// A batch is at most one packet of the talker: if it is packet n and packet m, n equals m. A unit of H.264 has the
+/// number of its last packet.
 pub fn batches_have_one_number()
     ensures { (shift : ℤ) (p : PacketJournal) (by : Bool) (n m : ℕ) (batch : Presented) → IsConforming shift p → IsOfPacket by p n batch → IsOfPacket by p m batch → n ≡ m }
 {}
 
-/// No packet of the talker is presented twice, however often the packet or its sequence number recurs.
+/// No packet of the talker is presented twice, however often copies of the packet arrive or its sequence number recurs.
 pub fn no_packet_twice()
     ensures { (shift : ℤ) (p : PacketJournal) (plan : ListenPlan) (records : List Record) → HearsTalker shift p plan records → AllPairs (AreOther (by_clock plan) p) (presented_of (shown_of plan records)) }
 {}
 
-/// What is presented of the talker's packets is in order: first instants never decrease, and batches with equal first
+/// Batches of the talker's packets are presented in order: first instants never decrease, and batches with equal first
 /// instants are in the order of the items.
 pub fn first_instants_never_fall()
     ensures { (shift : ℤ) (p : PacketJournal) (plan : ListenPlan) (records : List Record) → HearsTalker shift p plan records → AllPairs ComesBefore (presented_of (shown_of plan records)) }
 {}
 
 /// Any two listeners agree if both have the talker's clock, or neither has. Each capture may lose, repeat and reorder a
-/// talker's packets in its own way. The listeners may have different buffers, look further ahead and expect packets
-/// earlier or later. For each packet that both listeners present, they present the same bytes, and each sample at the
-/// same nanosecond.
+/// talker's packets in its own way. The two plans may differ in buffer, look-ahead and max transit time. For each
+/// packet that both listeners present, they present the same bytes, and each sample at the same nanosecond.
 pub fn listeners_agree()
     ensures { (shift : ℤ) (p : PacketJournal) (plan other : ListenPlan) (records others : List Record) → HearsTalker shift p plan records → HearsTalker shift p other others → by_clock other ≡ by_clock plan → All (λ a. All (Agree (by_clock plan) p a) (presented_of (shown_of other others))) (presented_of (shown_of plan records)) }
 {}
 
 /// A copy of a packet is presented if it came in time, it found room, and no copy of the packet was accepted before.
-/// Its timestamp must be known, and with a clock, two CRF timestamps that cover it. It does not matter how many other
-/// packets are late, lost or untimed. What is presented has the frame number of that copy.
+/// Its timestamp must be known and, with a clock, also two CRF timestamps that cover it. It does not matter how many
+/// other packets are late, lost or untimed. What is presented has the frame number of that copy.
 pub fn known_and_in_time_is_presented()
     ensures { (shift : ℤ) (p : PacketJournal) (plan : ListenPlan) (records : List Record) (place n : ℕ) (made : MadeItem) → HearsTalker shift p plan records → IsWelcome p plan records place n made → Any (IsPresentedOf (by_clock plan) p n made) (presented_of (shown_of plan records)) }
 {}
 
-/// The first deliveries of an H.264 stream must be presented as one unit if they are all packets of one unit of the
-/// talker, in their order. The last must arrive at the unit's presentation time or before. Each must carry the unit's
-/// first byte. The unit must be within the limits of units, and its bytes must fit the room.
+/// Suppose that the first deliveries of an H.264 stream are all packets of one unit of the talker, in their order. The
+/// last delivery arrives no later than the unit's presentation time. Each packet carries the unit's first byte. The
+/// unit is within the limits of units, and its bytes fit into `room`. Then the unit must be presented.
 pub fn first_fragments_are_welcome()
     ensures { (shift : ℤ) (p : PacketJournal) (plan : ListenPlan) (records : List Record) (from n : ℕ) (part : ℕ → Part) (earlier : List Delivery) (last : Delivery) (rest : List Delivery) → HearsTalker shift p plan records → p.times.kind ≡ H264 part → deliveries_of plan records ≡ earlier ++ last ∷ rest
         → AreOfUnit p part plan.lead from n earlier last → last.arrival ≤ℤ pos (p.times.due n) → 1 ≤ plan.buffer → length (unit_bytes p from n) ≤ plan.room → IsWelcome p plan records 0 n (unit_by earlier last) }
 {}
 
-/// If a packet was accepted before, a further copy of it is flagged as a repeat. The copy's timestamp must be known,
-/// and the copy must have come in time. It is flagged whether there is room or not. Nothing else is shown of its frame.
+/// If a packet was accepted before, a further copy of it is flagged as a repeat, whether the buffer has room for it or
+/// not. The copy's timestamp must be known, and the copy must have come in time. Nothing else is shown of the copy's
+/// frame.
 pub fn further_copies_are_repeats()
     ensures { (shift : ℤ) (p : PacketJournal) (plan : ListenPlan) (records : List Record) (place n : ℕ) (made : MadeItem) → HearsTalker shift p plan records → IsFurther p plan records place n made → shown_of_frame made.last.frame (shown_of plan records) ≡ Flag made.last.frame made.last.seq Repeat ∷ [] }
 {}
 
-/// All that is promised of a talker that keeps the rules, whatever a capture loses, repeats or reorders of its packets,
-/// and wherever its clock restarts. Each sample is presented at the talker's own nanosecond if its packet came in time,
-/// found room and has a known timestamp or clock reference. So any two listeners agree. Every other packet that came is
-/// flagged with its one reason. Samples are presented in order, once, within fixed buffers.
+/// All that is promised of a talker that keeps the rules, whatever packets a capture loses, repeats or reorders, and
+/// wherever the talker's clock restarts. Each sample is presented at the talker's own nanosecond if its packet came in
+/// time, found room and has a known timestamp or clock reference. Hence any two listeners agree. Every other packet
+/// that came is flagged with its one reason. Samples are presented in order, once, within fixed buffers.
 pub fn headline_holds()
     ensures { (shift : ℤ) (p : PacketJournal) (plan : ListenPlan) (records : List Record) → HearsTalker shift p plan records → KeepsHeadline shift p plan records (shown_of plan records) }
 {}

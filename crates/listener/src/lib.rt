@@ -1,4 +1,5 @@
-//! A listener: from the bytes of a capture, what of a stream is presented, at which nanosecond, and why the rest is not.
+//! A listener turns the bytes of a capture into what is presented of a stream, at which nanosecond, and why the rest is
+//! not presented.
 #![tactic(auto)]
 
 mod blocks;

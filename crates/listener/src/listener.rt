@@ -36,18 +36,18 @@ pub enum ListenFault {
     Memory,
 }
 
-/// A listener that takes a capture's bytes in pieces of any length, and shows of the capture's records what a
-/// `RecordListener` shows.
+/// A listener that takes a capture's bytes in pieces of any length. It shows what a `RecordListener` shows of the
+/// capture's records.
 ///
-/// After each call the caller takes all that is due with `next_out` before it feeds more. Memory is reserved when the
-/// listener is made. Later each packet's samples are copied once, into the batch that is shown. Only a record that is
-/// cut between pieces is copied before that.
+/// After each call the caller takes all items that are due with `next_out` before it feeds more bytes. Memory for the
+/// listener's state is reserved when the listener is made. Later each packet's samples are copied once, into the batch
+/// that is shown. If a record is cut between two pieces, its bytes are copied once more before that.
 #[derive(Drop)]
 pub struct Listener {
     reader: Reader,
     listener: RecordListener,
-    /// The item that is due next. It is taken from the judge before `next_out` asks for it, so that `feed` can tell whether
-    /// something is due. `counts` leaves it out.
+    /// The item that is due next. It is taken from the judge before `next_out` asks for it, so that `feed` can tell
+    /// whether an item is due. `counts` leaves this item out.
     next: Option<Shown>,
     out_of_memory: bool,
 }
@@ -86,10 +86,10 @@ impl Listener {
     /// Takes bytes up to the end of one record or of the piece, and returns how many it took. In all, at most 2^62
     /// bytes may be taken, and the listener must not have been ended.
     ///
-    /// Without a fault, returns `Ok(0)` exactly if the piece is empty or something is due. `Refused` is the capture's
-    /// first refusal, and is returned as soon as the bytes so far show it. The records before it are kept, and the
-    /// listener may still be ended. `Memory` is returned if there is no memory for the samples of the record that was
-    /// read. That record makes no item, and every later `feed` and `end` returns `Memory`.
+    /// Without a fault, returns `Ok(0)` exactly if the piece is empty or an item is due. `Refused` is the capture's
+    /// first refusal, and is returned as soon as the bytes so far show it. The records before the refusal are kept, and
+    /// the listener may still be ended. `Memory` is returned if there is no memory for the samples of the record that
+    /// was read. That record makes no item, and every later `feed` and `end` returns `Memory`.
     pub fn feed(&mut self, alloc: Global, piece: &[u8]) -> Result<usize, ListenFault>
         requires open { is_ended self.old ≡ false }
         requires bounded { taken self.old.reader + length piece.now ≤ 2 ^ 62 }
@@ -144,9 +144,9 @@ impl Listener {
         }
     }
 
-    /// The next item that is shown of the bytes so far. Before `end`, only items that are due are returned; after it,
-    /// all. Returns `None` exactly if all of them were returned. If the talker keeps the rules, what is returned is as
-    /// the headline says (`listener_laws::bytes_are_given_truly`). Allocates nothing.
+    /// The next item that is shown of the bytes so far. Before `end`, only items that are due are returned; after
+    /// `end`, all items. Returns `None` exactly if all of these were returned. If the talker keeps the rules, what is
+    /// returned is as the headline says (`listener_laws::bytes_are_given_truly`). Allocates nothing.
     pub fn next_out(&mut self) -> Option<Shown>
         ensures given { (bytes : List ℕ) (given : ℕ) → StandsFor bytes given self.old → result ≡ slice_get (out self.old bytes) given }
         ensures stands { (bytes : List ℕ) (given : ℕ) → StandsFor bytes given self.old → StandsFor bytes (given + length (option_to_list result)) self.new }
@@ -162,8 +162,9 @@ impl Listener {
         Some(shown)
     }
 
-    /// Takes back the memory of samples that were shown. The samples of later packets are copied into it before more memory is
-    /// allocated. At most 64 such buffers are kept; the memory of others is freed. May be called at any time. Allocates nothing.
+    /// Takes back the memory of samples that were shown. The samples of later packets are copied into it before more
+    /// memory is allocated. At most 64 such buffers are kept; the memory of others is freed. May be called at any time.
+    /// Allocates nothing.
     pub fn give_back(&mut self, samples: Bytes)
         ensures { self.new ≡ self.old }
     {
@@ -195,7 +196,8 @@ impl Listener {
         }
     }
 
-    /// How many batches wait for their instants: at most the plan's `buffer`, with together at most `room` bytes.
+    /// How many batches wait for their presentation time: at most the plan's `buffer`. Together they have at most
+    /// `room` bytes.
     pub fn held(&self) -> u32
         ensures held { result ≡ length self.now.listener.judge.waiting }
         ensures batches { result ≤ self.now.listener.plan.buffer }

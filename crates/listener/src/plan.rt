@@ -8,15 +8,15 @@ use sample_schedule::SchedulePlan;
 /// What a listener listens to, and how.
 #[derive(Clone, Copy, Debug, PartialEq, Eq)]
 pub struct ListenPlan {
-    /// The id of the stream.
+    /// The ID of the stream.
     pub stream: u64,
-    /// The id of the stream's media clock, if its timestamps time the samples.
+    /// The ID of the stream's media clock, if the clock's timestamps time the samples.
     pub clock: Option<u64>,
-    /// The most batches that wait for their presentation time, 1 to 65,536.
+    /// The maximum number of batches that wait for their presentation time, from 1 to 65,536.
     pub buffer: u32,
-    /// The most bytes of these batches together, 1 to 1,073,741,824.
+    /// The maximum number of bytes of these batches together, from 1 to 1,073,741,824.
     pub room: u32,
-    /// How many items after an item are read before it is judged, 0 to 64.
+    /// How many items after an item are read before it is judged, from 0 to 64.
     pub look: u32,
     /// How long before its presentation time a packet is expected (the max transit time), at most 1,000,000,000 ns.
     pub lead: u32,

@@ -33,22 +33,22 @@ use std::marker::Model;
 
 /// A listener that takes a capture's records one at a time, in the capture's order. It shows each item of the stream
 /// once: presented, or flagged with the first reason why not. It shows an item as soon as no later record can change
-/// that.
+/// the result.
 ///
-/// After each record, and after `close`, the caller takes all that is due with `next_out`. One record may yield as many
-/// as 4,097 items, because it may end a unit of H.264 that is not whole. `next_out` judges them one after another.
-/// Memory is reserved when the listener is made. Later each packet's samples, and each whole unit, are copied once,
-/// into the batch that is shown.
+/// After each record, and after `close`, the caller takes all items that are due with `next_out`. One record may yield
+/// as many as 4,097 items, because it may end a unit of H.264 that is not whole. `next_out` judges them one after
+/// another. Memory for the listener's state is reserved when the listener is made. Later each packet's samples, and
+/// each whole unit, are copied once, into the batch that is shown.
 #[derive(Drop)]
 pub struct RecordListener {
     plan: ListenPlan,
     units: Units,
     judge: Judge,
     ended: bool,
-    /// The judge was closed.
+    /// Whether the judge was closed.
     closed: bool,
-    /// All that is due was returned. Since then, no record of the stream or of its clock was taken, and the listener
-    /// was not closed. After a record of another stream the judge is not called.
+    /// All items that are due were returned. Since then, no record of the stream or of its clock was taken, and the
+    /// listener was not closed. The judge is not called in this state, for example after a record of another stream.
     idle: bool,
     counts: Counts,
     pool: BufferPool,
@@ -63,8 +63,8 @@ impl Model for RecordListener {
 
     ghost view = { λ listener. record { plan = listener.plan; units = listener.units; judge = listener.judge; ended = listener.ended; counts = listener.counts } };
 
-    // The counts do not overflow: some records make up the listener's state, and a stream shows at most as many items as there
-    // are records.
+    // The counts do not overflow. There is a list of at most 2^62 records that leads to the listener's state, and the
+    // listener shows at most one item per record.
     ghost invariant = { λ listener. IsSound (record { plan = listener.plan; units = listener.units; judge = listener.judge; ended = listener.ended; counts = listener.counts }) × (listener.closed ≡ listener.judge.closed)
         × (listener.idle ≡ true → Rests (record { plan = listener.plan; units = listener.units; judge = listener.judge; ended = listener.ended; counts = listener.counts })) };
 }
@@ -94,8 +94,8 @@ impl RecordListener {
         })
     }
 
-    /// Takes the next record. All that is due of the earlier records must have been returned, fewer than 2^62 records
-    /// may have been taken, and the listener must not be closed. The record's time is from 0 to 2^62 ns.
+    /// Takes the next record. All items that are due of the earlier records must have been returned, fewer than 2^62
+    /// records may have been taken, and the listener must not be closed. The record's time must be from 0 to 2^62 ns.
     ///
     /// A record that belongs neither to the stream nor to its clock is counted and skipped. Returns `NoMemory` if there
     /// is no memory for the packet's samples or the unit; the listener is then unchanged.
@@ -131,8 +131,8 @@ impl RecordListener {
     }
 
     /// The next item that is shown of the records so far. Before `close`, only items that are due are returned; after
-    /// it, all. Returns `None` exactly if all of them were returned. If the talker keeps the rules, what is returned is
-    /// as the headline says (`listener_laws::records_are_given_truly`). Allocates nothing.
+    /// `close`, all items. Returns `None` exactly if all of these were returned. If the talker keeps the rules, what is
+    /// returned is as the headline says (`listener_laws::records_are_given_truly`). Allocates nothing.
     #[inline(always)]
     pub fn next_out(&mut self) -> Option<Shown>
         ensures given { (records : List Record) (given : ℕ) → StandsFor records given self.old → result ≡ slice_get (out self.old records) given }
@@ -184,7 +184,8 @@ impl RecordListener {
         self.pool.give_back(samples);
     }
 
-    /// Ends the list of records. All that is due of the records so far must have been returned. Allocates nothing.
+    /// Ends the list of records. All items that are due of the records so far must have been returned. Allocates
+    /// nothing.
     pub fn close(&mut self)
         requires open { is_closed self.old ≡ false }
         requires idle { IsIdle self.old }
@@ -199,7 +200,8 @@ impl RecordListener {
         self.idle = false;
     }
 
-    /// How many batches wait for their instants: at most the plan's `buffer`, with together at most `room` bytes.
+    /// How many batches wait for their presentation time: at most the plan's `buffer`. Together they have at most
+    /// `room` bytes.
     pub fn held(&self) -> u32
         ensures held { result ≡ length self.now.judge.waiting }
         ensures batches { result ≤ self.now.plan.buffer }
@@ -217,8 +219,8 @@ impl RecordListener {
     }
 }
 
-/// Takes a delivery. If it is of the clock, the judge gets its timestamps. If it is of the stream, the judge gets the
-/// first item that it yields; its other items are queued.
+/// Takes a delivery. A delivery of the clock gives its timestamps to the judge. A delivery of the stream gives the
+/// judge the first item that it yields; its other items are queued.
 #[inline(always)]
 fn take_delivery(
     alloc: Global,
@@ -248,8 +250,8 @@ fn take_delivery(
     Ok(())
 }
 
-/// The next item that is shown. Queued items are judged one after another until one is due. If none is queued and no
-/// more records follow, the judge is closed.
+/// The next item that is shown. Queued items are judged one after another until an item is due. If no item is queued
+/// and no more records follow, the judge is closed.
 #[inline(always)]
 fn next_shown(units: &mut Units, judge: &mut Judge, ended: bool, closed: &mut bool) -> Option<Shown>
     requires closed { closed.old ≡ judge.old.closed }
@@ -274,7 +276,7 @@ fn next_shown(units: &mut Units, judge: &mut Judge, ended: bool, closed: &mut bo
     }
 }
 
-/// Gives the next queued item to the judge. If none is queued and no more records follow, closes the judge. Returns
+/// Gives the next queued item to the judge. If no item is queued and no more records follow, closes the judge. Returns
 /// whether it did either.
 #[inline(always)]
 fn judge_next(units: &mut Units, judge: &mut Judge, ended: bool, closed: &mut bool) -> bool
@@ -295,7 +297,7 @@ fn judge_next(units: &mut Units, judge: &mut Judge, ended: bool, closed: &mut bo
     }
 }
 
-/// Closes the judge if no more records follow and it is still open. Returns whether it did.
+/// Closes the judge if no more records follow and the judge is still open. Returns whether it was closed now.
 fn close_ended(judge: &mut Judge, ended: bool, closed: &mut bool) -> bool
     requires idle { IsIdleJudge judge.old }
     requires closed { closed.old ≡ judge.old.closed }

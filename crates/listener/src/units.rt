@@ -26,12 +26,12 @@ use std::alloc::Global;
 use std::marker::Model;
 use time_unfold::unfold;
 
-/// Puts the units of a stream together, and queues the items of the last delivery: the fragments that were given up
-/// because of it, and then its own item. Memory for the fragments is reserved at the start.
+/// Puts the units of a stream together, and queues the items of the last delivery. These are the fragments that were
+/// given up because of that delivery, and then its own item. Memory for the fragments is reserved at the start.
 #[derive(Drop)]
 pub struct Units {
     assembler: Assembler,
-    /// Why the last fragments were given up, how many they are, and how many of them were taken.
+    /// Why the last fragments were given up, how many there are, and how many of them were taken.
     why: Lost,
     lost: u32,
     taken: u32,
@@ -138,8 +138,8 @@ fn unit_bytes(mut bytes: Vec<u8>, unit: &[u8]) -> Bytes
     Bytes::over(bytes)
 }
 
-/// The item of a packet: the unit of these bytes if the packet completes it, none if the packet waits, a flagged item if it is
-/// lost. Memory for the unit is allocated already.
+/// The item of a packet. If the packet completes a unit, the unit of these bytes; if it waits, none; if it is lost, a
+/// flagged item. Memory for the unit was allocated before.
 fn own_item(
     delivery: &DeliveryView<'_>,
     view: &CvfView<'_>,
@@ -181,7 +181,7 @@ impl Units {
         })
     }
 
-    /// Ends the current unit before a delivery with this item, so that no unit continues across it.
+    /// Ends the current unit before a delivery with this item.
     #[inline(always)]
     fn cut(&mut self, item: Item)
         requires { IsItem item }
@@ -237,8 +237,8 @@ impl Units {
         Ok(())
     }
 
-    /// Takes the next delivery of the stream. All items of the earlier deliveries must have been taken. Returns its
-    /// first item, if it has any. The others, which only H.264 has, are queued.
+    /// Takes the next delivery of the stream. All items of the earlier deliveries must have been taken. Returns the
+    /// delivery's first item, if it has any. Only an H.264 delivery has more items; they are queued.
     ///
     /// Returns `NoMemory` if there is no memory for a packet's samples or for a unit; then nothing changes.
     #[inline(always)]
@@ -312,7 +312,7 @@ impl Units {
         self.own = None;
     }
 
-    /// The next item of the last delivery or of the end. Allocates nothing.
+    /// The next item of the last delivery or of the end of the stream. Allocates nothing.
     #[inline(always)]
     pub fn next(&mut self) -> Option<Item>
         ensures stands { (ds : List Delivery) → HasUnits ds self.old → HasUnits ds self.new }

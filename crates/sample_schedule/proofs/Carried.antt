@@ -1,4 +1,4 @@
--- From the instant of a sample to that of the next one.
+-- How the instant of a sample gives the instant of the next sample.
 use Rattle.std.proofs.Common.{◌≡◌, ℕ, ◌+◌, ◌-◌, ◌*◌, ◌^◌, ◌<◌, ℤ, pos, ◌+ℤ◌, ◌-ℤ◌, ◌*ℤ◌, sym, ap, arith, lit<, FitsSigned, w64, to_z, of_z}
 use Rattle.std.proofs.lemmas.Int.{ints, to_z-of_z, fits_signed_mul}
 use Rattle.std.specs.Int.{int_rem_euclid, w128}
@@ -16,7 +16,6 @@ times_more q n d =
     let f : d * (up (q +ℤ pos n) + down q) ≡ d * (down (q +ℤ pos n) + up q + n) = ap (λ (m : ℕ). d * m) e in
     omega (arith, ints)
 
--- if `rest` is the fraction that rounding drops, `instant` is the sample's instant
 pub instant_from_rest : (batch : Presented) (j : ℕ) (instant : ℤ) (rest : ℕ) → IsRestOf batch j instant rest → instant ≡ sample_instant batch j
 instant_from_rest batch j instant rest is =
     let k = batch.from +ℤ pos j in
@@ -29,7 +28,7 @@ instant_from_rest batch j instant rest is =
     } in
     one_at batch.line k instant (instant_at batch.line k) here (instant_at-at batch.line k some)
 
--- the next sample is `step` later, and one nanosecond more if the fractions carry
+-- the next sample is `step` ns later, or `step` + 1 ns later if the remainders add up to a whole nanosecond
 pub carried : (batch : Presented) (j : ℕ) (instant : ℤ) (rest step step_rest carry rest' : ℕ)
     → IsRestOf batch j instant rest → step * batch.line.den + step_rest ≡ batch.line.num
     → rest + step_rest ≡ rest' + carry * batch.line.den → rest' < batch.line.den
@@ -46,7 +45,6 @@ carried batch j instant rest step step_rest carry rest' is is_step sum below =
       below = below;
     }
 
--- `IsRestOf` holds for the first sample's instant
 pub first_is_rest : (batch : Presented) (instant : ℤ) (rest : ℕ) → 0 < batch.line.den → instant ≡ sample_instant batch 0
     → pos rest ≡ int_rem_euclid (batch.from *ℤ pos batch.line.num) (pos batch.line.den) → IsRestOf batch 0 instant rest
 first_is_rest batch instant rest some at is =
@@ -60,7 +58,6 @@ first_is_rest batch instant rest some at is =
       below = omega (arith, ints, is, below);
     }
 
--- the sum of an instant and a step fits 64 bits
 pub sum_fits : (instant next : ℤ) (step : ℕ) → instant +ℤ pos step ≡ next → IsInstant instant → IsInstant next → step < 2 ^ 62 → FitsSigned w64 (to_z w64 (of_z w64 instant) +ℤ to_z w64 step)
 sum_fits instant next step sum now then small = let a = now.from in let b = now.to in let c = then.from in let d = then.to in omega (arith, ints, a, b, c, d, sum, small)
 

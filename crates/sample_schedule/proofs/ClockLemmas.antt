@@ -1,4 +1,4 @@
--- Samples are counted on the lines of the clock that was noted.
+-- Samples are counted on the lines of the clock whose packets were noted.
 use Rattle.std.proofs.Common.{◌≡◌, ℕ, ℤ, true, false, List, Option, Some, None, Ok, sym, ap, subst, ◌∙◌, refl}
 use Rattle.std.specs.Prelude.{option_map}
 use Rattle.std.specs.List.{filter_map}
@@ -15,13 +15,11 @@ use Rattle.sample_schedule.specs.declared.shown.Reason.TheVariants.{NoClock}
 use Rattle.sample_schedule.specs.Noted.{HasClock, HasNoted, HasNotedClock}
 use Rattle.sample_schedule.specs.Verdicts.{Clock, IsClockOf, counted_from, moved, nominal_spot, ok_or_reason, row_of, samples_at, spot_of}
 
--- without a clock, samples are counted on the nominal line
 pub without-clock : (clock : Clock) (plan : SchedulePlan) (prefix : List Entry) (noted : Noted) (p : Packet) (head : Head) → HasNoted plan prefix noted → noted.clock ≡ None → Ok (samples_at p (nominal_spot p.rate head)) ≡ counted_from clock plan prefix p (Some head)
 without-clock clock plan prefix noted p head h none =
     let off : plan.clock ≡ false = subst (HasClock plan prefix) none h.clock in
     rw off refl
 
--- the clock's answer for the instant of a packet's head gives the spot of the packet's samples
 spot-is : (clock : Clock) (plan : SchedulePlan) (prefix : List Entry) (state : ClockState) (rate : ℕ) (head : Head) (spot : Option Spot) → IsClockOf plan clock → HasNotedClock plan prefix state → spot ≡ clock_spot (filter_map row_of prefix) state.shift head.instant rate
     → option_map (moved head.first) spot ≡ spot_of clock plan prefix rate head
 spot-is clock plan prefix state rate head spot asks here is =

@@ -1,4 +1,4 @@
--- The list of all that a judge has returned.
+-- The list of all items that a judge has returned.
 use Rattle.std.proofs.Common.{◌≡◌, ℕ, zero, suc, ◌+◌, ◌-◌, ◌≤◌, true, false, List, [], ◌∷◌, ◌++◌, length, take, drop, Some, None, refl, sym, ap, ◌∙◌, subst, append_assoc, append-nil, arith}
 use Rattle.std.specs.Prelude.{slice_get}
 use Rattle.std.proofs.lemmas.List.{length-append}
@@ -61,8 +61,8 @@ given-on clock entries list old new h st keeps =
 
 -- ---- the whole list
 
--- Between two entries: the judge has taken the entries before `left`, and `list` has all that the judge shows of these
--- entries.
+-- The state between two entries. The judge has taken the entries before `left`, and `list` holds all items that are due
+-- of these entries.
 pub record Between (plan : SchedulePlan) (all left : List Entry) (list : List Shown) (judge : JudgeState) : Type 0 where
   pub same : judge.plan ≡ plan
   pub opened : judge.closed ≡ false
@@ -71,7 +71,7 @@ pub record Between (plan : SchedulePlan) (all left : List Entry) (list : List Sh
   pub stands : (clock : Clock) → IsClockOf plan clock → StandsFor clock (take (taken judge) all) (length list) judge
   pub shown : (clock : Clock) → IsClockOf plan clock → list ≡ due clock plan (take (taken judge) all)
 
--- the judge took one more entry, but has not yet returned what this makes due
+-- the judge has taken one more entry, but the items that are now due are not yet in the list
 pub between-next : (clock : Clock) (plan : SchedulePlan) (all left rest : List Entry) (e : Entry) (list : List Shown) (old new : JudgeState) → IsClockOf plan clock → Between plan all left list old → left ≡ e ∷ rest → new.plan ≡ old.plan → new.closed ≡ false → taken new ≡ taken old + 1
     → ((entries : List Entry) (given : ℕ) → StandsFor clock entries given old → StandsFor clock (entries ++ e ∷ []) given new) → HasGiven clock (take (taken old + 1) all) list new
 between-next clock plan all left rest e list old new asks b more same opened counts stands =
@@ -127,7 +127,7 @@ between-first plan all left list judge same opened none is empty stands =
       shown = λ clock asks. empty ∙ sym (due-none clock plan) ∙ ap (due clock plan) (sym nothing);
     }
 
--- the judge took one more entry, and has returned all that this made due
+-- the judge has taken one more entry, and the items that are now due are in the list
 pub between-more : (plan : SchedulePlan) (all left rest : List Entry) (e : Entry) (list more : List Shown) (old mid new : JudgeState) → Between plan all left list old → left ≡ e ∷ rest → mid.plan ≡ old.plan → mid.closed ≡ false → taken mid ≡ taken old + 1
     → ((clock : Clock) (entries : List Entry) (given : ℕ) → StandsFor clock entries given old → StandsFor clock (entries ++ e ∷ []) given mid)
     → ((clock : Clock) (entries : List Entry) → HasGiven clock entries list mid → HasGiven clock entries more new) → ((clock : Clock) (entries : List Entry) → HasGiven clock entries list mid → more ≡ out clock new entries) → Keeps mid new

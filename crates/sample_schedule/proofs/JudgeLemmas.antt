@@ -1,4 +1,4 @@
--- The state of a judge after each of its moves.
+-- The state of a judge after each of its calls.
 use Rattle.std.proofs.Common.{◌≡◌, inl, inr, ℕ, zero, suc, ◌+◌, ◌-◌, ◌<◌, ◌≤◌, Bool, true, false, ℤ, pos, ◌≤ℤ◌, ◌<ℤ◌, List, [], ◌∷◌, ◌++◌, length, take, drop, map, Option, Some, None, Result, Ok, Err, refl, sym, ap, ◌∙◌, subst, append_assoc, append-nil, arith}
 use Rattle.std.specs.Prelude.{if◌then◌else◌, is_some, slice_get, ◌≢◌}
 use Rattle.std.specs.Int.{int_max}
@@ -127,7 +127,7 @@ is-item (OfClock arrival row) item e = absurd cc
 
 -- ---- what the state of a judge means
 
--- the batches that waited before the current entry
+-- the batches that waited before the current entry was taken
 abbrev before_of : Clock → List Entry → JudgeState → List Accepted
 before_of clock entries s = by_instant (standing (latest (take s.place entries)) (accepted clock s.plan entries s.place))
 
@@ -143,8 +143,7 @@ all-taken clock entries given s st =
     let a = length-append (option_to_list s.current) s.ahead in
     omega arith
 
--- When nothing more is due, the batches whose instants have passed were presented, and the instants of the waiting
--- batches have not passed.
+-- Nothing is due: batches whose instants have passed were presented, and the other accepted batches wait.
 record Settled (clock : Clock) (entries : List Entry) (front : List Accepted) (s : JudgeState) : Type 0 where
   passed : front ≡ by_instant (between (latest (take s.place entries)) s.time (earlier_of clock entries s))
   waiting : s.waiting ≡ by_instant (standing s.time (earlier_of clock entries s))
@@ -185,7 +184,7 @@ now-judged clock entries given s p st e = st.now ∙ ap (λ (n : ℕ). latest (t
 now-rises : (clock : Clock) (entries : List Entry) (given : ℕ) (s : JudgeState) (p : Pending) → StandsFor clock entries given s → s.current ≡ Some p → latest (take s.place entries) ≤ℤ s.time
 now-rises clock entries given s p st e = rw (now-judged clock entries given s p st e) (now-grows entries s.place)
 
--- What is shown begins with the steps up to the current entry.
+-- What is shown begins with the first `n` steps.
 record Begins (clock : Clock) (entries : List Entry) (n : ℕ) (s : JudgeState) : Type 0 where
   rest : List Given
   out : out clock s entries ≡ map shown_of (steps clock s.plan entries n ++ rest)
@@ -221,7 +220,7 @@ steps-next : (clock : Clock) (plan : SchedulePlan) (entries : List Entry) (n : �
 unfolding steps
 steps-next clock plan entries n e at = ap (λ (l : List Given). steps clock plan entries n ++ l) (step-is clock plan entries n e at)
 
--- ---- a batch is returned that the entry makes due
+-- ---- a batch that is due because of the current entry is returned
 
 pub record Gives (clock : Clock) (entries : List Entry) (given : ℕ) (shown : Shown) (old new : JudgeState) : Type 0 where
   pub next : slice_get (out clock old entries) given ≡ Some shown
@@ -285,7 +284,6 @@ judged-on clock entries given after s p waiting st e waits count =
       count = rw next (let c = count in omega arith);
     }
 
--- the entries that are known when the current entry is judged are all that were taken
 known : (clock : Clock) (entries : List Entry) (given : ℕ) (s : JudgeState) (p : Pending) → StandsFor clock entries given s → s.current ≡ Some p → length s.ahead ≤ s.plan.look → prefix_of s.plan entries s.place ≡ entries
 known clock entries given s p st e behind =
     let all = all-taken clock entries given s st in
@@ -333,7 +331,6 @@ gives-flag clock entries given s item reason st e behind undue v =
       stands = judged-on clock entries given (given + 1) s P s.waiting st e (done.waiting ∙ ap (λ (l : List Accepted). by_instant (standing s.time l)) (sym same)) (omega arith);
     }
 
--- if nothing is due and the current entry gets no flag, all that is shown up to this entry was returned
 none-shown : (clock : Clock) (entries : List Entry) (given : ℕ) (s : JudgeState) (p : Pending) (e : Entry) → StandsFor clock entries given s → s.current ≡ Some p → starts_due s.time s.waiting ≡ false → slice_get entries s.place ≡ Some e
     → flag_by s.place (Some e) (judged clock s.plan entries s.place (earlier_of clock entries s) e) ≡ [] → (given ≡ length (steps clock s.plan entries (suc s.place)))
 none-shown clock entries given s p e st is undue at no_flag =
@@ -577,7 +574,7 @@ closes clock entries given s st opened = record {
 pub stands-begin : (clock : Clock) (plan : SchedulePlan) (noted : Noted) (waiting : List Accepted) (ahead : List Pending) → IsClockOf plan clock → HasNoted plan [] noted → waiting ≡ [] → ahead ≡ [] → StandsFor clock [] 0 (record { plan = plan; place = 0; time = pos 0; noted = noted; waiting = waiting; current = None; ahead = ahead; closed = false })
 stands-begin clock plan noted waiting ahead asks notes e f = rw (e, f) (stands-first clock plan noted asks notes)
 
--- ---- in terms of what the code computes
+-- ---- the same facts as the code computes them
 
 pub accepted-as : (clock : Clock) (entries : List Entry) (given : ℕ) (s : JudgeState) (item : Item) (a : Accepted) (waiting : List Accepted) (after : Option Pending) → StandsFor clock entries given s → s.current ≡ Some (PendingItem item) → length s.ahead ≤ s.plan.look → starts_due s.time s.waiting ≡ false
     → Ok a ≡ verdict s.plan s.time (accepted clock s.plan entries s.place) s.place (timed clock s.plan entries item) → s.time ≤ℤ a.instant → waiting ≡ put_behind s.waiting a → after ≡ None
@@ -623,7 +620,6 @@ due-given clock entries given s new first st some waits early same = of s.curren
 pub last-given : (clock : Clock) (entries : List Entry) (given : ℕ) (s new : JudgeState) (first : Accepted) → StandsFor clock entries given s → s.closed ≡ true → s.current ≡ None → s.ahead ≡ [] → s.waiting ≡ first ∷ new.waiting → new ≡ record s { waiting = new.waiting } → Gives clock entries given (present first) s new
 last-given clock entries given s new first st ended idle none waits same = subst (Gives clock entries given (present first) s) (sym same) (gives-last clock entries given s first new.waiting st ended idle none waits)
 
--- while more entries may follow and nothing is due, the waiting batches are those of the schedule
 pub held-so : (clock : Clock) (entries : List Entry) (given : ℕ) (s : JudgeState) → StandsFor clock entries given s → s.closed ≡ false → s.current ≡ None → s.waiting ≡ waiting clock s.plan entries
 held-so clock entries given s st opened idle =
     let n : s.place ≡ settled s.plan entries = sym (begun-none s idle) ∙ st.settles opened in

@@ -1,4 +1,4 @@
--- The invariant of a judge holds after each of its moves.
+-- The invariant of a judge holds after each of its calls.
 use Rattle.std.proofs.Common.{◌≡◌, inl, inr, ℕ, suc, ◌+◌, ◌-◌, ◌^◌, ◌<◌, ◌≤◌, ℤ, List, [], ◌∷◌, ◌++◌, All, length, drop, Some, None, refl, sym, ap, ◌∙◌, subst, arith}
 use Rattle.std.specs.Prelude.{if◌then◌else◌, nat_lt, slice_get}
 use Rattle.std.specs.Int.{int_max}
@@ -104,7 +104,7 @@ sound-put s capacity size held pending items is idle few fits' same f =
       bytes = is.bytes;
     }
 
--- the first entry of the delay line was taken out of it
+-- the first entry of the delay line was removed
 pub sound-pass : (s : JudgeState) (capacity size : ℕ) (held : Held) (pending next : Pending) (items : List Pending) → IsSound s capacity held → IsPending pending → size ≡ capacity → Passes s.ahead pending capacity next items → IsSound (record s { ahead = items }) size held
 sound-pass s capacity size held pending next items is fits' same p =
     let all : All IsPending (next ∷ items) = subst (All IsPending) (sym p.items) (All-push IsPending s.ahead pending is.ahead fits') in
@@ -126,7 +126,6 @@ sound-pass s capacity size held pending next items is fits' same p =
 pub passes-fits : (line : List Pending) (pending : Pending) (capacity : ℕ) (next : Pending) (items : List Pending) → Passes line pending capacity next items → All IsPending line → IsPending pending → IsPending next
 passes-fits line pending capacity next items p all fits' = All-head IsPending next items (subst (All IsPending) (sym p.items) (All-push IsPending line pending all fits'))
 
--- an entry becomes the current one
 pub sound-next : (s : JudgeState) (capacity : ℕ) (held : Held) (next : Pending) (now : ℤ) → IsSound s capacity held → s.current ≡ None → taken s < 2 ^ 62 → IsPending next → IsSound (record s { time = now; current = Some next }) capacity held
 sound-next s capacity held next now is idle few fits' =
     let none : length (option_to_list s.current) ≡ 0 = rw idle refl in
@@ -142,7 +141,7 @@ sound-next s capacity held next now is idle few fits' =
       bytes = is.bytes;
     }
 
--- ---- in terms of what the code computes
+-- ---- the same facts as the code computes them
 
 abbrev next_state : JudgeState → ℤ → Pending → JudgeState
 next_state s time next = record s { time = time; current = Some next }
@@ -157,7 +156,6 @@ pub popped : (line : List Pending) (next : Pending) (capacity : ℕ) (new : Buff
 popped [] next capacity new is some = absurd cc
 popped (p ∷ line) next capacity new is some = let f : next ≡ p = cc in let r : new.items ≡ line = ap (λ (b : Buffer Pending). b.items) is in rw (f, r) refl
 
--- the current item is accepted
 pub sound-accept : (s : JudgeState) (capacity : ℕ) (held after : Held) (waiting : List Accepted) (p : Pending) (a : Accepted) → IsSound s capacity held → s.current ≡ Some p → held.room ≤ after.room → length s.waiting < s.plan.buffer
     → total_bytes s.waiting + length a.batch.bytes ≤ s.plan.room → waiting ≡ put_behind s.waiting a → IsSound (record s { place = s.place + 1; waiting = waiting; current = None }) capacity after
 sound-accept s capacity held after waiting p a is judged room batches bytes list =

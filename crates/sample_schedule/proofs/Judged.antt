@@ -99,7 +99,7 @@ place_within {X} [] n x e = absurd cc
 place_within {X} (y ∷ xs) zero x e = omega arith
 place_within {X} (y ∷ xs) (suc n) x e = let h = place_within xs n x e in omega arith
 
--- ---- what is accepted is presented
+-- ---- accepted items are presented
 
 accepted_stays : (clock : Clock) (plan : SchedulePlan) (es : List Entry) (n k : ℕ) (a : Accepted) → In (accepted clock plan es n) a → In (accepted clock plan es (n + k)) a
 unfolding accepted
@@ -125,7 +125,7 @@ presented_in (Presents b ∷ gs) a (inl e) = inl (ap Presents e)
 presented_in (Presents b ∷ gs) a (inr h) = inr (presented_in gs a h)
 presented_in (Flags place item reason ∷ gs) a h = inr (presented_in gs a h)
 
--- ---- what is not accepted is flagged
+-- ---- other items are flagged
 
 flag_stays : (clock : Clock) (plan : SchedulePlan) (es : List Entry) (n k : ℕ) (g : Given) → In (steps clock plan es n) g → In (steps clock plan es (n + k)) g
 unfolding steps
@@ -175,7 +175,7 @@ as-judged clock plan es i item at =
     alone (shown_at i gs) g (length-filter (λ h. place_of h == i) gs ∙ (each-once clock plan es i ∙ ap times_due at))
     (in_filter (λ h. place_of h == i) gs g (given_in clock plan es i item _ at refl) (eq-eqb (place_of g) i here))
 
--- What is shown is an item of the list, as its verdict says.
+-- The shown item is an item of the list, and is shown as its verdict says.
 pub record IsJudged (clock : Clock) (plan : SchedulePlan) (es : List Entry) (g : Given) : Type 0 where
   pub item : Item
   pub there : slice_get es (place_of g) ≡ Some (OfItem item)
@@ -202,7 +202,7 @@ all-judged clock plan es g h = of (slice_get es (place_of g)) refl
       same = only_one _ g (subst (λ (l : List Given). In l g) (as-judged clock plan es (place_of g) item at) here);
     }
 
--- ---- what is presented of an item has its frame
+-- ---- a batch that is presented has the frame number of its item
 
 not_refused : (P : Presented → Type 0) (a b c : Bool) (r : Result Presented Reason) → IfOk r P → IfOk (if a then Err Uncertain else if b then Err Empty else if c then Err NoRate else r) P
 not_refused P true b c r h = tt

@@ -1,4 +1,4 @@
--- Keys and their batches.
+-- Keys and the batches that they belong to.
 use Rattle.std.proofs.Common.{◌≡◌, ◌≢◌, ℕ, suc, ◌+◌, ◌-◌, ◌||◌, Bool, true, false, cond, ℤ, List, [], ◌∷◌, Option, Some, None, length, refl, ap, sym, ◌∙◌, subst, arith}
 use Rattle.std.specs.Prelude.{int_lt, slice_get}
 use Rattle.std.specs.List.{AllByRecursion, cons_option, list_any}
@@ -37,7 +37,6 @@ held-put s (x ∷ xs) k a p e i =
     (λ h. rw (lt_false k.instant x.instant h) (held-cons s x (put_key xs k) b p.0.there ∙ ap (λ (l : List Accepted). b ∷ l) (held-put s xs k a p.1 e i)
     ∙ sym (ap (λ (l : List Accepted). put_behind l a) first ∙ ap (λ (c : Bool). cond c (a ∷ b ∷ held s xs) (b ∷ put_behind (held s xs) a)) (lt_false a.instant b.instant (omega (arith, ints))))))
 
--- a key with this instant and sequence number is found exactly if a batch with them is found
 pub held-copies : (t : ℤ) (seq : ℕ) (s : Slab Accepted) (ks : List Key) → AllByRecursion (IsKey s) ks → list_any (is_key t seq) ks ≡ list_any (is_copy t seq) (held s ks)
 held-copies t seq s [] p = refl
 held-copies t seq s (x ∷ xs) p =
@@ -58,7 +57,6 @@ none-due now s (x ∷ xs) e = absurd (let h : Some x ≡ None = e in cc)
 
 -- ---- slots
 
--- no key has the number of an empty slot
 not-taken : (s : Slab Accepted) (slot : ℕ) (ks : List Key) → get s slot ≡ None → AllByRecursion (IsKey s) ks → AllByRecursion (λ k. k.slot ≢ slot) ks
 not-taken s slot [] none p = tt
 not-taken s slot (k ∷ ks) none p =
@@ -84,7 +82,7 @@ own-put (x ∷ xs) k o p = elim (int_lt k.instant x.instant) as (λ v. HaveOwnSl
 
 -- ---- one more batch waits
 
--- A batch was put into a free slot, and its key after all keys whose instants are not later.
+-- A batch was put into a free slot. Its key was put after all keys whose instants are not later.
 pub record IsPut (s t : Slab Accepted) (ks ls : List Key) (k : Key) (a : Accepted) : Type 0 where
   pub free : get s k.slot ≡ None
   pub slot : Updates s t k.slot (Some a)

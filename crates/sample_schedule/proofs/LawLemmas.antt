@@ -24,7 +24,7 @@ use Rattle.sample_schedule.specs.Verdicts.{Clock, decided, first_instant, is_cop
 use Rattle.sample_schedule.proofs.OrderLemmas.{all-put_behind, all-weaker, lt_true, lt_false, le_true, any-by_instant, due-waiting, sum-by_instant, bytes-by_instant, length-by_instant, left-waiting, standing-standing, sum-put_behind, waiting-more}
 use Rattle.sample_schedule.proofs.StageLemmas.{max_above, now-next}
 
--- ---- what a verdict says of what it accepts
+-- ---- what holds for an accepted item
 
 pub record AcceptedSo (plan : SchedulePlan) (now : ℤ) (earlier : List Accepted) (n : ℕ) (a : Accepted) : Type 0 where
   pub place : a.place ≡ n
@@ -48,7 +48,7 @@ verdict-so plan now earlier place (Ok batch) = by_lt_z (first_instant batch) now
     cases false true e f h = tt
     cases false false e f h = record { place = refl; stands = h; fresh = e; room = f }
 
--- a property that holds for each possible verdict holds for the verdict on entry n
+-- if `P` holds for every result that a verdict can have, it holds for the verdict on entry `n`
 by-verdict : (clock : Clock) (plan : SchedulePlan) (entries : List Entry) (n : ℕ) (earlier : List Accepted) (P : Option (Result Accepted Reason) → Type 0)
     → P None → ((reason : Reason) → P (Some (Err reason))) → ((a : Accepted) → AcceptedSo plan (now_at entries n) earlier n a → P (Some (Ok a))) → P (verdict_at clock plan entries n earlier)
 unfolding verdict_at
@@ -145,7 +145,7 @@ pub bounded : (clock : Clock) (plan : SchedulePlan) (entries : List Entry) (i : 
 bounded clock plan entries zero = bounded-next clock plan entries zero (bounded-first clock plan entries)
 bounded clock plan entries (suc j) = bounded-next clock plan entries (suc j) (shrunk plan (now_at entries j) (now_at entries (suc j)) (accepted clock plan entries (suc j)) (now-grows entries (suc j)) (bounded clock plan entries j))
 
--- ---- what is presented is what is accepted
+-- ---- the accepted items are presented
 
 presented-after : (xs ys : List Given) → presented (xs ++ ys) ≡ presented xs ++ presented ys
 presented-after [] ys = refl
@@ -180,7 +180,6 @@ pub all-after : (P : Accepted → Type 0) (xs ys : List Accepted) → AllByRecur
 all-after P [] ys p q = q
 all-after P (x ∷ xs) ys p q = (p.0, all-after P xs ys p.1 q)
 
--- an item that is not earlier than those of `ps` is put after all of them
 behind-all : (ps ws : List Accepted) (a : Accepted) → AllByRecursion (λ p. p.instant ≤ℤ a.instant) ps → put_behind (ps ++ ws) a ≡ ps ++ put_behind ws a
 behind-all [] ws a h = refl
 behind-all (p ∷ ps) ws a h = rw (lt_false a.instant p.instant h.0) (ap (λ (l : List Accepted). p ∷ l) (behind-all ps ws a h.1))
@@ -234,7 +233,7 @@ told clock plan entries (suc n) =
       whole = rw (presented-step clock plan entries n) whole;
     }
 
--- the batches that were presented so far, then those that wait, are all accepted items in order
+-- the batches that were presented so far and those that wait are together all accepted items, in order
 pub presented-waiting : (clock : Clock) (plan : SchedulePlan) (entries : List Entry) (n : ℕ) → presented (steps clock plan entries n) ++ by_instant (standing (latest (take n entries)) (accepted clock plan entries n)) ≡ by_instant (accepted clock plan entries n)
 presented-waiting clock plan entries n = (told clock plan entries n).whole
 
@@ -265,7 +264,7 @@ accepted-presented clock plan entries =
     ∙ ap (λ (l : List Entry). presented (steps clock plan entries n) ++ by_instant (standing (latest l) (accepted clock plan entries n))) (sym all)
     ∙ t.whole
 
--- ---- the order of what is presented
+-- ---- the order in which items are presented
 
 record Ordered (clock : Clock) (plan : SchedulePlan) (entries : List Entry) (n : ℕ) (ys : List Accepted) : Type 0 where
   places : AllByRecursion (λ a. a.place < n) ys
@@ -347,7 +346,7 @@ presented-ordered clock plan entries = rw (accepted-presented clock plan entries
 
 -- ---- each item is shown once
 
--- 1 if the numbers are equal, else 0
+-- 1 if the two numbers are equal, otherwise 0
 abbrev hit : ℕ → ℕ → ℕ
 hit m i = if m == i then 1 else 0
 
@@ -403,7 +402,6 @@ accepted-after : (i : ℕ) (xs ys : List Accepted) → accepted_at i (xs ++ ys) 
 unfolding accepted_at
 accepted-after i xs ys = sum_by-append (λ (a : Accepted). hit a.place i) xs ys
 
--- the verdict on entry n accepts or flags its item, once
 one-verdict : (plan : SchedulePlan) (now : ℤ) (earlier : List Accepted) (n i : ℕ) (item : Item) (r : Result Accepted Reason) → OkSo plan now earlier n r → accepted_at i (accepted_by (Some r)) + flags_at i (flag_by n (Some (OfItem item)) (Some r)) ≡ hit n i
 unfolding accepted_at flags_at
 one-verdict plan now earlier n i item (Ok a) so = rw (so.place) (omega arith)

@@ -1,4 +1,4 @@
--- One more entry is noted.
+-- What is noted after one more entry.
 use Rattle.std.proofs.Common.{◌≡◌, List, [], ◌∷◌, ◌++◌, Option, Some, None, refl, sym, ap, ◌∙◌, append-nil, subst}
 use Rattle.std.specs.Option.{option_to_list}
 use Rattle.std.proofs.lemmas.List.Elements.{filter_map-append}
@@ -45,7 +45,7 @@ notes-stamp plan entries e stamp old new h item is notes room same = record {
   clock = subst (HasClock plan (entries ++ e ∷ [])) (sym same) (clock-stays plan entries e old.clock h.clock item);
 }
 
--- an entry without a stamp leaves the stamps unchanged
+-- an entry without a usable stamp leaves the stamps unchanged
 pub notes-none : (plan : SchedulePlan) (entries : List Entry) (e : Entry) (old new : Noted) → HasNoted plan entries old → stamp_of e ≡ None → new.stamps ≡ old.stamps → HasClock plan (entries ++ e ∷ []) new.clock → HasNoted plan (entries ++ e ∷ []) new
 notes-none plan entries e old new h is same clock = record {
   stamps = subst (λ (k : LastStamps). KeepsLast k (stamps_of (entries ++ e ∷ []))) (sym same) (subst (KeepsLast old.stamps) (sym (stamps-more entries e None is ∙ append-nil (stamps_of entries))) h.stamps);
@@ -56,14 +56,12 @@ notes-none plan entries e old new h is same clock = record {
 pub notes-item : (plan : SchedulePlan) (entries : List Entry) (e : Entry) (noted : Noted) → HasNoted plan entries noted → row_of e ≡ None → stamp_of e ≡ None → HasNoted plan (entries ++ e ∷ []) noted
 notes-item plan entries e noted h item is = notes-none plan entries e noted noted h is refl (clock-stays plan entries e noted.clock h.clock item)
 
--- if there is no clock, nothing is noted for it
 pub clock-none : (plan : SchedulePlan) (entries more : List Entry) (clock : Option ClockState) → HasClock plan entries clock → clock ≡ None → HasClock plan more clock
 clock-none plan entries more clock h is = subst (HasClock plan more) (sym is) (subst (HasClock plan entries) is h)
 
 pub clock-some : (plan : SchedulePlan) (entries : List Entry) (clock : Option ClockState) (there : ClockState) → HasClock plan entries clock → clock ≡ Some there → HasNotedClock plan entries there
 clock-some plan entries clock there h is = subst (HasClock plan entries) is h
 
--- the clock notes a packet of the clock
 pub notes-row : (plan : SchedulePlan) (entries : List Entry) (e : Entry) (row : ClockRow) (old new : ClockState) → HasNotedClock plan entries old → row_of e ≡ Some row → ((rows : List ClockRow) → StandsForRows old rows → StandsForRows new (rows ++ row ∷ [])) → new.shift ≡ old.shift
     → HasNotedClock plan (entries ++ e ∷ []) new
 notes-row plan entries e row old new h is notes same = record {

@@ -24,7 +24,7 @@ all-put_behind P (b ∷ bs) a p q = elim (int_lt a.instant b.instant) as (λ v. 
   | false ↦ (p.0, all-put_behind P bs a p.1 q)
 ]
 
--- ---- the items of a sorted list that have passed, and those that have not
+-- ---- the items of a sorted list whose instants have passed, and those whose instants have not
 
 due_of-put_behind : (t : ℤ) (ys : List Accepted) (x : Accepted) → due_of t (put_behind ys x) ≡ cond (int_lt x.instant t) (put_behind (due_of t ys) x) (due_of t ys)
 due_of-put_behind t [] x = by_lt_z x.instant t (λ h. rw (lt_true _ _ h) refl) (λ h. rw (lt_false _ _ h) refl)
@@ -71,7 +71,6 @@ left_of-fold t ys (x ∷ xs) =
     (λ h. rw (left_of-fold t (put_behind ys x) xs, left_of-put_behind t ys x, le_false t x.instant h) refl)
     (λ h. rw (left_of-fold t (put_behind ys x) xs, left_of-put_behind t ys x, le_true t x.instant h) refl)
 
--- of the items that had not passed at `from`, those that have passed at `to` are between the two
 passed-standing : (from to : ℤ) (xs : List Accepted) → passed to (standing from xs) ≡ between from to xs
 passed-standing from to [] = refl
 passed-standing from to (x ∷ xs) =
@@ -103,7 +102,7 @@ unfolding by_instant
 waiting-more now xs a stands =
     rw (filter-append (λ (b : Accepted). int_le now b.instant) xs (a ∷ []), stands, fold-append put_behind [] (standing now xs) (a ∷ [])) refl
 
--- ---- what does not depend on the order
+-- ---- facts that do not depend on the order
 
 pub length-put_behind : (ys : List Accepted) (x : Accepted) → length (put_behind ys x) ≡ suc (length ys)
 length-put_behind [] x = refl
@@ -151,7 +150,6 @@ pub any-by_instant : (p : Accepted → Bool) (xs : List Accepted) → list_any p
 unfolding by_instant
 any-by_instant p xs = any-fold p [] xs
 
--- if each item that passes the test is standing, a standing item passes it exactly if any item does
 pub any-standing : (p : Accepted → Bool) (now : ℤ) → ((a : Accepted) → p a ≡ true → int_le now a.instant ≡ true) → (xs : List Accepted) → list_any p (standing now xs) ≡ list_any p xs
 any-standing p now asks [] = refl
 any-standing p now asks (x ∷ xs) =
@@ -163,7 +161,6 @@ any-standing p now asks (x ∷ xs) =
       ] refl
     ] refl
 
--- a sum over accepted items, after one more was put in its place among them
 pub sum-put_behind : (f : Accepted → ℕ) (n : ℕ) (ys : List Accepted) (x : Accepted) → fold (λ t a. t + f a) n (put_behind ys x) ≡ fold (λ t a. t + f a) (n + f x) ys
 sum-put_behind f n [] x = refl
 sum-put_behind f n (b ∷ bs) x = elim (int_lt x.instant b.instant) as (λ v. fold (λ t a. t + f a) n (cond v (x ∷ b ∷ bs) (b ∷ put_behind bs x)) ≡ fold (λ t a. t + f a) (n + f x) (b ∷ bs)) [

@@ -14,7 +14,7 @@ use Rattle.sample_schedule.specs.Limits.{IsPacket}
 use Rattle.sample_schedule.specs.Reach.{IsCountable}
 use Rattle.sample_schedule.specs.Verdicts.{moved, nominal_spot, samples_at}
 
--- at 8,000 Hz or more, 65,535 samples last less than 2^33 ns, and 8 times as many less than 2^36 ns
+-- at 8,000 Hz or more, 65,535 samples last less than 2^33 ns, and 8 * 65,535 samples less than 2^36 ns
 floor_from : (steps : ℤ) (rate : ℕ) → 8000 ≤ rate → neg_ℤ (pos 65535000000000) ≤ℤ steps → neg_ℤ (pos (2 ^ 33)) ≤ℤ floor_of steps rate
 floor_from steps rate fast low =
     let q = floor_of steps rate in
@@ -71,13 +71,11 @@ presentable p head is some_rate some near =
       instants = λ j within. in_range head.instant (head.first +ℤ pos j) p.rate fast near.from near.to (λ h. near.own (omega (arith, ints))) (omega (arith, ints)) (omega (arith, ints));
     }
 
--- the packet's samples can be presented, in terms of the numbers that the code computes
 pub counted_presentable : (p : Packet) (head : Head) (base first : ℤ) (den : ℕ) → base ≡ head.instant → den ≡ p.rate → first ≡ head.first → IsPacket p → 1 ≤ p.rate → 1 ≤ p.count → IsCountable head → IsPresentable (record { frame = p.frame; seq = p.seq; line = record { base = base; num = 1000000000; den = den }; from = first; count = p.count; bytes = p.bytes })
 counted_presentable p head base first den e f g is some_rate some near = rw (e, f, g) (presentable p head is some_rate some near)
 
 -- ---- on a line of a clock
 
--- a sample after the first of a line is not before it
 not_before : (base k : ℤ) (num den : ℕ) → 1 ≤ den → pos 0 ≤ℤ k → base ≤ℤ instant_at (record { base = base; num = num; den = den }) k
 not_before base k num den some natural =
     let steps = k *ℤ pos num in

@@ -1,4 +1,4 @@
--- What one more entry changes.
+-- What changes when one more entry is judged.
 use Rattle.std.proofs.Common.{◌≡◌, ℕ, zero, suc, ◌+◌, ℤ, pos, ◌≤ℤ◌, List, [], ◌∷◌, ◌++◌, take, drop, map, Some, refl, sym, ap, ◌∙◌, arith}
 use Rattle.std.specs.Prelude.{slice_get}
 use Rattle.std.specs.Int.{int_max}
@@ -55,7 +55,6 @@ pub step-is : (clock : Clock) (plan : SchedulePlan) (entries : List Entry) (n : 
 unfolding step
 step-is clock plan entries n e at = rw (verdict-at clock plan entries n (accepted clock plan entries n) e at, at) refl
 
--- the entry at index n, and the entries after it
 pub next-entry : (xs : List Entry) (n : ℕ) (x : Entry) (rest : List Entry) → drop n xs ≡ x ∷ rest → (slice_get xs n ≡ Some x) × (rest ≡ drop (n + 1) xs)
 next-entry [] zero x rest e = absurd cc
 next-entry [] (suc n) x rest e = absurd cc

@@ -1,4 +1,4 @@
--- A verdict by the waiting items is the verdict by all accepted items.
+-- The verdict is the same whether copies are looked for among the waiting items or among all accepted items.
 use Rattle.std.proofs.Common.{◌≡◌, ℕ, true, false, ℤ, ◌≤ℤ◌, List, length, Ok, refl, arith}
 use Rattle.std.specs.Prelude.{int_lt, int_le}
 use Rattle.std.specs.List.{list_any}
@@ -10,7 +10,6 @@ use Rattle.sample_schedule.specs.Order.{by_instant, standing}
 use Rattle.sample_schedule.specs.Verdicts.{decided, first_instant, is_copy, is_full, verdict}
 use Rattle.sample_schedule.proofs.OrderLemmas.{lt_true, le_true, le_false, any-by_instant, any-standing, length-by_instant, bytes-by_instant}
 
--- if an instant has not passed, an accepted copy with that instant has not passed
 copy_stands : (now instant : ℤ) (seq : ℕ) → now ≤ℤ instant → (a : Accepted) → is_copy instant seq a ≡ true → int_le now a.instant ≡ true
 copy_stands now instant seq le a copy = by_lt_z a.instant now
     (λ h. let e = le_false instant a.instant (omega (arith, ints)) in absurd (by_lt_z instant a.instant

@@ -1,10 +1,10 @@
--- Samples that are presented.
+-- Batches of samples that are presented.
 use Rattle.std.specs.Prelude.{◌≡◌, ℕ, ◌%◌, ◌^◌, ◌≤◌, ◌==◌, Bool, ◌&&◌, ℤ, pos, ◌+ℤ◌, ◌<ℤ◌, List, length}
 use Rattle.time_unfold.specs.declared.line.Line.{Line}
 use Rattle.time_unfold.specs.Lines.{instant_at}
 use Rattle.time_unfold.specs.Time.{IsInstant}
 
--- A batch of samples that is presented: sample j of `count` is sample from + j of the line.
+-- A batch of samples that is presented. It has `count` samples; sample j of the batch is sample `from` + j of the line.
 pub record Presented : Type 0 where
   pub frame : ℕ
   pub seq : ℕ
@@ -17,11 +17,12 @@ pub record Presented : Type 0 where
 abbrev pub sample_instant : Presented → ℕ → ℤ
 sample_instant batch j = instant_at batch.line (batch.from +ℤ pos j)
 
--- the batch is a unit of H.264 and not samples: its line has one nanosecond a sample
+-- the batch is a unit of H.264 and not audio samples: its line has one nanosecond per sample
 abbrev pub is_unit : Presented → Bool
 is_unit batch = batch.line.num == 1 && batch.line.den == 1
 
--- what holds for every batch: it has 1 to 65,535 samples of equally many bytes, and all its instants are in range
+-- The limits of every batch: it has 1 to 65,535 samples, all with the same number of bytes, and all its instants are in
+-- range.
 pub record IsPresentable (batch : Presented) : Type 0 where
   pub some : 1 ≤ batch.count
   pub count : batch.count ≤ 65535

@@ -1,4 +1,4 @@
--- The head of a packet: the stamped sample that its instants are counted from.
+-- The head of a packet: the stamped sample from which the instants of the packet's samples are counted.
 use Rattle.std.specs.Prelude.{ℕ, ◌+◌, ◌-◌, ◌%◌, ◌==◌, nat_lt, if◌then◌else◌, pos, neg_ℤ, List, Option, None, option_map, option_and_then}
 use Rattle.std.specs.List.{filter_map}
 use Rattle.std.specs.Option.{option_or}
@@ -17,15 +17,15 @@ use Rattle.sample_schedule.specs.declared.plan.SchedulePlan.{SchedulePlan}
 
 -- ---- the stamp of a packet
 
--- The timestamp of a packet, if samples can be counted from it: it is valid and certain, the rate is known, and the packet has
--- the sample that it belongs to.
+-- The timestamp of a packet, if samples can be counted from it. It must be valid and certain, the rate must be known,
+-- and the packet must have the sample that the timestamp belongs to.
 abbrev pub usable_stamp : Packet → Option ℕ
 usable_stamp p =
     if p.tu then None else
     if p.rate == 0 then None else
     if nat_lt (stamped_index p.rule) p.count then p.stamp else None
 
--- the stamp that is noted for a packet of audio, if its timestamp is usable
+-- the stamp that is noted for a packet of audio, if the packet's timestamp is usable
 abbrev pub stamp_of_packet : Packet → Option Stamp
 stamp_of_packet p =
     option_map (λ timestamp. record { seq = p.seq; mr = p.mr; block = stamped_block p.rule; rate = p.rate; instant = unfolded timestamp p.arrival }) (usable_stamp p)
@@ -37,18 +37,18 @@ stamp_of (OfItem (OfUnit u)) = None
 stamp_of (OfItem (OfBad b)) = None
 stamp_of (OfClock arrival row) = None
 
--- the usable stamps of a list of entries, in its order
+-- the usable stamps of a list of entries, in the order of the entries
 abbrev pub stamps_of : List Entry → List Stamp
 stamps_of entries = filter_map stamp_of entries
 
 -- ---- the head of a packet without a usable stamp
 
--- for a packet without a usable timestamp, how far back the stamp is that it is counted from, if its format has a rule
--- for this
+-- How far back the stamp is from which the samples of a packet without a usable timestamp are counted. `None` if the
+-- packet's format has no rule for this.
 abbrev pub distance_back : Packet → Option Distance
 distance_back p = distance p.rule p.seq p.count
 
--- the stamp that is wanted for packet p if its samples are counted from a stamp `far` back
+-- the stamp to look for if the samples of packet `p` are counted from a stamp at the distance `far`
 abbrev pub want_of : SchedulePlan → Packet → Distance → Want
 want_of plan p far = record {
   seq = (p.seq + 256 - far.packets) % 256;
@@ -63,23 +63,23 @@ want_of plan p far = record {
 
 -- ---- the head
 
--- the head of a packet by its own timestamp: the timestamp's instant, and the number of the packet's first sample if
--- the stamped sample is number 0
+-- The head that a packet's own timestamp gives: the timestamp's instant, and the number of the packet's first sample if
+-- the stamped sample has number 0.
 abbrev pub head_at : Packet → ℕ → Head
 head_at p timestamp = record { instant = unfolded timestamp p.arrival; first = neg_ℤ (pos (stamped_index p.rule)) }
 
--- the head of a packet by its own timestamp, if that is usable
+-- the head that a packet's own timestamp gives, if the timestamp is usable
 abbrev pub own_head : Packet → Option Head
 own_head p = option_map (head_at p) (usable_stamp p)
 
--- the head of a packet by the timestamp of another packet, if one of the last stamps of the prefix fits
+-- the head that another packet's timestamp gives, if one of the last stamps of the prefix fits
 abbrev pub head_back : SchedulePlan → List Entry → Packet → Option Head
 head_back plan prefix p =
     option_and_then (λ (far : Distance).
     option_map (λ (stamp : Stamp). record { instant = stamp.instant; first = pos far.samples })
     (found (plan.look + 16) (want_of plan p far) (stamps_of prefix))) (distance_back p)
 
--- the head of a packet: by its own timestamp if that is usable, else by the timestamp that is found for it in another
--- packet
+-- the head of a packet: if its own timestamp is usable, by that timestamp; otherwise by the timestamp that is found in
+-- another packet
 abbrev pub head_of : SchedulePlan → List Entry → Packet → Option Head
 head_of plan prefix p = option_or (own_head p) (head_back plan prefix p)

@@ -1,4 +1,4 @@
--- A judge, which takes a stream of entries one at a time and shows what is certain of it.
+-- A judge, which takes a stream of entries one at a time and shows items as soon as they are certain.
 use Rattle.std.specs.Prelude.{◌≡◌, ℕ, ◌+◌, ◌*◌, ◌≤◌, Bool, true, false, if◌then◌else◌, ℤ, ◌<ℤ◌, List, [], ◌∷◌, ◌++◌, length, take, drop, map, Option, None, Some}
 use Rattle.std.specs.List.{AllByRecursion}
 use Rattle.std.specs.Option.{option_to_list}
@@ -24,9 +24,9 @@ pending_of (OfClock arrival row) = PendingClock arrival
 
 -- ---- the judge
 
--- A judge: how many entries are judged; the greatest arrival up to the current entry; what was noted from all entries;
--- the accepted batches that wait for their instants; the current entry; the entries after it; and whether the list has
--- ended.
+-- A judge: its plan; how many entries are judged; the greatest arrival up to and including the current entry; what was
+-- noted from all entries; the accepted batches that wait for their instants; the current entry; the entries after the
+-- current one; and whether the list has ended.
 pub record JudgeState : Type 0 where
   pub plan : SchedulePlan
   pub place : ℕ
@@ -37,7 +37,7 @@ pub record JudgeState : Type 0 where
   pub ahead : List Pending
   pub closed : Bool
 
--- how many entries are judged or being judged
+-- how many entries are judged or current
 abbrev pub begun : JudgeState → ℕ
 begun judge = judge.place + length (option_to_list judge.current)
 
@@ -45,7 +45,7 @@ begun judge = judge.place + length (option_to_list judge.current)
 abbrev pub taken : JudgeState → ℕ
 taken judge = begun judge + length judge.ahead
 
--- what the judge still has to do: entries to judge, and batches to present
+-- an upper bound of the work that is left: two for each entry to judge, and one for each batch that waits
 abbrev pub work : JudgeState → ℕ
 work judge = 2 * (length (option_to_list judge.current) + length judge.ahead) + length judge.waiting
 
@@ -53,7 +53,7 @@ work judge = 2 * (length (option_to_list judge.current) + length judge.ahead) + 
 abbrev pub IsIdle : JudgeState → Type 0
 IsIdle judge = judge.current ≡ None
 
--- what a judge shows of a list of entries: what is due, or all if the list has ended
+-- what a judge shows of a list of entries: everything if the list has ended, otherwise what is due
 abbrev pub out : Clock → JudgeState → List Entry → List Shown
 out clock judge entries = if judge.closed then shown clock judge.plan entries else due clock judge.plan entries
 
@@ -63,12 +63,12 @@ none_left None [] = true
 none_left None (p ∷ rest) = false
 none_left (Some p) ahead = false
 
--- no entry of an ended list is left to judge
+-- the list has ended, and no entry is left to judge
 abbrev pub is_over : JudgeState → Bool
 is_over judge = if judge.closed then none_left judge.current judge.ahead else false
 
--- The judge has taken `entries`, and has returned `given` of the items that it shows of them, timed by the clock of its
--- plan.
+-- The judge has taken `entries`, and has returned the first `given` items of what it shows of them. Samples are timed
+-- by the clock of its plan.
 pub record StandsFor (clock : Clock) (entries : List Entry) (given : ℕ) (judge : JudgeState) : Type 0 where
   pub asks : IsClockOf judge.plan clock
   -- the judge holds the entries that are not judged, and has noted the stamps and clock packets of all entries
@@ -76,11 +76,10 @@ pub record StandsFor (clock : Clock) (entries : List Entry) (given : ℕ) (judge
   pub left : map pending_of (drop judge.place entries) ≡ option_to_list judge.current ++ judge.ahead
   pub noted : HasNoted judge.plan entries judge.noted
   pub now : judge.time ≡ latest (take (begun judge) entries)
-  -- while more entries may follow, exactly those entries are judged or current that have at least `look` entries after
-  -- them
+  -- while more entries may follow, an entry is judged or current exactly if at least `look` entries follow it
   pub settles : judge.closed ≡ false → begun judge ≡ settled judge.plan entries
-  -- of the batches that waited before the current entry, those whose instants have passed were presented, and the
-  -- others wait
+  -- `passed` are batches that waited before the current entry was taken, and were presented because their instants have
+  -- passed; the other batches still wait
   pub passed : List Accepted
   pub waiting : passed ++ judge.waiting ≡ by_instant (standing (latest (take judge.place entries)) (accepted clock judge.plan entries judge.place))
   pub early : is_over judge ≡ false → AllByRecursion (λ a. a.instant <ℤ judge.time) passed

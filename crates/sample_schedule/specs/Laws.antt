@@ -16,31 +16,32 @@ abbrev pub place_of : Given → ℕ
 place_of (Presents a) = a.place
 place_of (Flags place item reason) = place
 
--- how often the item at index i is shown in the schedule
+-- how often the schedule shows the item at index i
 abbrev pub times_shown : Clock → SchedulePlan → List Entry → ℕ → ℕ
 times_shown clock plan entries i = count_by (λ g. place_of g == i) (given clock plan entries)
 
--- how often an entry has to be shown: an item once; a packet of the clock never, nor an index without an entry
+-- how often an entry must be shown: an item once, a packet of the clock never; 0 if there is no entry
 abbrev pub times_due : Option Entry → ℕ
 times_due None = 0
 times_due (Some (OfItem item)) = 1
 times_due (Some (OfClock arrival row)) = 0
 
--- the part of a schedule that is about the item at index i
+-- the elements of a schedule that show the item at index i
 abbrev pub shown_at : ℕ → List Given → List Given
 shown_at i list = filter (λ g. place_of g == i) list
 
--- the verdict on the item at index i of a list, in the schedule of the list
+-- the verdict on the item at index i of a list of entries
 abbrev pub verdict_in : Clock → SchedulePlan → List Entry → ℕ → Item → Result Accepted Reason
 verdict_in clock plan entries i item =
     verdict plan (now_at entries i) (accepted clock plan entries i) i (timed clock plan (prefix_of plan entries i) item)
 
--- what a verdict does with the item at an index: it is presented if accepted, else flagged with the reason
+-- what a verdict does with the item at an index: if the item is accepted, it is presented; otherwise it is flagged with
+-- the reason
 abbrev pub given_by : ℕ → Item → Result Accepted Reason → Given
 given_by place item (Ok a) = Presents a
 given_by place item (Err reason) = Flags place item reason
 
--- the accepted items of a schedule that are presented, in its order
+-- the accepted items that a schedule presents, in the order of the schedule
 abbrev pub presented : List Given → List Accepted
 presented [] = []
 presented (Presents a ∷ rest) = a ∷ presented rest
@@ -60,6 +61,6 @@ abbrev pub Pairwise : (Accepted → Accepted → Type 0) → List Accepted → T
 Pairwise R [] = ⊤
 Pairwise R (a ∷ rest) = AllByRecursion (R a) rest × Pairwise R rest
 
--- the accepted items that wait once entry i is judged
+-- the accepted items that wait after entry i is judged
 abbrev pub waiting_at : Clock → SchedulePlan → List Entry → ℕ → List Accepted
 waiting_at clock plan entries i = standing (now_at entries i) (accepted clock plan entries (suc i))

@@ -11,8 +11,8 @@ use Rattle.sample_schedule.specs.declared.item.Packet.{Packet}
 use Rattle.sample_schedule.specs.declared.item.Unit.{Unit as WholeUnit}
 use Rattle.sample_schedule.specs.declared.plan.SchedulePlan.{SchedulePlan}
 
--- A plan within its limits. The buffer has 1 to 65,536 batches and 1 to 1,073,741,824 bytes. At most 64 entries are
--- looked ahead. The lead is at most a second, and the shift is at most a second either way.
+-- A plan within its limits. The buffer has 1 to 65,536 batches and 1 to 1,073,741,824 bytes. The look-ahead is at most
+-- 64 entries. The lead is at most one second. The shift is from -1 to 1 second.
 pub record IsPlan (plan : SchedulePlan) : Type 0 where
   pub some_buffer : 1 ≤ plan.buffer
   pub buffer : plan.buffer ≤ 65536
@@ -23,8 +23,8 @@ pub record IsPlan (plan : SchedulePlan) : Type 0 where
   pub shift_from : neg_ℤ (pos 1000000000) ≤ℤ plan.shift
   pub shift_to : plan.shift ≤ℤ pos 1000000000
 
--- A packet of audio as the formats yield it: samples of equally many bytes, and a rate that is 0 or from 8,000 to
--- 192,000 Hz.
+-- A packet of audio as the formats yield it. All its samples have the same number of bytes. Its rate is 0 or from 8,000
+-- to 192,000 Hz.
 pub record IsPacket (p : Packet) : Type 0 where
   pub arrival : IsArrival p.arrival
   pub count : p.count ≤ 65535

@@ -1,4 +1,4 @@
--- What is noted from a list of entries, for packets that are counted from other packets.
+-- What is noted from a list of entries, because samples of other packets may be counted from it.
 use Rattle.std.specs.Prelude.{◌≡◌, ◌+◌, true, false, List, Option, None, Some}
 use Rattle.std.specs.List.{filter_map}
 use Rattle.clock_track.specs.Window.{ClockState, StandsFor as StandsForRows}
@@ -9,18 +9,18 @@ use Rattle.sample_schedule.specs.declared.plan.SchedulePlan.{SchedulePlan}
 use Rattle.sample_schedule.specs.Heads.{stamps_of}
 use Rattle.sample_schedule.specs.Verdicts.{row_of}
 
--- The plan has a clock. The clock adds the plan's shift to timestamps, and has noted the clock packets of the list.
+-- The plan has a clock. `clock` adds the plan's shift to timestamps, and has noted the clock packets of the list.
 pub record HasNotedClock (plan : SchedulePlan) (entries : List Entry) (clock : ClockState) : Type 0 where
   pub asked : plan.clock ≡ true
   pub shift : clock.shift ≡ plan.shift
   pub rows : StandsForRows clock (filter_map row_of entries)
 
--- there is a clock exactly if the plan asks for one, and it has noted the clock packets of the list
+-- if the plan has a clock, there is a clock, and it has noted the clock packets of the list; otherwise there is none
 abbrev pub HasClock : SchedulePlan → List Entry → Option ClockState → Type 0
 HasClock plan entries None = plan.clock ≡ false
 HasClock plan entries (Some clock) = HasNotedClock plan entries clock
 
--- what is noted from the list: its last usable stamps, `look` + 16 of them, and the plan's clock
+-- what is noted from the list: the last `look` + 16 usable stamps, and the clock packets if the plan has a clock
 pub record HasNoted (plan : SchedulePlan) (entries : List Entry) (noted : Noted) : Type 0 where
   pub stamps : KeepsLast noted.stamps (stamps_of entries)
   pub room : noted.stamps.room ≡ plan.look + 16

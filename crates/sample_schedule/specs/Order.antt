@@ -10,21 +10,21 @@ standing now accepted = filter (λ a. int_le now a.instant) accepted
 abbrev pub between : ℤ → ℤ → List Accepted → List Accepted
 between from to accepted = filter (λ a. if int_le from a.instant then int_lt a.instant to else false) accepted
 
--- a list that is sorted by first instant, with one more item after all items that are not later
+-- puts an item into a list that is sorted by first instant, after all items whose instants are not later
 abbrev pub put_behind : List Accepted → Accepted → List Accepted
 put_behind [] a = a ∷ []
 put_behind (b ∷ bs) a = if int_lt a.instant b.instant then a ∷ b ∷ bs else b ∷ put_behind bs a
 
--- accepted items sorted by first instant, and at the same instant in the order in which they were accepted
+-- accepted items, sorted by first instant; items with equal first instants are in the order in which they were accepted
 unfoldable pub by_instant : List Accepted → List Accepted
 by_instant accepted = fold put_behind [] accepted
 
--- the items at the beginning of a list, sorted by first instant, whose instants have passed
+-- the beginning of a list that is sorted by first instant: the items whose instants have passed
 abbrev pub due_of : ℤ → List Accepted → List Accepted
 due_of now [] = []
 due_of now (a ∷ rest) = if int_lt a.instant now then a ∷ due_of now rest else []
 
--- a list, sorted by first instant, without the items at its beginning whose instants have passed
+-- the end of a list that is sorted by first instant: the items whose instants have not passed
 abbrev pub left_of : ℤ → List Accepted → List Accepted
 left_of now [] = []
 left_of now (a ∷ rest) = if int_lt a.instant now then left_of now rest else a ∷ rest

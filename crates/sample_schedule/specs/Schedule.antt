@@ -15,13 +15,13 @@ use Rattle.sample_schedule.specs.Verdicts.{Clock, timed, verdict}
 
 -- ---- items
 
--- when the packet of an item was captured
+-- the time at which the packet of an item was captured
 abbrev pub item_arrival : Item → ℤ
 item_arrival (OfPacket p) = p.arrival
 item_arrival (OfUnit u) = u.arrival
 item_arrival (OfBad b) = b.arrival
 
--- when the packet of an entry was captured
+-- the time at which the packet of an entry was captured
 abbrev pub arrival_of : Entry → ℤ
 arrival_of (OfItem item) = item_arrival item
 arrival_of (OfClock arrival row) = arrival
@@ -44,7 +44,7 @@ latest entries = fold int_max (pos 0) (map arrival_of entries)
 
 -- ---- what is accepted
 
--- the entries that are known when entry i is judged: all up to it, and the next `look`
+-- the entries that are known when entry i is judged: those up to and including entry i, and the next `look`
 abbrev pub prefix_of : SchedulePlan → List Entry → ℕ → List Entry
 prefix_of plan entries i = take (i + plan.look + 1) entries
 
@@ -52,25 +52,25 @@ prefix_of plan entries i = take (i + plan.look + 1) entries
 abbrev pub now_at : List Entry → ℕ → ℤ
 now_at entries i = latest (take (suc i) entries)
 
--- the verdict on an entry at index i, given what was accepted before it; a packet of the clock has none
+-- the verdict on an entry at index i, given the items accepted before it; a packet of the clock has no verdict
 abbrev pub judged : Clock → SchedulePlan → List Entry → ℕ → List Accepted → Entry → Option (Result Accepted Reason)
 judged clock plan entries i earlier (OfItem item) =
     Some (verdict plan (now_at entries i) earlier i (timed clock plan (prefix_of plan entries i) item))
 judged clock plan entries i earlier (OfClock arrival row) = None
 
--- The verdict on entry i, given what was accepted before it. There is none if entry i is a packet of the clock, or if
--- the list is not that long.
+-- The verdict on entry i, given the items accepted before it. There is none if entry i is a packet of the clock, or if
+-- the list has no entry i.
 unfoldable pub verdict_at : Clock → SchedulePlan → List Entry → ℕ → List Accepted → Option (Result Accepted Reason)
 verdict_at clock plan entries i earlier =
     option_and_then (judged clock plan entries i earlier) (slice_get entries i)
 
--- the item that a verdict accepts, if it accepts one
+-- a list of the item that a verdict accepts; empty if it accepts none
 abbrev pub accepted_by : Option (Result Accepted Reason) → List Accepted
 accepted_by None = []
 accepted_by (Some (Ok a)) = a ∷ []
 accepted_by (Some (Err reason)) = []
 
--- the accepted items among the first n entries, in their order
+-- the accepted items among the first n entries, in the order of the entries
 unfoldable pub accepted : Clock → SchedulePlan → List Entry → ℕ → List Accepted
 accepted clock plan entries zero = []
 accepted clock plan entries (suc i) =
@@ -78,7 +78,7 @@ accepted clock plan entries (suc i) =
 
 -- ---- what is shown
 
--- an item of the schedule: presented, or flagged at its index
+-- an element of the schedule: an accepted item that is presented, or the item at an index, flagged with a reason
 pub data Given : Type 0 where
   Presents : Accepted → Given
   Flags : ℕ → Item → Reason → Given
@@ -87,18 +87,20 @@ pub data Given : Type 0 where
 abbrev pub present : Accepted → Shown
 present a = Present a.batch
 
--- what is shown of an item of the schedule: its batch, or a flag with its frame, its sequence number and the reason
+-- what is shown of an element of the schedule: its batch, or a flag with the frame number, the sequence number and the
+-- reason
 abbrev pub shown_of : Given → Shown
 shown_of (Presents a) = present a
 shown_of (Flags place item reason) = Flag (frame_of item) (seq_of item) reason
 
--- the flag of entry i, if it is an item that is not accepted
+-- the flag of entry i if the entry is an item that is not accepted; otherwise nothing
 abbrev pub flag_by : ℕ → Option Entry → Option (Result Accepted Reason) → List Given
 flag_by i (Some (OfItem item)) (Some (Err reason)) = Flags i item reason ∷ []
 flag_by i e v = []
 
--- Step i presents those of the batches accepted before entry i whose first instants passed between the previous entry
--- and entry i. Then it flags entry i if it is an item that is not accepted. (At step 0 nothing was accepted before.)
+-- Step i presents the batches accepted before entry i whose first instants have passed with the arrival of entry i, but
+-- had not passed before. Then, if entry i is an item that is not accepted, step i flags it. (Before step 0, nothing is
+-- accepted.)
 unfoldable pub step : Clock → SchedulePlan → List Entry → ℕ → List Given
 step clock plan entries i =
     let earlier = accepted clock plan entries i in
@@ -110,13 +112,13 @@ unfoldable pub steps : Clock → SchedulePlan → List Entry → ℕ → List Gi
 steps clock plan entries zero = []
 steps clock plan entries (suc i) = steps clock plan entries i ++ step clock plan entries i
 
--- The accepted items that no step presented, because their first instants have not passed. They are presented after the
--- last entry.
+-- The accepted items that no step presents, because no entry arrives after their first instants. They are presented
+-- after the last entry.
 abbrev pub rest_of : Clock → SchedulePlan → List Entry → List Given
 rest_of clock plan entries =
     map Presents (by_instant (standing (latest entries) (accepted clock plan entries (length entries))))
 
--- the whole schedule: all steps, and then the accepted items that no step presented
+-- the whole schedule: all steps, and then the accepted items that no step presents
 unfoldable pub given : Clock → SchedulePlan → List Entry → List Given
 given clock plan entries = steps clock plan entries (length entries) ++ rest_of clock plan entries
 
@@ -124,7 +126,7 @@ given clock plan entries = steps clock plan entries (length entries) ++ rest_of 
 abbrev pub shown : Clock → SchedulePlan → List Entry → List Shown
 shown clock plan entries = map shown_of (given clock plan entries)
 
--- how many entries are judged while more may follow: those with `look` entries after them
+-- how many entries are judged while more entries may follow: those that at least `look` entries follow
 abbrev pub settled : SchedulePlan → List Entry → ℕ
 settled plan entries = length entries - plan.look
 

@@ -23,31 +23,33 @@ pub use Rattle.sorted_keys.specs.Keys.{same_instant}
 
 -- ---- where the samples of an item are
 
--- The answer of a media clock: where on its lines an instant is. The answer depends on the clock's packets so far, the
--- shift of their timestamps, and the rate of the stream. It is `None` if no line covers the instant.
+-- The answer of a media clock: where on its lines an instant is. It depends on the clock's packets so far, the shift of
+-- their timestamps, the instant, and the rate of the stream. It is `None` if no line covers the instant.
 abbrev pub Clock : Type 0
 Clock = List ClockRow → ℤ → ℤ → ℕ → Option Spot
 
--- If the plan has a clock, `clock` answers by the clock's packets. If it has none, `clock` may be any function, because
--- it is not used.
+-- If the plan has a clock, `clock` answers by the clock's packets. If the plan has no clock, `clock` may be any
+-- function, because it is not used.
 abbrev pub IsClockOf : SchedulePlan → Clock → Type 0
 IsClockOf plan clock = plan.clock ≡ true → clock ≡ clock_spot
 
--- what the clock keeps of an entry: the row of a packet of the clock, and nothing of an item
+-- the row of a clock packet; `None` for an item, of which the clock keeps nothing
 abbrev pub row_of : Entry → Option ClockRow
 row_of (OfItem item) = None
 row_of (OfClock arrival row) = Some row
 
--- the spot n samples after a spot
+-- the spot `n` samples after `spot`
 abbrev pub moved : ℤ → Spot → Spot
 moved n spot = record spot { from = spot.from +ℤ n }
 
--- the spot of a packet's first sample on the nominal line of its head; sample 0 of that line is the stamped sample
+-- The spot of a packet's first sample on the nominal line of the packet's head. Sample 0 of that line is the stamped
+-- sample.
 abbrev pub nominal_spot : ℕ → Head → Spot
 nominal_spot rate head = record { line = nominal_line head.instant rate; from = head.first }
 
 -- The spot of the first sample that is counted from a head. If the plan has no clock, the spot is on the head's nominal
--- line. If it has one, the spot is on the clock's line that covers the head, and `None` if no line covers it.
+-- line. If the plan has a clock, the spot is on the clock's line that covers the head; if no line covers it, the result
+-- is `None`.
 abbrev pub spot_of : Clock → SchedulePlan → List Entry → ℕ → Head → Option Spot
 spot_of clock plan prefix rate head =
     if plan.clock
@@ -59,25 +61,25 @@ abbrev pub samples_at : Packet → Spot → Presented
 samples_at p spot =
     record { frame = p.frame; seq = p.seq; line = spot.line; from = spot.from; count = p.count; bytes = p.bytes }
 
--- a unit of H.264 as a batch, which is presented at one instant
+-- a unit of H.264 as a batch whose bytes are all presented at one instant
 abbrev pub unit_at_once : WholeUnit → Presented
 unit_at_once u =
     record { frame = u.frame; seq = u.seq; line = record { base = u.instant; num = 1; den = 1 }; from = pos 0; count = 1; bytes = u.bytes }
 
--- a batch if there is one, else the reason
+-- the batch if there is one, otherwise the reason
 abbrev pub ok_or_reason : Reason → Option Presented → Result Presented Reason
 ok_or_reason reason None = Err reason
 ok_or_reason reason (Some batch) = Ok batch
 
--- the samples of a packet counted from its head: `Untimed` if it has no head, `NoClock` if the clock does not cover the
--- head
+-- The samples of a packet, counted from its head. The result is `Untimed` if the packet has no head, and `NoClock` if
+-- the clock does not cover the head.
 abbrev pub counted_from : Clock → SchedulePlan → List Entry → Packet → Option Head → Result Presented Reason
 counted_from clock plan prefix p None = Err Untimed
 counted_from clock plan prefix p (Some head) =
     ok_or_reason NoClock (option_map (samples_at p) (spot_of clock plan prefix p.rate head))
 
--- What can be presented of an item, or the first reason why nothing can, apart from reasons of time. The prefix of the
--- list is what is known when the item is judged.
+-- What can be presented of an item, or the first reason why nothing can, apart from `Late`, `Repeat` and `Full`.
+-- `prefix` holds the entries that are known when the item is judged.
 unfoldable pub timed : Clock → SchedulePlan → List Entry → Item → Result Presented Reason
 timed clock plan prefix (OfPacket p) =
     if p.tu then Err Uncertain else
@@ -97,17 +99,17 @@ first_instant batch = sample_instant batch 0
 abbrev pub total_bytes : List Accepted → ℕ
 total_bytes accepted = sum_by (λ a. length a.batch.bytes) accepted
 
--- an accepted item counts as another copy of the packet with this first instant and sequence number
+-- the accepted item has this first instant and this sequence number, so it counts as a copy of the same packet
 abbrev pub is_copy : ℤ → ℕ → Accepted → Bool
 is_copy instant seq a = if same_instant a.instant instant then a.batch.seq == seq else false
 
--- the buffer holds the most batches that it may, or `size` more bytes would exceed its room
+-- the buffer holds the maximum number of batches, or `size` more bytes would exceed its room
 abbrev pub is_full : SchedulePlan → List Accepted → ℕ → Bool
 is_full plan waiting size =
     if nat_le plan.buffer (length waiting) then true else nat_lt plan.room (total_bytes waiting + size)
 
--- The first of these that holds decides: the first instant has passed (late); the item came before (repeat); the buffer
--- is full. If none holds, the item is accepted.
+-- The first condition that holds decides: the first instant has passed (late); a copy was accepted before (repeat); the
+-- buffer is full. If none holds, the item is accepted.
 abbrev pub decided : Bool → Bool → Bool → ℕ → Presented → Result Accepted Reason
 decided late repeat full place batch =
     if late then Err Late else
@@ -115,8 +117,8 @@ decided late repeat full place batch =
     if full then Err Full else
     Ok (record { place = place; instant = first_instant batch; batch = batch })
 
--- The verdict on the item at index `place`. `now` is the greatest arrival up to it, and `earlier` are the items
--- accepted before.
+-- The verdict on the item at index `place`. `now` is the greatest arrival up to and including that of the item, and
+-- `earlier` are the items that were accepted before.
 unfoldable pub verdict : SchedulePlan → ℤ → List Accepted → ℕ → Result Presented Reason → Result Accepted Reason
 verdict plan now earlier place (Err reason) = Err reason
 verdict plan now earlier place (Ok batch) =

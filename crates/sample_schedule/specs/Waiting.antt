@@ -2,7 +2,8 @@
 use Rattle.std.specs.Prelude.{ℕ, List}
 use Rattle.sample_schedule.specs.declared.accepted.Accepted.{Accepted}
 
--- the batches that wait, sorted by first instant and then by index, and how many fit in the memory that is reserved
+-- the batches that wait, sorted by first instant and then by index, and the number of batches for which memory is
+-- reserved
 pub record Held : Type 0 where
   pub list : List Accepted
   pub room : ℕ

@@ -4,7 +4,7 @@ use crate::batch::Batch;
 use crate::shown::Shown;
 use time_unfold::Line;
 
-/// An accepted item: its index in the list, the instant of its first sample, and what is presented of it.
+/// An accepted item: its index in the list, the instant of its first sample, and the batch that is presented.
 #[derive(Debug, Drop)]
 pub struct Accepted {
     pub place: u64,
@@ -34,9 +34,9 @@ impl Accepted {
             from,
             bytes,
         } = batch;
-        // Copied field by field, so that the fields go through registers. A batch that is copied whole is read in other
-        // pieces than it was written in. The processor then waits for the writes, for a fifth of the time that a packet
-        // takes.
+        // Copied field by field, so that the fields go through registers. If the batch were copied whole, the processor
+        // would read it in other pieces than those it was written in. It would then wait for the writes, for a fifth of
+        // the time that a packet takes.
         Shown::Present(Batch {
             frame,
             seq,

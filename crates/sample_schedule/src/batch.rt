@@ -1,22 +1,23 @@
-//! Samples that are presented.
+//! Batches of samples that are presented.
 
 use avtp_base::Bytes;
 use std::marker::Model;
 use time_unfold::Line;
 
-/// Samples with the line that their instants are on. Sample j is at the instant of number `from + j`. The limits of its
-/// instants are an invariant of the type, so that definitions can mention batches without proofs inside.
+/// A batch of samples, and the line that gives their instants. Sample j of the batch is sample `from + j` of the line.
+/// The limits of the instants are an invariant of the type, so that definitions can mention batches without proofs
+/// inside.
 #[derive(Debug, Drop)]
 pub struct Batch {
-    /// The number of the capture's frame, from 1.
+    /// The number of the record in the capture, from 1.
     pub frame: u64,
     pub seq: u8,
-    /// The number of samples, 1 to 65,535.
+    /// The number of samples, from 1 to 65,535.
     pub count: u32,
     pub line: Line,
-    /// The number of the first sample on the line.
+    /// The number that the first sample has on the line.
     pub from: i64,
-    /// The sample bytes, equally many for each of the `count` samples.
+    /// The sample bytes. Each of the `count` samples has the same number of bytes.
     pub bytes: Bytes,
 }
 
@@ -36,8 +37,8 @@ impl Batch {
     ghost use Rattle.std.specs.Prelude.{◌≡◌, ◌≤◌};
     ghost use Rattle.sample_schedule.specs.Batches.{is_unit, sample_instant};
 
-    /// The instant of sample `j`, in nanoseconds of gPTP. `j` is at most the number of samples. For that number, it is
-    /// the instant of the first sample after the batch.
+    /// The instant of sample `j`, in nanoseconds of gPTP. `j` is at most `count`. If `j` is `count`, the result is the
+    /// instant of the first sample after the batch.
     pub fn instant(&self, j: u32) -> i64
         requires { j ≤ self.now.count }
         ensures { result ≡ sample_instant self.now j }
@@ -45,7 +46,7 @@ impl Batch {
         self.line.at(self.from + i64::from(j))
     }
 
-    /// Whether this is a unit of H.264 rather than samples: its line has one nanosecond a sample.
+    /// Whether this is a unit of H.264 and not audio samples: its line has one nanosecond per sample.
     pub fn is_unit(&self) -> bool
         ensures { result ≡ is_unit self.now }
     {

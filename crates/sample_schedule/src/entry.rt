@@ -3,13 +3,13 @@
 use crate::item::Item;
 use clock_track::ClockRow;
 
-/// An item of the stream, or a packet of its clock. A packet of the clock is never shown, but its arrival counts like an
-/// item's.
+/// An item of the stream, or a packet of its clock. A packet of the clock is never shown, but its arrival makes batches
+/// due like an item's.
 #[derive(Debug, Drop)]
 pub enum Entry {
     Item(Item),
     Clock {
-        /// When it was captured, in nanoseconds of gPTP.
+        /// When the packet was captured, in nanoseconds of gPTP.
         arrival: i64,
         row: ClockRow,
     },

@@ -1,4 +1,4 @@
-//! The stamped sample that the samples of a packet are counted from.
+//! The stamped sample from which the samples of a packet are counted.
 
 ghost use Rattle.std.specs.Prelude.{◌≡◌, ◌+◌, ◌≤◌, ◌<◌, ℕ, IfSome, List};
 ghost use Rattle.time_unfold.specs.Heads.{stamped_index as stamped_index_of};
@@ -42,7 +42,7 @@ fn stamp_of_packet(packet: &Packet) -> Option<Stamp>
     }
 }
 
-/// The usable stamp of an item, if it has one. Other packets can be counted from it.
+/// The usable stamp of an item, if it has one. The samples of other packets can be counted from this stamp.
 pub fn stamp_of(item: &Item) -> Option<Stamp>
     requires { IsItem item.now }
     ensures value { result ≡ stamp_of_entry (OfItem item.now) }
@@ -102,8 +102,8 @@ fn head_back(plan: &SchedulePlan, noted: &Noted, packet: &Packet) -> Option<Head
     })
 }
 
-/// The head of a packet that has samples and a rate: by its own timestamp if that is usable, or by the stamp that is
-/// found for it among the noted stamps.
+/// The head of a packet that has samples and a rate. If its own timestamp is usable, the head is by that timestamp;
+/// otherwise it is by the stamp that is found among the noted stamps.
 pub fn head_of(plan: &SchedulePlan, noted: &Noted, packet: &Packet) -> Option<Head>
     requires plan { IsPlan plan.now }
     requires packet { IsPacket packet.now }

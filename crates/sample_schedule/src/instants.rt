@@ -7,14 +7,14 @@ ghost use Rattle.sample_schedule.specs.Instants.{IsInstantOf, IsRestOf};
 
 use crate::batch::Batch;
 
-/// The instant of sample `j` of a batch: the whole nanoseconds, and the remainder in units of 1 / `den` of the line. The next
-/// sample's instant needs only an addition, and no division.
+/// The instant of sample `j` of a batch: the whole nanoseconds, and the remainder in units of 1 / `den` ns, for the
+/// line's `den`. The instant of the next sample then needs only an addition, and no division.
 #[derive(Clone, Copy)]
 pub struct Instant {
     pub j: u32,
     pub nanoseconds: i64,
     rest: u64,
-    /// The step from one sample to the next: the whole nanoseconds, and the remainder.
+    /// The step from one sample to the next: the whole nanoseconds, and in `step_rest` the remainder.
     step: u64,
     step_rest: u64,
 }
@@ -41,7 +41,7 @@ impl Instant {
         Instant::starting(batch, batch.instant(0), first_rest(batch))
     }
 
-    /// The instant of the first sample, which is at this nanosecond.
+    /// The instant of the first sample, given its whole nanoseconds and its remainder.
     #[inline(always)]
     fn starting(batch: &Batch, nanoseconds: i64, rest: u64) -> Self
         requires at { nanoseconds ≡ sample_instant batch.now 0 }
@@ -59,7 +59,7 @@ impl Instant {
         }
     }
 
-    /// Moves on to the instant of the next sample, or of the first one after the batch.
+    /// Moves on to the instant of the next sample. After the last sample, this is the first one after the batch.
     #[inline(always)]
     pub fn next(&mut self, batch: &Batch)
         requires inside { self.old.j < batch.now.count }

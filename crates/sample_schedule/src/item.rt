@@ -1,4 +1,4 @@
-//! What the deliveries of a stream were made into.
+//! The items that are made of the deliveries of a stream.
 
 use crate::shown::Reason;
 use avtp_base::Bytes;
@@ -7,9 +7,9 @@ use time_unfold::HeadRule;
 /// A well formed packet of audio samples.
 #[derive(Debug, Drop)]
 pub struct Packet {
-    /// The number of the capture's frame, from 1.
+    /// The number of the record in the capture, from 1.
     pub frame: u64,
-    /// When it was captured, in nanoseconds of gPTP.
+    /// When the record was captured, in nanoseconds of gPTP.
     pub arrival: i64,
     pub seq: u8,
     /// The media clock restart bit.
@@ -19,23 +19,23 @@ pub struct Packet {
     /// The timestamp, if there is a valid one.
     pub stamp: Option<u32>,
     pub rule: HeadRule,
-    /// The nominal rate in Hz; 0 if the packet names none.
+    /// The nominal rate in Hz; 0 if the packet names no rate.
     pub rate: u32,
     /// The number of sample frames or data blocks.
     pub count: u32,
-    /// The sample bytes, equally many for each of the `count` samples.
+    /// The sample bytes. Each of the `count` samples has the same number of bytes.
     pub bytes: Bytes,
 }
 
 /// A whole H.264 unit.
 #[derive(Debug, Drop)]
 pub struct Unit {
-    /// The number of the capture's frame that made it whole, from 1.
+    /// The number of the record in the capture that completed the unit, from 1.
     pub frame: u64,
-    /// When that frame was captured, in nanoseconds of gPTP.
+    /// When that record was captured, in nanoseconds of gPTP.
     pub arrival: i64,
     pub seq: u8,
-    /// When it is presented, in nanoseconds of gPTP.
+    /// When the unit is presented, in nanoseconds of gPTP.
     pub instant: i64,
     pub bytes: Bytes,
 }
@@ -43,9 +43,9 @@ pub struct Unit {
 /// A delivery that cannot be presented, whatever comes before or after it.
 #[derive(Debug, Drop)]
 pub struct Bad {
-    /// The number of the capture's frame, from 1.
+    /// The number of the record in the capture, from 1.
     pub frame: u64,
-    /// When it was captured, in nanoseconds of gPTP.
+    /// When the record was captured, in nanoseconds of gPTP.
     pub arrival: i64,
     pub seq: u8,
     pub reason: Reason,
@@ -63,7 +63,7 @@ impl Item {
     ghost use Rattle.std.specs.Prelude.{◌≡◌};
     ghost use Rattle.sample_schedule.specs.Schedule.{frame_of, item_arrival, seq_of};
 
-    /// The number of the capture's frame, from 1.
+    /// The number of the item's record in the capture, from 1.
     pub fn frame(&self) -> u64
         ensures { result ≡ frame_of self.now }
     {
@@ -74,7 +74,7 @@ impl Item {
         }
     }
 
-    /// When the item was captured, in nanoseconds of gPTP.
+    /// When the item's record was captured, in nanoseconds of gPTP.
     pub fn arrival(&self) -> i64
         ensures { result ≡ item_arrival self.now }
     {

@@ -28,13 +28,13 @@ use clock_track::Points;
 use std::alloc::Global;
 use std::marker::Model;
 
-/// A judge takes the entries of a stream one at a time, in capture order. It shows each item of the stream once,
-/// presented or flagged with the first reason that holds.
+/// A judge takes the entries of a stream one at a time, in capture order. It shows each item of the stream once:
+/// presented, or flagged with the first reason that holds.
 ///
-/// An item is judged once `look` later entries are known, so a packet without a timestamp may be counted from one that
-/// was captured after it. A stamp is noted when its entry arrives, and the entry is judged when it leaves the delay
-/// line. Before an entry is judged, everything that its arrival makes due is returned. So the judge holds only batches
-/// whose instants have not passed. All memory is reserved when the judge is made.
+/// An item is judged once `look` later entries are known, so that its samples may be counted from the timestamp of a
+/// later packet. A stamp is noted when its entry arrives, and the entry is judged when it leaves the delay line. Before
+/// an entry is judged, everything that its arrival makes due is returned. Hence the judge holds only batches whose
+/// instants have not passed. All memory is reserved when the judge is made.
 #[derive(Drop)]
 pub struct Judge {
     plan: SchedulePlan,
@@ -45,7 +45,7 @@ pub struct Judge {
     noted: Noted,
     /// The accepted batches, which wait for their instants.
     waiting: Waiting,
-    /// The current entry. It is judged once everything that its arrival makes due is returned.
+    /// The current entry. It is judged after everything that its arrival makes due was returned.
     current: Option<Pending>,
     /// The entries after the current one: the delay line.
     ahead: HeapCircularBuffer<Pending>,
@@ -65,8 +65,8 @@ impl Model for Judge {
 }
 
 impl Judge {
-    /// A judge of no entries. Reserves all the memory that it needs, including some 4 MiB for a clock if the plan has one. No
-    /// later call allocates.
+    /// A judge that has taken no entries. Reserves all the memory that it needs, including some 4 MiB for a clock if
+    /// the plan has one. No later call allocates.
     pub fn begin(alloc: Global, plan: SchedulePlan) -> Result<Self, NoMemory>
         requires plan { IsPlan plan }
         ensures stands { IfOk result (λ judge. (clock : Clock) → IsClockOf plan clock → StandsFor clock [] 0 judge) }
@@ -102,7 +102,8 @@ impl Judge {
         self.current = Some(next);
     }
 
-    /// Puts an entry into the delay line. If that has more entries than the look-ahead, the first becomes the current one.
+    /// Puts an entry into the delay line. If the line then has more entries than the look-ahead, its first entry
+    /// becomes the current one.
     fn put_ahead(&mut self, pending: Pending)
         requires idle { IsIdle self.old }
         requires taken { taken self.old < 2 ^ 62 }
@@ -115,7 +116,7 @@ impl Judge {
         }
     }
 
-    /// Puts an entry into the delay line. Without a look-ahead, it is the current one at once.
+    /// Puts an entry into the delay line. If the look-ahead is 0, the entry becomes the current one immediately.
     #[inline(always)]
     fn put(&mut self, pending: Pending)
         requires idle { IsIdle self.old }
@@ -130,8 +131,8 @@ impl Judge {
         }
     }
 
-    /// Takes the next item of the stream. All that is due of the entries so far must have been returned, and the judge
-    /// must not be closed. At most 2^62 entries may be taken. Allocates nothing.
+    /// Takes the next item of the stream. All items that are due of the entries so far must have been returned, and the
+    /// judge must not be closed. At most 2^62 entries may be taken. Allocates nothing.
     #[inline(always)]
     pub fn step(&mut self, item: Item)
         requires open { self.old.closed ≡ false }
@@ -147,8 +148,8 @@ impl Judge {
         self.put(Pending::Item(item));
     }
 
-    /// Takes a packet of the stream's clock, given its arrival and its points. It is an entry that is never shown. The
-    /// conditions are those of `step`. If the plan has no clock, only the arrival counts. Allocates nothing.
+    /// Takes a packet of the stream's clock, given its arrival and its timestamps. It is an entry that is never shown.
+    /// The preconditions are those of `step`. If the plan has no clock, only the arrival counts. Allocates nothing.
     pub fn step_clock(&mut self, arrival: i64, points: &Points<'_>)
         requires open { self.old.closed ≡ false }
         requires idle { IsIdle self.old }
@@ -164,7 +165,7 @@ impl Judge {
         self.put(Pending::Clock { arrival });
     }
 
-    /// The first waiting batch, if the arrival of the current entry is after its instant.
+    /// Returns the first waiting batch, if the current entry arrived after the batch's instant.
     #[inline(always)]
     fn give_due(&mut self) -> Option<Accepted>
         requires { self.old.current ≢ None }
@@ -176,7 +177,7 @@ impl Judge {
         self.waiting.take_due(self.time)
     }
 
-    /// The first waiting batch.
+    /// Returns the first waiting batch.
     fn give_first(&mut self) -> Option<Accepted>
         ensures waiting { self.old.waiting ≡ option_to_list result ++ self.new.waiting }
         ensures none { IfNone result (self.old.waiting ≡ []) }
@@ -185,7 +186,7 @@ impl Judge {
         self.waiting.take_first()
     }
 
-    /// Judges the current entry: returns its flag, or lets an accepted item wait for its instant.
+    /// Judges the current entry. A flag is returned; an accepted item waits for its instant.
     #[inline(always)]
     fn judge(&mut self) -> Option<Shown>
         requires { starts_due self.old.time self.old.waiting ≡ false }
@@ -224,7 +225,7 @@ impl Judge {
         }
     }
 
-    /// Returns what the current entry makes due, and then its flag, if it has one.
+    /// Returns the batches that the current entry makes due one by one, and then the entry's flag, if it has one.
     #[inline(always)]
     fn give_or_judge(&mut self) -> Option<Shown>
         ensures given { (clock : Clock) (entries : List EntryValue) (given : ℕ) → StandsFor clock entries given self.old → IfSome result (λ shown. slice_get (out clock self.old entries) given ≡ Some shown) }
@@ -243,7 +244,7 @@ impl Judge {
         }
     }
 
-    /// Once the list has ended, makes the next entry the current one. Returns whether there is one.
+    /// If the list has ended, makes the next entry the current one. Returns whether there is one.
     #[inline(always)]
     fn take_ahead(&mut self) -> bool
         requires { IsIdle self.old }
@@ -265,7 +266,7 @@ impl Judge {
         }
     }
 
-    /// Once all entries of an ended list are judged, returns the first waiting batch.
+    /// If the list has ended and all entries are judged, returns the first waiting batch.
     #[inline(always)]
     fn give_last(&mut self) -> Option<Shown>
         requires idle { IsIdle self.old }
@@ -286,8 +287,8 @@ impl Judge {
         }
     }
 
-    /// The next item that is shown of the entries so far. Before `close`, only what the judged entries make due is
-    /// returned; after it, all items. Returns `None` exactly if all of these were returned. Allocates nothing.
+    /// The next item that is shown of the entries so far. Before `close`, only items that are due are returned; after
+    /// `close`, all items. Returns `None` exactly if all of these were returned. Allocates nothing.
     pub fn next_out(&mut self) -> Option<Shown>
         ensures given { (clock : Clock) (entries : List EntryValue) (given : ℕ) → StandsFor clock entries given self.old → result ≡ slice_get (out clock self.old entries) given }
         ensures stands { (clock : Clock) (entries : List EntryValue) (given : ℕ) → StandsFor clock entries given self.old → StandsFor clock entries (given + length (option_to_list result)) self.new }
@@ -306,7 +307,8 @@ impl Judge {
         }
     }
 
-    /// Ends the list of entries. All that is due of the entries so far must have been returned. Allocates nothing.
+    /// Ends the list of entries. All items that are due of the entries so far must have been returned. Allocates
+    /// nothing.
     pub fn close(&mut self)
         requires open { self.old.closed ≡ false }
         requires idle { IsIdle self.old }
@@ -319,8 +321,9 @@ impl Judge {
         self.closed = true;
     }
 
-    /// How many batches wait: at most the plan's `buffer`, with together at most `room` bytes. If nothing is due, these
-    /// are the accepted batches of the judged entries that were not returned. After `close` there are none.
+    /// How many batches wait: at most the plan's `buffer`. Together they have at most `room` bytes. If nothing is due,
+    /// these are the accepted batches of the judged entries that were not returned. If nothing is due after `close`,
+    /// there are none.
     pub fn held(&self) -> u32
         ensures held { result ≡ length self.now.waiting }
         ensures batches { result ≤ self.now.plan.buffer }

@@ -19,18 +19,18 @@ ghost use Rattle.sample_schedule.specs.Order.{between, by_instant, due_of, left_
 ghost use Rattle.sample_schedule.specs.Schedule.{accepted, due, given, settled, shown, steps, waiting};
 ghost use Rattle.sample_schedule.specs.Verdicts.{Clock, is_copy, moved, samples_at, total_bytes};
 
-/// Whenever an entry is judged, at most `buffer` batches wait, with together at most `room` bytes.
+/// Whenever an entry is judged, at most `buffer` batches wait, and they have at most `room` bytes together.
 pub fn waiting_is_bounded()
     ensures batches { (clock : Clock) (plan : SchedulePlan) (entries : List Entry) (i : ℕ) → length (waiting_at clock plan entries i) ≤ plan.buffer }
     ensures bytes { (clock : Clock) (plan : SchedulePlan) (entries : List Entry) (i : ℕ) → total_bytes (waiting_at clock plan entries i) ≤ plan.room }
 {}
 
-/// What is presented is what is accepted, sorted by first instant and then by index.
+/// Exactly the accepted items are presented, sorted by first instant and then by index.
 pub fn accepted_are_presented()
     ensures { (clock : Clock) (plan : SchedulePlan) (entries : List Entry) → presented (given clock plan entries) ≡ by_instant (accepted clock plan entries (length entries)) }
 {}
 
-/// Each item is shown exactly once, presented or flagged, and a packet of the clock never.
+/// Each item is shown exactly once, presented or flagged. A packet of the clock is never shown.
 pub fn each_item_is_shown_once()
     ensures { (clock : Clock) (plan : SchedulePlan) (entries : List Entry) (i : ℕ) → times_shown clock plan entries i ≡ times_due (slice_get entries i) }
 {}
@@ -53,18 +53,19 @@ pub fn copies_are_not_presented()
     ensures { (clock : Clock) (plan : SchedulePlan) (entries : List Entry) → Pairwise IsNoCopy (presented (given clock plan entries)) }
 {}
 
-/// What is certain of a list does not change when the list grows: what is due of the longer list begins with it.
+/// What is due does not change when the list grows: what is due of the longer list begins with what is due of the
+/// shorter list.
 pub fn due_stays()
     ensures { (clock : Clock) (plan : SchedulePlan) (entries more : List Entry) → IsPrefix (due clock plan entries) (due clock plan (entries ++ more)) }
 {}
 
-/// What is due of a list is shown first if the list ends there.
+/// If the list ends, what is shown begins with what was due.
 pub fn due_is_shown_first()
     ensures { (clock : Clock) (plan : SchedulePlan) (entries : List Entry) → IsPrefix (due clock plan entries) (shown clock plan entries) }
 {}
 
-/// Each accepted item of the judged entries was presented or waits, within the buffer and its room; and at most `look` entries
-/// are not judged.
+/// Each accepted item of the judged entries was presented or waits. The waiting batches are within the buffer and its
+/// room. At most `look` entries are not judged.
 pub fn what_is_not_due_waits()
     ensures accepted { (clock : Clock) (plan : SchedulePlan) (entries : List Entry) → presented (steps clock plan entries (settled plan entries)) ++ waiting clock plan entries ≡ by_instant (accepted clock plan entries (settled plan entries)) }
     ensures batches { (clock : Clock) (plan : SchedulePlan) (entries : List Entry) → length (waiting clock plan entries) ≤ plan.buffer }
@@ -72,20 +73,20 @@ pub fn what_is_not_due_waits()
     ensures unjudged { (plan : SchedulePlan) (entries : List Entry) → length entries ≤ settled plan entries + plan.look }
 {}
 
-/// If a copy arrives in time, the item that it repeats still waits. It is found among the waiting items exactly if it
-/// is found among all accepted items.
+/// If a copy arrives in time, the item that it repeats still waits. Hence a search among the waiting items finds it
+/// exactly if a search among all accepted items does.
 pub fn copies_wait()
     ensures { (now instant : ℤ) (seq : ℕ) (earlier : List Accepted) → now ≤ℤ instant → list_any (is_copy instant seq) (standing now earlier) ≡ list_any (is_copy instant seq) earlier }
 {}
 
-/// As time moves on, the waiting batches split: the first of them are due, and the others still wait.
+/// As time moves on, the waiting batches split into a prefix that is due and a suffix that still waits.
 pub fn what_waits_is_due_or_held()
     ensures due { (from to : ℤ) (earlier : List Accepted) → due_of to (by_instant (standing from earlier)) ≡ by_instant (between from to earlier) }
     ensures held { (from to : ℤ) (earlier : List Accepted) → from ≤ℤ to → left_of to (by_instant (standing from earlier)) ≡ by_instant (standing to earlier) }
 {}
 
-/// A packet whose head the clock covers can be presented: its samples on the clock's line, counted from the head, are within
-/// the limits of every batch.
+/// If the clock covers the head of a packet, the packet can be presented: its samples on the clock's line, counted from
+/// the head, are within the limits of every batch.
 pub fn clock_lines_can_be_presented()
     ensures { (p : Packet) (head : Head) (spot : Spot) → IsPacket p → 1 ≤ p.count → IsCountable head → IsClockLine p.rate head.instant spot → IsPresentable (samples_at p (moved head.first spot)) }
 {}

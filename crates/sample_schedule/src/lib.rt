@@ -1,4 +1,4 @@
-//! The schedule of a stream: what of a list of packets is presented, at which nanosecond, and why the rest is not.
+//! The schedule of a stream: which packets of a list are presented, at which nanosecond, and why the others are not.
 #![tactic(auto)]
 
 mod accepted;

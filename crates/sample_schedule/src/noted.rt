@@ -1,4 +1,4 @@
-//! The stamps and clock packets that samples are counted from.
+//! The noted stamps and clock packets, from which samples are counted.
 
 ghost use Rattle.std.specs.Prelude.{◌≡◌, ◌+◌, ◌++◌, ◌∷◌, [], IfOk, IfSome, List, ℤ};
 ghost use Rattle.time_unfold.specs.declared.stamp.Stamp.{Stamp as StampValue};
@@ -21,17 +21,18 @@ use clock_track::{Clock, Points};
 use std::alloc::Global;
 use time_unfold::{Anchors, Stamp, Want};
 
-/// How many stamps are searched, besides those of the packets of the look-ahead.
+/// How many stamps are searched in addition to those of the look-ahead.
 const STAMPS: u32 = 16;
 
-/// What was noted from the entries so far: the last usable stamps, and the packets of the clock if the plan has one.
+/// What was noted from the entries so far: the last usable stamps, and the clock packets if the plan has a clock.
 #[derive(Drop)]
 pub struct Noted {
     stamps: Anchors,
     pub clock: Option<Clock>,
 }
 
-/// A clock of no packets, with the plan's shift, if the plan has one. Reserves all the memory that it needs.
+/// If the plan has a clock, a clock that has noted no packets, with the plan's shift. Reserves all the memory that it
+/// needs.
 fn clock_of(alloc: Global, plan: &SchedulePlan) -> Result<Option<Clock>, NoMemory>
     requires { IsPlan plan.now }
     ensures { IfOk result (λ clock. HasClock plan.now [] clock) }
@@ -44,7 +45,7 @@ fn clock_of(alloc: Global, plan: &SchedulePlan) -> Result<Option<Clock>, NoMemor
 }
 
 impl Noted {
-    /// Nothing was noted. Reserves all the memory that is needed.
+    /// The state before the first entry. Reserves all the memory that is needed.
     pub fn new(alloc: Global, plan: &SchedulePlan) -> Result<Self, NoMemory>
         requires { IsPlan plan.now }
         ensures { IfOk result (λ noted. HasNoted plan.now [] noted) }
@@ -77,7 +78,7 @@ impl Noted {
         }
     }
 
-    /// The last stamp that fits, of the last `look + 16`.
+    /// The last stamp that fits, among the last `look + 16`.
     pub fn find(&self, want: &Want) -> Option<Stamp>
         requires { IsWant want.now }
         ensures value { (plan : SchedulePlanValue) (entries : List EntryValue) → HasNoted plan entries self.now → result ≡ found (plan.look + 16) want.now (stamps_of entries) }

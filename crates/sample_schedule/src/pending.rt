@@ -2,8 +2,8 @@
 
 use crate::item::Item;
 
-/// An entry that waits for its verdict. For a packet of the clock only the arrival is kept, because its points are noted when
-/// it comes.
+/// An entry that waits for its verdict. For a packet of the clock only the arrival is kept, because its timestamps are
+/// noted when it arrives.
 #[derive(Debug, Drop)]
 pub enum Pending {
     Item(Item),

@@ -14,19 +14,19 @@ pub enum Reason {
     Empty,
     /// The packet names no rate.
     NoRate,
-    /// No timestamp is known that its samples could be counted from.
+    /// No timestamp is known from which its samples could be counted.
     Untimed,
-    /// The clock has no line that covers its timestamp.
+    /// The clock has no line that covers the timestamp from which its samples are counted.
     NoClock,
-    /// Its first instant had passed when it came.
+    /// Its first instant had passed when it arrived.
     Late,
     /// An item with its first instant and sequence number was accepted before.
     Repeat,
     /// The buffer or its room was full.
     Full,
-    /// A fragment of a unit that was not made whole.
+    /// The packet is a fragment of a unit that was not made whole.
     Broken,
-    /// A fragment of a unit that was too long.
+    /// The packet is a fragment of a unit that was too long.
     Long,
 }
 

@@ -21,7 +21,7 @@ use time_unfold::{Head, Line};
 
 const NANOSECONDS: u64 = 1_000_000_000;
 
-/// The samples of a packet. `number` is the number of the first one on a line.
+/// The samples of a packet. `from` is the number of the packet's first sample on the line.
 #[inline(always)]
 fn samples_on(packet: Packet, line: Line, from: i64) -> Batch
     requires { IsPresentable (samples_at packet (record { line = line; from = from })) }
@@ -66,7 +66,8 @@ fn on_nominal_line(packet: Packet, head: &Head) -> Batch
     samples_on(packet, line, head.first)
 }
 
-/// The samples of a packet on a line of the clock. `number` is the number of its head on that line.
+/// The samples of a packet on a line of the clock. `number` is the number that the packet's stamped sample has on that
+/// line.
 fn on_clock_line(packet: Packet, head: &Head, line: Line, number: u64) -> Batch
     requires packet { IsPacket packet }
     requires some { 1 ≤ packet.count }
@@ -77,8 +78,8 @@ fn on_clock_line(packet: Packet, head: &Head, line: Line, number: u64) -> Batch
     samples_on(packet, line, number as i64 + head.first)
 }
 
-/// The samples of a packet that are counted from its head: on the line of the clock that covers it, or on the nominal line if
-/// there is no clock.
+/// The samples of a packet, counted from its head. If there is a clock, they are on the clock's line that covers the
+/// head; otherwise they are on the nominal line.
 #[inline(always)]
 fn counted(noted: &Noted, packet: Packet, head: &Head) -> Result<Batch, Reason>
     requires packet { IsPacket packet }
@@ -143,8 +144,8 @@ fn timed_unit(unit: Unit) -> Batch
     }
 }
 
-/// What can be presented of an item, or the first reason why nothing can, apart from reasons of time. `noted` is what
-/// was noted from the entries that are known when the item is judged.
+/// What can be presented of an item, or the first reason why nothing can, apart from `Late`, `Repeat` and `Full`.
+/// `noted` was noted from the entries that are known when the item is judged.
 #[tactic(auto, unfolding(crate::specs::Verdicts::timed))]
 #[inline(always)]
 pub fn timed(plan: &SchedulePlan, noted: &Noted, item: Item) -> Result<Batch, Reason>

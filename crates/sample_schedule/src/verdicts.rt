@@ -1,4 +1,4 @@
-//! An item is accepted, or has a reason why not.
+//! The verdict on an item: it is accepted, or refused for a reason.
 
 ghost use Rattle.std.specs.Prelude.{◌≡◌, ◌+◌, ◌≤◌, ◌≤ℤ◌, ◌<◌, IfOk, length, List, int_lt, Ok, Err};
 ghost use Rattle.std.specs.List.{list_any};
@@ -48,7 +48,7 @@ fn judge(
     })
 }
 
-/// The verdict of an item, given the batches that wait and what was noted from the known prefix.
+/// The verdict on an item, given the waiting batches and what was noted from the known entries.
 #[inline(always)]
 pub fn verdict(
     plan: &SchedulePlan,

@@ -30,8 +30,8 @@ fn size(accepted: &Accepted) -> u64
     accepted.batch.bytes.as_slice().len() as u64
 }
 
-/// Accepted batches that wait for their instants, sorted by first instant and then by index. Small keys are in that
-/// order. The batches themselves are in slots, and are not moved while they wait.
+/// Accepted batches that wait for their instants, sorted by first instant and then by index. Only small keys are kept
+/// in that order: the batches themselves stay in slots and are not moved while they wait.
 #[derive(Drop)]
 pub struct Waiting {
     keys: SortedKeys,
@@ -53,7 +53,7 @@ impl Model for Waiting {
 }
 
 impl Waiting {
-    /// Nothing waits. Reserves the memory for this many batches.
+    /// An empty waiting room. Reserves the memory for this many batches.
     pub fn with_room(alloc: Global, batches: u32) -> Result<Self, NoMemory>
         ensures none { IfOk result (λ waiting. waiting.list ≡ []) }
         ensures room { IfOk result (λ waiting. batches ≤ waiting.room) }
@@ -81,7 +81,7 @@ impl Waiting {
         self.bytes
     }
 
-    /// One of the waiting batches has the first instant and the sequence number.
+    /// Whether one of the waiting batches has this first instant and this sequence number.
     #[inline(always)]
     pub fn has_copy(&self, instant: i64, seq: u8) -> bool
         ensures { result ≡ list_any (is_copy_of instant seq) self.now.list }
@@ -89,7 +89,7 @@ impl Waiting {
         self.keys.has(instant, seq)
     }
 
-    /// The buffer holds the most batches that it may, or `size` more bytes would exceed its room.
+    /// Whether the buffer holds the maximum number of batches, or `size` more bytes would exceed its room.
     #[inline(always)]
     pub fn is_full(&self, plan: &SchedulePlan, size: usize) -> bool
         ensures full { result ≡ is_full_of plan.now self.now.list size }
@@ -115,7 +115,7 @@ impl Waiting {
         self.keys.put(Key { instant, seq, slot });
     }
 
-    /// The first batch has an instant before `now`.
+    /// Whether there is a first batch and its instant is before `now`.
     #[inline(always)]
     pub fn is_due(&self, now: i64) -> bool
         ensures { result ≡ starts_due now self.now.list }
@@ -126,7 +126,7 @@ impl Waiting {
         }
     }
 
-    /// Takes the first batch.
+    /// Removes and returns the first batch.
     #[inline(always)]
     pub fn take_first(&mut self) -> Option<Accepted>
         ensures taken { self.old.list ≡ option_to_list result ++ self.new.list }
@@ -141,7 +141,7 @@ impl Waiting {
         Some(first)
     }
 
-    /// Takes the first batch, if its instant is before `now`.
+    /// If the instant of the first batch is before `now`, removes and returns the batch.
     #[inline(always)]
     pub fn take_due(&mut self, now: i64) -> Option<Accepted>
         ensures taken { self.old.list ≡ option_to_list result ++ self.new.list }

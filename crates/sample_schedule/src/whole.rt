@@ -16,7 +16,7 @@ use avtp_base::NoMemory;
 use std::alloc::Global;
 use std::collections::VecDeque;
 
-/// The judge takes an entry.
+/// Gives an entry to the judge.
 pub fn take_entry(judge: &mut Judge, entry: Entry)
     requires open { judge.old.closed ≡ false }
     requires idle { IsIdle judge.old }
@@ -33,7 +33,7 @@ pub fn take_entry(judge: &mut Judge, entry: Entry)
     }
 }
 
-/// Puts all that the judge returns into a list.
+/// Puts all items that the judge returns into a list.
 pub fn give_all(judge: &mut Judge, list: &mut Vec<Shown>) -> Result<(), NoMemory>
     ensures given { OnOk result ((clock : Clock) (entries : List EntryValue) → HasGiven clock entries list.old.items judge.old → HasGiven clock entries list.new.items judge.new) }
     ensures all { OnOk result ((clock : Clock) (entries : List EntryValue) → HasGiven clock entries list.old.items judge.old → list.new.items ≡ out clock judge.new entries) }
@@ -46,17 +46,16 @@ pub fn give_all(judge: &mut Judge, list: &mut Vec<Shown>) -> Result<(), NoMemory
     Ok(())
 }
 
-/// The schedule of a list of entries, in capture order: each item of the stream is shown once, presented or flagged
-/// with the first reason that holds. A batch is presented as soon as the arrival of an entry is after its first
-/// instant. Batches that are left after the last entry are presented then, by first instant and then by index in the
-/// list.
+/// The schedule of a list of entries, in capture order. Each item of the stream is shown once: presented, or flagged
+/// with the first reason that holds. A batch is presented as soon as an entry arrives after the batch's first instant.
+/// After the last entry, the batches that are left are presented, by first instant and then by index in the list.
 ///
-/// An item is judged once `look` later entries are known or the list has ended. So a packet without a timestamp may be
-/// counted from one that was captured after it. It is counted from the last usable timestamp that fits, of the last
-/// `look + 16`.
+/// An item is judged once `look` later entries are known or the list has ended. Hence its samples may be counted from
+/// the timestamp of a later packet. A packet without a timestamp is counted from the last usable timestamp that fits,
+/// among the last `look + 16`.
 ///
-/// If the plan has a clock, samples are on the lines of the clock packets that are known when the item is judged. If it
-/// has none, packets of a clock count only by their arrival.
+/// If the plan has a clock, samples are on the lines of the clock packets that are known when the item is judged. If
+/// the plan has no clock, only the arrivals of clock packets count.
 ///
 /// If there is no memory, returns `NoMemory` and shows nothing.
 pub fn schedule(

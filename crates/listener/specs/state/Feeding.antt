@@ -21,8 +21,9 @@ pub record HasHeard (bytes : List ℕ) (given : ℕ) (reader : Reading) (listene
   pub read : HasRead reader bytes records
   pub stands : RecordsStandFor records given listener
 
--- The invariant of every listener. It was fed some bytes. Unless they were refused, it counted at most as many records
--- as bytes. If nothing is due, all that is shown so far was returned. After memory has run out, nothing is due.
+-- The invariant of every listener. There are bytes that it was fed. Unless they were refused, it counted at most as
+-- many records as bytes. If nothing is due, all that is shown of them so far was returned. Once memory has run out,
+-- nothing is due.
 pub record IsSound (fed : Feeding) : Type 0 where
   pub bytes : List ℕ
   pub given : ℕ

@@ -20,27 +20,28 @@ use Rattle.listener.specs.Gathering.{Gathered, lost_item, item_entry, left, HasU
 
 -- ---- what a delivery does
 
--- No unit continues across a delivery whose own item is `item`.
+-- A delivery whose own item is `item` ends the current unit.
 pub record Cuts (item : Item) (old new : Gathered) : Type 0 where
   pub stands : (es : List Event) → StandsFor old.assembly es → StandsFor new.assembly (es ++ cut ∷ [])
   pub why : new.why ≡ Broken
   pub taken : new.taken ≡ 0
   pub own : new.own ≡ Some item
 
--- No unit continues across a delivery whose own item is `item`. The first resulting item is `answer`; the others wait.
+-- A delivery whose own item is `item` ends the current unit. The first resulting item, if any, is `answer`; the other
+-- items are queued.
 pub record CutsFirst (item : Item) (old new : Gathered) (answer : Option Item) : Type 0 where
   pub between : Gathered
   pub cuts : Cuts item old between
   pub first : left between ≡ option_to_list answer ++ left new
   pub stands : (ds : List Delivery) → HasUnits ds between → HasUnits ds new
 
--- After the delivery `d`, the units include it, and hold the items that it yields.
+-- After the delivery `d`, the state `new` is that of all deliveries so far, and holds the items that `d` yields.
 pub record Gives (ds : List Delivery) (d : Delivery) (new : Gathered) : Type 0 where
   pub has : HasUnits (ds ++ d ∷ []) new
   pub gives : map item_entry (left new) ≡ map made_entry (given_by ds d)
 
--- the item of a packet: the unit of these bytes if the packet completes it, none if the packet waits, a flagged item if
--- it is lost
+-- The item of a packet. If the packet completes a unit, the unit, which has the bytes `unit`; if it waits, none; if it
+-- is lost, a flagged item.
 abbrev pub own_item : Delivery → ℤ → List ℕ → Piece → Option Item
 own_item d instant unit Whole = Some (OfUnit (record { frame = d.frame; arrival = d.arrival; seq = d.seq; instant = instant; bytes = unit }))
 own_item d instant unit Held = None
@@ -66,7 +67,7 @@ abbrev pub IsTimelyEvent : Event → Type 0
 IsTimelyEvent cut = ⊤
 IsTimelyEvent (packet f) = IsArrival f.mark.arrival
 
--- The invariant of the units: some events made them, and every item of theirs can be judged.
+-- The invariant of the units: there are events that lead to this state, and every item in it can be judged.
 pub record IsSound (u : Gathered) : Type 0 where
   pub events : List Event
   pub stands : StandsFor u.assembly events

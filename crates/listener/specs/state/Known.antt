@@ -11,12 +11,12 @@ use Rattle.sample_schedule.specs.declared.plan.SchedulePlan.{SchedulePlan}
 use Rattle.sample_schedule.specs.Heads.{head_of}
 use Rattle.sample_schedule.specs.Verdicts.{spot_of}
 
--- when the samples of a packet are due, given what is known when the packet is judged
+-- the line on which the samples of a packet are, given what is known when the packet is judged
 abbrev pub spot_in : SchedulePlan → List Entry → Packet → Option Spot
 spot_in plan prefix packet = option_and_then (spot_of clock_spot plan prefix packet.rate) (head_of plan prefix packet)
 
--- A timestamp is found that the samples of an item are counted from. If the listener has a clock, two CRF timestamps
--- are found that cover it. A unit has its own timestamp.
+-- The search finds a timestamp from which the item's samples are counted and, if the listener has a clock, two CRF
+-- timestamps that cover that timestamp. A unit always has its own timestamp.
 abbrev pub is_known : SchedulePlan → List Entry → Entry → Bool
 is_known plan prefix (OfItem (OfPacket packet)) = is_some (spot_in plan prefix packet)
 is_known plan prefix (OfItem (OfUnit whole)) = true

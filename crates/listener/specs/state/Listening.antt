@@ -13,11 +13,11 @@ use Rattle.listener.specs.declared.heard.Counts.{Counts}
 use Rattle.listener.specs.Gathering.{Gathered, left}
 use Rattle.listener.specs.Listening.{ListenState, is_closed, IsIdle, Judges, StandsFor}
 
--- the counts with one more record, which belongs to the stream or not
+-- the counts after one more record; `in_stream` says whether the record belongs to the stream
 abbrev pub with_record : Counts → Bool → Counts
 with_record counts in_stream = record counts { frames = counts.frames + 1; packets = counts.packets + cond in_stream 1 0 }
 
--- the counts with one more item shown, or with one item less
+-- the counts after one more item is shown
 abbrev pub with_shown : Counts → Shown → Counts
 with_shown counts (Present batch) = record counts { presented = counts.presented + 1 }
 with_shown counts (Flag frame seq reason) = record counts { flagged = counts.flagged + 1 }
@@ -31,7 +31,7 @@ pub record Rests (listener : ListenState) : Type 0 where
   pub opened : is_closed listener ≡ false
   pub idle : IsIdle listener
 
--- what is shown of entries: what is due, or all if no more records follow
+-- what is shown of a list of entries: everything if no more records follow, otherwise what is due
 abbrev pub shown_by : Bool → SchedulePlan → List Entry → List Shown
 shown_by ended plan entries = if ended then shown clock_spot plan entries else due clock_spot plan entries
 
@@ -43,7 +43,7 @@ pub record Closes (ended did : Bool) (old new : JudgeState) : Type 0 where
   pub done : did ≡ true → (ended ≡ true) × ((old.closed ≡ false) × (new.closed ≡ true))
   pub not_done : did ≡ false → (new ≡ old) × (ended ≡ true → old.closed ≡ true)
 
--- One more item was given to a judge, or the judge was closed, or there was nothing left to do.
+-- One more item was given to the judge, or the judge was closed, or there was nothing left to do.
 pub record JudgesNext (ended did : Bool) (units_old units_new : Gathered) (old new : JudgeState) : Type 0 where
   pub judges : (entries : List Entry) (given : ℕ) → Judges entries given old units_old → Judges entries given new units_new
   pub plan : new.plan ≡ old.plan
@@ -52,8 +52,8 @@ pub record JudgesNext (ended did : Bool) (units_old units_new : Gathered) (old n
   pub less : did ≡ true → length (left units_new) + cond new.closed 0 1 < length (left units_old) + cond old.closed 0 1
   pub none : did ≡ false → ((left units_old ≡ []) × (left units_new ≡ [])) × ((new ≡ old) × (ended ≡ true → new.closed ≡ true))
 
--- The invariant of every listener: it has taken some records, and has shown a number of the items that it shows of
--- them.
+-- The invariant of every listener: there is a list of records that leads to its state, and it has returned some prefix
+-- of what is shown of them.
 pub record IsSound (listener : ListenState) : Type 0 where
   pub records : List Record
   pub given : ℕ

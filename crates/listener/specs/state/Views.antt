@@ -6,7 +6,7 @@ use Rattle.packet_journal.specs.Deliveries.{Delivery, clock_kinds, is_wanted}
 use Rattle.listener.specs.declared.delivery.AvtpPacket.{AvtpPacket}
 use Rattle.listener.specs.declared.delivery.DeliveryView.{DeliveryView}
 
--- An AVTP packet with its first fields, without its location in memory.
+-- An AVTP packet and its first fields, without the packet's location in memory.
 pub record Found : Type 0 where
   pub peeked : Peeked
   pub bytes : List ℕ
@@ -18,7 +18,7 @@ avtp_shape p = record { peeked = p.peeked; bytes = p.bytes.now }
 abbrev pub delivery_shape : DeliveryView → Delivery
 delivery_shape d = record { frame = d.frame; arrival = d.arrival; subtype = d.subtype; seq = d.seq; packet = d.packet.now }
 
--- a packet's first fields make it a packet of the clock, if there is a clock
+-- The packet with these first fields belongs to the clock. If there is no clock, this is false.
 abbrev pub is_of_clock : Option ℕ → Peeked → Bool
 is_of_clock None peeked = false
 is_of_clock (Some id) peeked = is_wanted clock_kinds id peeked

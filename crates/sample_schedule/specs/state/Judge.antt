@@ -23,12 +23,12 @@ abbrev pub IsPending : Pending → Type 0
 IsPending (PendingItem item) = IsItem item
 IsPending (PendingClock arrival) = IsArrival arrival
 
--- `list` has exactly the items that the judge has returned so far, of those that it shows of `entries`.
+-- `list` holds exactly the items that the judge has returned so far of what it shows of `entries`.
 pub record HasGiven (clock : Clock) (entries : List Entry) (list : List Shown) (judge : JudgeState) : Type 0 where
   pub stands : StandsFor clock entries (length list) judge
   pub first : IsPrefix list (out clock judge entries)
 
--- the greatest arrival, including that of the entry that becomes current
+-- the greatest arrival so far, including that of the next current entry, if there is one
 abbrev pub now_with : ℤ → Option Pending → ℤ
 now_with now None = now
 now_with now (Some pending) = int_max now (pending_arrival pending)

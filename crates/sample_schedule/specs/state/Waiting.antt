@@ -10,7 +10,7 @@ use Rattle.sample_schedule.specs.Verdicts.{total_bytes}
 abbrev pub batch_of : Slab Accepted → Key → Option Accepted
 batch_of batches key = get batches key.slot
 
--- the batches of the keys, in their order
+-- the batches of the keys, in the order of the keys
 abbrev pub held : Slab Accepted → List Key → List Accepted
 held batches keys = filter_map (batch_of batches) keys
 
@@ -26,7 +26,8 @@ abbrev pub HaveOwnSlots : List Key → Type 0
 HaveOwnSlots [] = ⊤
 HaveOwnSlots (key ∷ rest) = AllByRecursion (λ other. other.slot ≢ key.slot) rest × HaveOwnSlots rest
 
--- the keys are those of the batches that are kept, and `bytes` is how many bytes these batches have
+-- Each key belongs to one of the batches in the slots, and each of these batches has one key. `bytes` is the number of
+-- bytes of these batches.
 pub record IsWaiting (keys : List Key) (batches : Slab Accepted) (bytes : ℕ) : Type 0 where
   pub there : AllByRecursion (IsKey batches) keys
   pub own : HaveOwnSlots keys

@@ -3,7 +3,6 @@ use Rattle.listener.specs.Feeding.{Keeps, work}
 use Rattle.listener.specs.state.Feeding.{HasGiven}
 use Rattle.listener.proofs.capture.give_all.Given as goal
 
--- the list has all items that were returned so far
 abbrev pub invariant-loop-shown : goal.invariant-loop-shown
 invariant-loop-shown l = record {
   given : (bytes : List ℕ) → HasGiven bytes l.fn.list.items l.fn.listener → HasGiven bytes l.list.items l.listener;

@@ -10,7 +10,7 @@ no_fragment SparseAaf n audio f = f
 no_fragment (Am824 interval dbc) n audio f = f
 no_fragment (H264 part) n audio f = absurd audio
 
--- the condition on adjacent fragments holds for audio, because no packet of audio is a fragment
+-- the condition on adjacent fragments holds for audio, because an audio packet is not a fragment
 audio_near : (j : Journal) (numbers : List ℕ) → IsAudioKind j.kind → AreNear j numbers
 audio_near j [] audio = tt
 audio_near j (n ∷ []) audio = tt

@@ -6,8 +6,8 @@ use Rattle.listener.specs.Gathering.{HasUnits, left}
 use Rattle.listener.specs.Listening.{Judges}
 use Rattle.listener.proofs.record_listener.next_shown.Given as goal
 
--- The state of the judge is still that after the entries. Since the call began, some queued items were judged, or the
--- judge was closed.
+-- The judge and the queued items still belong to the same entries. Since the call began, some queued items were judged,
+-- or the judge was closed.
 abbrev pub invariant-loop-next : goal.invariant-loop-next
 invariant-loop-next l =
     record {

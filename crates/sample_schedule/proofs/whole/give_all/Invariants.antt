@@ -5,7 +5,7 @@ use Rattle.sample_schedule.specs.state.Judge.{HasGiven}
 use Rattle.sample_schedule.specs.Verdicts.{Clock}
 use Rattle.sample_schedule.proofs.whole.give_all.Given as goal
 
--- the list has what the judge has returned so far
+-- the list holds the items that the judge has returned so far
 abbrev pub invariant-loop-shown : goal.invariant-loop-shown
 invariant-loop-shown l = record {
   given : (clock : Clock) (entries : List Entry) → HasGiven clock entries l.fn.list.items l.fn.judge → HasGiven clock entries l.list.items l.judge;

@@ -11,7 +11,7 @@ use Rattle.listener.proofs.Fed.{accepted, heard_here, heard_on, held_few, held_s
 use Rattle.listener.proofs.listener.Listener.feed.Goals as goal
 use Rattle.avtp_base.proofs.Results.{not_some}
 
--- ---- a record that is borrowed from the piece
+-- ---- a record that lies whole in the piece
 
 pub take_lent-requires-clause-few : goal.take_lent-requires-clause-few
 take_lent-requires-clause-few c =

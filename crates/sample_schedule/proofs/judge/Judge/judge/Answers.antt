@@ -1,4 +1,4 @@
--- The code does what the verdict says.
+-- The judge does with the current entry what the entry's verdict says.
 use Rattle.std.proofs.Common.{◌≡◌, false, Some, ap, sym, subst, ◌∙◌, arith, w64, to_z, of_z}
 use Rattle.std.proofs.lemmas.Int.{ints}
 use Rattle.sample_schedule.specs.declared.pending.Pending.TheVariants.{Item as PendingItem}

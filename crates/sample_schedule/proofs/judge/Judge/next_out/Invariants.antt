@@ -4,7 +4,7 @@ use Rattle.sample_schedule.specs.Judge.{Keeps, StandsFor, work}
 use Rattle.sample_schedule.specs.Verdicts.{Clock}
 use Rattle.sample_schedule.proofs.judge.Judge.next_out.Given as goal
 
--- nothing was returned yet
+-- no item was returned yet
 abbrev pub invariant-loop-shown : goal.invariant-loop-shown
 invariant-loop-shown l = record {
   stands : (clock : Clock) (entries : List Entry) (given : ℕ) → StandsFor clock entries given l.fn.self → StandsFor clock entries given l.self;

@@ -1,4 +1,4 @@
--- The delay line takes the entry, and returns its first one if it is full.
+-- The entry is put into the delay line. If the line was full, its first entry becomes the current one.
 use Rattle.std.proofs.Common.{ℕ, ◌^◌, ◌<◌, ap, sym, subst, ◌∙◌}
 use Rattle.circular_buffer.specs.Buffer.{Buffer}
 use Rattle.sample_schedule.specs.declared.pending.Pending.{Pending}

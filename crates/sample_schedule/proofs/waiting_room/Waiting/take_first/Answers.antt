@@ -1,4 +1,4 @@
--- The first key is that of the first batch.
+-- The first key belongs to the first batch.
 use Rattle.std.proofs.Common.{◌-◌, ℕ, List, ap, sym, ◌∙◌, subst}
 use Rattle.sorted_keys.specs.declared.key.Key.{Key}
 use Rattle.sample_schedule.specs.Waiting.{Held}
