@@ -10,7 +10,7 @@ use std::{env, fs};
 /// The EtherType of AVTP (IEEE 1722-2016, 4.2).
 const AVTP: u16 = 0x22f0;
 
-/// The greatest number of bytes of a capture that are read.
+/// The maximum number of bytes of a capture that are read.
 const MOST_BYTES: usize = 1 << 30;
 
 fn main(rt: HostRuntime) -> ExitCode {
@@ -23,7 +23,7 @@ fn main(rt: HostRuntime) -> ExitCode {
     }
 }
 
-/// The peak of the capture that the first argument names, or `None` if the capture cannot be read.
+/// The peak of the capture that the first argument names. `None` if the capture cannot be read.
 fn peak_of_file(rt: &HostRuntime) -> Option<u16> {
     let words: Vec<String> = env::args(rt).ok()?.skip(1).collect(rt.alloc()).ok()?;
     let bytes = fs::read(rt, words.get(0)?.as_str()).ok()?;
@@ -40,7 +40,7 @@ fn peak_of_file(rt: &HostRuntime) -> Option<u16> {
     Some(peak)
 }
 
-/// The peak of a record that holds a PCM packet of 16-bit samples.
+/// The peak of a record, if the record holds a PCM packet of 16-bit samples.
 fn peak_of_record(record: &KeptRecord) -> Option<u16> {
     let frame = read_frame(record.bytes.as_slice()).ok()?;
     if frame.ethertype != AVTP {

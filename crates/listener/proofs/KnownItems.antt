@@ -1,4 +1,4 @@
--- If the packets that came make an item's timestamp or clock reference known, the listener knows it.
+-- If an item's timestamp or clock reference is in the packets that came, the listener finds it.
 use Rattle.std.proofs.Common.{◌≡◌, ◌≢◌, inl, inr, ℕ, zero, suc, ◌+◌, ◌%◌, ◌^◌, ◌<◌, Bool, true, false, ℤ, pos, List, [], ◌∷◌, All, Option, Some, None, is_some, refl, sym, ap, ◌∙◌, subst}
 use Rattle.std.specs.Prelude.{if◌then◌else◌, map, slice_get, take, IfSome, option_map, option_and_then}
 use Rattle.std.specs.List.{cons_option, filter_map}

@@ -203,7 +203,7 @@ some_at p (y ∷ xs) (suc k) x e is = omega (arith, count-cons p y xs, some_at p
 contained_at : (xs : List Delivery) (d : Delivery) → (c : Contains xs d) → slice_get xs c.0 ≡ Some d
 contained_at xs d (k, within, there) = slice_get-get_or xs k d within ∙ ap Some there
 
--- A delivery in the list that passes a test.
+-- A delivery that is in the list and passes the test.
 record IsFound (p : Delivery → Bool) (xs : List Delivery) : Type 0 where
   place : ℕ
   found : Delivery

@@ -194,7 +194,7 @@ abbrev pub video_by : List Delivery → Delivery → Option Reason → List Made
 video_by before d None = piece_by before d (piece (events_to before d))
 video_by before d (Some reason) = flagged reason d ∷ []
 
--- the item that a delivery of the stream makes itself, or none if it is a fragment that waits for the rest of its unit
+-- the own item of a delivery of the stream; none if the delivery is a fragment that waits for the rest of its unit
 abbrev pub own_by : List Delivery → Delivery → List MadeItem
 own_by before d = if d.subtype == cvf_subtype then video_by before d (flaw_of d) else made_of_one d ∷ []
 

@@ -13,14 +13,14 @@ use Rattle.listener.specs.declared.plan.ListenPlan.{ListenPlan}
 use Rattle.listener.specs.Heard.{deliveries_of}
 use Rattle.listener.specs.Items.{MadeItem}
 
--- the numbers of the clock's packets among the origins, in their order
+-- the numbers of the clock's packets among the origins, in order
 abbrev pub clock_numbers : List Origin → List ℕ
 clock_numbers [] = []
 clock_numbers (OfStream n ∷ os) = clock_numbers os
 clock_numbers (OfClock m ∷ os) = m ∷ clock_numbers os
 
--- the packets that have come when the delivery at index `place` is judged: those up to that delivery, and the next
--- `look`
+-- the packets that have come when the delivery at index `place` is judged: those up to and including that delivery, and
+-- the next `look`
 abbrev pub came_by : ListenPlan → ℕ → List Origin → List Origin
 came_by plan place origins = take (place + plan.look + 1) origins
 

@@ -38,7 +38,7 @@ some_at [] j lt = absurd (omega arith)
 some_at (x ∷ ds) zero lt = (x, refl)
 some_at (x ∷ ds) (suc j) lt = some_at ds j (omega arith)
 
--- The origin of delivery `j` is known: `d` is a copy of the packet that the origin names.
+-- Delivery `j` has an origin, and `d` is a copy of the packet that this origin names.
 pub record HasOrigin (p : PacketJournal) (lead : ℕ) (os : List Origin) (j : ℕ) (d : Delivery) : Type 0 where
   pub o : Origin
   pub at : slice_get os j ≡ Some o
@@ -53,7 +53,6 @@ origin_at p lead (o ∷ os) (x ∷ ds) (suc j) d from at = let rest = origin_at 
 
 -- ---- when an item is judged
 
--- if no delivery up to index `place` was captured after `instant`, the item at `place` is judged at `instant` or before
 judged_by : (shift : ℤ) (p : PacketJournal) (plan : ListenPlan) (records : List Record) (place instant : ℕ) → HearsTalker shift p plan records → IsAudioKind p.times.kind → place < length (deliveries_of plan records)
     → ((k : ℕ) (e : Delivery) → k ≤ place → slice_get (deliveries_of plan records) k ≡ Some e → e.arrival ≤ℤ pos instant) → time_of plan records place ≤ℤ pos instant
 judged_by shift p plan records zero instant h kind lt early =
@@ -80,7 +79,6 @@ timely_here shift p plan records place n d h kind c = record {
 
 -- ---- the copy is welcome
 
--- if Q holds for all packets before index `place`, each delivery before `place` is a copy of a packet for which Q holds
 before_it : (shift : ℤ) (p : PacketJournal) (plan : ListenPlan) (records : List Record) (Q : ℕ → Type 0) (os : List Origin) (place : ℕ) → HearsTalker shift p plan records → IsAudioKind p.times.kind → AreFrom p plan.lead os (deliveries_of plan records) → place < length (deliveries_of plan records)
     → ((j : ℕ) (o : Origin) → j < place → slice_get os j ≡ Some o → HoldsOf Q o) → (j : ℕ) → j < place → IsAtPlace p plan records Q os j
 before_it shift p plan records Q os place h kind from within holds j lt =
@@ -88,7 +86,6 @@ before_it shift p plan records Q os place h kind from within holds j lt =
     let o = origin_at p plan.lead os (deliveries_of plan records) j d.0 from d.1 in
     record { o = o.o; at = o.at; holds = holds j o.o lt o.at; taken = taken_at shift p plan records j o.o d.0 h kind d.1 o.from }
 
--- if Q holds for all packets of the stream before index `place`, it holds at each index below `place`
 holds_at : (Q : ℕ → Type 0) (os : List Origin) (place j : ℕ) (o : Origin) → j < place → slice_get os j ≡ Some o → All Q (stream_numbers (take place os)) → HoldsOf Q o
 holds_at Q [] place j o lt at all = absurd cc
 holds_at Q (x ∷ os) zero j o lt at all = absurd (omega arith)
@@ -132,7 +129,7 @@ welcome_here shift p plan records place n d h kind m =
 
 -- ---- a further copy
 
--- if a copy of packet n must be presented, packet n is among what was accepted before any later item
+-- once a copy of packet `n` is presented, packet `n` is among what was accepted before each later item
 pub accepted_later : (shift : ℤ) (p : PacketJournal) (plan : ListenPlan) (records : List Record) (earlier place n : ℕ) (made : MadeItem) → HearsTalker shift p plan records → IsWelcome p plan records earlier n made → earlier < place
     → Any (λ (a : Accepted). IsOfPacket (by_clock plan) p n a.batch) (accepted_before plan records place)
 accepted_later shift p plan records earlier place n made h w lt =

@@ -8,7 +8,8 @@ use Rattle.packet_journal.specs.Deliveries.{Delivery, belongs, clock_kinds, deli
 use Rattle.packet_journal.specs.Delivered.{AreFrom, IsClockCopyOf, IsCopyOf, Origin, OfClock, OfStream}
 use Rattle.packet_journal.specs.Packets.{PacketJournal}
 
--- Each record that carries a packet belongs to the packet's stream or clock, and its delivery is a copy of the packet.
+-- A record that carries a packet of the stream or of its clock belongs to that stream or clock, and its delivery is a
+-- copy of the packet.
 pub record AreRead (p : PacketJournal) (lead : ℕ) : Type 0 where
   pub stream : (n : ℕ) (r : Record) → Carries p lead n r → belongs stream_kinds p.stream r.bytes ≡ true
   pub copy : (n frame : ℕ) (r : Record) → Carries p lead n r → IsCopyOf p lead n (delivery frame r)
@@ -28,7 +29,6 @@ delivered : (p : PacketJournal) (clock : Option ℕ) (lead : ℕ) (o : Origin) (
 delivered p clock lead (OfStream n) r are hears carries = rw (are.stream n r carries) refl
 delivered p clock lead (OfClock m) r are hears carries = rw (hears, are.clock m r carries) (or_true (belongs stream_kinds p.stream r.bytes))
 
--- if each record carries a packet, no record is left out
 kept_all : (p : PacketJournal) (clock : Option ℕ) (lead i : ℕ) (os : List Origin) (rs : List Record) → AreRead p lead → AllByRecursion (HearsOrigin p clock) os → AllCarryFrom p lead os rs
     → filter (λ (x : ℕ × Record). is_delivered p.stream clock x.1.bytes) (enumerate_from i rs) ≡ enumerate_from i rs
 kept_all p clock lead i [] [] are hears all = refl
@@ -36,11 +36,10 @@ kept_all p clock lead i [] (r ∷ rs) are hears all = absurd all
 kept_all p clock lead i (o ∷ os) [] are hears all = absurd all
 kept_all p clock lead i (o ∷ os) (r ∷ rs) are hears all = rw (delivered p clock lead o r are hears.0 all.0) (ap {B = List (ℕ × Record)} (λ l. (i, r) ∷ l) (kept_all p clock lead (i + 1) os rs are hears.1 all.1))
 
--- the deliveries of all these records, numbered from `i`
+-- the deliveries of these records, numbered from `i`
 abbrev pub numbered : ℕ → List Record → List Delivery
 numbered i rs = map (λ (x : ℕ × Record). delivery x.0 x.1) (enumerate_from i rs)
 
--- if each record carries a packet, each record is a delivery
 pub all_delivered : (p : PacketJournal) (clock : Option ℕ) (lead : ℕ) (os : List Origin) (rs : List Record) → AreRead p lead → AllByRecursion (HearsOrigin p clock) os → AllCarryFrom p lead os rs → deliveries p.stream clock rs ≡ numbered 1 rs
 all_delivered p clock lead os rs are hears all = ap (map (λ (x : ℕ × Record). delivery x.0 x.1)) (kept_all p clock lead 1 os rs are hears all)
 
@@ -54,7 +53,6 @@ numbered_at i (suc n) (x ∷ rs) r e =
     let number : i + 1 + n ≡ i + suc n = omega arith in
     numbered_at (i + 1) n rs r e ∙ ap (λ (m : ℕ). Some (delivery m r)) number
 
--- the deliveries of these records are copies of exactly these packets
 pub all_from : (p : PacketJournal) (lead i : ℕ) (os : List Origin) (rs : List Record) → AreRead p lead → AllCarryFrom p lead os rs → AreFrom p lead os (numbered i rs)
 all_from p lead i [] [] are all = tt
 all_from p lead i [] (r ∷ rs) are all = absurd all

@@ -42,7 +42,7 @@ there [] [] more left u = refl
 there [] (g ∷ gu) more left u = there [] gu more left u
 there (s ∷ sf) gu more left u = there sf gu more left u
 
--- the index, among the items, of a unit that is complete
+-- a complete unit has an index among the items
 pub unit_there : (before : List Delivery) (d : Delivery) (rest : List Delivery) → d.subtype ≡ cvf_subtype → flaw_of d ≡ None → piece (events_to before d) ≡ Whole
     → slice_get (items_of (before ++ d ∷ rest)) (length (items_so_far before ++ given_up_by before d)) ≡ Some (unit_by before d)
 unit_there before d rest kind flaw whole =

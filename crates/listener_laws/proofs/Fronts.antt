@@ -1,4 +1,4 @@
--- What is due of the first records of a capture is true, whatever records follow.
+-- What is due of the first records of a capture stays true, whatever records follow.
 use Rattle.std.proofs.Common.{◌≡◌, ℕ, zero, suc, ◌+◌, ◌<◌, Bool, true, false, ℤ, List, [], ◌∷◌, ◌++◌, All, length, map, take, Some, Result, refl, sym, ap, ◌∙◌, subst, arith, append_assoc, length-append}
 use Rattle.std.specs.Prelude.{AllPairs, Any, cond, slice_get, ◌==◌}
 use Rattle.std.specs.List.{slice_index_or}
@@ -37,7 +37,6 @@ presented_more [] ys = refl
 presented_more (Present batch ∷ xs) ys = ap (λ (l : List Presented). batch ∷ l) (presented_more xs ys)
 presented_more (Flag frame seq reason ∷ xs) ys = presented_more xs ys
 
--- what is presented of a prefix of a list is a prefix of what is presented of the list
 presented_front : (xs ys : List Shown) → IsPrefix xs ys → IsPrefix (presented_of xs) (presented_of ys)
 presented_front xs ys (rest, e) = (presented_of rest, sym (presented_more xs rest) ∙ ap presented_of e)
 
@@ -73,7 +72,6 @@ as_many : (ms : List MadeItem) → length (map made_entry ms) ≡ length ms
 as_many [] = refl
 as_many (m ∷ ms) = ap suc (as_many ms)
 
--- an item that is judged by the first records is unchanged if more records follow
 item_stays : (plan : ListenPlan) (records others : List Record) (place : ℕ) → IsSettled plan records place → slice_get (items_in plan (records ++ others)) place ≡ slice_get (items_in plan records) place
 item_stays plan records others place settled =
     let ds = deliveries_of plan records in
@@ -90,7 +88,6 @@ verdict_stays clock plan es more i item lt =
     let known : take (i + plan.look + 1) (es ++ more) ≡ take (i + plan.look + 1) es = take-first (i + plan.look + 1) es more (omega arith) in
     rw (before, now, known) refl
 
--- the verdict on an item that is judged by the first records is unchanged if more records follow
 judged_as_before : (plan : ListenPlan) (records others : List Record) (place : ℕ) (item : Item) → IsSettled plan records place → verdict_of plan (records ++ others) place item ≡ verdict_of plan records place item
 judged_as_before plan records others place item settled =
     let sp = schedule_plan plan in
@@ -118,7 +115,7 @@ front_shown plan records others place made item settled at is =
 any_later : (P : Presented → Type 0) (x : Presented) (xs : List Presented) → Any P xs → Any P (x ∷ xs)
 any_later P x xs (k, a, within, there, holds) = (suc k, a, let lt = within in omega arith, there, holds)
 
--- the batch that is shown for a frame is among the presented batches
+-- if a batch is what is shown for a frame, the batch is among the presented batches
 found_in : (P : Presented → Type 0) (frame : ℕ) (list : List Shown) (batch : Presented) → shown_of_frame frame list ≡ Present batch ∷ [] → P batch → Any P (presented_of list)
 found_in P frame [] batch e holds = absurd cc
 found_in P frame (Present b ∷ rest) batch e holds = by (b.frame == frame) e (λ f. found_in P frame rest batch f holds)

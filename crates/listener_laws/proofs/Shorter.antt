@@ -17,7 +17,7 @@ near_front j [] ys near = tt
 near_front j (n ∷ []) ys near = tt
 near_front j (n ∷ m ∷ xs) ys near = (near.0, near_front j (m ∷ xs) ys near.1)
 
--- The origins are split like the deliveries: first those of `ds`, then those of the other deliveries.
+-- The origins are those of the deliveries `ds`, and then those of the later deliveries.
 record HasFront (p : PacketJournal) (lead : ℕ) (os : List Origin) (ds : List Delivery) : Type 0 where
   front : List Origin
   back : List Origin

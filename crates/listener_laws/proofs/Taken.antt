@@ -1,4 +1,4 @@
--- Of a capture of audio, a listener accepts only packets that came.
+-- If a capture carries audio, a listener accepts only packets that came.
 use Rattle.std.proofs.Common.{◌≡◌, ◌≢◌, ◌⊎◌, ℕ, zero, suc, ◌+◌, ◌*◌, ◌<◌, ◌≤◌, Bool, true, false, ℤ, ◌≤ℤ◌, List, [], ◌∷◌, ◌++◌, All, length, filter, take, Some, Ok, refl, sym, ap, ◌∙◌, subst, inl, inr, arith, append-nil, length-append}
 use Rattle.std.specs.Prelude.{Any, Err, IfOk, Result, int_le, slice_get}
 use Rattle.std.specs.List.{AllByRecursion}
@@ -60,8 +60,8 @@ unfolding verdict
 verdict_so P plan now earlier place (Err reason) is = tt
 verdict_so P plan now earlier place (Ok batch) is = decided_so P _ _ _ place batch is
 
--- What delivery j adds to the accepted items: nothing if it is a copy of a packet of the clock; nothing or packet k if
--- it is a copy of packet k of the stream.
+-- What delivery `j` adds to the accepted items. A copy of a clock packet adds nothing. A copy of packet k of the stream
+-- adds nothing or packet k.
 abbrev pub IsTakenAt : PacketJournal → ListenPlan → List Record → ℕ → Origin → Type 0
 IsTakenAt p plan records j (OfClock m) = accepted_before plan records (suc j) ≡ accepted_before plan records j
 IsTakenAt p plan records j (OfStream k) =
@@ -133,20 +133,20 @@ pub record IsSomeOf (Q : ℕ → Type 0) (by : Bool) (p : PacketJournal) (a : Ac
   pub holds : Q k
   pub is : IsPacketAt by p k a
 
--- One packet for which Q holds is accepted. If its instant is at `t` or later, the count grows.
+-- One more packet, for which Q holds, was accepted. If its first instant is at `t` or later, the count grew.
 pub record IsMore (Q : ℕ → Type 0) (by : Bool) (p : PacketJournal) (t : ℤ) (count next : ℕ) (xs ys : List Accepted) : Type 0 where
   pub a : Accepted
   pub more : ys ≡ xs ++ a ∷ []
   pub some : IsSomeOf Q by p a
   pub counts : t ≤ℤ a.instant → count < next
 
--- One delivery changes the accepted items from `xs` to `ys`, and the count from `count` to `next`. It adds nothing or
--- one packet.
+-- One delivery changes the accepted items from `xs` to `ys`, and the count from `count` to `next`. The delivery adds
+-- nothing, or one packet for which Q holds.
 pub record IsStep (Q : ℕ → Type 0) (by : Bool) (p : PacketJournal) (t : ℤ) (count next : ℕ) (xs ys : List Accepted) : Type 0 where
   pub grows : count ≤ next
   pub is : (ys ≡ xs) ⊎ IsMore Q by p t count next xs ys
 
--- All accepted items `xs` are packets for which Q holds, and at most `count` of them still wait at `t`.
+-- Each accepted item in `xs` is a packet for which Q holds, and at most `count` of these items still wait at `t`.
 pub record AreTaken (Q : ℕ → Type 0) (by : Bool) (p : PacketJournal) (t : ℤ) (count : ℕ) (xs : List Accepted) : Type 0 where
   pub all : AllByRecursion (IsSomeOf Q by p) xs
   pub few : length (standing t xs) ≤ count
@@ -184,14 +184,14 @@ abbrev pub HoldsOf : (ℕ → Type 0) → Origin → Type 0
 HoldsOf Q (OfStream k) = Q k
 HoldsOf Q (OfClock m) = Unit {0}
 
--- Delivery j is a copy of the packet that its origin names, and Q holds for that packet.
+-- Delivery `j` is a copy of the packet that its origin names, and Q holds for that packet if it is of the stream.
 pub record IsAtPlace (p : PacketJournal) (plan : ListenPlan) (records : List Record) (Q : ℕ → Type 0) (os : List Origin) (j : ℕ) : Type 0 where
   pub o : Origin
   pub at : slice_get os j ≡ Some o
   pub holds : HoldsOf Q o
   pub taken : IsTakenAt p plan records j o
 
--- how many of the stream's packets among the first `j` origins pass a test
+-- among the first `j` origins, the number of packets of the stream that pass the test `waits`
 abbrev pub passing : (ℕ → Bool) → List Origin → ℕ → ℕ
 passing waits os j = length (filter waits (stream_numbers (take j os)))
 
@@ -255,7 +255,6 @@ light Q by p t most (x ∷ xs) short all =
     let sum = sum_by-cons (λ (a : Accepted). length a.batch.bytes) x (standing t xs) in
     omega arith))
 
--- a presented packet of audio has at most `most` bytes, if all packets of the stream have
 pub audio_short : (by : Bool) (p : PacketJournal) (most k : ℕ) (b : Presented) → IsAudioKind p.times.kind → ((m : ℕ) → m < p.times.packets → length (carried (p.packet m)) ≤ most) → IsOfPacket by p k b → length b.bytes ≤ most
 audio_short by p most k b kind short is =
     let same : b.bytes ≡ carried (p.packet k) = same_content p k b.bytes (carried (p.packet k)) is.bytes (audio_content p.times.kind p k kind) in

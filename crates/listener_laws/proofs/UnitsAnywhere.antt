@@ -63,14 +63,13 @@ place_in (x ∷ front) m back = place_in front m back
 entry_in : (plan : ListenPlan) (records : List Record) (front : List MadeItem) (m : MadeItem) (back : List MadeItem) → items_in plan records ≡ front ++ m ∷ back → slice_get (entries_in plan records) (length front) ≡ Some m.entry
 entry_in plan records front m back e = entry_at (items_in plan records) (length front) m (ap (λ (l : List MadeItem). slice_get l (length front)) e ∙ place_in front m back)
 
--- what an item adds to the accepted items
+-- an item adds to the accepted items what its verdict accepts
 next_is : (plan : ListenPlan) (records : List Record) (front : List MadeItem) (m : MadeItem) (back : List MadeItem) → items_in plan records ≡ front ++ m ∷ back
     → accepted_before plan records (length (front ++ m ∷ [])) ≡ accepted_before plan records (length front) ++ accepted_by (judged clock_spot (schedule_plan plan) (entries_in plan records) (length front) (accepted_before plan records (length front)) m.entry)
 next_is plan records front m back e =
     let long : length (front ++ m ∷ []) ≡ suc (length front) = omega (arith, length-append front (m ∷ [])) in
     ap (accepted_before plan records) long ∙ accepted-next clock_spot (schedule_plan plan) (entries_in plan records) (length front) m.entry (entry_in plan records front m back e)
 
--- a fragment that is in no unit adds no accepted item
 flag_none : (plan : ListenPlan) (records : List Record) (front : List MadeItem) (why : Reason) (d : Delivery) (back : List MadeItem) → items_in plan records ≡ front ++ flagged why d ∷ back
     → accepted_before plan records (length (front ++ flagged why d ∷ [])) ≡ accepted_before plan records (length front)
 unfolding timed verdict
@@ -85,7 +84,6 @@ flags_none plan records front why (d ∷ ds) back e =
     ∙ (flags_none plan records (front ++ flagged why d ∷ []) why ds back (e ∙ sym (append_assoc front (flagged why d ∷ []) (more ++ back)))
     ∙ flag_none plan records front why d (more ++ back) e)
 
--- a packet of the clock adds no accepted item
 clock_none : (plan : ListenPlan) (records : List Record) (front : List MadeItem) (d : Delivery) (back : List MadeItem) → items_in plan records ≡ front ++ made_of_one d ∷ back → (d.subtype == crf_subtype) ≡ true
     → accepted_before plan records (length (front ++ made_of_one d ∷ [])) ≡ accepted_before plan records (length front)
 clock_none plan records front d back e clock =
@@ -137,11 +135,11 @@ unit_more shift p plan records part Q t count next front back before d h kind w 
 
 -- ---- a delivery
 
--- the items that a listener has accepted of the first deliveries
+-- the items that a listener has accepted once it has judged the items of the deliveries `ds`
 abbrev pub given_to : ListenPlan → List Record → List Delivery → List Accepted
 given_to plan records before = accepted_before plan records (length (items_so_far before))
 
--- the items of a capture: those of the deliveries before `d`, those of `d`, and those of the later deliveries
+-- the items of a capture are those of the deliveries before `d`, those of `d`, and those of the later deliveries
 split_items : (before : List Delivery) (d : Delivery) (rest : List Delivery) → items_of (before ++ d ∷ rest) ≡ items_so_far before ++ (given_by before d ++ (given_after (before ++ d ∷ []) rest ++ left_at_end (before ++ d ∷ rest)))
 split_items before d rest =
     let left = left_at_end (before ++ d ∷ rest) in
@@ -150,7 +148,6 @@ split_items before d rest =
     ∙ (append_assoc (items_so_far before) (given_by before d ++ more) left
     ∙ ap (λ (l : List MadeItem). items_so_far before ++ l) (append_assoc (given_by before d) more left))
 
--- if the first of two steps adds nothing, both together add what the second adds
 after_none : (Q : ℕ → Type 0) (by : Bool) (p : PacketJournal) (t : ℤ) (count next : ℕ) (xs ys zs : List Accepted) → ys ≡ xs → (zs ≡ ys) ⊎ IsMore Q by p t count next ys zs → (zs ≡ xs) ⊎ IsMore Q by p t count next xs zs
 after_none Q by p t count next xs ys zs e is = subst (λ (l : List Accepted). (zs ≡ l) ⊎ IsMore Q by p t count next l zs) e is
 
@@ -206,7 +203,6 @@ delivery_more shift p plan records part Q t count next before d rest h kind is a
 
 -- ---- the unit is among the items
 
--- if the last packet of a whole item is of H.264, the item is a unit that this packet completes
 completes : (ds before : List Delivery) (last : Delivery) → last.subtype ≡ cvf_subtype → IsKind ds (unit_by before last) → IsWholeOf ds (unit_by before last)
 completes ds before last video (inl one) = let same = ap (λ (m : MadeItem). m.last) one.same in absurd (other_not (ap (λ (d : Delivery). d.subtype) same ∙ video) one.other)
   where
@@ -222,7 +218,6 @@ delivery_in : (front : List Delivery) (d : Delivery) (back : List Delivery) → 
 delivery_in [] d back = refl
 delivery_in (x ∷ front) d back = delivery_in front d back
 
--- a delivery is at only one index of a capture
 one_place : (ds front other : List Delivery) (d : Delivery) (back rest : List Delivery) → Rising ds → ds ≡ front ++ d ∷ back → ds ≡ other ++ d ∷ rest → other ≡ front
 unfolding Rising
 one_place ds front other d back rest rises e f =
@@ -303,7 +298,6 @@ time_early plan records before last rest due split t early =
 
 -- ---- the unit is welcome
 
--- the deliveries before index `j`
 front_of : (ds : List Delivery) (j : ℕ) (d : Delivery) → slice_get ds j ≡ Some d → (rest : List Delivery) × ((take (suc j) ds ≡ take j ds ++ d ∷ []) × (ds ≡ take j ds ++ d ∷ rest))
 front_of [] j d at = absurd cc
 front_of (x ∷ ds) zero d at = let same : x ≡ d = cc in (ds, (ap (λ (y : Delivery). y ∷ []) same, ap (λ (y : Delivery). y ∷ ds) same))
@@ -367,7 +361,6 @@ unit_timely shift p plan records part from n before last h kind c =
       in_time = time_early plan records before last c.rest (p.times.due n) c.there t c.in_time;
     }
 
--- the fragments that are given up because of `last` add nothing to the accepted items
 upto_unit : (plan : ListenPlan) (records : List Record) (before : List Delivery) (last : Delivery) (rest : List Delivery) → deliveries_of plan records ≡ before ++ last ∷ rest → IsThere (deliveries_of plan records) before last
     → accepted_before plan records (unit_place before last) ≡ given_to plan records before
 upto_unit plan records before last rest split t =
@@ -422,7 +415,6 @@ unit_further_here shift p plan records part earlier from n made before last h ki
 
 -- ---- one copy, one packet
 
--- if a packet ends a unit, its timestamp has the unit's instant
 due_of : (p : PacketJournal) (part : ℕ → Part) (lead n : ℕ) (d : Delivery) (r : Option ℕ) → IsVideo p.times part → (copy : IsCopyOf p lead n d) → IsVideoCopy p part n d → p.times.stamp n ≡ r → is_some r ≡ true → unfolded (cvf_of d.packet).header.timestamp d.arrival ≡ pos (p.times.due n)
 due_of p part lead n d None is copy c e some = absurd cc
 due_of p part lead n d (Some x) is copy c e some =
@@ -440,7 +432,6 @@ part_seen shift p part lead n d is kind copy shows =
     let c = video_copy shift p part lead n d is kind copy shows in
     sym (ap (λ (w : Cvf). part_of w.part) c.same) ∙ c.packet.part_is
 
--- if a delivery ends a unit, it is a copy of only one packet
 pub one_end : (shift : ℤ) (p : PacketJournal) (part : ℕ → Part) (lead n k : ℕ) (d : Delivery) → IsConforming shift p → p.times.kind ≡ H264 part → Shows d → Ends (part n) → IsCopyOf p lead n d → IsCopyOf p lead k d → n ≡ k
 one_end shift p part lead n k d is kind shows ends a b =
     let sound = video p part kind is.times in

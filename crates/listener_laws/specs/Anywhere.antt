@@ -14,8 +14,8 @@ use Rattle.listener.specs.Known.{IsKnownCopy}
 use Rattle.listener.specs.Laws.{AreOfUnit, by_clock, time_of}
 use Rattle.listener.specs.Units.{in_stream}
 
--- The delivery at index `place` is a copy of packet n that is known and comes in time. It is in time if no delivery up
--- to it was captured after the packet's first instant, by the clock or without.
+-- The delivery at index `place` is a copy of packet n. The timestamp or clock reference of packet n is known when the
+-- copy is judged. All deliveries up to and including the copy were captured no later than the packet's first instant.
 pub record ComesInTime (p : PacketJournal) (plan : ListenPlan) (records : List Record) (place n : ℕ) (d : Delivery) : Type 0 where
   pub there : slice_get (deliveries_of plan records) place ≡ Some d
   pub copy : IsCopyOf p plan.lead n d
@@ -24,13 +24,14 @@ pub record ComesInTime (p : PacketJournal) (plan : ListenPlan) (records : List R
   pub at : IsAt (by_clock plan) p.times n 0 (pos instant)
   pub in_time : (k : ℕ) (e : Delivery) → k ≤ place → slice_get (deliveries_of plan records) k ≡ Some e → e.arrival ≤ℤ pos instant
 
--- If the first instant of a packet has not passed when the item at index `place` is judged, the packet passes the test
--- `waits`.
+-- the test `waits` holds for each packet whose first instant is not before the time at which the item at index `place`
+-- is judged
 abbrev pub FindsWaiting : PacketJournal → ListenPlan → List Record → ℕ → (ℕ → Bool) → Type 0
 FindsWaiting p plan records place waits = (k : ℕ) (x : ℤ) → k < p.times.packets → IsAt (by_clock plan) p.times k 0 x → time_of plan records place ≤ℤ x → waits k ≡ true
 
--- The copy must be presented: it comes in time, it is the first copy of its packet, and the buffer has room. There must
--- be room for it and for all packets before it that still wait, at `most` bytes each.
+-- The copy must be presented: it comes in time, it is the first copy of its packet, and the buffer has room for it. No
+-- packet of the stream has more than `most` bytes. The buffer must have room for the copy and for all earlier packets
+-- that pass the test `waits`, counted at `most` bytes each.
 pub record MustBePresented (p : PacketJournal) (plan : ListenPlan) (records : List Record) (place n : ℕ) (d : Delivery) : Type 0 where
   pub comes : ComesInTime p plan records place n d
   pub first : All (λ (k : ℕ). k ≢ n) (stream_numbers (take place comes.known.origins))
@@ -43,13 +44,14 @@ pub record MustBePresented (p : PacketJournal) (plan : ListenPlan) (records : Li
 
 -- ---- units of H.264
 
--- the index, among the items, of a unit that delivery `last` completes; the fragments that are given up because of
--- `last` come before it
+-- the index, among the items, of the unit that delivery `last` completes; it comes after the fragments that are given
+-- up because of `last`
 abbrev pub unit_place : List Delivery → Delivery → ℕ
 unit_place before last = length (items_so_far before ++ given_up_by before last)
 
--- Delivery `last` completes the unit of packets `from` to n. One copy of each of these packets came, in their order and
--- with no other packet of the stream between them. No delivery up to `last` was captured after the unit is due.
+-- Delivery `last` completes the unit of packets `from` to n. One copy of each of these packets came, in order and with
+-- no other packet of the stream between them. All deliveries up to and including `last` were captured no later than the
+-- instant at which the unit is due.
 pub record UnitComesInTime (p : PacketJournal) (plan : ListenPlan) (records : List Record) (part : ℕ → Part) (from n : ℕ) (before : List Delivery) (last : Delivery) : Type 0 where
   pub rest : List Delivery
   pub there : deliveries_of plan records ≡ before ++ last ∷ rest
@@ -59,13 +61,14 @@ pub record UnitComesInTime (p : PacketJournal) (plan : ListenPlan) (records : Li
   pub unit : AreOfUnit p part plan.lead from n earlier last
   pub in_time : All (λ (d : Delivery). d.arrival ≤ℤ pos (p.times.due n)) (before ++ last ∷ [])
 
--- If a delivery in `before` can complete a unit that is not yet due when the item at index `place` is judged, the
--- delivery passes the test `waits`.
+-- The test `waits` holds for each delivery in `before` that ends a unit, unless the unit is due before the time at
+-- which the item at index `place` is judged.
 abbrev pub FindsWaitingUnits : PacketJournal → ListenPlan → List Record → (ℕ → Part) → List Delivery → ℕ → (Delivery → Bool) → Type 0
 FindsWaitingUnits p plan records part before place waits = (j k : ℕ) (d : Delivery) → slice_get before j ≡ Some d → IsCopyOf p plan.lead k d → Ends (part k) → time_of plan records place ≤ℤ pos (p.times.due k) → waits d ≡ true
 
--- The unit must be presented: it comes in time, its last packet did not come before, and the buffer has room. There
--- must be room for it and for all units before it that still wait, at `most` bytes each.
+-- The unit must be presented: it comes in time, no copy of its last packet came before, and the buffer has room for it.
+-- No unit of the stream has more than `most` bytes. The buffer must have room for the unit and for all earlier units
+-- that pass the test `waits`, counted at `most` bytes each.
 pub record UnitMustBePresented (p : PacketJournal) (plan : ListenPlan) (records : List Record) (part : ℕ → Part) (from n : ℕ) (before : List Delivery) (last : Delivery) : Type 0 where
   pub comes : UnitComesInTime p plan records part from n before last
   pub first : All (λ (d : Delivery). ¬ IsCopyOf p plan.lead n d) before

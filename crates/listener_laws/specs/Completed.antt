@@ -7,8 +7,8 @@ use Rattle.time_unfold.specs.Time.{unfolded}
 use Rattle.packet_journal.specs.Deliveries.{Delivery}
 use Rattle.listener.specs.Items.{events_to}
 
--- The unit that a delivery completes after earlier deliveries. Its bytes are those of the whole stretch; its other
--- fields are those of the delivery.
+-- The unit that a delivery completes after earlier deliveries. Its bytes are those of all fragments of the unit; its
+-- other fields are those of the delivery.
 abbrev pub completed : List Delivery → Delivery → WholeUnit
 completed before d = record {
   frame = d.frame;

@@ -9,27 +9,27 @@ use Rattle.packet_journal.specs.Delivered.{Origin, OfClock, OfStream}
 use Rattle.packet_journal.specs.Examples.{clock_data, silent}
 use Rattle.listener.specs.declared.plan.ListenPlan.{ListenPlan}
 
--- an Ethernet frame with a packet of AVTP
+-- an Ethernet frame that carries this AVTP packet
 abbrev pub framed : List ℕ → Frame
 framed packet = record { dst = 0x91E0F000FE00; src = 0x020000000001; tag = None; ethertype = avtp_ethertype; start = 14; payload = packet }
 
--- a record of a capture with a packet of AVTP, captured at this time
+-- a record of this AVTP packet, captured at this time
 abbrev pub recorded : ℕ → List ℕ → Record
 recorded arrival packet = record { arrival = pos arrival; orig_len = length packet; bytes = frame_spelling (framed packet) }
 
--- packet n of `clocked_packets`, captured at this time
+-- a record of packet n of `clocked_packets`, captured at this time
 abbrev pub recorded_stream : ℕ → ℕ → Record
 recorded_stream arrival n = recorded arrival (aaf_spelling (silent n))
 
--- packet m of the clock of `clocked_packets`, captured at this time
+-- a record of packet m of the clock of `clocked_packets`, captured at this time
 abbrev pub recorded_clock : ℕ → ℕ → Record
 recorded_clock arrival m = recorded arrival (crf_spelling (clock_data m))
 
--- The packets in a capture of `clocked_packets`: two of its clock, then packet 34, and then packet 33 twice.
+-- the packets that the example's capture carries: two packets of the clock, then packet 34, and then packet 33 twice
 abbrev pub swapped : List Origin
 swapped = OfClock 0 ∷ OfClock 1 ∷ OfStream 34 ∷ OfStream 33 ∷ OfStream 33 ∷ []
 
--- the records of a capture of `clocked_packets`: two of its clock, then packet 34, and then packet 33 twice
+-- the records of the example's capture: two packets of the clock, then packet 34, and then packet 33 twice
 abbrev pub swapped_records : List Record
 swapped_records =
     recorded_clock 1003000000 0 ∷

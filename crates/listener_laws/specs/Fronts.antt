@@ -1,4 +1,4 @@
--- What a listener shows of a capture whose first records are a talker's.
+-- What a listener shows of a capture if a talker's records come first in it.
 use Rattle.std.specs.Prelude.{◌≡◌, ◌+◌, ◌<◌, ℕ, List, [], ◌∷◌, ◌++◌, length, All, AllPairs, Any, slice_get, Some}
 use mathlib.Core.List.{IsPrefix}
 use Rattle.pcap_frames.specs.Capture.{Record}
@@ -12,16 +12,16 @@ use Rattle.listener.specs.Heard.{deliveries_of, due_of, items_in, shown_of}
 use Rattle.listener.specs.Items.{MadeItem, items_so_far}
 use Rattle.listener.specs.Laws.{AreOther, ComesBefore, IsFurther, IsHeardFrom, IsPresentedOf, IsWelcome, by_clock, presented_of, shown_by, shown_of_frame, verdict_of}
 
--- the item at index `place` is judged by these records alone: at least `look` items follow it, whatever other records
--- come
+-- the item at index `place` is judged once these records are read: at least `look` items follow it
 abbrev pub IsSettled : ListenPlan → List Record → ℕ → Type 0
 IsSettled plan records place = place + plan.look < length (items_so_far (deliveries_of plan records))
 
 -- What is due of the first records is a prefix of what is shown, whatever records follow, and it is as the headline
--- says. Each batch is the talker's packet that its item was made of, with its bytes and at its instants. No packet is
--- presented twice, and first instants never decrease. Some items are judged by the first records alone. Of these, each
--- item that must be presented is presented, each further copy is flagged as a repeat, and each item is shown once, as
--- its verdict says.
+-- says. Each batch is the talker's packet that its item was made of, with that packet's bytes and at its instants. No
+-- packet is presented twice, and first instants never decrease.
+--
+-- The last three fields are about the items that are judged once the first records are read. An item that must be
+-- presented is presented, a further copy is flagged as a repeat, and each item is shown once, as its verdict says.
 pub record IsTrueFront (p : PacketJournal) (plan : ListenPlan) (records others : List Record) : Type 0 where
   pub begins : IsPrefix (due_of plan records) (shown_of plan (records ++ others))
   pub genuine : All (IsHeardFrom (by_clock plan) (items_in plan records) p plan.lead) (presented_of (due_of plan records))

@@ -1,4 +1,4 @@
-//! Laws of a listener that gets a capture piece by piece. Each call only states its contract, and does nothing.
+//! Laws of a listener that is given a capture piece by piece. Each call only states its contract, and does nothing.
 
 ghost use Rattle.std.specs.Prelude.{Any, List, None, ℕ, ℤ, false, true, [], ◌∷◌, ◌++◌, ◌≡◌, ◌<◌};
 ghost use Rattle.cvf_format.specs.Cvf.{cvf_subtype};
@@ -26,22 +26,23 @@ ghost use Rattle.listener_laws.specs.Fronts.{IsTrueFront};
 
 use listener::laws::{headline_holds, units_are_true};
 
-/// If the first records of a capture are a talker's, what is due of them is as the headline says, whatever records
-/// follow. What is shown of the whole capture begins with what is due of them, even if the capture is cut short or
-/// records of other talkers follow.
+/// If the first records of a capture are a talker's, what is due of these records is as the headline says, whatever
+/// records follow. What is shown of the whole capture begins with what is due of these records. This holds even if the
+/// capture is cut short or records of other talkers follow.
 pub fn fronts_are_true()
     ensures { (shift : ℤ) (p : PacketJournal) (plan : ListenPlan) (records others : List Record) → HearsTalker shift p plan records → IsTrueFront p plan records others }
 {}
 
-/// If a listener hears a talker in a whole capture, it hears the talker in the first records of the capture, too. So
-/// what is due of the records that were read before a fault or a limit is as the headline says (`fronts_are_true`).
+/// If a listener hears a talker in a whole capture, it hears the talker in the first records of the capture, too.
+/// Hence, if reading stops at a fault or a limit, what is due of the records before it is as the headline says
+/// (`fronts_are_true`).
 pub fn shorter_captures_are_heard()
     ensures { (shift : ℤ) (p : PacketJournal) (plan : ListenPlan) (records others : List Record) → HearsTalker shift p plan (records ++ others) → HearsTalker shift p plan records }
 {}
 
-/// What a listener returns from a talker's records is as the headline says. Once the records have ended, it returns all
-/// that is shown of them. Before that, it returns what is due, as `fronts_are_true` says. `RecordListener::next_out`
-/// returns exactly these items, one by one.
+/// What a listener returns from a talker's records is as the headline says. Before the records have ended, it returns
+/// what is due, as `fronts_are_true` says. Once they have ended, it returns everything that is shown of them.
+/// `RecordListener::next_out` returns exactly these items, one by one.
 pub fn records_are_given_truly()
     ensures ended { (shift : ℤ) (p : PacketJournal) (listener : ListenState) (records : List Record) → is_closed listener ≡ true → HearsTalker shift p listener.plan records → KeepsHeadline shift p listener.plan records (out listener records) }
     ensures due { (shift : ℤ) (p : PacketJournal) (listener : ListenState) (records others : List Record) → is_closed listener ≡ false → HearsTalker shift p listener.plan records → (out listener records ≡ due_of listener.plan records) × IsTrueFront p listener.plan records others }
@@ -50,9 +51,9 @@ pub fn records_are_given_truly()
     fronts_are_true();
 }
 
-/// What a listener returns from the bytes of a talker's capture, in pieces of any length, is as the headline says. Once
-/// the capture has ended, it returns all that is shown of it. Before that, it returns what is due, as `fronts_are_true`
-/// says. `Listener::next_out` returns exactly these items, one by one.
+/// What a listener returns from the bytes of a talker's capture, in pieces of any length, is as the headline says.
+/// Before the capture has ended, it returns what is due, as `fronts_are_true` says. Once the capture has ended, it
+/// returns everything that is shown of it. `Listener::next_out` returns exactly these items, one by one.
 pub fn bytes_are_given_truly()
     ensures ended { (shift : ℤ) (p : PacketJournal) (fed : Feeding) (bytes : List ℕ) → is_ended fed ≡ true → HearsTalker shift p fed.listener.plan (whole_records bytes) → KeepsHeadline shift p fed.listener.plan (whole_records bytes) (out_of fed bytes) }
     ensures due { (shift : ℤ) (p : PacketJournal) (fed : Feeding) (bytes : List ℕ) (others : List Record) → is_ended fed ≡ false → HearsTalker shift p fed.listener.plan (whole_records bytes) → (out_of fed bytes ≡ due_of fed.listener.plan (whole_records bytes)) × IsTrueFront p fed.listener.plan (whole_records bytes) others }
@@ -60,39 +61,42 @@ pub fn bytes_are_given_truly()
     records_are_given_truly();
 }
 
-/// A copy of an audio packet must be presented if it can be timed by the packets that came, no copy of the packet came
-/// before, and the buffer has room for it. No delivery up to the copy may have been captured after the packet's first
-/// instant. This holds anywhere in a capture, whatever the capture loses, repeats or reorders, and for listeners with
-/// the talker's clock or without.
+/// A copy of an audio packet must be presented on four conditions. The copy can be timed by the packets that came. No
+/// copy of the packet came before. The buffer has room for the copy. All deliveries up to and including the copy were
+/// captured no later than the packet's first instant. This holds anywhere in a capture, whatever the capture loses,
+/// repeats or reorders, and for listeners with the talker's clock or without it.
 pub fn copies_anywhere_are_welcome()
     ensures { (shift : ℤ) (p : PacketJournal) (plan : ListenPlan) (records : List Record) (place n : ℕ) (d : Delivery) → HearsTalker shift p plan records → IsAudioKind p.times.kind → MustBePresented p plan records place n d → IsWelcome p plan records place n (made_of_one d) }
 {}
 
-/// If an audio packet that must be presented comes again anywhere later, the copy must be flagged as a repeat. No
-/// delivery up to the copy may have been captured after the packet's first instant.
+/// If one copy of an audio packet must be presented, any later copy in time must be flagged as a repeat. The later copy
+/// must be one that can be timed by the packets that came. It is in time if all deliveries up to and including it were
+/// captured no later than the packet's first instant.
 pub fn copies_anywhere_are_further()
     ensures { (shift : ℤ) (p : PacketJournal) (plan : ListenPlan) (records : List Record) (earlier place n : ℕ) (made : MadeItem) (d : Delivery) → HearsTalker shift p plan records → IsAudioKind p.times.kind → IsWelcome p plan records earlier n made → earlier < place
         → ComesInTime p plan records place n d → IsFurther p plan records place n (made_of_one d) }
 {}
 
-/// A unit of H.264 must be presented if one copy of each of its packets came, in order, with no other packet of the
-/// stream between them. No delivery up to the last copy may have been captured after the unit is due. The unit's last
-/// packet must not have come before, and the buffer must have room for the unit. The unit is made of exactly these
-/// copies. This holds anywhere in a capture, whatever the capture loses, repeats or reorders.
+/// A unit of H.264 must be presented on four conditions. One copy of each of its packets came, in order, with no other
+/// packet of the stream between them. All deliveries up to and including the last copy were captured no later than the
+/// instant at which the unit is due. No copy of the unit's last packet came before. The buffer has room for the unit.
+/// The unit is then made of exactly these copies. This holds anywhere in a capture, whatever the capture loses, repeats
+/// or reorders.
 pub fn units_anywhere_are_welcome()
     ensures { (shift : ℤ) (p : PacketJournal) (plan : ListenPlan) (records : List Record) (part : ℕ → Part) (from n : ℕ) (before : List Delivery) (last : Delivery) → HearsTalker shift p plan records → p.times.kind ≡ H264 part
         → UnitMustBePresented p plan records part from n before last → IsWelcome p plan records (unit_place before last) n (unit_by before last) }
 {}
 
-/// If the same unit comes whole again anywhere later, it must be flagged as a repeat. No delivery up to its last packet
-/// may have been captured after the unit is due.
+/// If a unit must be presented and arrives whole again later, the later one must be flagged as a repeat if it is in
+/// time. It is in time if all deliveries up to and including its last packet were captured no later than the instant at
+/// which the unit is due.
 pub fn units_anywhere_are_further()
     ensures { (shift : ℤ) (p : PacketJournal) (plan : ListenPlan) (records : List Record) (part : ℕ → Part) (earlier from n : ℕ) (made : MadeItem) (before : List Delivery) (last : Delivery) → HearsTalker shift p plan records → p.times.kind ≡ H264 part → IsWelcome p plan records earlier n made
         → earlier < unit_place before last → UnitComesInTime p plan records part from n before last → IsFurther p plan records (unit_place before last) n (unit_by before last) }
 {}
 
-/// The headline alone demands that a copy or a unit that must be presented is presented. It also demands that a further
-/// copy of it is flagged as a repeat. Both hold anywhere in a capture, with a clock or without.
+/// The headline by itself implies two things, anywhere in a capture, with a clock or without. A copy or a unit that
+/// must be presented is presented. A further copy of it that comes in time is flagged as a repeat.
 pub fn headline_demands()
     ensures presented { (shift : ℤ) (p : PacketJournal) (plan : ListenPlan) (records : List Record) (shown : List Shown) (place n : ℕ) (d : Delivery) → KeepsHeadline shift p plan records shown → HearsTalker shift p plan records → IsAudioKind p.times.kind → MustBePresented p plan records place n d
         → Any (IsPresentedOf (by_clock plan) p n (made_of_one d)) (presented_of shown) }
@@ -109,8 +113,8 @@ pub fn headline_demands()
     units_anywhere_are_further();
 }
 
-/// If a packet of H.264 completes a unit (`Assembler::push` returns `Whole`), the unit is one of the talker's. It was
-/// put together from one copy of each packet of that unit, in their order, and has that unit's bytes and its instant.
+/// If a packet of H.264 completes a unit (`Assembler::push` returns `Whole`), the unit is one of the talker's units. It
+/// was made of one copy of each packet of that unit, in order, and has the bytes and the instant of that unit.
 pub fn assembled_units_are_true()
     ensures { (shift : ℤ) (p : PacketJournal) (plan : ListenPlan) (records : List Record) (part : ℕ → Part) (before : List Delivery) (d : Delivery) (rest : List Delivery) → HearsTalker shift p plan records → p.times.kind ≡ H264 part → deliveries_of plan records ≡ before ++ d ∷ rest
         → d.subtype ≡ cvf_subtype → flaw_of d ≡ None → piece (events_to before d) ≡ Whole → (n : ℕ) × IsUnitFrom p part plan.lead n (unit_by before d) (completed before d) }

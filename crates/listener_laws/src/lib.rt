@@ -1,4 +1,4 @@
-//! What a listener promises before a capture has ended, and for captures that end early.
+//! What a listener promises before a capture has ended, and what it promises for captures that end early.
 #![tactic(auto)]
 
 pub mod examples;

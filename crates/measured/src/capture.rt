@@ -1,4 +1,5 @@
-//! A capture of AAF packets of several streams in turn: 16-bit stereo at 48 kHz, six sample frames each.
+//! A capture of AAF packets, in which several streams take turns. Each packet has six sample frames of 16-bit stereo at
+//! 48 kHz.
 
 ghost use Rattle.std.specs.Prelude.{◌≡◌, ◌+◌, ◌*◌, ◌≤◌, pos};
 
@@ -7,7 +8,7 @@ use avtp_header::{ETHERTYPE, StreamHeader, subtype};
 use pcap_frames::{FrameView, Order, Style, Tag, Unit, write_frame, write_header, write_record};
 use std::alloc::Global;
 
-/// The id of the first stream. The other streams have the next ids.
+/// The ID of the first stream. The other streams have the IDs after it.
 pub const STREAM: u64 = 0x0200_0000_0001_0000;
 
 const STYLE: Style = Style {
@@ -27,14 +28,14 @@ fn due(n: u32) -> u64
     1_002_000_000 + u64::from(n) * 125_000
 }
 
-/// When packet n is captured: 2 ms before its samples are due.
+/// When packet n is captured, in nanoseconds: 2 ms before its samples are due.
 fn arrival(n: u32) -> i64
     ensures { result ≡ pos (1000000000 + n * 125000) }
 {
     (due(n) - 2_000_000) as i64
 }
 
-/// Packet n, counted over all streams.
+/// Packet n, if the packets of all streams are numbered in their order.
 fn packet(n: u32, streams: u32) -> Option<[u8; 48]>
     requires some { 1 ≤ streams }
     requires most { streams ≤ 65536 }
@@ -86,7 +87,7 @@ fn frame(packet: &[u8; 48]) -> Option<[u8; 66]> {
     Some(frame)
 }
 
-/// The record of packet n, counted over all streams.
+/// The record of packet n, if the packets of all streams are numbered in their order.
 fn record(n: u32, streams: u32) -> Option<[u8; 82]>
     requires some { 1 ≤ streams }
     requires most { streams ≤ 65536 }
@@ -97,7 +98,7 @@ fn record(n: u32, streams: u32) -> Option<[u8; 82]>
     Some(record)
 }
 
-/// A capture of `packets` packets of `streams` streams.
+/// A capture of `streams` streams, with `packets` packets in all.
 pub fn capture(alloc: Global, streams: u32, packets: u32) -> Option<Vec<u8>>
     requires some { 1 ≤ streams }
     requires most { streams ≤ 65536 }

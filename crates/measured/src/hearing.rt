@@ -1,4 +1,4 @@
-//! Measures a listener alone.
+//! Measures a listener by itself.
 
 ghost use Rattle.std.specs.Prelude.{◌≡◌, ◌+◌, ◌≤◌, ◌^◌, false, length, OnOk};
 ghost use Rattle.pcap_frames.specs.Reading.{taken};
@@ -21,13 +21,13 @@ const PLAN: ListenPlan = ListenPlan {
     shift: 0,
 };
 
-/// The bytes of a piece of a capture.
+/// The number of bytes in a piece of a capture.
 const PIECE: usize = 65_536;
 
-/// The most bytes of a capture.
+/// The maximum number of bytes in a capture.
 const MOST: usize = 1 << 40;
 
-/// Listens to the first of several streams in a capture, which is made before the clock starts.
+/// Listens to the first of several streams in a capture. The capture is made before the time is measured.
 pub fn hear<C: Clock>(clock: &C, alloc: Global, streams: u32, packets: u32) -> Option<Timed>
     requires some { 1 ≤ streams }
     requires most { streams ≤ 65536 }
@@ -89,7 +89,7 @@ fn feed(
     Ok(())
 }
 
-/// Counts the batches that are presented of all that is due, and gives their memory back.
+/// Takes all items that are due, counts the batches among them, and gives their memory back.
 #[inline(always)]
 fn drain(listener: &mut Listener, presented: &mut u64)
     ensures quiet { IsQuiet listener.new }

@@ -1,4 +1,4 @@
-//! Measures a judge alone.
+//! Measures a judge by itself.
 
 ghost use Rattle.std.specs.Prelude.{◌≡◌, ◌+◌, ◌≤◌, ◌<◌, ◌^◌, All, false, length};
 ghost use Rattle.sample_schedule.specs.Judge.{IsIdle, Keeps, taken};
@@ -11,7 +11,7 @@ use std::alloc::Global;
 use std::collections::VecDeque;
 use std::time::{Clock, Instant};
 
-/// Judges packets of a stream, with a look-ahead of 0 to 64 entries. The entries are made before the clock starts.
+/// Judges packets of a stream, with a look-ahead of 0 to 64 entries. The entries are made before the time is measured.
 pub fn judge<C: Clock>(
     clock: &C,
     alloc: Global,
@@ -74,7 +74,7 @@ pub fn take(judge: &mut Judge, entry: Entry)
     }
 }
 
-/// Counts the batches that are presented of all that is due.
+/// Takes all items that are due, and counts the batches among them.
 fn drain(judge: &mut Judge, presented: &mut u64)
     ensures idle { IsIdle judge.new }
     ensures keeps { Keeps judge.old judge.new }

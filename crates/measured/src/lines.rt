@@ -8,14 +8,14 @@ use std::alloc::Global;
 /// The time between two timestamps of the clock, in nanoseconds.
 const PERIOD: u64 = 2_000_000;
 
-/// The most bytes of timestamps in a packet.
+/// The maximum number of timestamp bytes in a packet.
 const MOST: usize = 65_528;
 
 /// The number of packets that a clock keeps.
 const WINDOW: u32 = 64;
 
-/// Looks up the lines of `count` samples near the newest timestamps of a clock whose window is full of packets of 1 to
-/// 8,191 timestamps. Returns how many have a line.
+/// Looks up the lines of `count` samples near the newest timestamps of a clock. The clock's window is full of packets,
+/// each with 1 to 8,191 timestamps. Returns how many samples have a line.
 pub fn lines(alloc: Global, timestamps: u32, count: u32) -> Option<u64>
     requires some { 1 ≤ timestamps }
     requires most { timestamps ≤ 8191 }
@@ -36,7 +36,7 @@ pub fn lines(alloc: Global, timestamps: u32, count: u32) -> Option<u64>
     Some(found)
 }
 
-/// The bytes of `count` timestamps of a clock, which follow `before` other timestamps.
+/// The bytes of `count` timestamps of a clock that come after `before` other timestamps.
 fn timestamps_of(alloc: Global, before: u32, count: u32) -> Option<Vec<u8>>
     requires most { before + count ≤ 2 ^ 31 }
 {
@@ -50,7 +50,7 @@ fn timestamps_of(alloc: Global, before: u32, count: u32) -> Option<Vec<u8>>
     Some(payload)
 }
 
-/// Notes a packet of a clock of 48 kHz with a timestamp for every 96 events.
+/// Notes a packet of a 48 kHz clock that has a timestamp for every 96 events.
 fn note(clock: &mut Clock, seq: u8, payload: &[u8]) {
     if payload.len() % 8 != 0 || payload.len() > MOST {
         return;

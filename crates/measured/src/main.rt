@@ -48,7 +48,7 @@ fn main(rt: HostRuntime) -> ExitCode {
     }
 }
 
-/// The arguments.
+/// The arguments of the command.
 fn words_of(rt: &HostRuntime) -> Option<Vec<String>> {
     env::args(rt).ok()?.skip(1).collect(rt.alloc()).ok()
 }

@@ -1,4 +1,4 @@
-//! Measures items that go through a ring.
+//! Measures how fast items go through a ring.
 
 ghost use Rattle.std.specs.Prelude.{◌≡◌, ◌+◌, ◌≤◌, ◌^◌, None};
 ghost use Rattle.presenter_ring.specs.Pipes.{ended_with, given_to};
@@ -9,7 +9,7 @@ use sample_schedule::{Reason, Shown};
 use std::alloc::Global;
 use std::thread::Threads;
 
-/// Returns flags of the frames 1, 2, 3 and so on.
+/// Returns flags with the frame numbers 1, 2, 3 and so on.
 #[derive(Drop)]
 struct Flags {
     given: u64,
@@ -42,7 +42,7 @@ impl Receiver for Flags {
     }
 }
 
-/// Counts the items that it presents.
+/// Counts the items that are presented to it.
 #[derive(Drop)]
 struct Counted {
     items: u64,
@@ -61,7 +61,7 @@ impl Presenter for Counted {
     }
 }
 
-/// Hands items over through a ring of a capacity of 1 to 256, and returns how many arrived.
+/// Sends `count` items through a ring with a capacity of 1 to 256, and returns how many arrived.
 pub fn rounds<T: Threads + Sync>(rt: &T, alloc: Global, capacity: u32, count: u32) -> Option<u64>
     requires some { 1 ≤ capacity }
     requires most { capacity ≤ 256 }
@@ -77,7 +77,7 @@ pub fn rounds<T: Threads + Sync>(rt: &T, alloc: Global, capacity: u32, count: u3
     Some(counted.items)
 }
 
-/// Runs rounds until one has nothing more to do.
+/// Runs rounds until a round leaves nothing more to do.
 fn drain<T: Threads + Sync, R: Receiver, P: Presenter>(
     rt: &T,
     pipe: &mut Pipe,

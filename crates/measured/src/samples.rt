@@ -1,4 +1,4 @@
-//! Measures the printing of samples alone.
+//! Measures the printing of samples by itself.
 
 ghost use Rattle.std.specs.Prelude.{◌≡◌, ◌+◌, ◌≤◌, ◌<◌, ◌^◌, All, OnSome, false, length};
 ghost use Rattle.sample_schedule.specs.Judge.{IsIdle, Keeps, taken};
@@ -32,8 +32,8 @@ impl Sink for Counter {
     }
 }
 
-/// Prints batches of six samples of four bytes each, several times. The batches are made before the clock starts. Returns the
-/// number of bytes of text.
+/// Prints batches of six samples of four bytes each, several times. The batches are made before the time is measured.
+/// Returns the number of bytes of text.
 pub fn samples<C: Clock>(clock: &C, alloc: Global, count: u32, times: u32) -> Option<Timed> {
     let batches = batches(alloc, count)?;
     let mut text = Text::new(alloc).ok()?;
@@ -50,7 +50,7 @@ pub fn samples<C: Clock>(clock: &C, alloc: Global, count: u32, times: u32) -> Op
     })
 }
 
-/// What is presented of packets that come in the order of their instants.
+/// What is presented of packets that arrive in the order of their instants.
 fn batches(alloc: Global, count: u32) -> Option<Vec<Shown>> {
     let stream = Stream {
         order: Order::Rising,
@@ -72,7 +72,7 @@ fn batches(alloc: Global, count: u32) -> Option<Vec<Shown>> {
     Some(batches)
 }
 
-/// Judges entries, and keeps all that is presented.
+/// Judges entries, and puts the items that are presented into `batches`.
 fn present_all(judge: &mut Judge, entries: Vec<Entry>, batches: &mut Vec<Shown>) -> Option<()>
     requires open { judge.old.closed ≡ false }
     requires idle { IsIdle judge.old }
@@ -88,7 +88,7 @@ fn present_all(judge: &mut Judge, entries: Vec<Entry>, batches: &mut Vec<Shown>)
     keep_due(judge, batches)
 }
 
-/// Keeps what is presented of all that is due.
+/// Takes all items that are due, and puts those that are presented into `batches`.
 fn keep_due(judge: &mut Judge, batches: &mut Vec<Shown>) -> Option<()>
     ensures idle { OnSome result (IsIdle judge.new) }
     ensures keeps { Keeps judge.old judge.new }

@@ -1,4 +1,4 @@
-//! The entries of a stream in several orders.
+//! The entries of a stream whose instants are in one of several orders.
 
 ghost use Rattle.std.specs.Prelude.{◌≡◌, ◌≤◌, ◌<◌, ◌^◌, All, IfOk, OnOk};
 ghost use Rattle.sample_schedule.specs.Limits.{IsEntry};
@@ -8,13 +8,14 @@ use clock_track::ClockRow;
 use sample_schedule::{Entry, HeadRule, Item, Packet};
 use std::alloc::Global;
 
-/// The order of the instants of packets that arrive one after the other.
+/// How the instants of packets are ordered, if the packets are taken in the order of arrival.
 #[derive(Clone, Copy)]
 pub enum Order {
     Rising,
     Falling,
     Random,
-    /// The earliest instant, the latest, the second, the last but one, and so on.
+    /// The first packet has the earliest instant, then come the latest, the second earliest, the second latest, and so
+    /// on.
     Middle,
     /// All packets have the same instant.
     Equal,
@@ -24,13 +25,13 @@ pub enum Order {
 #[derive(Clone, Copy)]
 pub struct Stream {
     pub order: Order,
-    /// How many packets wait for their instants at once, 1 to 65,536.
+    /// How many packets wait for their instants at a time, from 1 to 65,536.
     pub waiting: u32,
-    /// Whether a packet of the clock comes before each sixteenth packet.
+    /// Whether a packet of the clock comes before every sixteenth packet.
     pub clock: bool,
 }
 
-/// A permutation of the 16-bit numbers without apparent order.
+/// A permutation of the 16-bit numbers that looks random.
 fn scrambled(n: u32) -> u32 {
     let first = n.wrapping_mul(40_503) % 65_536;
     let second = (first ^ (first >> 8)).wrapping_mul(46_387) % 65_536;
@@ -45,7 +46,7 @@ impl Stream {
         if self.waiting > 4_096 { 1_000 } else { 125_000 }
     }
 
-    /// The index of packet n, by instant, among the packets of its group.
+    /// The index that packet n has in its group if the group is sorted by instant.
     fn place(&self, n: u32) -> u32
         requires { 1 ≤ self.now.waiting }
         ensures { result < self.now.waiting }
@@ -68,8 +69,8 @@ impl Stream {
         1_000_000_000 + n * self.step()
     }
 
-    /// The instant of packet n. Packets are in groups of `waiting`. The packets of a group are due while those of the
-    /// next group arrive.
+    /// The instant of packet n. The packets are in groups of `waiting` packets. While the packets of one group arrive,
+    /// those of the group before are due.
     fn instant(&self, n: u32) -> u64
         requires some { 1 ≤ self.now.waiting }
         requires most { self.now.waiting ≤ 65536 }
@@ -141,7 +142,7 @@ impl Stream {
         Ok(())
     }
 
-    /// The entries of this many packets, and of the clock's packets.
+    /// The entries of `count` packets of the stream, and of the packets of its clock.
     pub fn entries(&self, alloc: Global, count: u32) -> Result<Vec<Entry>, NoMemory>
         requires some { 1 ≤ self.now.waiting }
         requires most { self.now.waiting ≤ 65536 }

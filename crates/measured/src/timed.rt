@@ -1,8 +1,8 @@
-//! What is measured, and how long it took.
+//! A count of what was measured, and how long it took.
 
 use std::alloc::Global;
 
-/// How many packets were presented, or how many bytes were printed, and in how many nanoseconds.
+/// How many packets were presented or how many bytes were printed, and how many nanoseconds that took.
 #[derive(Clone, Copy)]
 pub struct Timed {
     pub count: u64,

@@ -43,8 +43,8 @@ stamps_of entries = filter_map stamp_of entries
 
 -- ---- the head of a packet without a usable stamp
 
--- How far back the stamp is from which the samples of a packet without a usable timestamp are counted. `None` if the
--- packet's format has no rule for this.
+-- If a packet has no usable timestamp, its samples are counted from the stamp of another packet. This is the distance
+-- back to that stamp, or `None` if the packet's format has no rule for it.
 abbrev pub distance_back : Packet → Option Distance
 distance_back p = distance p.rule p.seq p.count
 
@@ -79,7 +79,7 @@ head_back plan prefix p =
     option_map (λ (stamp : Stamp). record { instant = stamp.instant; first = pos far.samples })
     (found (plan.look + 16) (want_of plan p far) (stamps_of prefix))) (distance_back p)
 
--- the head of a packet: if its own timestamp is usable, by that timestamp; otherwise by the timestamp that is found in
--- another packet
+-- the head of a packet: the one that its own timestamp gives, if this is usable; otherwise the one that another
+-- packet's timestamp gives
 abbrev pub head_of : SchedulePlan → List Entry → Packet → Option Head
 head_of plan prefix p = option_or (own_head p) (head_back plan prefix p)

@@ -64,7 +64,7 @@ unfoldable pub verdict_at : Clock → SchedulePlan → List Entry → ℕ → Li
 verdict_at clock plan entries i earlier =
     option_and_then (judged clock plan entries i earlier) (slice_get entries i)
 
--- a list of the item that a verdict accepts; empty if it accepts none
+-- the item that a verdict accepts, as a list of at most one item
 abbrev pub accepted_by : Option (Result Accepted Reason) → List Accepted
 accepted_by None = []
 accepted_by (Some (Ok a)) = a ∷ []
@@ -98,9 +98,8 @@ abbrev pub flag_by : ℕ → Option Entry → Option (Result Accepted Reason) �
 flag_by i (Some (OfItem item)) (Some (Err reason)) = Flags i item reason ∷ []
 flag_by i e v = []
 
--- Step i presents the batches accepted before entry i whose first instants have passed with the arrival of entry i, but
--- had not passed before. Then, if entry i is an item that is not accepted, step i flags it. (Before step 0, nothing is
--- accepted.)
+-- Step i presents batches that were accepted before entry i: those whose first instants passed when entry i arrived.
+-- Then, if entry i is an item that is not accepted, step i flags it. (Before step 0, nothing is accepted.)
 unfoldable pub step : Clock → SchedulePlan → List Entry → ℕ → List Given
 step clock plan entries i =
     let earlier = accepted clock plan entries i in

@@ -14,7 +14,7 @@ pub struct Packet {
     pub seq: u8,
     /// The media clock restart bit.
     pub mr: bool,
-    /// The timestamp is uncertain.
+    /// Whether the timestamp is uncertain.
     pub tu: bool,
     /// The timestamp, if there is a valid one.
     pub stamp: Option<u32>,

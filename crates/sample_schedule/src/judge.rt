@@ -49,7 +49,7 @@ pub struct Judge {
     current: Option<Pending>,
     /// The entries after the current one: the delay line.
     ahead: HeapCircularBuffer<Pending>,
-    /// No further entry follows.
+    /// Whether the list of entries has ended.
     closed: bool,
 }
 
@@ -90,7 +90,8 @@ impl Judge {
         })
     }
 
-    /// Makes an entry that left the delay line the current one, and moves the time on to its arrival.
+    /// The entry, which has left the delay line, becomes the current one. If it arrived later than all entries before
+    /// it, the time moves on to its arrival.
     #[inline(always)]
     fn judge_next(&mut self, next: Pending)
         requires idle { IsIdle self.old }
@@ -322,8 +323,7 @@ impl Judge {
     }
 
     /// How many batches wait: at most the plan's `buffer`. Together they have at most `room` bytes. If nothing is due,
-    /// these are the accepted batches of the judged entries that were not returned. If nothing is due after `close`,
-    /// there are none.
+    /// these are all batches that were accepted and not yet returned. If nothing is due after `close`, there are none.
     pub fn held(&self) -> u32
         ensures held { result ≡ length self.now.waiting }
         ensures batches { result ≤ self.now.plan.buffer }

@@ -10,19 +10,19 @@ pub enum Reason {
     Malformed(Field),
     /// The timestamp is uncertain.
     Uncertain,
-    /// There are no samples.
+    /// The packet has no samples.
     Empty,
     /// The packet names no rate.
     NoRate,
-    /// No timestamp is known from which its samples could be counted.
+    /// No timestamp is known from which the packet's samples could be counted.
     Untimed,
-    /// The clock has no line that covers the timestamp from which its samples are counted.
+    /// The clock has no line that covers the timestamp from which the packet's samples are counted.
     NoClock,
-    /// Its first instant had passed when it arrived.
+    /// The item's first instant had passed when the item arrived.
     Late,
-    /// An item with its first instant and sequence number was accepted before.
+    /// An item with the same first instant and the same sequence number was accepted before.
     Repeat,
-    /// The buffer or its room was full.
+    /// The buffer had no room for one more batch, or for the item's bytes.
     Full,
     /// The packet is a fragment of a unit that was not made whole.
     Broken,
@@ -33,8 +33,8 @@ pub enum Reason {
 /// An item as a listener shows it.
 #[derive(Debug, Drop)]
 pub enum Shown {
-    /// It is presented.
+    /// The item is presented.
     Present(Batch),
-    /// It is not presented, for this reason.
+    /// The item is not presented, for this reason.
     Flag { frame: u64, seq: u8, reason: Reason },
 }

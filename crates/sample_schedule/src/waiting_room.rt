@@ -22,7 +22,7 @@ fn sequence_number(accepted: &Accepted) -> u8
     accepted.batch.seq
 }
 
-/// The number of its sample bytes.
+/// The number of sample bytes of an accepted item.
 #[inline(always)]
 fn size(accepted: &Accepted) -> u64
     ensures { result ≡ length accepted.now.batch.bytes }

@@ -46,7 +46,7 @@ pub all-right : {X : Type 0} (P : X → Type 0) (xs ys : List X) → AllByRecurs
 all-right P [] ys p = p
 all-right P (x ∷ xs) ys p = all-right P xs ys p.1
 
--- ---- the order
+-- ---- the order of keys
 
 pub in_order-right : (xs ys : List Key) → KeysAreInOrder (xs ++ ys) → KeysAreInOrder ys
 in_order-right [] ys s = s
@@ -77,7 +77,6 @@ in_order-put (x ∷ xs) k s = by_lt_z k.instant x.instant
     (λ h. rw (lt_true k.instant x.instant h) ((omega (arith, ints), not-earlier k.instant x.instant xs (omega (arith, ints)) s.0), s))
     (λ h. rw (lt_false k.instant x.instant h) (all-put_key (λ o. x.instant ≤ℤ o.instant) xs k s.0 h, in_order-put xs k s.1))
 
--- if `n` is the index for the key's instant, inserting the key at `n` is the same as `put_key`
 pub placed : (ks : List Key) (n : ℕ) (k : Key) → IsPlace k.instant ks n → insert ks n k ≡ put_key ks k
 placed ks n k is = at ks n k is.not_later is.later
   where
@@ -117,11 +116,9 @@ within-drop t [] (suc n) p = tt
 within-drop t (k ∷ ks) zero p = (from_not_le k.instant t (p 0 k (omega arith) (omega arith)), within-drop t ks zero (λ i d a b. p (suc i) d (omega arith) (omega arith)))
 within-drop t (k ∷ ks) (suc n) p = within-drop t ks n (λ i d a b. p (suc i) d (omega arith) (omega arith))
 
--- a binary search finds how many keys are not later than the instant
 pub place-found : (t : ℤ) (ks : List Key) (n : ℕ) → n ≤ length ks → IsPartitionPoint (λ k. int_le k.instant t ≡ true) (λ k. int_le k.instant t ≡ false) ks n → IsPlace t ks n
 place-found t ks n l p = record { within = l; not_later = within-take t ks n l p.0; later = within-drop t ks n p.1 }
 
--- if the last of the first n keys is not later than `t`, none of the first n keys is later
 up-to-read : (t : ℤ) (ks : List Key) (n : ℕ) (k : Key) → n ≤ length ks → k ≡ get_or ks (n - 1) k → KeysAreInOrder ks → k.instant ≤ℤ t → AllByRecursion (λ o. o.instant ≤ℤ t) (take n ks)
 up-to-read t [] zero k l read s h = tt
 up-to-read t [] (suc n) k l read s h = tt
@@ -135,7 +132,6 @@ up-to-read t (x ∷ xs) (suc (suc n)) k l read s h =
     let i : k.instant ≡ (get_or xs n k).instant = ap (λ (o : Key). o.instant) is in
     (omega (arith, ints), up-to-read t xs (suc n) k (omega arith) (rw again is) s.1 h)
 
--- if the last key is not later than `t`, the index for `t` is after all keys
 pub place-end : (t : ℤ) (ks : List Key) (n : ℕ) (x : Key) → n ≡ length ks → x ≡ get_or ks (length ks - 1) x → KeysAreInOrder ks → x.instant ≤ℤ t → IsPlace t ks n
 place-end t ks n x e is s h =
     let none : drop n ks ≡ [] = drop_all n ks (omega arith) in
@@ -156,7 +152,6 @@ none-earlier t u seq [] h p = refl
 none-earlier t u seq (x ∷ xs) h p =
     let q = p.0 in rw (le_true x.instant t (omega (arith, ints)), le_false t x.instant (omega (arith, ints))) (none-earlier t u seq xs h p.1)
 
--- all keys with the instant `t` are before the index for `t`
 pub keys-before : (t : ℤ) (seq : ℕ) (ks : List Key) (n : ℕ) → IsPlace t ks n → list_any (is_key t seq) (take n ks) ≡ list_any (is_key t seq) ks
 keys-before t seq ks n place =
     sym (or-false (list_any (is_key t seq) (take n ks)))
@@ -164,7 +159,7 @@ keys-before t seq ks n place =
     ∙ sym (list_any-append (is_key t seq) (take n ks) (drop n ks))
     ∙ ap (λ (l : List Key). list_any (is_key t seq) l) (take-append-drop n ks)
 
--- `n` is from 1 to the length of the list, and `x` is the last of the first `n` items.
+-- `n` is from 1 to the length of the list, and `x` is the item at index `n` - 1.
 pub record IsBehind {X : Type 0} (xs : List X) (n : ℕ) (x : X) : Type 0 where
   pub some : 0 < n
   pub within : n ≤ length xs
@@ -188,7 +183,6 @@ behind-holds P ks n k is p = let q = subst (λ (l : List Key). AllByRecursion P 
 pub no-key-earlier : (t : ℤ) (seq : ℕ) (ks : List Key) (n : ℕ) (k : Key) → IsBehind ks n k → KeysAreInOrder ks → k.instant <ℤ t → list_any (is_key t seq) (take n ks) ≡ false
 no-key-earlier t seq ks n k is o h = none-earlier t k.instant seq (take n ks) h (up-to-read k.instant ks n k is.within is.read o (omega (arith, ints)))
 
--- in a sorted list, no key has an instant after that of the last key
 pub none-behind : (t : ℤ) (seq : ℕ) (ks : List Key) (k : Key) → 0 < length ks → k ≡ get_or ks (length ks - 1) k → KeysAreInOrder ks → k.instant <ℤ t → list_any (is_key t seq) ks ≡ false
 none-behind t seq ks k some read o h =
     subst (λ (l : List Key). list_any (is_key t seq) l ≡ false) (take_all (length ks) ks (omega arith))
@@ -196,18 +190,16 @@ none-behind t seq ks k some read o h =
 
 -- ---- blocks
 
--- a block with at least 256 keys is not empty
 filled-some : (b : List Key) → 256 ≤ length b → b ≢ []
 filled-some [] l e = absurd (omega arith)
 filled-some (k ∷ b) l e = absurd (let n = ap (λ (x : List Key). length x) e in omega arith)
 
--- what holds for all keys holds for the first key of a block
 first-of : (P : Key → Type 0) (bs : List (List Key)) (n : ℕ) (k : Key) (b d : List Key) → k ∷ b ≡ get_or bs n d → n < length bs → AllByRecursion P (all_keys bs) → P k
 first-of P [] n k b d e l p = absurd (omega arith)
 first-of P (c ∷ cs) zero k b d e l p = (all-left P (k ∷ b) (all_keys cs) (subst (λ (x : List Key). AllByRecursion P (x ++ all_keys cs)) (sym e) p)).0
 first-of P (c ∷ cs) (suc n) k b d e l p = first-of P cs n k b d e (omega arith) (all-right P c (all_keys cs) p)
 
--- no key before a block is later than the first key of the block
+-- no key in the blocks before a block is later than the first key of that block
 before-first : (c : List Key) (bs : List (List Key)) (n : ℕ) (k : Key) (b d : List Key) → k ∷ b ≡ get_or bs n d → n < length bs → KeysAreInOrder (c ++ all_keys bs) → AllByRecursion (λ o. o.instant ≤ℤ k.instant) c
 before-first [] bs n k b d e l s = tt
 before-first (x ∷ c) bs n k b d e l s =
@@ -217,17 +209,15 @@ earlier-than : (t u : ℤ) (ks : List Key) → u ≤ℤ t → AllByRecursion (λ
 earlier-than t u [] h p = tt
 earlier-than t u (x ∷ xs) h p = (let q = p.0 in omega (arith, ints), earlier-than t u xs h p.1)
 
--- if the first key of a block is later than `t`, all keys in the block and after it are later than `t`
 first-later : (t : ℤ) (b ys : List Key) → KeysAreInOrder (b ++ ys) → starts_by t b ≡ false → AllByRecursion (λ o. t <ℤ o.instant) (b ++ ys)
 first-later t [] ys s h = absurd (let e : true ≡ false = h in cc)
 first-later t (k ∷ b) ys s h = let g = from_not_le k.instant t h in (g, later t k.instant (b ++ ys) g s.0)
 
--- if the first key of each block is later than `t`, all keys are later than `t`
 rest-later : (t : ℤ) (bs : List (List Key)) → KeysAreInOrder (all_keys bs) → AllWithin (λ b. starts_by t b ≡ false) bs 0 (length bs) → AllByRecursion (λ o. t <ℤ o.instant) (all_keys bs)
 rest-later t [] s p = tt
 rest-later t (b ∷ bs) s p = first-later t b (all_keys bs) s (p 0 b (omega arith) (omega arith))
 
--- n - 1, and 0 if n is 0
+-- `n` - 1, or 0 if `n` is 0
 abbrev before : ℕ → ℕ
 before zero = zero
 before (suc n) = n
@@ -278,7 +268,6 @@ started-some (b ∷ bs) s = omega arith
 pub block-partitioned : (t : ℤ) (bs : List (List Key)) → AreBlocks bs → IsPartitionedBy (λ b. starts_by t b) bs
 block-partitioned t bs are = blocks-partitioned t bs are.in_order are.filled
 
--- a binary search finds the block for an instant
 pub block-found : (t : ℤ) (bs : List (List Key)) (n : ℕ) → AreBlocks bs → n ≤ length bs → IsPartitionPoint (λ b. starts_by t b ≡ true) (λ b. starts_by t b ≡ false) bs n → IsBlockFor t bs (n - 1)
 block-found t bs n are l p = subst (λ (m : ℕ). IsBlockFor t bs m) (at n) (blocks-found t bs n (started-some bs are.started) l are.in_order are.filled p.0 p.1)
   where
@@ -319,7 +308,7 @@ get-set [] n x d l = absurd (omega arith)
 get-set (y ∷ ys) zero x d l = refl
 get-set (y ∷ ys) (suc n) x d l = get-set ys n x d (omega arith)
 
--- an item inside a list does not depend on the default of `get_or`
+-- if an index is inside a list, the default of `get_or` does not matter
 pub get-any : {X : Type 0} (xs : List X) (n : ℕ) (d e : X) → n < length xs → get_or xs n d ≡ get_or xs n e
 get-any [] n d e l = absurd (omega arith)
 get-any (y ∷ ys) zero d e l = refl
@@ -330,7 +319,6 @@ set-set [] n x y = refl
 set-set (z ∷ zs) zero x y = refl
 set-set (z ∷ zs) (suc n) x y = ap (λ l. z ∷ l) (set-set zs n x y)
 
--- `IsStarted` still holds if a block with keys replaces one of the blocks
 started-set : (bs : List (List Key)) (n : ℕ) (b : List Key) → IsStarted bs → 1 ≤ length b → IsStarted (slice_set bs n b)
 started-set [] n b s l = s
 started-set (c ∷ []) zero b s l = tt
@@ -351,7 +339,7 @@ filled-at [] n d l f h = absurd (omega arith)
 filled-at (c ∷ cs) zero d l f h = absurd (omega arith)
 filled-at (c ∷ cs) (suc n) d l f h = all-at (λ b. 256 ≤ length b) cs n d (omega arith) f
 
--- A key was put into its block, and the other blocks are unchanged.
+-- A key was put into the block at index `n`, and the other blocks are unchanged.
 pub record IsPutInto (bs cs : List (List Key)) (n : ℕ) (b : List Key) (k : Key) : Type 0 where
   pub place : IsBlockFor k.instant bs n
   pub read : b ≡ get_or bs n b
@@ -378,7 +366,6 @@ put-blocks bs cs n b k are is =
       others = subst (λ (l : List (List Key)). AllByRecursion (λ c. length c < 512) l) (sym (set-set bs n (put_key b k) [])) (all-set (λ c. length c < 512) bs n [] are.short (omega arith));
     })
 
--- if the one block that may be full is not full, each block has room for one more key
 pub short-again : (bs : List (List Key)) (n : ℕ) (b : List Key) → AreBlocksBut n bs → b ≡ get_or bs n b → length b < 512 → AreBlocks bs
 short-again bs n b are e l = record {
   in_order = are.in_order;
@@ -394,7 +381,7 @@ short-again bs n b are e l = record {
 
 -- ---- a block is split
 
--- A full block is replaced by two blocks, each with half of its keys.
+-- A full block was replaced by two blocks, each with half of its keys.
 pub record IsSplit (bs cs : List (List Key)) (n : ℕ) (lower upper : List Key) : Type 0 where
   pub full : length (get_or bs n []) ≡ 512
   pub half : length lower ≡ 256
@@ -468,7 +455,6 @@ full-count (b ∷ bs) (suc n) l f e =
     let both = length-append b (all_keys bs) in
     omega arith
 
--- if one block is full, there are at least 256 times as many keys as blocks
 pub blocks-count : (bs : List (List Key)) (n : ℕ) → AreBlocksBut n bs → length (get_or bs n []) ≡ 512 → 256 * length bs ≤ length (all_keys bs)
 blocks-count bs n are e = at bs n are.within are.filled e
   where
@@ -507,7 +493,7 @@ any-block p bs n b is =
 pub block-passed : (p : Key → Bool) (bs : List (List Key)) (n : ℕ) (b : List Key) → IsBehind bs n b → list_any p b ≡ false → list_any p (all_keys (take (n - 1) bs)) ≡ list_any p (all_keys (take n bs))
 block-passed p bs n b is h = sym (any-block p bs n b is ∙ ap (λ (x : Bool). list_any p (all_keys (take (n - 1) bs)) || x) h ∙ or-false (list_any p (all_keys (take (n - 1) bs))))
 
--- if the first key of a block is earlier than an instant, no earlier block has a key with that instant
+-- if the first key of a block is earlier than an instant, no block before it has a key with that instant
 pub no-block-earlier : (t : ℤ) (seq : ℕ) (bs : List (List Key)) (n : ℕ) (b : List Key) → IsBehind bs n b → KeysAreInOrder (all_keys bs) → starts_before t b ≡ true → list_any (is_key t seq) (all_keys (take (n - 1) bs)) ≡ false
 no-block-earlier t seq bs n [] is s h = absurd (let e : false ≡ true = h in cc)
 no-block-earlier t seq bs n (k ∷ b) is s h = let some = is.some in let within = is.within in at bs (n - 1) s (omega arith) is.read

@@ -6,12 +6,12 @@ use Rattle.sorted_keys.specs.declared.key.Key.{Key}
 abbrev pub same_instant : ℤ → ℤ → Bool
 same_instant x y = if int_le x y then int_le y x else false
 
--- the sorted list of keys, and how many keys fit in the memory that is reserved
+-- the sorted list of keys, and the number of keys for which memory is reserved
 pub record KeyList : Type 0 where
   pub list : List Key
   pub room : ℕ
 
--- the sorted keys with one more key, which comes after all keys that are not later
+-- puts a key into a sorted list, after all keys that are not later
 abbrev pub put_key : List Key → Key → List Key
 put_key [] key = key ∷ []
 put_key (other ∷ rest) key = if int_lt key.instant other.instant then key ∷ other ∷ rest else other ∷ put_key rest key

@@ -13,13 +13,13 @@ use std::alloc::Global;
 use std::collections::VecDeque;
 use std::marker::Model;
 
-/// A block with this many keys is split in halves. So all blocks but the first are at least half full, and `with_room`
-/// can reserve them all.
+/// If a block has this many keys, it is split into two halves. Hence each block except the first is at least half full,
+/// and `with_room` can reserve memory for all blocks.
 pub const FULL: usize = 512;
 
 pub const HALF: usize = FULL / 2;
 
-/// How many of the sorted keys are not later than the instant. Usually it is all of them.
+/// How many of the sorted keys are not later than the instant. Usually all of them are not later.
 #[inline(always)]
 fn place_behind(keys: &VecDeque<Key>, instant: i64) -> usize
     requires { KeysAreInOrder keys.now.items }
@@ -48,7 +48,7 @@ fn insert_key(keys: &mut VecDeque<Key>, place: usize, key: Key)
     ensures items { keys.new.items ≡ insert keys.old.items place key }
     ensures capacity { deque_capacity keys.old ≤ deque_capacity keys.new }
 {
-    // Most packets come in the order of their instants.
+    // Usually the key is the last one, because most packets arrive in the order of their instants.
     if place == keys.len() {
         keys.push_back_reserved(key);
         return;
@@ -58,7 +58,7 @@ fn insert_key(keys: &mut VecDeque<Key>, place: usize, key: Key)
     };
 }
 
-/// Moves all keys after the first `count` to the beginning of `others`, which must have room.
+/// Moves all keys except the first `count` to the beginning of `others`, which must have room for them.
 fn move_behind(keys: &mut VecDeque<Key>, count: usize, others: &mut VecDeque<Key>)
     requires count { count ≤ length keys.old.items }
     requires room { length keys.old.items + length others.old.items ≤ count + deque_capacity others.old }
@@ -79,7 +79,7 @@ fn move_behind(keys: &mut VecDeque<Key>, count: usize, others: &mut VecDeque<Key
     }
 }
 
-/// Sorted keys, with memory for 512.
+/// A block of sorted keys, with memory for 512 keys.
 #[derive(Drop)]
 pub struct Block {
     keys: VecDeque<Key>,
@@ -164,7 +164,7 @@ impl Block {
         insert_key(&mut self.keys, place, key);
     }
 
-    /// Whether one of the keys has the instant and the sequence number.
+    /// Whether one of the keys has this instant and this sequence number.
     pub fn has(&self, instant: i64, seq: u8) -> bool
         ensures { result ≡ list_any (is_key instant seq) self.now }
     {

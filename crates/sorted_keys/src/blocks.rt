@@ -14,7 +14,7 @@ use avtp_base::NoMemory;
 use std::alloc::Global;
 use std::collections::VecDeque;
 
-/// The index of the block that a key with this instant goes into. Usually there is one block.
+/// The index of the block into which a key with this instant goes. Usually there is only one block.
 #[inline(always)]
 pub fn block_for(blocks: &VecDeque<Block>, instant: i64) -> usize
     requires { AreBlocks blocks.now.items }
@@ -36,7 +36,7 @@ fn find_block(blocks: &VecDeque<Block>, instant: i64) -> usize
         .saturating_sub(1)
 }
 
-/// Puts a key into its block, and returns the index of that block, which may be full now.
+/// Puts a key into its block. Returns the index of that block, which may now be full.
 pub fn put_into(blocks: &mut VecDeque<Block>, key: Key) -> usize
     requires { AreBlocks blocks.old.items }
     ensures all { all_keys blocks.new.items ≡ put_key (all_keys blocks.old.items) key }
@@ -60,7 +60,7 @@ pub fn insert_block(blocks: &mut VecDeque<Block>, place: usize, block: Block)
     };
 }
 
-/// Splits a full block. Its upper half goes into `upper`, a block without keys, which is inserted after it.
+/// Splits a full block. Its upper half goes into `upper`, which has no keys and is inserted after the block.
 pub fn split(blocks: &mut VecDeque<Block>, place: usize, mut upper: Block)
     requires blocks { AreBlocksBut place blocks.old.items }
     requires full { length (slice_index_or blocks.old.items place []) ≡ 512 }
@@ -75,7 +75,7 @@ pub fn split(blocks: &mut VecDeque<Block>, place: usize, mut upper: Block)
     insert_block(blocks, place + 1, upper);
 }
 
-/// Takes the first block, if it has no keys and others follow.
+/// If the first block has no keys and other blocks follow it, removes and returns the first block.
 pub fn take_empty(blocks: &mut VecDeque<Block>) -> Option<Block>
     requires { AreTaken blocks.old.items }
     ensures all { all_keys blocks.new.items ≡ all_keys blocks.old.items }
@@ -91,7 +91,7 @@ pub fn take_empty(blocks: &mut VecDeque<Block>) -> Option<Block>
     }
 }
 
-/// `count` blocks without keys, in a list that has room for one more.
+/// `count` blocks without keys, in a vector that has room for one more block.
 pub fn spare_blocks(alloc: Global, count: usize) -> Result<Vec<Block>, NoMemory>
     requires { count < 2 ^ 32 }
     ensures spare { IfOk result (λ spare. AllByRecursion (λ block. block ≡ []) spare.items) }

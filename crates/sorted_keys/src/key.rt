@@ -1,4 +1,4 @@
-//! The keys of batches that wait.
+//! The keys of waiting batches.
 
 /// The key of a batch: the instant of its first sample, its sequence number, and the slot of the batch.
 #[derive(Clone, Copy)]

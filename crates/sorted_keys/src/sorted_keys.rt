@@ -1,4 +1,4 @@
-//! The sorted keys of batches that wait.
+//! The sorted keys of waiting batches.
 
 ghost use Rattle.std.specs.Prelude.{◌≡◌, ◌<◌, ◌≤◌, ◌++◌, [], length, slice_get, IfNone, IfOk};
 ghost use Rattle.std.specs.List.{list_any};
@@ -13,8 +13,8 @@ use std::alloc::Global;
 use std::collections::VecDeque;
 use std::marker::Model;
 
-/// Keys sorted by instant, and then by the order in which they were put. They are in blocks of fewer than 512 keys, so
-/// that few keys are moved if one is put out of order.
+/// Keys sorted by instant. Keys with equal instants are in the order in which they were put. They are kept in blocks of
+/// fewer than 512 keys, so that few keys are moved if a key is put out of order.
 #[derive(Drop)]
 pub struct SortedKeys {
     blocks: VecDeque<Block>,
@@ -36,7 +36,7 @@ impl Model for SortedKeys {
 }
 
 impl SortedKeys {
-    /// No keys, with memory for `keys` of them.
+    /// An empty list, with memory for `keys` keys.
     pub fn with_room(alloc: Global, keys: u32) -> Result<Self, NoMemory>
         ensures none { IfOk result (λ sorted. sorted.list ≡ []) }
         ensures room { IfOk result (λ sorted. keys ≤ sorted.room) }
@@ -48,7 +48,7 @@ impl SortedKeys {
         Ok(SortedKeys { blocks, spare })
     }
 
-    /// Whether one of the keys has the instant and the sequence number.
+    /// Whether one of the keys has this instant and this sequence number.
     pub fn has(&self, instant: i64, seq: u8) -> bool
         ensures { result ≡ list_any (is_key instant seq) self.now.list }
     {
@@ -87,7 +87,7 @@ impl SortedKeys {
         self.blocks[0].first()
     }
 
-    /// Takes the first key.
+    /// Removes and returns the first key.
     pub fn take_first(&mut self) -> Option<Key>
         ensures taken { self.old.list ≡ option_to_list result ++ self.new.list }
         ensures none { IfNone result (self.old.list ≡ []) }

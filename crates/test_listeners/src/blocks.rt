@@ -4,11 +4,11 @@ use crate::captures::{AUDIO, Captured, Format};
 use crate::hearing::{ROW, Row, check_rows};
 use std::test::Fail;
 
-/// Six data blocks counted from 12. Block 16 is stamped.
+/// Six data blocks, numbered from 12. Block 16 is stamped.
 pub const STAMPED: Captured =
     captured!(AUDIO, format: Format::Blocks, arrival: 4_997_916_666, stamp: Some(5_000_000_000), changes: &[(27, 12)]);
 
-/// The next six data blocks. None is stamped.
+/// The next six data blocks. None of them is stamped.
 pub const NEXT: Captured =
     captured!(AUDIO, format: Format::Blocks, arrival: 4_998_041_666, seq: 1, stamp: None, changes: &[(27, 18)]);
 

@@ -4,7 +4,7 @@ use avtp_base::NoMemory;
 use std::alloc::Global;
 use vectors_avtp::{changed, vector};
 
-/// The test vector from which a packet is made.
+/// The kind of test vector from which a packet is made.
 #[derive(Clone, Copy)]
 pub enum Format {
     Audio,
@@ -13,18 +13,21 @@ pub enum Format {
     Clock,
 }
 
-/// A packet as it is captured, in a frame of its own: the packet of a vector with some bytes changed.
+/// A packet as it is captured, in a frame of its own. It is made from the packet of a test vector by changing some
+/// bytes.
 #[derive(Clone, Copy)]
 pub struct Captured {
     pub format: Format,
     /// When the packet was captured, in nanoseconds.
     pub arrival: u64,
     pub seq: u8,
-    /// The packet's timestamp, or `None` if it is not valid. A packet of a stream has the low 32 bits of this number.
+    /// The packet's timestamp, or `None` if it is not valid. A packet of a stream carries the low 32 bits of this
+    /// number.
     pub stamp: Option<u64>,
-    /// Bytes of the packet that are changed, each at its offset.
+    /// The bytes of the packet that are changed, as pairs of an offset and a value.
     pub changes: &'static [(usize, u8)],
-    /// How many bytes of the frame are captured at most, and how many zero bytes follow them.
+    /// The maximum number of bytes of the frame that are captured. `zeros` is the number of zero bytes that follow
+    /// them.
     pub len: usize,
     pub zeros: usize,
 }

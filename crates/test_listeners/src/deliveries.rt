@@ -3,7 +3,7 @@
 use soak_run::{Noise, soak_deliveries};
 use std::test::Fail;
 
-/// The first numbers that are drawn from a seed, which is taken modulo 2^31.
+/// Seeds, and the first numbers that are drawn from each. A seed is taken modulo 2^31.
 const DRAWS: [(u64, &[u32]); 3] = [
     (1, &[16_838, 5_758]),
     (2_147_483_649, &[16_838, 5_758]),
@@ -20,13 +20,13 @@ fn numbers_are_drawn_from_a_seed(rt: HostRuntime) {
     }
 }
 
-/// The number of packets; the number of copies that are delivered; an index among the copies; and the arrivals and
+/// How many packets are sent, and how many copies are delivered. Then an index among these copies, and the arrivals and
 /// packet numbers from that index on.
 const ROWS: [(u32, usize, usize, &[(i64, u64)]); 6] = [
     (0, 0, 0, &[]),
     (1, 1, 0, &[(1_002_480_000, 0)]),
     (2, 2, 0, &[(1_001_320_000, 0), (1_002_125_000, 1)]),
-    // the seventh and the tenth packet are lost, and the last is delivered twice
+    // the seventh and the tenth packet are lost, and the last packet is delivered twice
     (
         11,
         10,
@@ -44,7 +44,7 @@ const ROWS: [(u32, usize, usize, &[(i64, u64)]); 6] = [
             (1_002_995_000, 7),
         ],
     ),
-    // copies that arrive together are in the order of their packets' numbers
+    // copies that arrive at the same time are in the order of their packets' numbers
     (25, 22, 8, &[(1_002_440_000, 0), (1_002_440_000, 16)]),
     (1_000, 1_002, 1_001, &[(1_126_485_000, 993)]),
 ];

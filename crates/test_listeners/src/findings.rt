@@ -3,7 +3,7 @@
 use sequence_track::{Findings, Seen, Tracker};
 use std::test::Fail;
 
-/// A packet with no finding of its own.
+/// A packet that has no finding by itself.
 const PLAIN: Seen = Seen {
     id: 0x0200_0000_0001_0001,
     subtype: 0x02,
@@ -21,17 +21,19 @@ const NOTHING: Findings = Findings {
     untracked: false,
 };
 
-/// The most streams that are tracked.
+/// The maximum number of streams that are tracked.
 const MOST: u64 = 1024;
 
-/// A packet (its sequence number, its restart bit, and whether it has both a reserved bit and a wrong timestamp), and
-/// the step and the hold that are found.
+/// A packet and its findings. The packet: its sequence number, its restart bit, and whether it has both a reserved bit
+/// and a wrong timestamp. The findings: the step of the sequence number, and for how many packets the last value of the
+/// restart bit was kept.
 type Noted = (u8, bool, bool, Option<u8>, Option<u32>);
 
 /// Separate streams, each with its packets in order.
 const STREAMS: [&[Noted]; 4] = [
-    // Each finding alone, and all together. The first change of the restart bit ends a value that began with the
-    // stream. The next value lasts for four packets, and the value after that for one packet.
+    // Each finding by itself, and all findings together. The first value of the restart bit began with the stream, so
+    // it is no finding that it was kept for one packet. The next value is kept for four packets, and the value after
+    // that for one packet.
     &[
         (0, false, false, None, None),
         (1, true, false, None, None),
@@ -53,7 +55,7 @@ const STREAMS: [&[Noted]; 4] = [
         (1, false, false, Some(130), None),
         (2, false, false, None, None),
     ],
-    // A restart bit that is kept for seven packets.
+    // The restart bit is kept for seven packets.
     &[
         (0, false, false, None, None),
         (1, true, false, None, None),
@@ -65,7 +67,7 @@ const STREAMS: [&[Noted]; 4] = [
         (7, true, false, None, None),
         (8, false, false, None, Some(7)),
     ],
-    // A restart bit that is kept for eight packets.
+    // The restart bit is kept for eight packets.
     &[
         (0, false, false, None, None),
         (1, true, false, None, None),
@@ -106,8 +108,8 @@ fn each_packet_has_the_findings_of_its_stream(rt: HostRuntime) -> Result<(), Fai
     Ok(())
 }
 
-/// Each id has two streams, with different subtypes. No packet of the 1,025th stream is tracked; the streams before it stay
-/// tracked.
+/// Each stream ID has two streams, with different subtypes. No packet of the 1,025th stream is tracked. The first 1,024
+/// streams stay tracked.
 #[test]
 fn the_first_1024_subtypes_with_ids_are_tracked(rt: HostRuntime) -> Result<(), Fail> {
     let mut tracker = Tracker::begin(rt.alloc())?;

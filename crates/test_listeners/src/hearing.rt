@@ -61,8 +61,8 @@ pub fn heard(alloc: Global, plan: &ListenPlan, bytes: &[u8]) -> Result<Heard, Fa
     Ok(whole(alloc, plan, bytes)?)
 }
 
-/// The line of an item: its frame number, its sequence number, and its first instant if it is presented, or else the
-/// reason.
+/// The line of an item: its frame number and its sequence number. Then its first instant if it is presented, or
+/// otherwise the reason.
 pub fn line_of(alloc: Global, shown: &Shown) -> Result<String, NoMemory> {
     match shown {
         Shown::Present(batch) => {

@@ -10,7 +10,7 @@ use std::alloc::Global;
 use std::test::Fail;
 use vectors_avtp::vector;
 
-/// Packets, and the instants of the samples of each.
+/// Packets, and the instants of the samples of each packet.
 struct Row {
     name: &'static str,
     look: Option<u32>,
@@ -69,7 +69,7 @@ fn instants_of(alloc: Global, shown: &Shown) -> Result<String, NoMemory> {
     Ok(text)
 }
 
-/// Whether each batch has this many bytes, and they are the last ones of a vector.
+/// Whether each batch has `size` bytes, and these are the last bytes of the vector.
 fn ends_a_vector(list: &[Shown], vector: &[u8], size: usize) -> bool {
     list.iter().all(|shown| match shown {
         Shown::Present(batch) => {

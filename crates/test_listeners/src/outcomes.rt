@@ -3,17 +3,17 @@
 use soak_run::soak;
 use std::test::Fail;
 
-/// A number of packets and the number of their deliveries. Then how many deliveries are presented, late, repeats,
-/// without a known timestamp, and without room.
+/// How many packets are sent; then six counts. The first is the number of deliveries. The others say how many
+/// deliveries are presented, late, repeats, without a known timestamp, and without room in the buffer.
 type Row = (u32, [u64; 6]);
 
-/// The numbers for at most ten packets were worked out by hand. The others come from another program that follows the rules of
-/// the noise, of the deliveries and of the listener.
+/// The counts for at most ten packets were worked out by hand. The others come from another program, which follows the
+/// rules of the noise, of the deliveries and of the listener.
 const ROWS: [Row; 7] = [
     (0, [0, 0, 0, 0, 0, 0]),
-    // one copy, which comes 0.48 ms after its presentation time
+    // one copy, which arrives 0.48 ms after its presentation time
     (1, [1, 0, 1, 0, 0, 0]),
-    // one copy each; the second comes exactly at its presentation time
+    // one copy of each packet; the second copy arrives exactly at its presentation time
     (2, [2, 2, 0, 0, 0, 0]),
     (10, [8, 3, 4, 0, 1, 0]),
     (100, [104, 64, 12, 6, 22, 0]),

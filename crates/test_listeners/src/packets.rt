@@ -1,4 +1,4 @@
-//! Packets of PCM, one at a time and several together.
+//! Packets of PCM audio, one at a time and several together.
 
 use crate::captures::{AUDIO, Captured};
 use crate::hearing::{ROW, Row, check_rows, plan_of, seen_of};
@@ -94,8 +94,8 @@ fn packets_come_in_order_once_and_within_the_buffer(rt: HostRuntime) -> Result<(
     check_rows(&rt, rt.alloc(), &ROWS)
 }
 
-/// Changed bytes of a packet; how many bytes of its frame are captured; and the packet's flag, which is empty if the
-/// packet does not belong to the stream. A packet begins at byte 18 of its frame.
+/// Changes to the bytes of a packet; how many bytes of its frame are captured; and the flag of the packet. The flag is
+/// empty if the packet does not belong to the stream. A packet begins at byte 18 of its frame.
 const CHANGED: [(&[(usize, u8)], usize, &str); 24] = [
     (&[(3, 0x01)], 66, "1/0 Uncertain, "),
     (&[(21, 0)], 66, "1/0 Empty, "),
@@ -125,7 +125,7 @@ const CHANGED: [(&[(usize, u8)], usize, &str); 24] = [
     (&[], 0, ""),
 ];
 
-/// The packet after a changed one is presented, whatever happens to the changed one.
+/// The packet after a changed packet is presented, whatever happens to the changed packet.
 #[test]
 fn a_changed_packet_is_flagged_or_passed(rt: HostRuntime) -> Result<(), Fail> {
     let plan = plan_of(4_096, 67_108_864, None);

@@ -1,4 +1,4 @@
-//! Captures with records that are not of the stream, and captures in pieces.
+//! Captures with records that do not belong to the stream, and captures in pieces.
 
 use crate::hearing::{heard, line_of, plan_of};
 use avtp_base::{Field, Refusal};
@@ -7,8 +7,8 @@ use std::alloc::Global;
 use std::test::Fail;
 use vectors_avtp::{changed, vector};
 
-/// The first vector with some bytes changed, cut, and followed by zero bytes; how many packets of the stream it has; and its
-/// first refusal.
+/// The capture of the first vector: some bytes are changed, it is cut after `len` bytes, and zero bytes follow. Then
+/// how many packets of the stream it has, and its first refusal.
 struct Row {
     name: &'static str,
     changes: &'static [(usize, u8)],
@@ -83,8 +83,8 @@ fn a_record_is_counted_whatever_it_holds(rt: HostRuntime) -> Result<(), Fail> {
     Ok(())
 }
 
-/// What a listener shows of a capture in two pieces, cut at `cut`: the first item that is shown; the counts; and the faults
-/// that `feed` and `end` return after the first record.
+/// What a listener shows of a capture that is fed in two pieces, cut at `cut`: the first item that is shown, and the
+/// counts. Then the faults that `feed` and `end` return after the first record.
 fn heard_in_pieces(
     alloc: Global,
     bytes: &[u8],
@@ -113,7 +113,7 @@ fn heard_in_pieces(
     ))
 }
 
-/// The first vector, and the header of a record that exceeds the longest length.
+/// The capture is the first vector, and then the header of a second record whose stated length exceeds the limit.
 #[test]
 fn a_capture_may_be_cut_anywhere(rt: HostRuntime) -> Result<(), Fail> {
     let longer = changed(vector(rt.alloc(), 1)?, &[], 106, 16)?;

@@ -12,21 +12,21 @@ use std::test::Fail;
 /// A packet with a whole unit.
 const SINGLE: Captured = captured!(AUDIO, format: Format::Video);
 
-/// The fragments of a unit of type 5, with two bytes of the unit in each.
+/// The fragments of a unit of type 5, each with two bytes of the unit.
 const FIRST: Captured = captured!(SINGLE, changes: &[(28, 0x7c), (29, 0x85), (31, 1)]);
 
 const MIDDLE: Captured = captured!(SINGLE, seq: 1, changes: &[(28, 0x7c), (29, 0x05), (31, 2)]);
 
 const LAST: Captured = captured!(SINGLE, seq: 2, changes: &[(28, 0x7c), (29, 0x45), (31, 3)]);
 
-/// The unit that the fragments `FIRST`, `MIDDLE` and `LAST` make.
+/// The unit that is made of the fragments `FIRST`, `MIDDLE` and `LAST`.
 const UNIT: [u8; 7] = [0x65, 0, 1, 0, 2, 0, 3];
 
 const FIRST_UNSTAMPED: Captured = captured!(FIRST, stamp: None);
 
 const MIDDLE_UNSTAMPED: Captured = captured!(MIDDLE, stamp: None);
 
-/// All four fragments are flagged if the middle one comes twice.
+/// If the middle fragment comes twice, all four fragments are flagged.
 const ALL_BROKEN: &str = "1/0 Broken, 2/1 Broken, 3/1 Broken, 4/2 Broken";
 
 const ROWS: [Row; 17] = [
@@ -151,7 +151,7 @@ fn fragments_beside_each_other_make_a_unit(rt: HostRuntime) -> Result<(), Fail> 
     Ok(())
 }
 
-/// The bytes of the only item, if it is presented.
+/// If there is only one item and it is presented, its bytes.
 fn bytes_of(heard: &Heard) -> Option<&[u8]> {
     match heard.shown.as_slice() {
         [Shown::Present(batch)] => Some(batch.bytes.as_slice()),
@@ -159,7 +159,8 @@ fn bytes_of(heard: &Heard) -> Option<&[u8]> {
     }
 }
 
-/// Long fragments. The first and the middle ones have 65,529 zero bytes of a unit; the two last ones have 447 and 448.
+/// Long fragments. The first fragment and the middle ones each have 65,529 zero bytes of a unit. `LONG_LAST` has 447
+/// zero bytes, and `LONGER_LAST` has 448.
 const LONG_FIRST: Captured =
     captured!(SINGLE, changes: &[(20, 0xff), (21, 0xff), (28, 0x7c), (29, 0x85)], len: 48, zeros: 65_529);
 
@@ -172,14 +173,14 @@ const LONG_LAST: Captured =
 const LONGER_LAST: Captured =
     captured!(LONG_LAST, changes: &[(20, 0x01), (21, 0xc6), (28, 0x7c), (29, 0x45)], zeros: 448);
 
-/// The first, the middle and the last fragment of a unit; how many middle fragments there are; how many bytes are
-/// presented, if the unit is presented; and how many fragments are flagged because the unit is too long.
+/// The first, the middle and the last fragment of a unit, and how many times the middle fragment is sent. Then how many
+/// bytes are presented, if the unit is presented, and how many fragments are flagged because the unit is too long.
 type Long = ([Captured; 3], u16, Option<usize>, usize);
 
 const LONG: [Long; 3] = [
     ([LONG_FIRST, LONG_MIDDLE, LONG_LAST], 63, Some(4_194_304), 0),
     ([LONG_FIRST, LONG_MIDDLE, LONGER_LAST], 63, None, 65),
-    // the 4,098th fragment continues no unit
+    // the 4,098th fragment does not continue a unit
     ([FIRST, MIDDLE, MIDDLE], 4_096, None, 4_097),
 ];
 

@@ -1,4 +1,4 @@
-//! What is captured of a stream and of its clock.
+//! Captured packets of a stream and of its clock.
 
 ghost use Rattle.std.specs.Prelude.{All, IfOk};
 ghost use Rattle.clock_track.specs.Limits.{IsNotable};
@@ -12,15 +12,16 @@ use std::alloc::Global;
 
 #[derive(Clone, Copy)]
 pub enum Captured {
-    /// A packet of a 48 kHz stream that stamps each packet: its sequence number, timestamp and arrival.
+    /// A packet of a 48 kHz stream that stamps every packet: its sequence number, timestamp and arrival.
     Audio(u8, u32, u64),
-    /// A packet of a 44.1 kHz stream that stamps each packet: its sequence number, timestamp and arrival.
+    /// A packet of a 44.1 kHz stream that stamps every packet: its sequence number, timestamp and arrival.
     Cd(u8, u32, u64),
-    /// Six data blocks: the sequence number, the count of the first block, the timestamp and the arrival.
+    /// A packet of six data blocks: its sequence number, the count of its first block, its timestamp and its arrival.
     Blocks(u8, u8, Option<u32>, u64),
     /// The packet with this number of a sparse stream.
     Sparse(u16),
-    /// The packet with this number of a sparse stream that restarts after every ten packets, 1 ms later.
+    /// The packet with this number of a sparse stream that restarts after every ten packets. Each restart delays the
+    /// rest of the stream by a further 1 ms.
     Restarted(u16),
     /// A packet of the clock.
     Clock(Point),
@@ -28,7 +29,7 @@ pub enum Captured {
     Unit(u8, u32, u32),
 }
 
-/// A point of a clock, 96 events after the one before.
+/// A timestamp of a clock, 96 events after the one before.
 #[derive(Clone, Copy)]
 pub struct Point {
     pub seq: u8,
@@ -38,7 +39,8 @@ pub struct Point {
     pub arrival: u64,
 }
 
-/// How a stream stamps its packets: each one, every eighth, or those with a data block whose count is a multiple of 8.
+/// Which packets of a stream have a timestamp: each one, every eighth one, or those with a data block whose count is a
+/// multiple of 8.
 #[derive(Clone, Copy)]
 enum Form {
     Each,
@@ -77,7 +79,8 @@ const fn stamped(seq: u8, stamp: Option<u32>, form: Form, arrival: u64) -> Sent 
     }
 }
 
-/// A talker's packet, sent 2 ms ahead: its 6 samples last 125,000 ns, and the first packet is due 1.002 s after the epoch.
+/// Packet `n` of a sparse stream, after `run` restarts. Packet 0 is due 1.002 s after the epoch. Each packet has 6
+/// samples, which last 125,000 ns, and is captured 2 ms before it is due.
 fn sparse(n: u16, run: u16) -> Sent {
     let due = 1_002_000_000 + 125_000 * u64::from(n) + 1_000_000 * u64::from(run);
     Sent {
@@ -94,7 +97,7 @@ fn sparse(n: u16, run: u16) -> Sent {
     }
 }
 
-/// A packet of six samples of 4 bytes.
+/// A packet of six samples of 4 bytes each.
 fn packet(alloc: Global, frame: u64, sent: Sent) -> Result<Entry, NoMemory>
     ensures { IfOk result IsEntry }
 {
@@ -176,7 +179,7 @@ fn entry(alloc: Global, frame: u64, captured: Captured) -> Result<Entry, NoMemor
     packet(alloc, frame, sent)
 }
 
-/// The captured entries, in frames numbered from 1.
+/// The captured entries, whose frames are numbered from 1.
 pub fn entries_of(alloc: Global, rows: &[Captured]) -> Result<Vec<Entry>, NoMemory>
     ensures { IfOk result (λ v. All IsEntry v.items) }
 {

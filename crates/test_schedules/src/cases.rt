@@ -18,15 +18,15 @@ pub const PLAN: SchedulePlan = SchedulePlan {
     shift: 0,
 };
 
-/// When each of six samples of 48 kHz is due, in nanoseconds after the first.
+/// When each of six samples at 48 kHz is due, in nanoseconds after the first sample.
 pub const STEPS: [i64; 6] = [0, 20_833, 41_666, 62_500, 83_333, 104_166];
 
 /// What is shown of a frame.
 #[derive(Clone, Copy, Debug, PartialEq, Eq)]
 pub enum Seen {
-    /// It is presented from this instant on, and its samples are at the steps of the case.
+    /// It is presented. Its first sample is at this instant, and the other samples are at the steps of the case.
     At(u64, i64),
-    /// It is presented, but this sample is at an instant that is not one of the steps.
+    /// It is presented, but this sample is not at its step of the case. The last number is the instant of the sample.
     Astray(u64, u32, i64),
     Flag(u64, Reason),
 }
@@ -74,7 +74,7 @@ fn seen_of(shown: &Shown, steps: &[i64; 6]) -> Seen {
     }
 }
 
-/// What is shown of a list.
+/// What is shown of a captured list.
 pub fn seen_in(
     alloc: Global,
     plan: &SchedulePlan,

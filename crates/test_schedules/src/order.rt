@@ -6,16 +6,16 @@ use avtp_base::NoMemory;
 use std::alloc::Global;
 use vectors_avtp::Draws;
 
-/// Unit n, captured 10 ns after the one before and due up to 20,000 ns later. No two have both the same instant and the same
-/// sequence number.
+/// Unit `n`. It is captured 10 ns after unit `n` - 1, and is due up to 20,000 ns after its arrival. No two units have
+/// both the same instant and the same sequence number.
 fn drawn(draws: &mut Draws, n: u16) -> (u32, Captured) {
     let arrival = 10 * u32::from(n);
     let instant = arrival + 100 * draws.below(200) + u32::from(n / 256);
     (instant, Captured::Unit((n % 256) as u8, arrival, instant))
 }
 
-/// Draws 4,000 units, of which about 1,000 wait at a time. Returns all units sorted by instant and then by index, and
-/// as they are shown.
+/// Draws 4,000 units, of which about 1,000 wait at a time. Returns two lists, which must be equal: all units, sorted by
+/// instant and then by index; and the units as the schedule shows them.
 fn sorted_and_shown(alloc: Global) -> Result<[Vec<Seen>; 2], NoMemory> {
     let mut draws = Draws::seeded(10);
     let mut captured = Vec::new(alloc);

@@ -1,4 +1,4 @@
-//! Packets with timestamps, and packets that are counted from those of others.
+//! Packets with timestamps, and packets that are counted from the timestamps of others.
 
 use crate::captured::Captured;
 use crate::captured::Captured::{Audio, Blocks, Cd, Restarted, Sparse};
@@ -14,7 +14,7 @@ const ONE: Case = Case {
     shown: &[At(1, 1_002_000_000)],
 };
 
-/// Three packets on time.
+/// Three packets that arrive in time.
 const THREE: [Captured; 3] = [
     Audio(0, 1_002_000_000, 1_000_000_000),
     Audio(1, 1_002_125_000, 1_000_125_000),
@@ -106,7 +106,7 @@ fn packets_are_shown_by_their_timestamps(rt: HostRuntime) {
     }
 }
 
-/// Data blocks with counts from 18 on, which is two after the stamped block 16.
+/// Data blocks that are numbered from 18, which is two after the stamped block 16.
 const BEHIND: Captured = Blocks(1, 18, None, 4_998_041_666);
 
 const COUNTED: [Case; 7] = [

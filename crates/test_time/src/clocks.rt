@@ -1,4 +1,4 @@
-//! Samples by a media clock.
+//! The lines of a media clock on which samples are.
 
 ghost use Rattle.std.specs.Prelude.{IfOk};
 ghost use Rattle.clock_track.specs.Limits.{IsNotable};
@@ -8,7 +8,7 @@ use clock_track::{Clock, ClockAnswer, ClockRow, line_over};
 use std::alloc::Global;
 use time_unfold::Line;
 
-/// The answer for event `offset` of a 48 kHz clock, counted from the later of two timestamps.
+/// The answer that names event `offset` of a 48 kHz clock, counted from the later of two timestamps.
 const fn event(offset: u64) -> ClockAnswer {
     ClockAnswer::OnLine {
         line: Line {
@@ -20,8 +20,8 @@ const fn event(offset: u64) -> ClockAnswer {
     }
 }
 
-/// The frequency and the pull of a clock, and its answer for a sample of a 48 kHz stream that is stamped with
-/// `instant`.
+/// The frequency and the pull of a clock, and the clock's answer for a sample of a 48 kHz stream. The timestamp of the
+/// sample is `instant`.
 #[derive(Clone, Copy)]
 struct Stamped {
     base_frequency: u32,
@@ -37,8 +37,8 @@ const STAMPED: Stamped = Stamped {
     answer: ClockAnswer::NoClock,
 };
 
-/// A clock packet with one timestamp, 96 events after the one before. The timestamp is not usable if the frequency or
-/// the pull has no meaning.
+/// A clock packet with one timestamp, 96 events after the one before. If the frequency or the pull is not a valid
+/// value, the timestamp is not usable.
 fn packet(alloc: Global, seq: u8, row: &Stamped, timestamp: u64) -> Result<ClockRow, NoMemory>
     ensures { IfOk result IsNotable }
 {
@@ -55,7 +55,8 @@ fn packet(alloc: Global, seq: u8, row: &Stamped, timestamp: u64) -> Result<Clock
     })
 }
 
-/// The answer of a clock that keeps two timestamps, and the answer that is found in the list of both.
+/// Two answers, which must be equal: that of a clock that has noted two timestamps, and that of a search in the list of
+/// the two timestamps.
 fn answers(alloc: Global, row: &Stamped) -> Result<[ClockAnswer; 2], NoMemory> {
     let first = packet(alloc, 255, row, 1_002_000_000)?;
     let second = packet(alloc, 0, row, 1_004_000_000)?;
@@ -67,9 +68,9 @@ fn answers(alloc: Global, row: &Stamped) -> Result<[ClockAnswer; 2], NoMemory> {
     Ok([kept, line_over(&[first, second], 0, instant, 48_000)])
 }
 
-/// The two timestamps are 2 ms apart, as 96 events of 48 kHz are. They cover the 2 ms that begin 10,416.7 ns before the
-/// later one. At 40 kHz, 96 events take 2.4 ms, more than 8/7 of 2 ms, so no instant is covered. The last two clocks
-/// are pulled by 1000/1001 and by 1/8.
+/// The two timestamps are 2 ms apart, the time of 96 events at 48 kHz. Their line covers the 2 ms that begin 10,416.7
+/// ns before the later timestamp. At 40 kHz, 96 events take 2.4 ms. That is more than 8/7 of 2 ms, so no instant is
+/// covered. The last two clocks have pulls of 1000/1001 and of 1/8.
 #[test]
 fn a_sample_stands_by_the_pair_that_covers_it(rt: HostRuntime) {
     for row in [

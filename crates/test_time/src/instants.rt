@@ -9,8 +9,8 @@ struct Unfolded {
     instant: i64,
 }
 
-/// The last timestamp that is read as later than the arrival. The next timestamp, which is read as earlier. A timestamp
-/// after a wrap. An instant before the epoch.
+/// Four timestamps: the last one that is read as later than the arrival; the next one, which is read as earlier; one
+/// after a wrap; and one that means an instant before the epoch.
 const UNFOLDED: [Unfolded; 4] = [
     Unfolded {
         timestamp: 3_557_549_055,

@@ -1,4 +1,4 @@
-//! The stamps that packets are counted from.
+//! The timestamps from which the samples of packets are counted.
 
 use avtp_base::NoMemory;
 use std::alloc::Global;
@@ -44,9 +44,9 @@ struct Search {
     found: Option<Stamp>,
 }
 
-/// A stamp fits if the packet arrives at most 7,500,000 ns, the time of 60 packets, earlier or later than expected. The
-/// packet is expected at about 1,000,125,000 by the last two stamps. It is expected at 970,125,000 by the first stamp,
-/// which is no longer kept.
+/// A stamp fits if the packet arrives at most 7,500,000 ns, the time of 60 packets, earlier or later than expected. By
+/// the last two stamps, the packet is expected at about 1,000,125,000. By the first stamp, which is no longer kept, it
+/// is expected at 970,125,000.
 const SEARCHES: [Search; 6] = [
     Search {
         arrival: 1_000_125_000,
@@ -74,8 +74,8 @@ const SEARCHES: [Search; 6] = [
     },
 ];
 
-/// What the second packet of a sparse 48 kHz stream finds: among two kept stamps, and among the last two of the list of
-/// all stamps.
+/// Two results, which must be equal, for the second packet of a sparse 48 kHz stream: the stamp that is found among two
+/// kept stamps, and the one that is found among the last two in the list of all stamps.
 fn found(alloc: Global, arrival: u32) -> Result<[Option<Stamp>; 2], NoMemory> {
     let want = Want {
         seq: 0,

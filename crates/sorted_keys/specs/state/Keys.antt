@@ -6,7 +6,7 @@ use Rattle.sorted_keys.specs.declared.key.Key.{Key}
 
 -- ---- a sorted list
 
--- the keys are sorted: no key is earlier than a key before it
+-- the keys are sorted: no key is later than a key after it
 abbrev pub KeysAreInOrder : List Key → Type 0
 KeysAreInOrder [] = ⊤
 KeysAreInOrder (key ∷ rest) = AllByRecursion (λ other. key.instant ≤ℤ other.instant) rest × KeysAreInOrder rest
@@ -34,15 +34,15 @@ starts_before instant (key ∷ rest) = int_lt key.instant instant
 abbrev pub all_keys : List (List Key) → List Key
 all_keys blocks = flat_map (λ block. block) blocks
 
--- there is a first block, and it has keys if there are other blocks
+-- there is a first block; if there are other blocks, the first block has keys
 abbrev pub IsStarted : List (List Key) → Type 0
 IsStarted [] = ⊥
 IsStarted (block ∷ []) = ⊤
 IsStarted ([] ∷ next ∷ rest) = ⊥
 IsStarted ((key ∷ keys) ∷ next ∷ rest) = ⊤
 
--- Sorted keys in blocks. Each block has fewer than 512 keys, and so room for one more. Each block after the first has
--- at least 256 keys, so there are few blocks.
+-- Sorted keys in blocks. Each block has room for one more key, because it has fewer than 512. Each block after the
+-- first has at least 256 keys, so that there are few blocks.
 pub record AreBlocks (blocks : List (List Key)) : Type 0 where
   pub in_order : KeysAreInOrder (all_keys blocks)
   pub started : IsStarted blocks
@@ -65,19 +65,19 @@ pub record AreTaken (blocks : List (List Key)) : Type 0 where
   pub filled : AllByRecursion (λ block. 256 ≤ length block) (drop 1 blocks)
   pub short : AllByRecursion (λ block. length block < 512) blocks
 
--- A key with this instant goes into the block at this index. No key in the blocks before it is later than the instant,
--- and all keys in the blocks after it are later.
+-- A key with this instant goes into the block at this index. No key in the earlier blocks is later than the instant,
+-- and all keys in the later blocks are later than the instant.
 abbrev pub IsBlockFor : ℤ → List (List Key) → ℕ → Type 0
 IsBlockFor instant [] place = ⊥
 IsBlockFor instant (block ∷ rest) zero = AllByRecursion (λ key. instant <ℤ key.instant) (all_keys rest)
 IsBlockFor instant (block ∷ rest) (suc place) = AllByRecursion (λ key. key.instant ≤ℤ instant) block × IsBlockFor instant rest place
 
--- how many keys always fit in this many blocks: each block is at least half full, except the first, which may have one
--- key
+-- the number of keys that are certain to fit into this many blocks, if each block except the first has at least 256
+-- keys
 abbrev pub room_of : ℕ → ℕ
 room_of blocks = 256 * (blocks - 1)
 
--- the blocks of keys and the spare blocks without keys fit the list that is reserved for them
+-- `places` is at least the number of blocks with keys and of spare blocks together; the spare blocks have no keys
 pub record HaveRoom (blocks spare : List (List Key)) (places : ℕ) : Type 0 where
   pub kept : AreBlocks blocks
   pub empty : AllByRecursion (λ block. block ≡ []) spare

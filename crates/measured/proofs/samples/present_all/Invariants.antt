@@ -3,7 +3,6 @@ use Rattle.sample_schedule.specs.Judge.{IsIdle, taken}
 use Rattle.sample_schedule.specs.Limits.{IsEntry}
 use Rattle.measured.proofs.samples.present_all.Given as goal
 
--- the judge has taken the first entries
 abbrev pub invariant-loop-entry : goal.invariant-loop-entry
 invariant-loop-entry l = record {
   proper : All IsEntry l.entries.items;

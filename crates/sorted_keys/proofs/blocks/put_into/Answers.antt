@@ -17,7 +17,6 @@ put-requires c =
     let h = block-within (to_z w64 (of_z w64 c.args.key.instant)) c.args.blocks.now.items c.block_for-place.result c.block_for-place.ensures in
     subst (λ (b : List Key). length b < 512) (sym c.index_mut.ensures.value) (all-at (λ b. length b < 512) c.args.blocks.now.items c.block_for-place.result c.index_mut.result.now h c.requires.short)
 
--- the key is put into the block that was found
 put-into : (bs : List (List Key)) (n : ℕ) (b now : List Key) (k : Key) → IsBlockFor (to_z w64 (of_z w64 k.instant)) bs n → to_z w64 (of_z w64 k.instant) ≡ k.instant → b ≡ get_or bs n b → now ≡ put_key b k → IsPutInto bs (slice_set bs n now) n b k
 put-into bs n b now k place is read put = record { place = rw is at place; read = read; set = ap (λ (x : List Key). slice_set bs n x) put }
 

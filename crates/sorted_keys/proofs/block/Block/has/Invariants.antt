@@ -3,7 +3,7 @@ use Rattle.std.specs.List.{AllByRecursion, list_any}
 use Rattle.sorted_keys.specs.Keys.{is_key}
 use Rattle.sorted_keys.proofs.block.Block.has.Given as goal
 
--- no key that was searched so far is the one that is looked for
+-- none of the keys that were searched so far is the wanted key
 abbrev pub invariant-loop-end : goal.invariant-loop-end
 invariant-loop-end l = record {
   within : l.end ≤ length l.self-inside.keys.items;

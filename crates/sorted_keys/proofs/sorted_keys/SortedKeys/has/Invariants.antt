@@ -4,7 +4,7 @@ use Rattle.sorted_keys.specs.Keys.{is_key}
 use Rattle.sorted_keys.specs.state.Keys.{all_keys}
 use Rattle.sorted_keys.proofs.sorted_keys.SortedKeys.has.Given as goal
 
--- no block that was searched so far has the key that is looked for
+-- none of the blocks that were searched so far has the wanted key
 abbrev pub invariant-loop-end : goal.invariant-loop-end
 invariant-loop-end l = record {
   within : l.end ≤ length l.self-inside.blocks.items;
