@@ -8,7 +8,7 @@ use std::alloc::Global;
 /// The maximum number of buffers that a pool keeps.
 const MOST: usize = 64;
 
-/// Buffers of samples that were given back. Later samples use their memory before more is allocated.
+/// Buffers of samples that were given back. They are used for later samples before more memory is allocated.
 #[derive(Drop)]
 pub struct BufferPool {
     buffers: Vec<Vec<u8>>,
@@ -29,9 +29,9 @@ impl BufferPool {
         }
     }
 
-    /// An empty buffer with room for this many bytes: one of the pool's, or else a new one. If the pool's buffer is too
-    /// small, it is freed. If it has more than about twice the room, it is freed, too: small packets must not hold the
-    /// memory of large ones.
+    /// An empty buffer with room for `size` bytes: the pool's last buffer if that fits, otherwise a new one. If the
+    /// pool's last buffer is too small, it is freed. If it has room for more than about 2 * `size` bytes, it is freed,
+    /// too: small packets must not hold the memory of large ones.
     #[inline(always)]
     pub fn take(&mut self, alloc: Global, size: usize) -> Result<Vec<u8>, NoMemory>
         ensures empty { IfOk result (λ buffer. buffer.items ≡ []) }

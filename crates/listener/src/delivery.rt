@@ -20,18 +20,18 @@ pub struct DeliveryView<'a> {
     pub frame: u64,
     /// When the record was captured, in nanoseconds of gPTP.
     pub arrival: i64,
-    /// The subtype of its packet.
+    /// The subtype of the record's packet.
     pub subtype: u8,
-    /// The sequence number of its packet.
+    /// The sequence number of the record's packet.
     pub seq: u8,
-    /// Its AVTP packet.
+    /// The record's AVTP packet.
     pub packet: &'a [u8],
 }
 
 /// A packet of a stream.
 #[derive(Clone, Copy, Debug)]
 pub struct StreamPacket<'a> {
-    /// Its subtype: IEC 61883, AAF or CVF.
+    /// The packet's subtype: IEC 61883, AAF or CVF.
     pub subtype: u8,
     /// The AVTP packet, with all that follows it in the frame.
     pub bytes: &'a [u8],

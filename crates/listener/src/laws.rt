@@ -44,7 +44,7 @@ pub fn each_delivery_is_shown()
 {}
 
 /// Items that are due stay due: whatever records follow, what is due of all records begins with what was due before. If
-/// no record follows, what is shown begins with it.
+/// no record follows, what is shown begins with what was due.
 pub fn what_is_due_stays()
     ensures longer { (plan : ListenPlan) (records others : List Record) → IsPrefix (due_of plan records) (due_of plan (records ++ others)) }
     ensures first { (plan : ListenPlan) (records : List Record) → IsPrefix (due_of plan records) (shown_of plan records) }

@@ -1,4 +1,4 @@
-//! What a listener shows of a capture that comes in pieces.
+//! What a listener shows of a capture that is fed in pieces.
 
 ghost use Rattle.std.specs.Prelude.{◌≡◌, ◌⊎◌, ◌↔◌, ◌+◌, ◌^◌, ◌<◌, ◌≤◌, ◌++◌, [], ℕ, true, false, List, length, slice_get, take, None, Some, Err, IfNone, IfOk, IsSome, OnErr, OnOk, option_map};
 ghost use Rattle.std.specs.Option.{option_to_list};
@@ -28,7 +28,7 @@ use thiserror::Error;
 /// Why a listener stops.
 #[derive(Clone, Copy, Debug, PartialEq, Eq, Error)]
 pub enum ListenFault {
-    /// The capture's first field that is cut off or refused. The records before it are heard.
+    /// The capture's first field that is cut off or refused. The records before that field are heard.
     #[error("the capture is refused")]
     Refused(Refusal),
     /// There was no memory for the samples of a packet.

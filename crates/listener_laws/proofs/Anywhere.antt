@@ -129,7 +129,8 @@ welcome_here shift p plan records place n d h kind m =
 
 -- ---- a further copy
 
--- once a copy of packet `n` is presented, packet `n` is among what was accepted before each later item
+-- if an earlier copy of packet `n` must be presented, packet `n` is among the batches that are accepted before the item
+-- at `place`
 pub accepted_later : (shift : ℤ) (p : PacketJournal) (plan : ListenPlan) (records : List Record) (earlier place n : ℕ) (made : MadeItem) → HearsTalker shift p plan records → IsWelcome p plan records earlier n made → earlier < place
     → Any (λ (a : Accepted). IsOfPacket (by_clock plan) p n a.batch) (accepted_before plan records place)
 accepted_later shift p plan records earlier place n made h w lt =

@@ -1,4 +1,5 @@
--- In the example, the first copy of a packet must be presented by the clock, and the second copy is a further copy.
+-- In the example, the first copy of a packet must be presented at its instants by the clock, and the second copy is a
+-- further copy.
 use Rattle.std.proofs.Common.{◌≡◌, ◌≢◌, inl, inr, ℕ, zero, suc, ◌+◌, ◌*◌, ◌^◌, ◌<◌, ◌≤◌, true, pos, ◌≤ℤ◌, List, [], ◌∷◌, length, take, Some, refl, sym, ap, subst, append-nil, arith}
 use Rattle.std.specs.Prelude.{slice_get}
 use Rattle.std.proofs.lemmas.Int.{ints}

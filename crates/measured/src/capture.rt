@@ -35,7 +35,7 @@ fn arrival(n: u32) -> i64
     (due(n) - 2_000_000) as i64
 }
 
-/// Packet n, if the packets of all streams are numbered in their order.
+/// Packet n of the capture. The packets of all streams are numbered together.
 fn packet(n: u32, streams: u32) -> Option<[u8; 48]>
     requires some { 1 ≤ streams }
     requires most { streams ≤ 65536 }
@@ -87,7 +87,7 @@ fn frame(packet: &[u8; 48]) -> Option<[u8; 66]> {
     Some(frame)
 }
 
-/// The record of packet n, if the packets of all streams are numbered in their order.
+/// The record of packet n of the capture.
 fn record(n: u32, streams: u32) -> Option<[u8; 82]>
     requires some { 1 ≤ streams }
     requires most { streams ≤ 65536 }

@@ -9,7 +9,7 @@ use sample_schedule::{Reason, Shown};
 use std::alloc::Global;
 use std::thread::Threads;
 
-/// Returns flags with the frame numbers 1, 2, 3 and so on.
+/// A receiver that returns flags with the frame numbers 1, 2, 3 and so on.
 #[derive(Drop)]
 struct Flags {
     given: u64,
@@ -42,7 +42,7 @@ impl Receiver for Flags {
     }
 }
 
-/// Counts the items that are presented to it.
+/// A presenter that counts the items that it is given.
 #[derive(Drop)]
 struct Counted {
     items: u64,

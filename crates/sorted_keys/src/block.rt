@@ -19,7 +19,7 @@ pub const FULL: usize = 512;
 
 pub const HALF: usize = FULL / 2;
 
-/// How many of the sorted keys are not later than the instant. Usually all of them are not later.
+/// How many of the sorted keys are not later than the instant. Usually no key is later.
 #[inline(always)]
 fn place_behind(keys: &VecDeque<Key>, instant: i64) -> usize
     requires { KeysAreInOrder keys.now.items }

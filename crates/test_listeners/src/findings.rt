@@ -25,15 +25,15 @@ const NOTHING: Findings = Findings {
 const MOST: u64 = 1024;
 
 /// A packet and its findings. The packet: its sequence number, its restart bit, and whether it has both a reserved bit
-/// and a wrong timestamp. The findings: the step of the sequence number, and for how many packets the last value of the
-/// restart bit was kept.
+/// and a wrong timestamp. The findings: the step of the sequence number if it is not 1; and for how many packets the
+/// restart bit kept its last value, if that is fewer than 8.
 type Noted = (u8, bool, bool, Option<u8>, Option<u32>);
 
 /// Separate streams, each with its packets in order.
 const STREAMS: [&[Noted]; 4] = [
-    // Each finding by itself, and all findings together. The first value of the restart bit began with the stream, so
-    // it is no finding that it was kept for one packet. The next value is kept for four packets, and the value after
-    // that for one packet.
+    // Each finding by itself, and all findings together. The restart bit has its first value since the stream began, so
+    // it is no finding that this value is kept for one packet. The next value is kept for four packets, and the value
+    // after that for one packet.
     &[
         (0, false, false, None, None),
         (1, true, false, None, None),

@@ -24,9 +24,11 @@ pub const STEPS: [i64; 6] = [0, 20_833, 41_666, 62_500, 83_333, 104_166];
 /// What is shown of a frame.
 #[derive(Clone, Copy, Debug, PartialEq, Eq)]
 pub enum Seen {
-    /// It is presented. Its first sample is at this instant, and the other samples are at the steps of the case.
+    /// The frame with this number is presented. Its first sample is at this instant, and its other samples are at the
+    /// steps of the case.
     At(u64, i64),
-    /// It is presented, but this sample is not at its step of the case. The last number is the instant of the sample.
+    /// The frame with this number is presented, but the sample with this number is not at its step. The last number is
+    /// the instant of that sample.
     Astray(u64, u32, i64),
     Flag(u64, Reason),
 }

@@ -1,4 +1,4 @@
-//! The lines of a media clock on which samples are.
+//! The line of a media clock that a sample is on.
 
 ghost use Rattle.std.specs.Prelude.{IfOk};
 ghost use Rattle.clock_track.specs.Limits.{IsNotable};

@@ -21,9 +21,9 @@ pub record HasHeard (bytes : List ℕ) (given : ℕ) (reader : Reading) (listene
   pub read : HasRead reader bytes records
   pub stands : RecordsStandFor records given listener
 
--- The invariant of every listener. There are bytes that it was fed. Unless they were refused, it counted at most as
--- many records as bytes. If nothing is due, all that is shown of them so far was returned. Once memory has run out,
--- nothing is due.
+-- The invariant of every listener. There are bytes that lead to its state. Unless these bytes were refused, it has
+-- counted at most as many records as bytes. If nothing is due, it has returned all that is shown of them so far. Once
+-- memory has run out, nothing is due.
 pub record IsSound (fed : Feeding) : Type 0 where
   pub bytes : List ℕ
   pub given : ℕ
