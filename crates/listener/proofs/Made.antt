@@ -68,8 +68,8 @@ lost_holds (x ∷ xs) why e = by (is_within (x ∷ xs)) (is_complete (x ∷ xs))
     by true false p e = absurd cc
     by false c p e = refl
 
--- How many fragments a packet moves, by the packet's outcome: `h` were held before it, `g` are given up, `s` are in its
--- stretch, and `w` are held after it.
+-- How numbers of fragments are related when a packet with this outcome is added: `h` were held before, `g` are given
+-- up, `s` are in the packet's stretch, and `w` are held afterwards.
 abbrev Adds : Piece → ℕ → ℕ → ℕ → ℕ → Type 0
 Adds Whole h g s w = (g + (s - 1) ≡ h) × (w ≡ 0)
 Adds Held h g s w = g + w ≡ h + 1
@@ -147,8 +147,8 @@ waiting_more before d e =
     ap (λ (es : List Event). last_ones (length (held es)) (in_stream (before ++ d ∷ []))) (events_more before d e)
     ∙ ap (last_ones (length (held (events_to before d)))) (stream_more before d e)
 
--- Deliveries that pass a test are counted before and after `d`: those that waited, and `d`, are now either in an item
--- or still waiting.
+-- The number of deliveries that pass the test `p` is kept: those that waited, and `d`, are now in an item or still
+-- wait.
 Keeps : (Delivery → Bool) → List Delivery → Delivery → List MadeItem → Type 0
 Keeps p before d own = tally p (given_up_by before d ++ own) + count_by p (last_ones (length (held (events_to before d))) (in_stream before ++ d ∷ [])) ≡ count_by p (waiting before) + count_by p (d ∷ [])
 

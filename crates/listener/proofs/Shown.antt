@@ -126,7 +126,7 @@ item_by d item e = by (d.subtype == crf_subtype) e
 
 -- ---- items and their entries
 
--- If an entry is an item, the item has the frame number and the sequence number of its last delivery.
+-- If an entry is an item, the item has the frame number and the sequence number of the entry's last delivery.
 record IsOwn (m : MadeItem) : Type 0 where
   of_last : (item : Item) → m.entry ≡ OfItem item → IsItemOf m.last item
 

@@ -57,7 +57,7 @@ pub record IsStreamEntry (items : List MadeItem) (p : PacketJournal) (lead : ℕ
   pub listed : Contains items (made_of_one delivery)
   pub same : e ≡ OfItem (OfPacket (sent p.times number delivery.frame copy.arrival (carried (p.packet number))))
 
--- The entry is a unit that was made of copies of all packets of a unit.
+-- The entry is a whole unit, which was made of one copy of each packet of a unit of the journal.
 pub record IsUnitEntry (items : List MadeItem) (p : PacketJournal) (lead : ℕ) (e : Entry) : Type 0 where
   pub part : ℕ → Part
   pub kind : p.times.kind ≡ H264 part

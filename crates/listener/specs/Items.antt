@@ -181,15 +181,14 @@ unit_by before d = record {
   last = d;
 }
 
--- The items of an H.264 packet without a flaw. If the packet completes a unit, the unit; if it waits for the rest of
--- its unit, none; if it is lost, a flagged item.
+-- The items of an H.264 packet without a flaw: the unit if the packet completes one, none if the packet waits for the
+-- rest of its unit, and a flagged item if the packet is lost.
 abbrev pub piece_by : List Delivery → Delivery → Piece → List MadeItem
 piece_by before d Whole = unit_by before d ∷ []
 piece_by before d Held = []
 piece_by before d (Lost why) = flagged (lost_for why) d ∷ []
 
--- the items of an H.264 packet: a flagged item if the packet has a flaw, otherwise what the packet does to the current
--- unit
+-- the items of an H.264 packet: a flagged item if the packet has a flaw, otherwise the items of a packet without a flaw
 abbrev pub video_by : List Delivery → Delivery → Option Reason → List MadeItem
 video_by before d None = piece_by before d (piece (events_to before d))
 video_by before d (Some reason) = flagged reason d ∷ []

@@ -1,4 +1,4 @@
--- When an item's timestamp or clock reference is known, in terms of which of the journal's packets came.
+-- When an item's timestamp or clock reference is known. This depends on which of the journal's packets came.
 use Rattle.std.specs.Prelude.{◌≡◌, ℕ, ◌+◌, List, [], ◌∷◌, is_some, take}
 use Rattle.pcap_frames.specs.Capture.{Record}
 use Rattle.sample_schedule.specs.declared.entry.Entry.TheVariants.{Item as OfItem}

@@ -10,9 +10,9 @@ use Rattle.listener.specs.declared.plan.ListenPlan.{ListenPlan}
 use Rattle.listener.specs.Gathering.{Gathered, HasUnits, item_entry, left}
 use Rattle.listener.specs.Heard.{counts_of, deliveries_of, due_of, entries_in, entries_so_far_in, schedule_plan, shown_of}
 
--- A listener: its plan; the units of its stream and the queued items of the last delivery; the judge of the items;
--- whether the list of records has ended; and the counts of records, of the stream's records, and of items presented and
--- flagged.
+-- A listener. `units` holds the units of its stream and the queued items of the last delivery, and `judge` judges the
+-- items. `ended` tells whether the list of records has ended. `counts` has the numbers of records, of the stream's
+-- records, of items presented, and of items flagged.
 pub record ListenState : Type 0 where
   pub plan : ListenPlan
   pub units : Gathered

@@ -45,13 +45,13 @@ fragment_in d v = record {
 
 -- ---- events
 
--- The effect of a delivery of H.264 on units: a packet without a flaw is added to the current unit or begins one, and a
+-- The effect of a delivery of H.264 on units. A packet without a flaw is added to the current unit or begins one. A
 -- packet with a flaw ends the current unit.
 abbrev pub event_by : Delivery → Option Reason → Event
 event_by d None = packet (fragment_in d (cvf_of d.packet))
 event_by d (Some reason) = cut
 
--- The effect of a delivery of the stream on units: a packet of H.264 without a flaw is added to the current unit or
+-- The effect of a delivery of the stream on units. A packet of H.264 without a flaw is added to the current unit or
 -- begins one. Any other delivery ends the current unit.
 abbrev pub event_of : Delivery → Event
 event_of d = if d.subtype == cvf_subtype then event_by d (flaw_of d) else cut

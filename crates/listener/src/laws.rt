@@ -68,10 +68,10 @@ pub fn clocks_are_followed()
     ensures with_it { (shift : ℤ) (p : PacketJournal) → FollowsClock shift p shift (Some p.clock) }
 {}
 
-/// A capture may lose, repeat or reorder the H.264 packets of a talker that keeps the rules. Each whole unit was still
-/// made of one copy of each packet of one unit of the talker, in their order. It has the bytes and the instant of that
-/// unit. Sequence numbers alone do not distinguish packets that are 256 apart, but timestamps do. Fragments without a
-/// timestamp are distinguished by the condition that their packets are at most 254 apart.
+/// A capture may lose, repeat or reorder the H.264 packets of a talker that keeps the rules. Each whole unit still
+/// consists of the packets of one unit of the talker: one copy of each packet, in order. It has the bytes and the
+/// instant of that unit. Sequence numbers alone do not distinguish packets that are 256 apart, but timestamps do.
+/// Fragments without a timestamp are distinguished by the condition that their packets are at most 254 apart.
 pub fn units_are_true()
     ensures { (shift : ℤ) (p : PacketJournal) (plan : ListenPlan) (records : List Record) (place : ℕ) (made : MadeItem) (unit : Unit) (part : ℕ → Part) → HearsTalker shift p plan records → p.times.kind ≡ H264 part → slice_get (items_in plan records) place ≡ Some made → made.entry ≡ Entry.Item (Item.Unit unit)
         → (n : ℕ) × IsUnitFrom p part plan.lead n made unit }
@@ -88,11 +88,10 @@ pub fn units_are_whole()
 {}
 
 /// What is presented is true. A capture may lose, repeat or reorder the packets of a talker that keeps the rules and of
-/// its clock, and the media clock may restart anywhere. Each batch that is presented is a packet or unit of the talker,
-/// with its bytes: the one that the batch's own item was made of. Each of its samples is at the nanosecond of gPTP that
-/// the talker gave it, or that is counted from the timestamp to which the sample belongs. Without a clock, samples are
-/// counted at the nominal rate. With the clock, they are on the line through the two CRF timestamps that cover that
-/// timestamp.
+/// its clock, and the media clock may restart anywhere. Each batch that is presented is the packet or unit of the
+/// talker that the batch's item was made of, and has the bytes of that packet or unit. Each sample is at the nanosecond
+/// of gPTP that follows from one timestamp of the talker. Without a clock, samples are counted from that timestamp at
+/// the nominal rate. With the clock, they are on the line through the two CRF timestamps that cover that timestamp.
 pub fn presented_are_true()
     ensures origin { (shift : ℤ) (p : PacketJournal) (plan : ListenPlan) (records : List Record) → HearsTalker shift p plan records → All (IsHeardFrom (by_clock plan) (items_in plan records) p plan.lead) (presented_of (shown_of plan records)) }
     ensures packet { (shift : ℤ) (p : PacketJournal) (plan : ListenPlan) (records : List Record) → HearsTalker shift p plan records → All (IsOfJournal (by_clock plan) p) (presented_of (shown_of plan records)) }

@@ -1,5 +1,5 @@
-//! A listener turns the bytes of a capture into what is presented of a stream, at which nanosecond, and why the rest is
-//! not presented.
+//! A listener of one stream. From the bytes of a capture it finds which packets of the stream are presented, at which
+//! nanosecond, and why the others are not.
 #![tactic(auto)]
 
 mod blocks;

@@ -219,8 +219,8 @@ impl Listener {
     }
 }
 
-/// Gives the next record, whose bytes are `piece`, to the listener without a copy. If there is no memory, the listener and the
-/// reader are unchanged.
+/// Gives the next record, whose bytes are `piece`, to the listener without copying them. If there is no memory, the
+/// listener and the reader are unchanged.
 fn take_lent(
     alloc: Global,
     reader: &mut Reader,

@@ -138,8 +138,8 @@ fn unit_bytes(mut bytes: Vec<u8>, unit: &[u8]) -> Bytes
     Bytes::over(bytes)
 }
 
-/// The item of a packet. If the packet completes a unit, the unit of these bytes; if it waits, none; if it is lost, a
-/// flagged item. Memory for the unit was allocated before.
+/// The own item of an H.264 packet: the unit of these bytes if the packet completes one, none if the packet waits for
+/// the rest of its unit, and a flagged item if the packet is lost. Memory for the unit was allocated before.
 fn own_item(
     delivery: &DeliveryView<'_>,
     view: &CvfView<'_>,

@@ -27,7 +27,7 @@ const PIECE: usize = 65_536;
 /// The maximum number of bytes in a capture.
 const MOST: usize = 1 << 40;
 
-/// Listens to the first of several streams in a capture. The capture is made before the time is measured.
+/// Listens to the first of several streams in a capture. The capture is made before the measurement starts.
 pub fn hear<C: Clock>(clock: &C, alloc: Global, streams: u32, packets: u32) -> Option<Timed>
     requires some { 1 ≤ streams }
     requires most { streams ≤ 65536 }

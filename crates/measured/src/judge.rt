@@ -11,7 +11,8 @@ use std::alloc::Global;
 use std::collections::VecDeque;
 use std::time::{Clock, Instant};
 
-/// Judges packets of a stream, with a look-ahead of 0 to 64 entries. The entries are made before the time is measured.
+/// Judges packets of a stream, with a look-ahead of 0 to 64 entries. The entries are made before the measurement
+/// starts.
 pub fn judge<C: Clock>(
     clock: &C,
     alloc: Global,

@@ -1,4 +1,4 @@
-//! Parts of the library by themselves, so that `bench/run` can measure them.
+//! Runs parts of the library by themselves, so that `bench/run` can measure them.
 //!
 //! `measured rounds CAPACITY ITEMS` hands items through a ring from one thread to another, and `measured lines
 //! TIMESTAMPS LOOK-UPS` looks up lines of a media clock whose window is full of packets with this many timestamps. Both

@@ -32,7 +32,7 @@ impl Sink for Counter {
     }
 }
 
-/// Prints batches of six samples of four bytes each, several times. The batches are made before the time is measured.
+/// Prints batches of six samples of four bytes each, several times. The batches are made before the measurement starts.
 /// Returns the number of bytes of text.
 pub fn samples<C: Clock>(clock: &C, alloc: Global, count: u32, times: u32) -> Option<Timed> {
     let batches = batches(alloc, count)?;

@@ -24,9 +24,10 @@ pending_of (OfClock arrival row) = PendingClock arrival
 
 -- ---- the judge
 
--- A judge: its plan; how many entries are judged; the greatest arrival up to and including the current entry; what was
--- noted from all entries; the accepted batches that wait for their instants; the current entry; the entries after the
--- current one; and whether the list has ended.
+-- A judge. `place` is the number of judged entries, `time` the greatest arrival up to and including the current entry,
+-- and `noted` what was noted from all entries. `waiting` holds the accepted batches that wait for their instants.
+-- `current` is the current entry, and `ahead` holds the entries after it. `closed` tells whether the list of entries
+-- has ended.
 pub record JudgeState : Type 0 where
   pub plan : SchedulePlan
   pub place : ℕ
@@ -68,7 +69,7 @@ abbrev pub is_over : JudgeState → Bool
 is_over judge = if judge.closed then none_left judge.current judge.ahead else false
 
 -- The judge has taken `entries`, and has returned the first `given` items of what it shows of them. Samples are timed
--- by the clock of its plan.
+-- by the clock of the judge's plan.
 pub record StandsFor (clock : Clock) (entries : List Entry) (given : ℕ) (judge : JudgeState) : Type 0 where
   pub asks : IsClockOf judge.plan clock
   -- the judge holds the entries that are not judged, and has noted the stamps and clock packets of all entries
@@ -78,8 +79,8 @@ pub record StandsFor (clock : Clock) (entries : List Entry) (given : ℕ) (judge
   pub now : judge.time ≡ latest (take (begun judge) entries)
   -- while more entries may follow, an entry is judged or current exactly if at least `look` entries follow it
   pub settles : judge.closed ≡ false → begun judge ≡ settled judge.plan entries
-  -- `passed` are batches that waited before the current entry was taken, and were presented because their instants have
-  -- passed; the other batches still wait
+  -- `passed` holds the batches that waited before the current entry was taken and were presented since; the other
+  -- batches still wait
   pub passed : List Accepted
   pub waiting : passed ++ judge.waiting ≡ by_instant (standing (latest (take judge.place entries)) (accepted clock judge.plan entries judge.place))
   pub early : is_over judge ≡ false → AllByRecursion (λ a. a.instant <ℤ judge.time) passed

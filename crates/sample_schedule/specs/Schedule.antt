@@ -125,7 +125,7 @@ given clock plan entries = steps clock plan entries (length entries) ++ rest_of 
 abbrev pub shown : Clock → SchedulePlan → List Entry → List Shown
 shown clock plan entries = map shown_of (given clock plan entries)
 
--- how many entries are judged while more entries may follow: those that at least `look` entries follow
+-- how many entries are judged while more entries may follow: those that have at least `look` entries after them
 abbrev pub settled : SchedulePlan → List Entry → ℕ
 settled plan entries = length entries - plan.look
 

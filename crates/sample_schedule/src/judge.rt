@@ -226,7 +226,8 @@ impl Judge {
         }
     }
 
-    /// Returns the batches that the current entry makes due one by one, and then the entry's flag, if it has one.
+    /// Returns, one after another, the batches that the current entry makes due. Then returns the entry's flag, if it
+    /// has one.
     #[inline(always)]
     fn give_or_judge(&mut self) -> Option<Shown>
         ensures given { (clock : Clock) (entries : List EntryValue) (given : ℕ) → StandsFor clock entries given self.old → IfSome result (λ shown. slice_get (out clock self.old entries) given ≡ Some shown) }

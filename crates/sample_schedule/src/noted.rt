@@ -31,8 +31,8 @@ pub struct Noted {
     pub clock: Option<Clock>,
 }
 
-/// If the plan has a clock, a clock that has noted no packets, with the plan's shift. Reserves all the memory that it
-/// needs.
+/// A clock that has noted no packets, with the plan's shift; `None` if the plan has no clock. Reserves all the memory
+/// that the clock needs.
 fn clock_of(alloc: Global, plan: &SchedulePlan) -> Result<Option<Clock>, NoMemory>
     requires { IsPlan plan.now }
     ensures { IfOk result (λ clock. HasClock plan.now [] clock) }

@@ -40,8 +40,8 @@ pub record Gives (ds : List Delivery) (d : Delivery) (new : Gathered) : Type 0 w
   pub has : HasUnits (ds ++ d ∷ []) new
   pub gives : map item_entry (left new) ≡ map made_entry (given_by ds d)
 
--- The item of a packet. If the packet completes a unit, the unit, which has the bytes `unit`; if it waits, none; if it
--- is lost, a flagged item.
+-- The own item of an H.264 packet: the unit, with the bytes `unit`, if the packet completes one; none if the packet
+-- waits for the rest of its unit; and a flagged item if the packet is lost.
 abbrev pub own_item : Delivery → ℤ → List ℕ → Piece → Option Item
 own_item d instant unit Whole = Some (OfUnit (record { frame = d.frame; arrival = d.arrival; seq = d.seq; instant = instant; bytes = unit }))
 own_item d instant unit Held = None

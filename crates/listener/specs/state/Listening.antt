@@ -35,7 +35,7 @@ pub record Rests (listener : ListenState) : Type 0 where
 abbrev pub shown_by : Bool → SchedulePlan → List Entry → List Shown
 shown_by ended plan entries = if ended then shown clock_spot plan entries else due clock_spot plan entries
 
--- If no more records follow and the judge was open, it is now closed. Otherwise it is unchanged.
+-- If no more records follow and the judge was open, the judge is now closed. Otherwise the judge is unchanged.
 pub record Closes (ended did : Bool) (old new : JudgeState) : Type 0 where
   pub stands : (entries : List Entry) (given : ℕ) → JudgeStandsFor clock_spot entries given old → JudgeStandsFor clock_spot entries given new
   pub plan : new.plan ≡ old.plan
@@ -52,8 +52,8 @@ pub record JudgesNext (ended did : Bool) (units_old units_new : Gathered) (old n
   pub less : did ≡ true → length (left units_new) + cond new.closed 0 1 < length (left units_old) + cond old.closed 0 1
   pub none : did ≡ false → ((left units_old ≡ []) × (left units_new ≡ [])) × ((new ≡ old) × (ended ≡ true → new.closed ≡ true))
 
--- The invariant of every listener: there is a list of records that leads to its state, and it has returned some prefix
--- of what is shown of them.
+-- The invariant of every listener. There is a list of records that leads to its state. The items that it has returned
+-- are a prefix of what is shown of these records.
 pub record IsSound (listener : ListenState) : Type 0 where
   pub records : List Record
   pub given : ℕ
