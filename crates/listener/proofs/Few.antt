@@ -1,4 +1,4 @@
--- At most as many items are shown as there are records.
+-- A listener shows at most one item for each record.
 use Rattle.std.proofs.Common.{ℕ, zero, suc, ◌≤◌, Bool, List, length, Option, Some, None, ap, ◌∙◌, arith, length-append}
 use Rattle.std.specs.Prelude.{if◌then◌else◌, true, false, count_by, filter, slice_get}
 use Rattle.std.specs.List.{enumerate_from}

@@ -187,7 +187,7 @@ has_more ds d new s streamed = record { assembly = subst (λ (es : List Event). 
 pub has_as : {ds : List Delivery} {old new : Gathered} → new.assembly ≡ old.assembly → HasUnits ds old → HasUnits ds new
 has_as {ds} {old} {new} same has = record { assembly = subst (λ (a : Assembly). StandsFor a (events ds)) (sym same) has.assembly }
 
--- the units after a delivery that no unit continues across
+-- the state of the units after a delivery that ends the current unit
 abbrev pub when_cut : Item → Assembly → Gathered
 when_cut item assembly = record { assembly = assembly; why = Broken; taken = 0; own = Some item }
 

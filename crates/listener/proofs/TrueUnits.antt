@@ -417,8 +417,7 @@ run_shows before d n all here =
     All-append Shows (last_ones n (in_stream before)) (d ∷ []) (All-drop Shows (length (in_stream before) - n) (in_stream before) (All-filter is_streamed Shows before all))
     (All-cons Shows d [] here (All-nil Shows))
 
--- if a unit was made of copies of consecutive packets, these packets are one unit of the journal, and the bytes are
--- that unit's
+-- if a unit was made of copies of consecutive packets, these packets are one unit of the journal, with the same bytes
 unit_by_run : (shift : ℤ) (p : PacketJournal) (part : ℕ → Part) (lead n : ℕ) (before : List Delivery) (d : Delivery) (run : List Fragment) → IsConforming shift p → p.times.kind ≡ H264 part → All Shows before → Shows d → (copy : IsMadeOf p lead n (unit_by before d))
     → last_stretch (events_to before d) ≡ run → IsWholeRun (events_to before d) run → AreUnit part copy.from n × (whole_unit (events_to before d) ≡ unit_bytes p copy.from n)
 unit_by_run shift p part lead n before d [] is kind all here copy same r = absurd (let some = r.some in omega arith)

@@ -65,7 +65,7 @@ blocks_of d v = OfPacket (record {
   bytes = v.payload;
 })
 
--- the item of a delivery that its reader refuses
+-- the item of a delivery whose packet is refused
 abbrev pub malformed : Delivery → Refusal → Item
 malformed d refusal = OfBad (record {
   frame = d.frame;
@@ -137,7 +137,7 @@ pub record MadeItem : Type 0 where
 abbrev pub sources : MadeItem → List Delivery
 sources made = made.earlier ++ made.last ∷ []
 
--- an item that was made of one delivery, of audio or of the clock
+-- an item that was made of one delivery, which is of audio or of the clock
 abbrev pub made_of_one : Delivery → MadeItem
 made_of_one d = record { entry = entry_of d; earlier = []; last = d }
 
@@ -202,7 +202,7 @@ own_by before d = if d.subtype == cvf_subtype then video_by before d (flaw_of d)
 abbrev pub given_by : List Delivery → Delivery → List MadeItem
 given_by before d = if d.subtype == crf_subtype then made_of_one d ∷ [] else given_up_by before d ++ own_by before d
 
--- the items that a second list of deliveries yields after a first list
+-- the items that the second list of deliveries yields if it follows the first list
 abbrev pub given_after : List Delivery → List Delivery → List MadeItem
 given_after before [] = []
 given_after before (d ∷ ds) = given_by before d ++ given_after (before ++ d ∷ []) ds

@@ -60,7 +60,7 @@ sample_count (H264 part) count = 1
 
 -- The batch is packet n of the journal: it has the packet's sequence number, number of samples and bytes. Each sample
 -- is at its instant in the journal; if `by` is true, at its instant by the talker's clock. For H.264, the batch is the
--- unit that ends with packet n: it has the bytes of all packets of the unit, and all at one instant.
+-- unit that ends with packet n: it has the bytes of all packets of the unit, and presents them at one instant.
 pub record IsOfPacket (by : Bool) (p : PacketJournal) (n : ℕ) (batch : Presented) : Type 0 where
   pub known : n < p.times.packets
   pub seq : batch.seq ≡ n % 256

@@ -41,7 +41,7 @@ pub enum ListenFault {
 ///
 /// After each call the caller takes all items that are due with `next_out` before it feeds more bytes. Memory for the
 /// listener's state is reserved when the listener is made. Later each packet's samples are copied once, into the batch
-/// that is shown. If a record is cut between two pieces, its bytes are copied once more before that.
+/// that is shown. The bytes of a record that is cut between two pieces are copied one more time first.
 #[derive(Drop)]
 pub struct Listener {
     reader: Reader,
@@ -83,8 +83,8 @@ impl Listener {
         })
     }
 
-    /// Takes bytes up to the end of one record or of the piece, and returns how many it took. In all, at most 2^62
-    /// bytes may be taken, and the listener must not have been ended.
+    /// Takes bytes up to the end of the next record or of the piece, whichever comes first, and returns how many it
+    /// took. In all, at most 2^62 bytes may be taken, and the listener must not have been ended.
     ///
     /// Without a fault, returns `Ok(0)` exactly if the piece is empty or an item is due. `Refused` is the capture's
     /// first refusal, and is returned as soon as the bytes so far show it. The records before the refusal are kept, and

@@ -1,13 +1,13 @@
 //! Runs parts of the library by themselves, so that `bench/run` can measure them.
 //!
-//! `measured rounds CAPACITY ITEMS` hands items through a ring from one thread to another, and `measured lines
-//! TIMESTAMPS LOOK-UPS` looks up lines of a media clock whose window is full of packets with this many timestamps. Both
-//! print how many items arrived or lines were found.
+//! `measured rounds CAPACITY ITEMS` sends items through a ring from one thread to another, and prints how many arrived.
+//! `measured lines TIMESTAMPS LOOK-UPS` looks up lines of a media clock, and prints how many were found. The clock's
+//! window is full of packets with this many timestamps.
 //!
-//! `measured judge ORDER WAITING LOOK CLOCK ITEMS` judges packets whose instants are in an order (rising, falling,
-//! random, middle or equal), with a look-ahead, and with a clock or without. `measured listener STREAMS PACKETS` feeds
-//! a listener a capture of this many streams and packets, of which it hears one stream. Both print how many packets are
-//! presented, and in how many nanoseconds.
+//! `measured judge ORDER WAITING LOOK CLOCK ITEMS` judges packets with a look-ahead, and with a clock or without. The
+//! order of the packets' instants is rising, falling, random, middle or equal. `measured listener STREAMS PACKETS`
+//! feeds a listener a capture of this many streams and packets. The listener hears one of the streams. Both commands
+//! print how many packets are presented, and in how many nanoseconds.
 //!
 //! `measured samples BATCHES TIMES` prints the samples of this many batches several times, to a sink that keeps
 //! nothing. It prints how many bytes of text that is, and in how many nanoseconds.

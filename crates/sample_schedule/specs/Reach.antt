@@ -3,8 +3,8 @@
 use Rattle.std.specs.Prelude.{◌+◌, ◌*◌, ◌^◌, pos, neg_ℤ, ◌≤ℤ◌, ◌<ℤ◌}
 use Rattle.time_unfold.specs.declared.head_rule.Head.{Head}
 
--- A head from which samples can be counted. If the stamped sample belongs to the packet itself, its instant is at most
--- 2^31 ns before an arrival. Otherwise the stamped sample is at most 7 packets back.
+-- A head from which samples can be counted. If the stamped sample belongs to the packet itself, the instant of that
+-- sample is at most 2^31 ns before an arrival. Otherwise the stamped sample is at most 7 packets back.
 pub record IsCountable (head : Head) : Type 0 where
   pub from : neg_ℤ (pos (2 ^ 62)) ≤ℤ head.instant
   pub to : head.instant <ℤ pos (2 ^ 62 + 2 ^ 31)

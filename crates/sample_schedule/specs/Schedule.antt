@@ -1,4 +1,4 @@
--- The schedule of a list of entries: what is shown, and in which order. Entries are counted from 0.
+-- The schedule of a list of entries: what is shown, and in which order. Entries are numbered from 0.
 use Rattle.std.specs.Prelude.{ℕ, zero, suc, ◌+◌, ◌-◌, ℤ, pos, List, [], ◌∷◌, ◌++◌, length, take, map, fold, slice_get, Option, Some, None, option_and_then, Result, Ok, Err}
 use Rattle.std.specs.Int.{int_max}
 use Rattle.sample_schedule.specs.declared.accepted.Accepted.{Accepted}

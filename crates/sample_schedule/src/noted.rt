@@ -21,7 +21,7 @@ use clock_track::{Clock, Points};
 use std::alloc::Global;
 use time_unfold::{Anchors, Stamp, Want};
 
-/// How many stamps are searched in addition to those of the look-ahead.
+/// This number plus the look-ahead is the number of stamps that are searched.
 const STAMPS: u32 = 16;
 
 /// What was noted from the entries so far: the last usable stamps, and the clock packets if the plan has a clock.

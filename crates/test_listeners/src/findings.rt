@@ -31,9 +31,8 @@ type Noted = (u8, bool, bool, Option<u8>, Option<u32>);
 
 /// Separate streams, each with its packets in order.
 const STREAMS: [&[Noted]; 4] = [
-    // Each finding by itself, and all findings together. The restart bit has its first value since the stream began, so
-    // it is no finding that this value is kept for one packet. The next value is kept for four packets, and the value
-    // after that for one packet.
+    // Each finding by itself, and all findings together. The first value of the restart bit is no finding, because it
+    // began with the stream. The next value is kept for four packets, and the value after that for one packet.
     &[
         (0, false, false, None, None),
         (1, true, false, None, None),

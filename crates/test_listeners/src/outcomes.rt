@@ -3,8 +3,9 @@
 use soak_run::soak;
 use std::test::Fail;
 
-/// How many packets are sent; then six counts. The first is the number of deliveries. The others say how many
-/// deliveries are presented, late, repeats, without a known timestamp, and without room in the buffer.
+/// How many packets are sent; then six counts. The first is the number of deliveries. The others count the deliveries
+/// that are presented, that are late, that are repeats, that have no known timestamp, and that find no room in the
+/// buffer.
 type Row = (u32, [u64; 6]);
 
 /// The counts for at most ten packets were worked out by hand. The others come from another program, which follows the

@@ -28,7 +28,7 @@ pub record HasGiven (clock : Clock) (entries : List Entry) (list : List Shown) (
   pub stands : StandsFor clock entries (length list) judge
   pub first : IsPrefix list (out clock judge entries)
 
--- the greatest arrival so far, including that of the next current entry, if there is one
+-- the greater of `now` and the arrival of the new current entry; `now` if there is no current entry
 abbrev pub now_with : ℤ → Option Pending → ℤ
 now_with now None = now
 now_with now (Some pending) = int_max now (pending_arrival pending)

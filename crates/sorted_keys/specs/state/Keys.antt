@@ -41,7 +41,7 @@ IsStarted (block ∷ []) = ⊤
 IsStarted ([] ∷ next ∷ rest) = ⊥
 IsStarted ((key ∷ keys) ∷ next ∷ rest) = ⊤
 
--- Sorted keys in blocks. Each block has room for one more key, because it has fewer than 512. Each block after the
+-- Sorted keys in blocks. Each block has room for one more key, because it has fewer than 512 keys. Each block after the
 -- first has at least 256 keys, so that there are few blocks.
 pub record AreBlocks (blocks : List (List Key)) : Type 0 where
   pub in_order : KeysAreInOrder (all_keys blocks)
