@@ -1,5 +1,5 @@
--- The items that are made of the deliveries of a stream and of its clock: packets of samples, units of H.264, packets that are
--- not presented, and CRF timestamps.
+-- The items that are made of the deliveries of a stream and of its clock: packets of samples, units of H.264, packets
+-- that are not presented, and CRF timestamps.
 use Rattle.std.specs.Prelude.{if◌then◌else◌, ℕ, ◌-◌, ◌==◌, ◌&&◌, not, false, List, [], ◌∷◌, ◌++◌, length, map, Option, Some, None, unwrap_or}
 use Rattle.avtp_base.specs.declared.refusal.Refusal.{Refusal}
 use Rattle.clock_track.specs.declared.clock_row.ClockRow.{ClockRow}

@@ -243,7 +243,8 @@ fn take_lent(
     Ok(())
 }
 
-/// Gives the record that the reader holds to the listener, if there is one. If there is no memory, the listener is unchanged.
+/// Gives the record that the reader holds to the listener, if there is one. If there is no memory, the listener is
+/// unchanged.
 fn take_held(
     alloc: Global,
     reader: &mut Reader,

@@ -157,7 +157,8 @@ impl RecordListener {
         next
     }
 
-    /// Puts the next item that is shown into `next`, which must be empty. Usually there is no item, and nothing is moved.
+    /// Puts the next item that is shown into `next`, which must be empty. Usually there is no item, and nothing is
+    /// moved.
     #[inline(always)]
     pub(crate) fn put_next(&mut self, next: &mut Option<Shown>)
         requires { next.old ≡ None }
@@ -175,8 +176,9 @@ impl RecordListener {
         }
     }
 
-    /// Takes back the memory of samples that were shown. The samples of later packets are copied into it before more memory is
-    /// allocated. At most 64 such buffers are kept; the memory of others is freed. May be called at any time. Allocates nothing.
+    /// Takes back the memory of samples that were shown. The samples of later packets are copied into it before more
+    /// memory is allocated. At most 64 such buffers are kept; the memory of others is freed. May be called at any time.
+    /// Allocates nothing.
     #[inline(always)]
     pub fn give_back(&mut self, samples: Bytes)
         ensures { self.new ≡ self.old }

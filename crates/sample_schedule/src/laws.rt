@@ -35,8 +35,8 @@ pub fn each_item_is_shown_once()
     ensures { (clock : Clock) (plan : SchedulePlan) (entries : List Entry) (i : ℕ) → times_shown clock plan entries i ≡ times_due (slice_get entries i) }
 {}
 
-/// Each item is shown as its verdict says, and in no other way: an accepted item is presented, and any other item is flagged
-/// with its reason.
+/// Each item is shown as its verdict says, and in no other way: an accepted item is presented, and any other item is
+/// flagged with its reason.
 pub fn each_item_is_shown_as_judged()
     ensures { (clock : Clock) (plan : SchedulePlan) (entries : List Entry) (i : ℕ) (item : Item) → slice_get entries i ≡ Some (Entry.Item item) → shown_at i (given clock plan entries) ≡ given_by i item (verdict_in clock plan entries i item) ∷ [] }
 {}
@@ -47,8 +47,8 @@ pub fn presented_in_order()
     ensures { (clock : Clock) (plan : SchedulePlan) (entries : List Entry) → Pairwise IsBefore (presented (given clock plan entries)) }
 {}
 
-/// No two presented batches have both the same first instant and the same sequence number: a copy of an accepted packet is never
-/// presented.
+/// No two presented batches have both the same first instant and the same sequence number: a copy of an accepted packet
+/// is never presented.
 pub fn copies_are_not_presented()
     ensures { (clock : Clock) (plan : SchedulePlan) (entries : List Entry) → Pairwise IsNoCopy (presented (given clock plan entries)) }
 {}

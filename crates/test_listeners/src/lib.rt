@@ -1,5 +1,5 @@
-//! Tests of the crates for receivers: listeners, deliveries over a bad network and their counts, and the findings in a stream's
-//! packets.
+//! Tests of the crates for receivers: listeners, deliveries over a bad network and their counts, and the findings in a
+//! stream's packets.
 #![tactic(auto)]
 
 /// A captured packet with some fields changed.
