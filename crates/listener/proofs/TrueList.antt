@@ -255,7 +255,7 @@ prefix_true items shift p lead es is all = record {
 
 -- ---- verdicts
 
--- The accepted batch is heard from an item, and its instant is the batch's first instant.
+-- The accepted batch is the packet that one of the items was made of, and its instant is the batch's first instant.
 record IsHeardAccepted (by : Bool) (items : List MadeItem) (p : PacketJournal) (lead : ℕ) (a : Accepted) : Type 0 where
   is : IsHeardFrom by items p lead a.batch
   instant : a.instant ≡ first_instant a.batch
@@ -367,7 +367,8 @@ batches_are [] = refl
 batches_are (Presents a ∷ gs) = ap (λ (l : List Presented). a.batch ∷ l) (batches_are gs)
 batches_are (Flags place item reason ∷ gs) = batches_are gs
 
--- each batch that is presented of a capture is heard from an item, and the batches are ordered by their first instants
+-- each batch that is presented of a capture is the packet that its item was made of, and the batches are ordered by
+-- their first instants
 given_heard : (shift : ℤ) (p : PacketJournal) (plan : ListenPlan) (records : List Record) → HearsTalker shift p plan records
     → All (IsHeardAccepted (by_clock plan) (items_in plan records) p plan.lead) (presented (given clock_spot (schedule_plan plan) (entries_in plan records)))
 given_heard shift p plan records h =

@@ -24,10 +24,10 @@ pending_of (OfClock arrival row) = PendingClock arrival
 
 -- ---- the judge
 
--- A judge. `place` is the number of judged entries, `time` the greatest arrival up to and including the current entry,
--- and `noted` what was noted from all entries. `waiting` holds the accepted batches that wait for their instants.
--- `current` is the current entry, and `ahead` holds the entries after it. `closed` tells whether the list of entries
--- has ended.
+-- A judge. `place` is the number of judged entries. `time` is the greatest arrival up to and including that of the
+-- current entry. `noted` is what was noted from all entries. `waiting` holds the accepted batches that wait for their
+-- instants. `current` is the current entry, and `ahead` holds the entries after it. `closed` tells whether the list of
+-- entries has ended.
 pub record JudgeState : Type 0 where
   pub plan : SchedulePlan
   pub place : ℕ

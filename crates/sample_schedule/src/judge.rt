@@ -31,10 +31,10 @@ use std::marker::Model;
 /// A judge takes the entries of a stream one at a time, in capture order. It shows each item of the stream once:
 /// presented, or flagged with the first reason that holds.
 ///
-/// An item is judged once `look` later entries are known, so that its samples may be counted from the timestamp of a
-/// later packet. A stamp is noted when its entry arrives, and the entry is judged when it leaves the delay line. Before
-/// an entry is judged, everything that its arrival makes due is returned. Hence the judge holds only batches whose
-/// instants have not passed. All memory is reserved when the judge is made.
+/// An item is judged once `look` later entries are known, so that the item's samples may be counted from the timestamp
+/// of a later packet. A stamp is noted when its entry arrives, and the entry is judged when it leaves the delay line.
+/// Before an entry is judged, everything that its arrival makes due is returned. Hence the judge holds only batches
+/// whose instants have not passed. All memory is reserved when the judge is made.
 #[derive(Drop)]
 pub struct Judge {
     plan: SchedulePlan,

@@ -50,9 +50,9 @@ pub fn give_all(judge: &mut Judge, list: &mut Vec<Shown>) -> Result<(), NoMemory
 /// with the first reason that holds. A batch is presented as soon as an entry arrives after the batch's first instant.
 /// After the last entry, the batches that are left are presented, by first instant and then by index in the list.
 ///
-/// An item is judged once `look` later entries are known or the list has ended. Hence its samples may be counted from
-/// the timestamp of a later packet. A packet without a timestamp is counted from the last usable timestamp that fits,
-/// among the last `look + 16`.
+/// An item is judged once `look` later entries are known or the list has ended. Hence the item's samples may be counted
+/// from the timestamp of a later packet. A packet without a timestamp is counted from the last usable timestamp that
+/// fits, among the last `look + 16`.
 ///
 /// If the plan has a clock, samples are on the lines of the clock packets that are known when the item is judged. If
 /// the plan has no clock, only the arrivals of clock packets count.
