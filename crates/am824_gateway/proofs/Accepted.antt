@@ -71,7 +71,6 @@ batches_all : (P : Presented → Type 0) (xs : List Accepted) → AllByRecursion
 batches_all P [] all = tt
 batches_all P (x ∷ xs) all = (all.0, batches_all P xs all.1)
 
--- if P holds for each item that may be presented, it holds for all that is presented
 pub presented_all : (P : Presented → Type 0) (plan : ListenPlan) (records : List Record) → HoldsOfItems (schedule_plan plan) (entries_in plan records) P → AllByRecursion P (presented_of (shown_of plan records))
 presented_all P plan records holds =
     let es = entries_in plan records in

@@ -1,4 +1,4 @@
--- All pieces that are given out, one after another.
+-- The pieces of all batches that are not skipped.
 use Rattle.std.proofs.Common.{◌≡◌, ℕ, zero, suc, ◌+◌, ◌-◌, ◌*◌, ◌<◌, ◌≤◌, Bool, true, false, ℤ, ◌≤ℤ◌, ◌<ℤ◌, List, [], ◌∷◌, ◌++◌, length, map, Option, Some, None, refl, ap, subst, arith}
 use Rattle.std.specs.Prelude.{if◌then◌else◌, int_le, min, nat_lt, not}
 use Rattle.std.specs.List.{AllByRecursion, list_any}
@@ -118,8 +118,6 @@ cuts_all : (P : ℤ → Type 0) (n : ℕ) (batch : Presented) (pieces : List Pie
 cuts_all P n batch [] all = tt
 cuts_all P n batch (p ∷ pieces) all = (all.0, cuts_all P (suc n) batch pieces all.1)
 
--- if P holds for the instants of all samples from `first` on, it holds for the instants of all pieces that begin there
--- or later
 pub cuts_begin : (P : ℤ → Type 0) (n : ℕ) (batch : Presented) (first : ℕ) (pieces : List Piece) → ((j : ℕ) → first ≤ j → j < batch.count → P (sample_instant batch j)) → AllByRecursion (BeginsFrom batch first) pieces
     → AllByRecursion P (map cut_instant (cuts_from n batch pieces))
 cuts_begin P n batch first pieces holds all = cuts_all P n batch pieces (all_by (BeginsFrom batch first) (λ p. P (sample_instant batch p.first)) (λ p is. holds p.first is.from is.inside) pieces all)
@@ -182,7 +180,6 @@ after_by to shape given b bs x l None is e h rising skipped taken =
     (cuts_begin (λ y. x <ℤ y) given.packets b 0 (pieces_of to shape b given.block) (λ j low high. let here = not_earlier b 0 j rising low high in omega (arith, ints, h, begun, here)) (begin_from to shape b b.count 0 given.block))
     (taken (omega (arith, ints, h, begun, ended))))
 
--- if x is not after the last instant that was given out, all later pieces begin after x
 pub after_all : (to : To) (shape : Shape) (given : Given) (batches : List Presented) (x l : ℤ) → given.last ≡ Some l → x ≤ℤ l → AllByRecursion HasRisingInstants batches
     → AllByRecursion (λ y. x <ℤ y) (map cut_instant (cuts_after to shape given batches))
 after_all to shape given [] x l e h all = tt

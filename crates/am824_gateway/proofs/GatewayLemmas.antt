@@ -152,13 +152,11 @@ in_time batch p e = before (pos captures_end) (arrival_at (sample_instant batch 
     before : (x y : ℤ) → int_le x y ≡ false → y <ℤ x
     before x y e = grind (arith, ints)
 
--- the instant of a sample of a batch is within the range of instants
 pub in_range : (batch : Presented) (i : Instant) → IsPresentable batch → IsInstantOf i batch → i.j ≤ batch.count → IsInstant i.nanoseconds
 in_range batch i p is h = rw (is.at) (p.instants i.j h)
 
 -- ---- turns
 
--- if frame i carries the piece p, its turn has this arrival, number and size
 pub turn_is : (to : To) (shape : Shape) (id n : ℕ) (batch : Presented) (frames : List SentFrame) (i size : ℕ) (arrival : ℤ) (p : Piece) → slice_get frames i ≡ Some (piece_frame to shape id n batch p)
     → p.first + p.count ≤ batch.count → length batch.bytes ≡ batch.count * (value_in to * shape.channels) → arrival ≡ arrival_at (sample_instant batch p.first) → size ≡ frame_size to shape p
     → option_map turn_of (slice_get frames i) ≡ Some (record { arrival = arrival; number = n; clock = false; size = size })
@@ -166,7 +164,6 @@ turn_is to shape id n batch frames i size arrival p frame inside whole at sized 
     let long : length (piece_frame to shape id n batch p).bytes ≡ size = length_frame to shape id n batch p inside whole ∙ sym sized in
     rw (frame, at, ← long) refl
 
--- frame i is the frame with this turn and these bytes
 pub frame_is : (to : To) (shape : Shape) (id n : ℕ) (batch : Presented) (frames : List SentFrame) (i : ℕ) (turn : Turn) (bytes : List ℕ) (p : Piece) → slice_get frames i ≡ Some (piece_frame to shape id n batch p)
     → option_map turn_of (slice_get frames i) ≡ Some turn → bytes ≡ (piece_frame to shape id n batch p).bytes → slice_get frames i ≡ Some (frame_in turn bytes)
 frame_is to shape id n batch frames i turn bytes p frame is made =

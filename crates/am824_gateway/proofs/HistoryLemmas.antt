@@ -1,4 +1,4 @@
--- What a gateway gives out for one more batch.
+-- The frames and the history of a gateway after one more batch.
 use Rattle.std.proofs.Common.{◌≡◌, ℕ, List, [], ◌∷◌, ◌++◌, Option, Some, None, refl, ap, ◌∙◌, sym, append_assoc}
 use Rattle.std.proofs.lemmas.List.{append-nil}
 use Rattle.sample_schedule.specs.Batches.{Presented}
@@ -9,7 +9,7 @@ use Rattle.am824_gateway.specs.declared.skip.Skip.{Skip}
 use Rattle.am824_gateway.specs.Packets.{frames_after, frames_with}
 use Rattle.am824_gateway.specs.Pieces.{Given, given_by, given_with, skip_by, unless}
 
--- The frames of one batch. `given` is what the gateway gave out before it.
+-- The frames of one batch; none if it is skipped. `given` is the gateway's history before this batch.
 abbrev frames_of : To → Shape → ℕ → Given → Presented → List SentFrame
 frames_of to shape id given batch = unless (skip_by to shape given batch) (frames_with to shape id given batch) []
 

@@ -16,7 +16,6 @@ three (x ∷ y ∷ z ∷ w ∷ rest) e = absurd (omega arith)
 pub length-part : (i n : ℕ) (xs : List ℕ) → i + n ≤ length xs → length (take n (drop i xs)) ≡ n
 length-part i n xs h = length-take-le n (drop i xs) (simp length-drop (omega arith))
 
--- three bytes of a list, from index i on, are the elements 0, 1 and 2 of that part
 pub three_in : (i j : ℕ) (xs : List ℕ) → j ≡ i + 3 → j ≤ length xs
     → slice_index_or (take (j - i) (drop i xs)) 0 0 ∷ slice_index_or (take (j - i) (drop i xs)) 1 0 ∷ slice_index_or (take (j - i) (drop i xs)) 2 0 ∷ [] ≡ take 3 (drop i xs)
 three_in i j xs e h =

@@ -51,7 +51,6 @@ test_is rate first k j offset batch now start b e at place begun off = sym (e �
 
 -- ---- the pieces
 
--- the first of the pieces from sample `first` on begins with this sample; the other pieces begin after its last sample
 pub first_piece : (to : To) (shape : Shape) (batch : Presented) (most first block : ℕ) → 1 ≤ most → first < batch.count
     → pieces_from to shape batch most first block
     ≡ record { first = first; count = piece_count to shape batch first; block = block }
@@ -84,7 +83,7 @@ late_more batch (q ∷ pieces) p = ap (λ (b : Bool). is_late batch q || b) (lat
     by true b c = refl
     by false b c = refl
 
--- after one step of the loop that cuts, the pieces so far and the pieces still to be cut are all pieces
+-- each step of the loop keeps this: `pieces`, followed by the pieces still to be cut, is `all`
 pub step : (to : To) (shape : Shape) (batch : Presented) (pieces : List Piece) (first next count : ℕ) (all : List Piece) → first < batch.count → length pieces ≤ first
     → count ≡ piece_count to shape batch first → pieces ++ pieces_from to shape batch (batch.count - length pieces) first next ≡ all
     → (pieces ++ record { first = first; count = count; block = next } ∷ []) ++ pieces_from to shape batch (batch.count - (length pieces + 1)) (first + count) (next_block (interval_of shape.rate) next count) ≡ all

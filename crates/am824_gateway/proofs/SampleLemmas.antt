@@ -27,7 +27,6 @@ use Rattle.am824_gateway.proofs.ValueLemmas.{labels_part, values_part}
 
 -- ---- instants
 
--- each sample of a piece after its first one passes the test
 passed_by : (test : ℕ → Bool) (j k more : ℕ) (b : Bool) → test j ≡ b → j ≤ k → k < (if b then going_on test (suc j) more else j) → (suc j ≤ k → k < going_on test (suc j) more → test k ≡ true) → test k ≡ true
 passed_by test j k more false e low high later = absurd (omega arith)
 passed_by test j k more true e low high later = by (k - j) refl
@@ -56,7 +55,6 @@ counted_at to shape batch first (suc k) h =
 
 -- ---- values
 
--- part k of the `count` parts from part `first` on is part `first + k` of all bytes
 part_of : (s first count k : ℕ) (bytes : List ℕ) → k < count → take s (drop (k * s) (take (count * s) (drop (first * s) bytes))) ≡ part s (first + k) bytes
 part_of s first count k bytes h =
     let rest : ℕ = (count - k) * s in

@@ -18,7 +18,7 @@ pub passed : (frame : ℕ) (fault : Option ScanFault) (later : Option FaultAt) �
 passed frame None later e = (refl, e)
 passed frame (Some fault) later e = absurd cc
 
--- if the records `xs` have no fault, the first fault is that of the records after them
+-- if the records `xs` have no fault, the first fault is the first one of the records after `xs`
 none_more : (to : To) (stream : ℕ) (first : Option Shape) (frame n : ℕ) (xs : List Record) (r : Record) (others : List Record) → frame + length xs ≡ n → fault_from to stream first frame xs ≡ None
     → fault_from to stream first frame (xs ++ r ∷ others) ≡ fault_from to stream (shape_from stream first xs) n (r ∷ others)
 none_more to stream first frame n [] r others at e = (let same : frame ≡ n = omega arith in ap (λ (k : ℕ). fault_from to stream first k (r ∷ others)) same)
@@ -26,7 +26,6 @@ none_more to stream first frame n (x ∷ xs) r others at e =
     let both = passed frame (content_fault to first (content stream x.bytes)) (fault_from to stream (shape_after first (content stream x.bytes)) (suc frame) xs) e in
     rw (both.0) (none_more to stream (shape_after first (content stream x.bytes)) (suc frame) n xs r others (omega arith) both.1)
 
--- if record r has no fault, the scan has also read r
 pub scanned_more : (to : To) (stream : ℕ) (records : List Record) (old new : Scanning) (r : Record) (c : Content) → content old.stream r.bytes ≡ c → HasScanned to stream records old
     → new.to ≡ old.to → new.stream ≡ old.stream → new.shape ≡ shape_after old.shape c → content_fault old.to old.shape c ≡ None → HasScanned to stream (records ++ r ∷ []) new
 scanned_more to stream records old new r c is has to_same stream_same shape none =
@@ -40,7 +39,7 @@ scanned_more to stream records old new r c is has to_same stream_same shape none
       none = next ∙ (rw no_fault refl);
     }
 
--- if no record before it has a fault, a record's fault is the first one
+-- if no earlier record has a fault, the fault of record r is the first fault
 pub fault_found : (to : To) (stream : ℕ) (records others : List Record) (old : Scanning) (r : Record) (c : Content) (fault : ScanFault) → content old.stream r.bytes ≡ c → HasScanned to stream records old
     → content_fault old.to old.shape c ≡ Some fault → first_fault to stream (records ++ r ∷ others) ≡ Some (record { frame = suc (length records); fault = fault })
 fault_found to stream records others old r c fault is has found =
@@ -54,7 +53,6 @@ pub silent_kept : (first : Option Shape) → first ≡ shape_after first Silent
 silent_kept None = refl
 silent_kept (Some shape) = refl
 
--- a packet of samples without a fault is added to the records that were scanned
 pub audio_scanned : {T : Type 0} (res : Result T ScanFault) (old new : Scanning) (bytes : List ℕ) (c : Content) → content old.stream bytes ≡ c → new.to ≡ old.to → new.stream ≡ old.stream
     → OnOk res (new.shape ≡ shape_after old.shape c) → OnOk res (content_fault old.to old.shape c ≡ None)
     → OnOk res ((to : To) (stream : ℕ) (records : List Record) (r : Record) → r.bytes ≡ bytes → HasScanned to stream records old → HasScanned to stream (records ++ r ∷ []) new)

@@ -133,7 +133,7 @@ all_other to shape (d ∷ ds) all =
 
 -- ---- packets of samples
 
--- The packet has values of 24 bits of this shape.
+-- The packet has one value of 24 bits for each channel of each sample, and only the label of linear audio.
 pub record HasValues (to : To) (shape : Option Shape) (p : Packet) : Type 0 where
   pub found : Shape
   pub is : shape ≡ Some found
@@ -178,7 +178,6 @@ payload_long bytes accepted =
     let rest = length-drop 24 bytes in
     omega (arith, long, front, rest)
 
--- a payload of three-byte samples has three bytes for each channel of each sample frame
 sized : (long pc c ch w k stated : ℕ) → long ≡ stated → c * (ch * w) ≡ stated → w ≡ 3 → ch ≡ k → pc ≡ c → long ≡ pc * (3 * k)
 sized long pc c ch w k stated same whole three channels count = rw (same, ← whole, three, channels, count) (omega arith)
 
@@ -209,7 +208,7 @@ block_values Aaf (Some shape) d rate accepted named fine p bytes count =
 
 -- ---- entries
 
--- A packet of samples with a known rate has values of this shape. No entry is a unit.
+-- The entry is not a unit. If it is a packet of samples with a known rate, the packet has values of this shape.
 abbrev pub IsShapely : To → Option Shape → Entry → Type 0
 IsShapely to shape (OfItem (OfPacket p)) = 1 ≤ p.count → 1 ≤ p.rate → HasValues to shape p
 IsShapely to shape (OfItem (OfUnit u)) = ⊥

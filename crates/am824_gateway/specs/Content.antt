@@ -47,28 +47,28 @@ abbrev pub samples_or_silent : ℕ → Option ℕ → (ℕ → Samples) → Cont
 samples_or_silent count None samples = Silent
 samples_or_silent count (Some rate) samples = if count == 0 then Silent else Audio (samples rate)
 
--- what a packet of PCM holds: its samples, or nothing if its reader refuses it
+-- the samples of a PCM packet; `Silent` if the packet is malformed, has no samples, or has an unknown rate
 abbrev pub pcm_content : Option Refusal → Aaf → Content
 pcm_content None v = samples_or_silent v.count (rate_of v.nsr) (pcm v)
 pcm_content (Some refusal) v = Silent
 
--- what a packet of IEC 61883-6 holds: its samples, or nothing if its reader refuses it
+-- the samples of an IEC 61883-6 packet; `Silent` if the packet is malformed, has no samples, or has an unknown rate
 abbrev pub am824_content : Option Refusal → Iec → Content
 am824_content None v = samples_or_silent v.count (rate_of_fdf v.cip.fdf) (am824 v)
 am824_content (Some refusal) v = Silent
 
--- what a packet of a stream holds; a packet of H.264 is not read
+-- the content of a packet; a packet of H.264 is `Video`, even if it is malformed
 abbrev pub packet_content : PacketOfStream → Content
 packet_content p =
     if p.subtype == cvf_subtype then Video
     else if p.subtype == aaf_subtype then pcm_content (aaf_refusal p.bytes) (aaf_of p.bytes)
     else am824_content (iec_refusal p.bytes) (iec_of p.bytes)
 
--- what a record holds of the stream with this ID, given the record's bytes
+-- the content of a record's bytes for the stream with this ID; `Silent` if the record has no packet of the stream
 abbrev pub content : ℕ → List ℕ → Content
 content stream bytes = if belongs stream_kinds stream bytes then packet_content (stream_packet bytes) else Silent
 
--- samples have at least one channel
+-- if the content is samples, they have at least one channel
 abbrev pub IsCounted : Content → Type 0
 IsCounted Silent = ⊤
 IsCounted Video = ⊤

@@ -10,8 +10,8 @@ use Rattle.am824_gateway.specs.declared.scan.To.{To}
 use Rattle.am824_gateway.specs.Packets.{frames_with}
 use Rattle.am824_gateway.specs.Pieces.{Given, captures_end, given_with}
 
--- A gateway: the format to which it converts a stream; the shape of that stream; the id that it sends under; what it has given
--- out; and the frames of the last batch that was not skipped.
+-- A gateway: the format to which it converts a stream; the shape of that stream; the stream ID under which it sends;
+-- its history (`given`); and the frames of the last batch that was not skipped.
 pub record Gating : Type 0 where
   pub to : To
   pub shape : Option Shape
@@ -27,8 +27,8 @@ given_out (Some shape) g batch = record g {
   frames = frames_with g.to shape g.id g.given batch;
 }
 
--- `turn` is the turn of frame i of the last batch. A capture can hold this frame: it has at most 1518 bytes, and
--- arrives at 0 or later and before 2^32 seconds.
+-- `turn` states the arrival, number and size of frame i of the last batch that was not skipped. A capture can hold this
+-- frame: it has at most 1518 bytes, and arrives at 0 or later and before 2^32 seconds.
 pub record IsPieceTurn (g : Gating) (i : ℕ) (turn : Turn) : Type 0 where
   pub is : option_map turn_of (slice_get g.frames i) ≡ Some turn
   pub begun : pos 0 ≤ℤ turn.arrival

@@ -8,7 +8,7 @@ use Rattle.am824_gateway.specs.declared.scan.To.TheVariants.{Aaf, Am824}
 abbrev pub linear_label : ℕ
 linear_label = 0x40
 
--- the first n quadlets have this label
+-- the first n quadlets have the label of linear audio of 24 bits
 abbrev pub first_are_linear : ℕ → List ℕ → Bool
 first_are_linear zero quadlets = true
 first_are_linear (suc n) quadlets = first_are_linear n quadlets && (get_or quadlets (4 * n) 0 == linear_label)
@@ -27,13 +27,13 @@ abbrev pub unlabelled : ℕ → List ℕ → List ℕ
 unlabelled zero quadlets = []
 unlabelled (suc n) quadlets = unlabelled n quadlets ++ take 3 (drop (4 * n + 1) quadlets)
 
--- The number of bytes of a value of 24 bits in the batches that a gateway to this format converts: 3 in PCM, and 4 in
--- AM824, because of the label.
+-- The number of bytes of a value of 24 bits before it is converted to this format. A value in PCM has 3 bytes. A value
+-- in AM824 has 4 bytes, because of its label.
 abbrev pub value_in : To → ℕ
 value_in Am824 = 3
 value_in Aaf = 4
 
--- the number of bytes of a value of 24 bits in this format
+-- the number of bytes of a value of 24 bits after it is converted to this format
 abbrev pub value_out : To → ℕ
 value_out Am824 = 4
 value_out Aaf = 3

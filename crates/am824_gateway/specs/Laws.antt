@@ -1,4 +1,4 @@
--- What holds for all pieces that a gateway gives out, one after another.
+-- What holds for the pieces of all batches that a gateway does not skip.
 use Rattle.std.specs.Prelude.{ℕ, suc, ◌<◌, ◌≤◌, ℤ, ◌<ℤ◌, List, [], ◌∷◌, ◌++◌, length, ⊤}
 use Rattle.std.specs.List.{AllByRecursion}
 use Rattle.sample_schedule.specs.Batches.{Presented, sample_instant}
@@ -11,7 +11,7 @@ use Rattle.am824_gateway.specs.Pieces.{Given, given_with, pieces_of, skip_by, un
 
 -- ---- all pieces
 
--- A piece of a batch that is given out, with the number of the packet that carries it.
+-- A piece of a batch that is not skipped, with the number of the packet that carries the piece.
 pub record Cut : Type 0 where
   pub number : ℕ
   pub batch : Presented
@@ -22,8 +22,8 @@ abbrev pub cuts_from : ℕ → Presented → List Piece → List Cut
 cuts_from n batch [] = []
 cuts_from n batch (p ∷ pieces) = record { number = n; batch = batch; piece = p } ∷ cuts_from (suc n) batch pieces
 
--- The pieces of these batches of a stream of this shape. `given` is what the gateway gave out before them. A skipped
--- batch has no pieces.
+-- The pieces of `batches`, which are batches of a stream of this shape. `given` is the gateway's history before them. A
+-- skipped batch has no pieces.
 abbrev pub cuts_after : To → Shape → Given → List Presented → List Cut
 cuts_after to shape given [] = []
 cuts_after to shape given (batch ∷ batches) =
@@ -39,7 +39,7 @@ cut_frame to shape id c = piece_frame to shape id c.number c.batch c.piece
 abbrev pub cut_instant : Cut → ℤ
 cut_instant c = sample_instant c.batch c.piece.first
 
--- The batches that a gateway does not skip. `given` is what it gave out before them.
+-- The batches that a gateway does not skip. `given` is the gateway's history before `batches`.
 abbrev pub given_batches : To → Shape → Given → List Presented → List Presented
 given_batches to shape given [] = []
 given_batches to shape given (batch ∷ batches) =
@@ -49,7 +49,7 @@ given_batches to shape given (batch ∷ batches) =
 
 -- ---- what holds for them
 
--- a batch has a sample, and each of its samples is presented after the one before it
+-- the batch has at least one sample, and each sample is presented after the sample before it
 pub record HasRisingInstants (batch : Presented) : Type 0 where
   pub some : 1 ≤ batch.count
   pub rise : (j : ℕ) → suc j < batch.count → sample_instant batch j <ℤ sample_instant batch (suc j)

@@ -34,8 +34,8 @@ samples_of to shape batch p = turned to (p.count * shape.channels) (values_of to
 abbrev pub timestamp_at : ℤ → ℕ
 timestamp_at instant = unsigned_abs (int_rem_euclid instant (pos (2 ^ 32)))
 
--- The stream header of packet n (IEEE 1722-2016, 4.4.4). It is stamped with this instant, states `length` bytes of
--- payload, and signals no media clock restart.
+-- The stream header of packet n (IEEE 1722-2016, 4.4.4). Its timestamp is that of `instant`. It states `length` bytes
+-- of payload, and signals no media clock restart.
 abbrev pub header_at : ℕ → ℕ → ℕ → ℤ → ℕ → StreamHeader
 header_at subtype id n instant length = record {
   subtype = subtype;
@@ -64,7 +64,7 @@ am824_packet shape header p blocks = record {
   reserved = false;
 }
 
--- a packet of PCM of 24 bits with these samples, as sent by a talker that stamps each packet
+-- a packet of PCM of 24 bits with these samples, as sent by a talker that puts a timestamp into each packet
 abbrev pub aaf_packet : Shape → StreamHeader → Piece → List ℕ → AafPacket
 aaf_packet shape header p samples = record {
   header = header;
@@ -87,8 +87,8 @@ packet_of Aaf shape id n instant p samples = Pcm (aaf_packet shape (header_at aa
 
 -- ---- frames
 
--- the number of bytes of a frame's headers in this format: of Ethernet's header with its tag, and of the packet's
--- headers
+-- the number of bytes of a frame's headers in this format: the Ethernet header with its tag, and the headers of the
+-- packet
 abbrev pub headers_of : To → ℕ
 headers_of Am824 = 50
 headers_of Aaf = 42
@@ -111,14 +111,14 @@ abbrev pub frames_from : To → Shape → ℕ → ℕ → Presented → List Pie
 frames_from to shape id n batch [] = []
 frames_from to shape id n batch (p ∷ pieces) = piece_frame to shape id n batch p ∷ frames_from to shape id (suc n) batch pieces
 
--- The frames of a batch that is not skipped. `given` is what the gateway gave out before it.
+-- The frames of a batch that is not skipped. `given` is the gateway's history before this batch.
 abbrev pub frames_with : To → Shape → ℕ → Given → Presented → List SentFrame
 frames_with to shape id given batch = frames_from to shape id given.packets batch (pieces_of to shape batch given.block)
 
 -- ---- all batches
 
--- The frames of these batches of a stream of this shape. `given` is what the gateway gave out before them. A skipped
--- batch has no frames.
+-- The frames of `batches`, which are batches of a stream of this shape. `given` is the gateway's history before them. A
+-- skipped batch has no frames.
 abbrev pub frames_after : To → Shape → ℕ → Given → List Presented → List SentFrame
 frames_after to shape id given [] = []
 frames_after to shape id given (batch ∷ batches) =
@@ -126,8 +126,8 @@ frames_after to shape id given (batch ∷ batches) =
     (frames_with to shape id given batch ++ frames_after to shape id (given_with to shape given batch) batches)
     (frames_after to shape id given batches)
 
--- All frames of a gateway to this format under this stream id, for batches in the order in which they are presented. There are
--- none if the stream has no shape.
+-- All frames of a gateway that converts to this format and sends under the stream ID `id`. The batches are in the order
+-- in which they are presented. If the stream has no shape, there are no frames.
 abbrev pub gateway_frames : To → Option Shape → ℕ → List Presented → List SentFrame
 gateway_frames to None id batches = []
 gateway_frames to (Some shape) id batches = frames_after to shape id nothing_given batches

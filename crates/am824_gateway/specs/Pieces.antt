@@ -16,30 +16,32 @@ use Rattle.am824_gateway.specs.Labels.{are_linear, value_in, value_out}
 
 -- ---- sizes
 
--- the most bytes of samples that a packet of this format holds in an Ethernet frame
+-- the maximum number of bytes of samples that a packet of this format can hold in an Ethernet frame
 abbrev pub most_bytes : To → ℕ
 most_bytes Am824 = most_blocks
 most_bytes Aaf = most_samples
 
--- the most sample frames of a packet of this format
+-- the maximum number of sample frames in a packet of this format
 abbrev pub most_frames : To → ℕ → ℕ
 most_frames to channels = most_bytes to / (value_out to * channels)
 
 -- ---- where a batch is cut
 
--- Sample k of a piece that begins with sample `first` of a batch is at its nominal instant, counted from the piece's first
--- sample. Listeners count the samples of a packet from its timestamp in the same way.
+-- A piece begins with sample `first` of a batch. Sample k of this piece is at its nominal instant, counted from the
+-- piece's first sample. Listeners count the samples of a packet from its timestamp in the same way.
 abbrev pub is_nominal : ℕ → Presented → ℕ → ℕ → Bool
 is_nominal rate batch first k =
     int_eq (sample_instant batch (first + k)) (sample_instant batch first +ℤ pos (nominal_offset rate k))
 
--- the first sample that fails the test, among `more` samples from sample k on; sample k + more if none of them fails it
+-- among `more` samples from sample k on, the number of the first one that fails the test; k + more if no sample fails
+-- it
 abbrev pub going_on : (ℕ → Bool) → ℕ → ℕ → ℕ
 going_on test k zero = k
 going_on test k (suc more) = if test k then going_on test (suc k) more else k
 
--- The number of samples in the piece that begins with sample `first` of a batch. The piece goes on as long as it has fewer
--- samples than a packet can have, the batch has a further sample, and that sample is at its nominal instant.
+-- The number of samples in the piece that begins with sample `first` of a batch. The piece goes on as long as three
+-- conditions hold: it has fewer samples than a packet can have, the batch has a further sample, and that sample is at
+-- its nominal instant.
 abbrev pub piece_count : To → Shape → Presented → ℕ → ℕ
 piece_count to shape batch first =
     going_on (is_nominal shape.rate batch first) 1 (min (most_frames to shape.channels) (batch.count - first) - 1)
@@ -70,7 +72,7 @@ pieces_from to shape batch (suc most) first block =
     else []
 
 -- The pieces of a batch, in order. The first piece has this block count. Each piece has at least one sample, so a batch
--- has at most as many pieces as samples.
+-- never has more pieces than samples.
 abbrev pub pieces_of : To → Shape → Presented → ℕ → List Piece
 pieces_of to shape batch block = pieces_from to shape batch batch.count 0 block
 
@@ -95,15 +97,15 @@ is_late batch p = int_le (pos captures_end) (arrival_at (sample_instant batch p.
 
 -- ---- what is skipped
 
--- What a gateway has given out: the number of batches and of packets; the block count of the next packet; and the instant of
--- the last sample.
+-- The history of a gateway: the number of batches that were not skipped, and the number of their packets; the block
+-- count of the next packet; and the instant of the last sample.
 pub record Given : Type 0 where
   pub batches : ℕ
   pub packets : ℕ
   pub block : ℕ
   pub last : Option ℤ
 
--- nothing was given out
+-- the history of a gateway before its first batch
 abbrev pub nothing_given : Given
 nothing_given = record { batches = 0; packets = 0; block = 0; last = None }
 
@@ -112,21 +114,21 @@ abbrev pub has_labels : To → List ℕ → Bool
 has_labels Am824 bytes = true
 has_labels Aaf bytes = are_linear bytes
 
--- A batch consists of samples of this shape: it is not a unit of H.264, it has one value of 24 bits for each channel of
--- each sample, and its only label is that of linear audio of 24 bits.
+-- A batch consists of samples of this shape: it is not a unit of H.264, and it has one value of 24 bits for each
+-- channel of each sample. If the values have labels, each label is that of linear audio of 24 bits.
 abbrev pub has_shape : To → Shape → Presented → Bool
 has_shape to shape batch =
     not (is_unit batch)
     && (length batch.bytes == batch.count * (value_in to * shape.channels))
     && has_labels to batch.bytes
 
--- the batch does not begin after the last sample that was given out
+-- the batch begins at or before `last`, the instant of the last sample of the batches that were not skipped
 abbrev pub overlaps : Option ℤ → Presented → Bool
 overlaps None batch = false
 overlaps (Some last) batch = int_le (sample_instant batch 0) last
 
--- Why a batch of a stream of this shape is skipped; `None` if it is not. `given` is what the gateway gave out before
--- it.
+-- Why a batch of a stream of this shape is skipped; `None` if it is not skipped. `given` is the gateway's history
+-- before this batch.
 abbrev pub skip_by : To → Shape → Given → Presented → Option Skip
 skip_by to shape given batch =
     if not (has_shape to shape batch) then Some ShapeOff
@@ -134,14 +136,14 @@ skip_by to shape given batch =
     else if list_any (is_late batch) (pieces_of to shape batch given.block) then Some Range
     else None
 
--- Why a batch is skipped; `None` if it is not. `ShapeOff`: the stream has no shape, or the batch has another shape.
--- `Overlap`: the batch does not begin after the last sample that was given out. `Range`: one of its pieces would arrive
--- too late for a capture.
+-- Why a batch is skipped; `None` if it is not skipped. `ShapeOff`: the stream has no shape, or the batch has another
+-- shape. `Overlap`: the batch does not begin after the last sample of the batches that were not skipped. `Range`: one
+-- of its pieces would arrive too late for a capture.
 abbrev pub skip_of : To → Option Shape → Given → Presented → Option Skip
 skip_of to None given batch = Some ShapeOff
 skip_of to (Some shape) given batch = skip_by to shape given batch
 
--- what was given out, including one more batch that is not skipped
+-- the gateway's history after `batch`, which is not skipped; `given` is the history before it
 abbrev pub given_with : To → Shape → Given → Presented → Given
 given_with to shape given batch = record {
   batches = given.batches + 1;
@@ -150,12 +152,12 @@ given_with to shape given batch = record {
   last = Some (sample_instant batch (batch.count - 1));
 }
 
--- the first value if a batch is not skipped, and the second value if it is
+-- the first value if a batch is not skipped, and the second value if it is skipped
 abbrev pub unless : {T : Type 0} → Option Skip → T → T → T
 unless None given skipped = given
 unless (Some skip) given skipped = skipped
 
--- what was given out, including these batches; a skipped batch changes nothing
+-- the gateway's history after `batches`; `given` is the history before them, and a skipped batch does not change it
 abbrev pub given_by : To → Shape → Given → List Presented → Given
 given_by to shape given [] = given
 given_by to shape given (batch ∷ batches) = given_by to shape (unless (skip_by to shape given batch) (given_with to shape given batch) given) batches

@@ -20,7 +20,7 @@ part size j bytes = take size (drop (j * size) bytes)
 
 -- ---- what is presented to a gateway
 
--- the values of a sample, without labels, in the batches that a gateway to this format converts
+-- the values of a sample, without labels, taken from its bytes before they are converted to this format
 abbrev pub values_in : To → ℕ → List ℕ → List ℕ
 values_in Am824 channels bytes = bytes
 values_in Aaf channels bytes = unlabelled channels bytes
@@ -38,14 +38,14 @@ samples_presented to shape batch = batch_samples to shape batch 0 batch.count
 
 -- ---- what a gateway sends
 
--- the values of a sample, without labels, in the bytes that a gateway to this format sends
+-- the values of a sample, without labels, taken from its bytes in this format
 abbrev pub values_out : To → ℕ → List ℕ → List ℕ
 values_out Am824 channels bytes = unlabelled channels bytes
 values_out Aaf channels bytes = bytes
 
--- n samples of a packet that is stamped with this instant, from sample k on. They are counted from the timestamp at the nominal
--- rate, as listeners count the samples of a packet whose timestamp belongs to its first sample (IEEE 1722-2016, 7; IEC
--- 61883-6).
+-- The samples of a packet from sample k on, n of them. Sample 0 is presented at `instant`, and the instants of the
+-- others are counted from it at the nominal rate. Listeners do the same if the timestamp belongs to the packet's first
+-- sample (IEEE 1722-2016, 7; IEC 61883-6).
 abbrev pub packet_samples : To → Shape → ℤ → List ℕ → ℕ → ℕ → List Sample
 packet_samples to shape instant payload k zero = []
 packet_samples to shape instant payload k (suc n) =

@@ -25,7 +25,8 @@ pub record IsShape (shape : Shape) : Type 0 where
 abbrev pub shape_of : Samples → Shape
 shape_of s = record { rate = s.rate; channels = s.channels }
 
--- the shape of the stream's first packet of samples: `first`, or that of this packet if there was no packet before
+-- the shape of the stream's first packet of samples: `first` if there was an earlier packet of samples, and otherwise
+-- the shape of this packet
 abbrev pub first_or : Option Shape → Samples → Shape
 first_or None s = shape_of s
 first_or (Some first) s = first
@@ -53,11 +54,11 @@ pub record Row : Type 0 where
   pub fault : ScanFault
   pub holds : Bool
 
--- the row of a fault, and whether a packet has it
+-- the row that says whether a packet has this fault
 abbrev pub row : ScanFault → Bool → Row
 row fault holds = record { fault = fault; holds = holds }
 
--- the fault of the first row that holds
+-- the fault of the first row that says that the packet has it
 abbrev pub first_of : List Row → Option ScanFault
 first_of [] = None
 first_of (r ∷ rows) = if r.holds then Some r.fault else first_of rows
@@ -86,7 +87,7 @@ fault_rows to first s =
     row Label (not s.linear) ∷ []
 
 -- The fault of a record's content, if the first packet of samples has the shape `first`. A record without anything that
--- can be presented (`Silent`) has no fault. H.264 is of neither format.
+-- can be presented (`Silent`) has no fault. A packet of H.264 always has the fault `Kind`.
 abbrev pub content_fault : To → Option Shape → Content → Option ScanFault
 content_fault to first Silent = None
 content_fault to first Video = Some Kind
@@ -97,13 +98,14 @@ pub record FaultAt : Type 0 where
   pub frame : ℕ
   pub fault : ScanFault
 
--- `fault`, found in record `frame`; if there is none, the fault `later`
+-- The fault of record `frame`. If this record has no fault, `later` is returned, which is the first fault of the
+-- records after it.
 abbrev pub fault_or : ℕ → Option ScanFault → Option FaultAt → Option FaultAt
 fault_or frame None later = later
 fault_or frame (Some fault) later = Some (record { frame = frame; fault = fault })
 
--- The first fault in these records. The first record has the number `frame`. `first` is the shape of the stream's first
--- packet of samples, if it comes before these records.
+-- The first fault in these records, which are numbered from `frame` on. `first` is the shape of the stream's first
+-- packet of samples, if that packet comes before these records, and otherwise `None`.
 abbrev pub fault_from : To → ℕ → Option Shape → ℕ → List Record → Option FaultAt
 fault_from to stream first frame [] = None
 fault_from to stream first frame (r ∷ records) =
@@ -122,7 +124,7 @@ pub record Scanning : Type 0 where
   pub stream : ℕ
   pub shape : Option Shape
 
--- the scan has read these records of the stream, and none of them has a fault
+-- the scan has read these records, and none of them has a fault
 pub record HasScanned (to : To) (stream : ℕ) (records : List Record) (scan : Scanning) : Type 0 where
   pub to_is : scan.to ≡ to
   pub stream_is : scan.stream ≡ stream

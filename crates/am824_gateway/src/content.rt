@@ -1,4 +1,4 @@
-//! The part of a stream that a record holds.
+//! What a gateway reads of a record.
 
 ghost use Rattle.std.specs.Prelude.{◌≡◌, ◌≤◌};
 ghost use Rattle.aaf_format.specs.Aaf.{Aaf, aaf_of, aaf_refusal, aaf_shape};
@@ -18,16 +18,16 @@ use listener::{StreamPacket, packet_of_stream};
 pub(crate) struct Samples {
     /// The packet's format.
     pub format: To,
-    /// Each sample has 24 bits, and all of them are used.
+    /// Whether each sample has 24 bits and uses all of them.
     pub whole: bool,
     /// The sample rate in Hz.
     pub rate: u32,
     pub channels: u16,
-    /// AM824: each quadlet is linear audio of 24 bits.
+    /// Whether each quadlet is linear audio of 24 bits. PCM has no quadlets, and this is true for it.
     pub linear: bool,
 }
 
-/// The part of a stream that a record holds.
+/// What a record holds of a stream.
 #[derive(Clone, Copy, Debug)]
 pub(crate) enum Content {
     /// Nothing that can be presented.

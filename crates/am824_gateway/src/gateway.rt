@@ -21,7 +21,7 @@ use std::alloc::Global;
 use std::marker::Model;
 use talker::{Sent, Turn};
 
-/// The most bytes of a frame.
+/// The maximum number of bytes of a frame.
 const LONGEST_FRAME: usize = 1518;
 
 /// The last batch that was not skipped, with its stream and the number of packets before its first packet.
@@ -53,7 +53,7 @@ pub struct Gateway {
     pieces: Vec<Piece>,
     /// The pieces of the next batch, until it is known that the batch is not skipped.
     spare: Vec<Piece>,
-    /// The frame of the piece for which `piece` was called last.
+    /// The frame that the last call of `piece` wrote.
     frame: Vec<u8>,
 }
 
@@ -178,12 +178,13 @@ impl Gateway {
         })
     }
 
-    /// Cuts the next batch that is presented into pieces, and returns their number. Fewer than 2^44 batches may have been given
-    /// out before. A skipped batch changes nothing. It allocates nothing.
+    /// Cuts the next batch that is presented into pieces, and returns their number. It may be called while `batches` is
+    /// below 2^44. A skipped batch changes nothing. It allocates nothing.
     ///
-    /// A batch is skipped for the first of these reasons that holds: `ShapeOff`: there is no shape, the batch is a unit of H.264,
-    /// it does not have one value of 24 bits for each channel of each sample, or a value has a label other than 0x40. `Overlap`:
-    /// it does not begin after the last sample that was given out. `Range`: a packet would arrive at 2^32 seconds or later.
+    /// A batch is skipped for the first of these reasons that holds: `ShapeOff`: there is no shape, the batch is a unit
+    /// of H.264, it does not have one value of 24 bits for each channel of each sample, or a value has a label other
+    /// than 0x40. `Overlap`: the batch does not begin after the last sample of the batches that were not skipped.
+    /// `Range`: a packet would arrive at 2^32 seconds or later.
     pub fn put(&mut self, batch: Batch) -> Result<u32, Skip>
         requires few { self.old.given.batches < 2 ^ 44 }
         ensures given { OnOk result (self.new ≡ given_out self.old.shape self.old batch) }

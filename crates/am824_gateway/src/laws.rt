@@ -18,8 +18,8 @@ ghost use Rattle.listener.specs.Heard.{due_of, shown_of};
 ghost use Rattle.listener.specs.Laws.{presented_of};
 ghost use Rattle.pcap_frames.specs.Capture.{Record};
 
-/// If one more batch is not skipped, its frames follow the frames of the batches before it. So it makes no difference
-/// whether a gateway is given the batches one by one or as one list.
+/// If one more batch is not skipped, its frames follow the frames of the batches before it. So the frames are the same
+/// whether a gateway takes the batches one by one or as one list.
 pub fn batches_follow_each_other()
     ensures frames { (to : ToValue) (shape : ShapeValue) (id : ℕ) (given : Given) (batches : List Presented) (batch : Presented) →
         frames_after to shape id given (batches ++ batch ∷ []) ≡ frames_after to shape id given batches ++ unless (skip_by to shape (given_by to shape given batches) batch) (frames_with to shape id (given_by to shape given batches) batch) [] }
@@ -45,21 +45,21 @@ pub fn frames_are_short_enough()
         AllByRecursion IsFrame (frames_after to shape id given batches) }
 {}
 
-/// No value and no instant changes. If the samples of each packet are counted from its timestamp at the nominal rate,
-/// the samples of all packets are those of the batches that are not skipped: in order, with the same values at the same
+/// No value and no instant changes. Count the samples of each packet from its timestamp at the nominal rate. Then the
+/// samples of all packets are those of the batches that are not skipped: in order, with the same values at the same
 /// instants.
 pub fn samples_are_kept()
     ensures { (to : ToValue) (shape : ShapeValue) (given : Given) (batches : List Presented) → IsShape shape →
         flat_map (samples_sent to shape) (cuts_after to shape given batches) ≡ flat_map (samples_presented to shape) (given_batches to shape given batches) }
 {}
 
-/// If a scan finds no fault in the records but finds a shape, a gateway can have this shape.
+/// If a scan finds a shape and no fault in the records, a gateway can convert a stream of this shape.
 pub fn scanned_shapes_can_be_turned()
     ensures { (to : ToValue) (stream : ℕ) (records : List Record) → first_fault to stream records ≡ None → IfSome (shape_in stream records) IsShape }
 {}
 
-/// If a scan finds no fault in the records, each batch that a listener presents of them has the shape that the scan
-/// finds. So a gateway never skips a batch for its shape. If the stream has no shape, nothing is presented.
+/// If a scan finds no fault in the records, each batch that a listener presents of these records has the shape that the
+/// scan finds. So a gateway never skips a batch for its shape. If the stream has no shape, nothing is presented.
 pub fn presented_batches_have_the_shape()
     ensures shown { (to : ToValue) (plan : ListenPlan) (records : List Record) → first_fault to plan.stream records ≡ None → AllByRecursion (IsShapedAs to (shape_in plan.stream records)) (presented_of (shown_of plan records)) }
     ensures due { (to : ToValue) (plan : ListenPlan) (records : List Record) → first_fault to plan.stream records ≡ None → AllByRecursion (IsShapedAs to (shape_in plan.stream records)) (presented_of (due_of plan records)) }

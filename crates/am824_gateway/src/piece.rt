@@ -24,7 +24,8 @@ pub struct Piece {
     pub block: u8,
 }
 
-/// The most pieces of a batch. A batch has at most this many samples, and each piece has at least one of them.
+/// The maximum number of pieces in a batch. A batch has at most this many samples, and each piece has at least one
+/// sample.
 pub(crate) const MOST_PIECES: usize = 65_535;
 
 const NANOSECONDS: u64 = 1_000_000_000;
@@ -61,7 +62,7 @@ fn is_late_with(late: bool, instant: i64) -> bool
     late || arrival_of(instant) >= CAPTURES_END
 }
 
-/// The most sample frames of a packet.
+/// The maximum number of sample frames in a packet.
 fn most_frames(to: To, channels: u16) -> u32
     requires some { 1 ≤ channels }
     requires most { channels ≤ 256 }
@@ -164,7 +165,7 @@ fn cut_once(pieces: &mut Vec<Piece>, to: To, shape: Shape, batch: &Batch, block:
     (next, is_late_with(false, batch.instant(0)))
 }
 
-/// Cuts any batch. Finds the instant of each sample from that of the sample before.
+/// Cuts any batch. Finds the instant of each sample from that of the sample before it.
 fn cut_by_instants(
     pieces: &mut Vec<Piece>,
     to: To,

@@ -32,7 +32,7 @@ pub enum ScanFault {
     Label,
 }
 
-/// What all packets of a stream that is converted have in common.
+/// What all packets of a converted stream have in common.
 #[derive(Clone, Copy, Debug, PartialEq, Eq)]
 pub struct Shape {
     /// The sample rate in Hz, one of those of IEC 61883-6.
@@ -41,7 +41,7 @@ pub struct Shape {
     pub channels: u16,
 }
 
-/// Looks through the records of a capture for what cannot be converted. It allocates nothing.
+/// Looks for records of a capture that cannot be converted. It allocates nothing.
 #[derive(Debug, Drop)]
 pub struct Scan {
     to: To,
@@ -114,9 +114,8 @@ impl Scan {
     }
 
     /// Looks at the next record of a capture, given its bytes. Only packets of the stream are tested. A packet of audio
-    /// is tested only if its reader accepts it, it has samples, and their rate is known, because other packets of audio
-    /// are never presented. Each packet of H.264 is a fault, even a malformed one. After a fault the scan promises
-    /// nothing.
+    /// is tested only if it is not malformed, has samples, and has a known rate, because other packets of audio are
+    /// never presented. Each packet of H.264 is a fault, even a malformed one. After a fault the scan promises nothing.
     ///
     /// The fault is the first of these that holds: `Kind`, `Format`, `Rate`, `Channels`, `Label`.
     pub fn note(&mut self, bytes: &[u8]) -> Result<(), ScanFault>

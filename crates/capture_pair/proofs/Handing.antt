@@ -143,7 +143,6 @@ ended-on B list other n k given m e h = record {
 no-more : (which : Which) (list other : List Shown) (n k given : ℕ) (m : MatchingState) → MatchesOn which list other n k given m → MatchesOn which list other (n + 0) k given m
 no-more which list other n k given m h = subst (λ (i : ℕ). MatchesOn which list other i k given m) (omega arith) h
 
--- after the matching is given the next item, it matches one more item of the list
 pub hands-on : (which : Which) (list other : List Shown) (n k given : ℕ) (m : MatchingState) (next : Option Shown) (ended : Bool) → IsHeard list → IsHeard other → wanted m ≡ Some which → next ≡ slice_get list n → MatchesOn which list other n k given m
     → MatchesOn which list other (n + length (option_to_list next)) k given (handed which next ended m)
 hands-on which list other n k given m (Some (Present batch)) ended hl ho w e h = given-on which list other n k given m batch hl ho w (sym e) h
@@ -165,7 +164,7 @@ ends-no : {P : Type 0} (which : Which) (m : MatchingState) → wanted (ended_by 
 ends-no A m h = let e = wants-a (ended_by A m) h in absurd (cc)
 ends-no B m h = let e = wants-b (ended_by B m) h in absurd (cc)
 
--- The listener of a side that is still wanted showed no item, and has not ended.
+-- The listener showed no item, and has not ended.
 pub record Waits (next : Option Shown) (ended : Bool) : Type 0 where
   pub none : next ≡ None
   pub opened : ended ≡ false

@@ -95,7 +95,6 @@ put-sorted a (y ∷ ys) s h = at (int_lt (first_instant y.batch) (first_instant 
         let le = le-of (first_instant y.batch) (first_instant a) e in
         ((record { instants = le; sides = λ p q. absurd (cc) }, all-weaker (MayPrecede y) (MayPrecede (of_side A a)) (λ z m. record { instants = le-le (first_instant a) (first_instant y.batch) (first_instant z.batch) le m.instants; sides = λ p q. absurd (cc) }) ys s.0), s)
 
--- if no batch of A in a list begins before `a`, putting `a` into the list puts it before the list's other batches of A
 put-a : (a : Presented) (l : List Sided) → NoneBefore a l → batches_of A (put_before (of_side A a) l) ≡ a ∷ batches_of A l
 put-a a [] h = refl
 put-a a (y ∷ ys) h = at y.side y.batch h (int_lt (first_instant y.batch) (first_instant a)) refl (put-a a ys (none-tail a y ys h))
@@ -192,7 +191,6 @@ same-side B z b le = record { instants = le; sides = λ p q. absurd (cc) }
 abbrev pub Crosses : Which → List Presented → List Sided → Type 0
 Crosses s rest done = AllByRecursion (λ d. AllByRecursion (λ r. MayPrecede d (of_side s r)) rest) done
 
--- if each batch of `done` may precede `a`, it may also precede the later batches of that side
 cross-next : (s : Which) (done : List Sided) (a : Presented) (more : List Presented) → AllByRecursion (λ d. MayPrecede d (of_side s a)) done → AllByRecursion (λ r. first_instant a ≤ℤ first_instant r) more → Crosses s (a ∷ more) done
 cross-next s done a more p le =
     all-weaker (λ d. MayPrecede d (of_side s a)) (λ d. AllByRecursion (λ r. MayPrecede d (of_side s r)) (a ∷ more))
@@ -214,8 +212,8 @@ cross-last s done more sorted (inr (front, z, e)) order =
     one-of A z = refl
     one-of B z = refl
 
--- if each batch of `done` may precede all of `ra` and `rb`, the merged list is `done` and then the merged list of `ra`
--- and `rb`
+-- if each batch of `done` may precede all of `ra` and `rb`, the merged list of all batches is `done`, followed by the
+-- merged list of `ra` and `rb`
 pub merged-after : (done : List Sided) (ra rb : List Presented) → IsSorted done → IsInOrder ra → IsInOrder rb → Crosses A ra done → Crosses B rb done → merged (batches_of A done ++ ra) (batches_of B done ++ rb) ≡ done ++ merged ra rb
 merged-after done ra rb sorted oa ob ca cb =
     let m = merges ra rb oa ob in
@@ -331,7 +329,6 @@ either : (b : Bool) → (b ≡ true) ⊎ (b ≡ false)
 either true = inl refl
 either false = inr refl
 
--- if each batch of `done` may precede the next batch of side `s`, it may also precede all later batches of that side
 cross-at : (s : Which) (done : List Sided) (next : Option Presented) (ended lack : Bool) (more : List Presented) → lacks ended next ≡ lack → IsSorted done → (lacks ended next ≡ true → EndsOn s done) → (ended ≡ true → more ≡ [])
     → AllByRecursion (λ d. AllByRecursion (λ r. MayPrecede d (of_side s r)) (option_to_list next)) done → IsInOrder (batches_of s done ++ rest_of next more) → Crosses s (rest_of next more) done
 cross-at s done (Some a) ended lack more l sorted ends none first order =
@@ -474,7 +471,6 @@ front-get done more n h =
     let f = differences-front done more in
     ap (λ (l : List Difference). slice_get l n) f.1 ∙ get-front (differences done) f.0 n h
 
--- a difference that the matching has returned has the same number among the differences of all that the sides present
 pub some-all : (xs ys more_a more_b : List Presented) (given : ℕ) (over_a over_b : Bool) (m : MatchingState) (s : StandsFor xs ys (given + 1) m) → GoesOn xs ys more_a more_b over_a over_b m
     → slice_get (differences (known_of m xs ys)) given ≡ slice_get (differences (known over_a over_b (merged (xs ++ more_a) (ys ++ more_b)))) given
 some-all xs ys more_a more_b given over_a over_b m s g =

@@ -92,9 +92,9 @@ presents-on records more old new plan closed = at (is_closed old) (is_closed new
 
 -- ---- the known part begins with what the matching has done
 
--- Two sides present `xs` and `ys`. These begin with the batches of `list` and `other`, from which the matching gets its
--- batches. If a side has ended in the matching, its listener has ended, too, and the side presents only the batches of
--- its list.
+-- Two sides present `xs` and `ys`. `xs` begins with the batches of `list`, and `ys` begins with the batches of `other`.
+-- If a side has ended in the matching, that side's listener has ended, and the side presents only the batches of its
+-- list.
 pub record Further (list other : List Shown) (xs ys : List Presented) (ended_a ended_b : Bool) (m : MatchingState) : Type 0 where
   pub more_a : List Presented
   pub more_b : List Presented
@@ -390,8 +390,8 @@ shown-is : (plan : ListenPlan) (records : List Record) (l : ListenState) → l.p
     → presented_by l records ≡ presented_of (shown_of plan records)
 shown-is plan records l is closed = ap presented_of (out_ended l records closed) ∙ ap (λ (p : ListenPlan). presented_of (shown_of p records)) is
 
--- If A is wanted, further records of B add nothing to the known part. It is the known part of what is due of A, while A
--- is open, and of all that is shown of B, after B has ended.
+-- If A is wanted, further records of B add nothing to the known part. The known part then depends on two lists: what is
+-- due of A, which is still open, and all that is shown of B, which has ended.
 pub fault-a : (plan : ListenPlan) (records others more : List Record) (given : ℕ) (pair : PairState)
     → StandsFor records others given pair → HavePlan plan pair → EndsAreClosed pair → wanted_by pair ≡ Some A
     → is_closed pair.a ≡ false → (is_closed pair.b ≡ true → more ≡ [])
@@ -419,8 +419,8 @@ fault-a plan records others more given pair s plans ends w opened none =
     (is_closed pair.a) (is_closed pair.b) m s.matches (further-now records others pair ends) w (s.filled_a w) refl opened
     ∙ sym (known-done-a list other s.shown_a s.shown_b given xs ys false true m s.matches f w (s.filled_a w) refl refl)
 
--- If B is wanted, further records of A add nothing to the known part. It is the known part of all that is shown of A,
--- after A has ended, and of what is due of B, while B is open.
+-- If B is wanted, further records of A add nothing to the known part. The known part then depends on two lists: all
+-- that is shown of A, which has ended, and what is due of B, which is still open.
 pub fault-b : (plan : ListenPlan) (records others more : List Record) (given : ℕ) (pair : PairState)
     → StandsFor records others given pair → HavePlan plan pair → EndsAreClosed pair → wanted_by pair ≡ Some B
     → is_closed pair.b ≡ false → (is_closed pair.a ≡ true → more ≡ [])

@@ -22,8 +22,6 @@ use Rattle.capture_pair.specs.state.Taking.{ClosedOn, IsBegun, TookOn}
 use Rattle.capture_pair.proofs.Filling.{counts-all}
 use Rattle.capture_pair.proofs.Heard.{heard}
 
--- if `longer` begins with `list`, a matching that was given the first n items of `list` was given the first n items of
--- `longer`
 pub more-a : (list longer other : List Shown) (n k given : ℕ) (m : MatchingState) → IsPrefix list longer → m.ended_a ≡ false → Matches list other n k given m → Matches longer other n k given m
 more-a list longer other n k given m first opened h = record {
   within_a = let a = h.within_a in let b = first_long list longer first in omega arith;
@@ -42,8 +40,8 @@ more-b list other longer n k given m first opened h = record {
   ended_b = λ t. let e = sym opened ∙ t in absurd (cc);
 }
 
--- `new` is `old` after it took more records or was closed. It has shown as many items as `old`, and its list begins
--- with that of `old`.
+-- `new` is the listener `old` after it took more records or was closed. `new` has shown as many items as `old`, and the
+-- list of `new` begins with the list of `old`.
 pub record Extends (records then : List Record) (old new : ListenState) : Type 0 where
   pub stands : (n : ℕ) → IsGiven records n old → IsGiven then n new
   pub longer : IsPrefix (out old records) (out new then)
@@ -74,7 +72,6 @@ takes-b records others then given old new w e p = record {
   matches = more-b (out old.a records) (out old.b others) (out new then) p.shown_a p.shown_b given old.matching e.longer (lacks-open old.matching.ended_b old.matching.next_b (wants-b old.matching w)) p.matches;
 }
 
--- if the sides were given these records, the pair was given them
 pub stands-as : (records others : List Record) (list other : List Shown) (given : ℕ) (a b : ListenState) (m : MatchingState) → Pairs (ShowsRecords a (OfRecords records)) (ShowsRecords b (OfRecords others)) list other given m → StandsFor records others given (record { a = a; b = b; matching = m })
 stands-as records others list other given a b m p = record {
   shown_a = p.shown_a;
@@ -86,7 +83,6 @@ stands-as records others list other given a b m p = record {
   filled_b = λ w. p.filled_b w ∙ ap length p.shows_b.1;
 }
 
--- if the pair was given these records, the sides were given them
 pub sides-as : (records others : List Record) (given : ℕ) (pair : PairState) → StandsFor records others given pair → Pairs (ShowsRecords pair.a (OfRecords records)) (ShowsRecords pair.b (OfRecords others)) (out pair.a records) (out pair.b others) given pair.matching
 sides-as records others given pair p = record {
   shown_a = p.shown_a;

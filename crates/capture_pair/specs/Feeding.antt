@@ -25,8 +25,8 @@ abbrev pub bytes_of : Which → List ℕ → List ℕ → List ℕ
 bytes_of A bytes others = bytes
 bytes_of B bytes others = others
 
--- The side whose bytes or whose end must be fed next: A if A has not ended and has no next batch; otherwise B if B has
--- not ended and has no next batch; otherwise none.
+-- The side that must be fed or ended next: A if A has not ended and has no next batch; otherwise B if B has not ended
+-- and has no next batch; otherwise none.
 abbrev pub wanted_by : FedPair → Option Which
 wanted_by pair = wanted pair.matching
 
@@ -49,13 +49,13 @@ known_by pair bytes others = known (is_ended pair.a) (is_ended pair.b) (merged (
 abbrev pub StandsFor : List ℕ → List ℕ → ℕ → FedPair → Type 0
 StandsFor bytes others given pair = Pairs (λ list n. IsFed bytes n pair.a) (λ list n. IsFed others n pair.b) (out pair.a bytes) (out pair.b others) given pair.matching
 
--- Nothing more is known. Either the next batch of the merged list depends on what a listener presents later, or both
--- listeners have ended and all was compared.
+-- All of the known part was compared. Either the next batch of the merged list depends on what a listener presents
+-- later, or both listeners have ended.
 abbrev pub IsThrough : FedPair → Type 0
 IsThrough pair = IsIdle pair.matching
 
--- The most differences that the pair can still return until more is fed: one for each item that a listener can still
--- show, and one for each next batch.
+-- An upper bound on the number of differences that the pair returns before more is fed: one for each item that a
+-- listener can still show, and one for each next batch.
 abbrev pub most_left : FedPair → ℕ
 most_left pair = (work pair.a + work pair.b) + nexts_left pair.matching
 

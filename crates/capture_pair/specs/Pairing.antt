@@ -27,8 +27,8 @@ abbrev pub other_of : Which → Which
 other_of A = B
 other_of B = A
 
--- The side whose record or whose end must be given next: A if A has not ended and has no next batch; otherwise B if B
--- has not ended and has no next batch; otherwise none.
+-- The side that must be given a record or closed next: A if A has not ended and has no next batch; otherwise B if B has
+-- not ended and has no next batch; otherwise none.
 abbrev pub wanted_by : PairState → Option Which
 wanted_by pair = wanted pair.matching
 
@@ -37,8 +37,8 @@ pub record HavePlan (plan : ListenPlan) (pair : PairState) : Type 0 where
   pub a : pair.a.plan ≡ plan
   pub b : pair.b.plan ≡ plan
 
--- The batches that a listener presents of `records`: those that are due while it is open, and all of them after it is
--- closed.
+-- The batches that a listener presents of `records`. While it is open, these are the batches that are due; after it is
+-- closed, all batches.
 abbrev pub presented_by : ListenState → List Record → List Presented
 presented_by listener records = presented_of (out listener records)
 
@@ -71,26 +71,26 @@ pub record Pairs (ShowsA ShowsB : List Shown → ℕ → Type 0) (list other : L
 abbrev pub StandsFor : List Record → List Record → ℕ → PairState → Type 0
 StandsFor records others given pair = Pairs (λ list n. IsGiven records n pair.a) (λ list n. IsGiven others n pair.b) (out pair.a records) (out pair.b others) given pair.matching
 
--- Nothing more is known. Either the next batch of the merged list depends on what a listener presents later, or both
--- listeners are closed and all was compared.
+-- All of the known part was compared. Either the next batch of the merged list depends on what a listener presents
+-- later, or both listeners are closed.
 abbrev pub IsThrough : PairState → Type 0
 IsThrough pair = IsIdle pair.matching
 
--- If a side has ended in the matching, its listener is closed.
+-- If a side has ended in the matching, that side's listener is closed.
 pub record EndsAreClosed (pair : PairState) : Type 0 where
   pub a : pair.matching.ended_a ≡ true → is_closed pair.a ≡ true
   pub b : pair.matching.ended_b ≡ true → is_closed pair.b ≡ true
 
--- `new` is `old` after these further records of A and of B. The plans are equal. A side that was closed is still
--- closed, and was given no further record.
+-- `new` is `old` after it was given the further records `more` of A and `more_others` of B. The plans are the same as
+-- before. A side that was closed stays closed, and is given no further record.
 pub record Continues (more more_others : List Record) (old new : PairState) : Type 0 where
   pub plan_a : new.a.plan ≡ old.a.plan
   pub plan_b : new.b.plan ≡ old.b.plan
   pub closed_a : is_closed old.a ≡ true → (is_closed new.a ≡ true) × (more ≡ [])
   pub closed_b : is_closed old.b ≡ true → (is_closed new.b ≡ true) × (more_others ≡ [])
 
--- The most differences that the pair can still return until more is given: one for each item that a listener can still
--- show, and one for each next batch.
+-- An upper bound on the number of differences that the pair returns before more is given: one for each item that a
+-- listener can still show, and one for each next batch.
 abbrev pub most_left : PairState → ℕ
 most_left pair = (work pair.a + work pair.b) + nexts_left pair.matching
 

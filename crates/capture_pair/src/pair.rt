@@ -63,8 +63,8 @@ impl Pair {
         Ok(Pair { a, b, matching })
     }
 
-    /// The capture whose next bytes, or whose end, must be fed next: A if A has not ended and has no next batch;
-    /// otherwise B if B has not ended and has no next batch; otherwise `None`.
+    /// The capture that must be fed or ended next: A if A has not ended and has no next batch; otherwise B if B has not
+    /// ended and has no next batch; otherwise `None`.
     pub fn wants(&self) -> Option<Which>
         ensures wanted { result ≡ wanted_by self.now }
         ensures open { (which : Which) → result ≡ Some which → is_ended (fed_of which self.now) ≡ false }
@@ -77,9 +77,9 @@ impl Pair {
     /// bytes taken. At most 2^62 bytes of each capture may be taken.
     ///
     /// Without a fault, returns `Ok(0)` exactly if the piece is empty. `Refused` is the capture's first refusal, and is
-    /// returned as soon as the bytes so far show it. What was accepted before stays, and `end` then ends that side.
-    /// `Memory` is returned if there is no memory for the samples of a record. After it, every `feed` and `end` of that
-    /// side returns `Memory`.
+    /// returned as soon as the bytes taken so far are certain to be refused. The records before the refusal are still
+    /// compared, and `end` ends that side. `Memory` is returned if there is no memory for the samples of a record.
+    /// After `Memory` was returned, every `feed` and `end` of that side returns `Memory`.
     pub fn feed(&mut self, alloc: Global, which: Which, piece: &[u8]) -> Result<usize, ListenFault>
         requires wanted { wanted_by self.old ≡ Some which }
         requires bounded { taken (fed_of which self.old).reader + length piece.now ≤ 2 ^ 62 }
@@ -129,8 +129,8 @@ impl Pair {
         next_difference(&mut self.a, &mut self.b, &mut self.matching)
     }
 
-    /// The counts of the known part, after all its differences were returned. A batch that is not paired yet counts as
-    /// presented by one side only.
+    /// The counts of the known part, if `next_difference` has returned `None` and nothing was fed or ended after that.
+    /// A batch that is not paired yet counts as presented by one side only.
     pub fn counts(&self) -> PairCounts
         ensures { IsThrough self.now → (bytes others : List ℕ) (given : ℕ) → AreShort bytes others → StandsFor bytes others given self.now → result ≡ counts_of (known_by self.now bytes others) }
     {

@@ -65,8 +65,8 @@ impl RecordPair {
         Ok(RecordPair { a, b, matching })
     }
 
-    /// The capture whose next record, or whose end, must be given next: A if A has not ended and has no next batch;
-    /// otherwise B if B has not ended and has no next batch; otherwise `None`.
+    /// The capture that must be given a record or closed next: A if A has not ended and has no next batch; otherwise B
+    /// if B has not ended and has no next batch; otherwise `None`.
     pub fn wants(&self) -> Option<Which>
         ensures wanted { result ≡ wanted_by self.now }
         ensures open { (which : Which) → result ≡ Some which → is_closed (listener_of which self.now) ≡ false }
@@ -122,8 +122,8 @@ impl RecordPair {
         next_difference(&mut self.a, &mut self.b, &mut self.matching)
     }
 
-    /// The counts of the known part, after all its differences were returned. A batch that is not paired yet counts as
-    /// presented by one side only.
+    /// The counts of the known part, if `next_difference` has returned `None` and nothing was taken or closed after
+    /// that. A batch that is not paired yet counts as presented by one side only.
     pub fn counts(&self) -> PairCounts
         ensures { IsThrough self.now → (records others : List Record) (given : ℕ) → StandsFor records others given self.now → result ≡ counts_of (known_by self.now records others) }
     {

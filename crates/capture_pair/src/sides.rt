@@ -49,7 +49,8 @@ fn is_wanted(matching: &Matching, which: Which) -> bool
     }
 }
 
-/// If side `which` is wanted, gives the matching the side's next batch or the side's end, if either is known.
+/// If side `which` is wanted, gives the side's next batch to the matching, if that batch is known. If there is no
+/// further batch and the listener has ended, the side ends.
 fn fill<S: Source>(source: &mut S, matching: &mut Matching, which: Which)
     ensures filled { (taken : Taken) (list other : List ShownValue) (n k given : ℕ) → S.shows source.old taken list n → IsHeard list → IsHeard other → MatchesOn which list other n k given matching.old → Filled (S.shows source.new taken) which list other k given matching.new }
     ensures fills { Fills which (S.kept source.old).ended (S.is_quiet source.new) matching.old matching.new }
@@ -71,8 +72,7 @@ fn fill<S: Source>(source: &mut S, matching: &mut Matching, which: Which)
     }
 }
 
-/// Asks for the next batch of A if A is wanted, and then for that of B if B is wanted. Each time gives the matching the
-/// batch or the side's end, if either is known.
+/// Fills side A, then side B. A side that is not wanted stays as it is.
 pub fn fill_both<S: Source>(a: &mut S, b: &mut S, matching: &mut Matching)
     requires bounded { IsBounded (S.kept a.old).ended (S.kept b.old).ended matching.old }
     ensures pairs { (ta tb : Taken) (list other : List ShownValue) (given : ℕ) → IsHeard list → IsHeard other → Holds (S.shows a.old ta) (S.shows b.old tb) list other given matching.old → Pairs (S.shows a.new ta) (S.shows b.new tb) list other given matching.new }

@@ -59,7 +59,7 @@ abbrev pub MatchesOn : Which → List Shown → List Shown → ℕ → ℕ → �
 MatchesOn A list other n k given m = Matches list other n k given m
 MatchesOn B list other n k given m = Matches other list k n given m
 
--- The listener of side `which` shows `list`, and the matching was given the items that it has shown.
+-- The listener of side `which` shows `list`, and the matching was given all items that this listener has shown.
 pub record Going (Shows : List Shown → ℕ → Type 0) (which : Which) (list other : List Shown) (k given : ℕ) (m : MatchingState) : Type 0 where
   pub n : ℕ
   pub shows : Shows list n
@@ -81,7 +81,8 @@ pub record Holds (ShowsA ShowsB : List Shown → ℕ → Type 0) (list other : L
   pub shows_b : ShowsB other shown_b
   pub matches : Matches list other shown_a shown_b given m
 
--- If a side has ended, its listener has ended. The listener of the side that is wanted has not ended, and is quiet.
+-- If a side has ended in the matching, its listener has ended. The listener of the wanted side has not ended, and is
+-- quiet.
 pub record IsSettled (ended_a ended_b : Bool) (QuietA QuietB : Type 0) (m : MatchingState) : Type 0 where
   pub over_a : m.ended_a ≡ true → ended_a ≡ true
   pub over_b : m.ended_b ≡ true → ended_b ≡ true
@@ -90,12 +91,12 @@ pub record IsSettled (ended_a ended_b : Bool) (QuietA QuietB : Type 0) (m : Matc
   pub quiet_a : wanted m ≡ Some A → QuietA
   pub quiet_b : wanted m ≡ Some B → QuietB
 
--- If a side has ended, its listener has ended.
+-- If a side has ended in the matching, its listener has ended.
 pub record IsBounded (ended_a ended_b : Bool) (m : MatchingState) : Type 0 where
   pub over_a : m.ended_a ≡ true → ended_a ≡ true
   pub over_b : m.ended_b ≡ true → ended_b ≡ true
 
--- 1 for a side that has not ended, 0 for one that has
+-- 1 for a side that has not ended, and 0 for a side that has ended
 abbrev pub one_if_open : Bool → ℕ
 one_if_open true = 0
 one_if_open false = 1
@@ -124,7 +125,7 @@ wants_side which None = false
 
 -- How the matching changes when side `which` is filled. If the side is not wanted, nothing changes. If it is still
 -- wanted afterwards, the matching is unchanged, and the side's listener is quiet and has not ended. The other side is
--- unchanged. It stays true that the side has ended only if its listener has ended.
+-- unchanged. The side ends only if its listener has ended.
 pub record Fills (which : Which) (ended : Bool) (Quiet : Type 0) (old new : MatchingState) : Type 0 where
   pub idle : wants_side which (wanted old) ≡ false → new ≡ old
   pub same : wanted new ≡ Some which → new ≡ old
