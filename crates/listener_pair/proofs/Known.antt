@@ -34,7 +34,7 @@ known-here ea eb x rest a b =
     ∙ ap (λ v. cond (v && is_settled eb B (x ∷ rest)) (x ∷ known ea eb rest) []) a
     ∙ ap (λ v. cond v (x ∷ known ea eb rest) []) b
 
--- if `ys` settles both sides, all batches before `ys` are known
+-- if both sides are settled by `ys`, all batches before `ys` are known
 known-before : (ea eb : Bool) (xs ys : List Sided) → is_settled ea A ys ≡ true → is_settled eb B ys ≡ true → known ea eb (xs ++ ys) ≡ xs ++ known ea eb ys
 known-before ea eb [] ys a b = refl
 known-before ea eb (x ∷ xs) ys a b =
@@ -63,7 +63,7 @@ own-here : (e : Bool) (r : Bool) → (e || (true || r)) ≡ true
 own-here true r = refl
 own-here false r = refl
 
--- if the last batch of `done` and the batches after it settle both sides, `done` is known
+-- if both sides are settled by the last batch of `done` and the batches after it, all of `done` is known
 known-ends : (ea eb : Bool) (done front ys : List Sided) (x : Sided) → done ≡ front ++ x ∷ [] → is_settled ea A (x ∷ ys) ≡ true → is_settled eb B (x ∷ ys) ≡ true → known ea eb (done ++ ys) ≡ done ++ known ea eb ys
 known-ends ea eb done front ys x e a b =
     ap (λ (d : List Sided). known ea eb (d ++ ys)) e
@@ -84,7 +84,8 @@ ends-b : (ea eb : Bool) (done ys : List Sided) → EndsOn B done → is_settled 
 ends-b ea eb done ys (inl none) a = none-done ea eb done ys none
 ends-b ea eb done ys (inr (front, z, e)) a = known-ends ea eb done front ys (of_side B z) e (settled-more ea A (of_side B z ∷ []) ys a) (own-here eb (list_any (λ y. is_side B y.side) ys))
 
--- all of `done` is known, if each side that lacks its next batch has the last batch of `done`
+-- All of `done` is known if each side that lacks its next batch has presented the last batch of `done`. If both sides
+-- lack their next batch, `done` must be empty.
 pub known-done : (ea eb : Bool) (na nb : Option Presented) (done : List Sided) (la lb : Bool) → lacks ea na ≡ la → lacks eb nb ≡ lb → (lacks ea na ≡ true → EndsOn A done) → (lacks eb nb ≡ true → EndsOn B done)
     → (lacks ea na ≡ true → lacks eb nb ≡ true → done ≡ []) → known ea eb (done ++ nexts na nb) ≡ done ++ known ea eb (nexts na nb)
 known-done ea eb na nb done true true e f a b none = none-done ea eb done (nexts na nb) (none e f)
@@ -151,7 +152,7 @@ some-first : {P : Type 0} (v : Bool) → cond v (Some B) (Some A) ≡ None → P
 some-first true h = absurd (cc)
 some-first false h = absurd (cc)
 
--- nothing more is known if a side lacks its next batch, or if both sides have ended and no batch is left
+-- no next batch is known if a side lacks its next batch, or if both sides have ended and no batch is left
 pub idle-at : (ea eb : Bool) (na nb : Option Presented) → cond (is_some (cond (lacks ea na) (Some A) (cond (lacks eb nb) (Some B) None))) None (first_side na nb) ≡ None → known ea eb (nexts na nb) ≡ []
 idle-at false eb None nb h = unsettled-a eb nb
 idle-at true false na None h = unsettled-b true na

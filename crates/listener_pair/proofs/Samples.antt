@@ -21,7 +21,6 @@ pub first-more : (a b : Presented) (n : ℕ) → first_way a b (suc n) ≡ or_wa
 unfolding first_way
 first-more a b n = refl
 
--- if none of the first n samples differs, the next sample decides
 pub first-next : (a b : Presented) (n : ℕ) → first_way a b n ≡ None → first_way a b (suc n) ≡ sample_way a b n
 first-next a b n e = first-more a b n ∙ ap (λ (o : Option Way). or_way o (sample_way a b n)) e
 

@@ -70,7 +70,6 @@ put-first x (y ∷ ys) h = ap (λ v. cond v (y ∷ put_before x ys) (x ∷ y ∷
 put-later : (x y : Sided) (ys : List Sided) → first_instant y.batch <ℤ first_instant x.batch → put_before x (y ∷ ys) ≡ y ∷ put_before x ys
 put-later x y ys h = ap (λ v. cond v (y ∷ put_before x ys) (x ∷ y ∷ ys)) (lt_true (first_instant y.batch) (first_instant x.batch) h)
 
--- if all batches of `xs` are later than x and no batch of `l` is earlier than x, x is sorted before all of them
 skip : (x : Sided) (xs : List Presented) (l : List Sided) → AllByRecursion (λ a. first_instant x.batch <ℤ first_instant a) xs → AllByRecursion (NotBefore x) l
     → by_instant (all_of A xs ++ x ∷ l) ≡ x ∷ by_instant (all_of A xs ++ l)
 skip x [] l h n = by-cons x l ∙ put-first x (by_instant l) (all-by (NotBefore x) l n)
@@ -189,7 +188,6 @@ pub batches-one : (s : Which) (z : Presented) → batches_of s (of_side s z ∷ 
 batches-one A z = refl
 batches-one B z = refl
 
--- if the last batch of `done` is of side `s`, each batch of `done` may precede a batch b that follows on side `s`
 before-end : (s : Which) (done : List Sided) (b : Presented) → IsSorted done → EndsOn s done → IsInOrder (batches_of s done ++ b ∷ []) → AllByRecursion (λ x. MayPrecede x (of_side s b)) done
 before-end s done b sorted (inl none) order = subst (AllByRecursion (λ x. MayPrecede x (of_side s b))) (sym none) tt
 before-end s done b sorted (inr (front, z, e)) order =

@@ -168,11 +168,11 @@ known-is xs ys given m s =
 pub idle-known : (xs ys : List Presented) (given : ℕ) (m : MatchingState) (s : StandsFor xs ys given m) → IsIdle m → known_of m xs ys ≡ s.done
 idle-known xs ys given m s idle = known-is xs ys given m s ∙ ap (λ (l : List Sided). s.done ++ l) idle ∙ append-nil s.done
 
--- once nothing more is known, the counts are those of the known part
+-- if the matching is idle, its counts are those of the known part
 pub idle-counts : (xs ys : List Presented) (given : ℕ) (m : MatchingState) → StandsFor xs ys given m → IsIdle m → m.counts ≡ counts_of (known_of m xs ys)
 idle-counts xs ys given m s idle = s.counts ∙ ap counts_of (sym (idle-known xs ys given m s idle))
 
--- once nothing more is known, no difference of the known part is left
+-- if the matching is idle, no difference of the known part is left
 pub idle-none : (xs ys : List Presented) (given : ℕ) (m : MatchingState) → StandsFor xs ys given m → IsIdle m → slice_get (differences (known_of m xs ys)) given ≡ None
 idle-none xs ys given m s idle =
     ap (λ (l : List Sided). slice_get (differences l) given) (idle-known xs ys given m s idle)

@@ -31,7 +31,6 @@ enters-on : (s : Which) (x : Placed) (n k : ℕ) (old new : MatchingState) (coun
 enters-on A x n k old new counts pair e h = subst (λ m. Enters x m old.waiting_a old.waiting_b new.waiting_a new.waiting_b pair) (sym e) h
 enters-on B x n k old new counts pair e h = subst (λ m. Enters x m old.waiting_b old.waiting_a new.waiting_b new.waiting_a pair) (sym e) h
 
--- if a batch entered, and the new position and counts are set, the matching has worked through that batch
 pub stepped : (s : Which) (b : Presented) (old new : MatchingState) (place : ℕ) (counts : PairCounts) (pair : Option Paired) → new ≡ record (without_next s old) { waiting_a = new.waiting_a; waiting_b = new.waiting_b }
     → EntersSide s (placed old.place s b) (risen old.place) old new pair → place ≡ risen new.place → counts ≡ counted s pair new.counts → Steps s b old (left new place counts) pair
 stepped s b old new place counts pair same enters is_place is_counts =
@@ -69,7 +68,6 @@ comes s old new entered place counts side same enters tells is_place is_counts =
     subst (λ (o : Option Presented). IfSome o (λ batch. EntersSide s (placed old.place s batch) (risen old.place) old new (made_on s (placed old.place s batch) old))) h.1 enters in
     record { batch = h.0; next = h.1; pair = pair; steps = stepped s h.0 old new place counts pair same on is_place (is_counts pair told); tells = told.difference }
 
--- after the step, the matching was given the same lists, and has returned one more difference if `d` is a difference
 pub step-stands : (s : Which) (b : Presented) (old new : MatchingState) (pair : Option Paired) (d : Option Difference) → next_side old ≡ Some s → next_of s old ≡ Some b → Steps s b old new pair → d ≡ difference_by_pair pair
     → (xs ys : List Presented) (given : ℕ) → StandsFor xs ys given old → StandsFor xs ys (given + length (option_to_list d)) new
 step-stands s b old new pair d side is t e xs ys given h =

@@ -147,7 +147,6 @@ pub find-passes : (t : Placed → Bool) (ys : List Placed) (x : Placed) → find
 find-passes t [] x h = absurd (cc)
 find-passes t (y ∷ ys) x h = passes-at t y ys x (find-passes t ys x) h (either (t y))
 
--- if the first batch that passes t also passes q, one batch fewer passes q after that batch is removed
 fewer-at : (t q : Placed → Bool) (y : Placed) (ys : List Placed) (x : Placed) → q x ≡ true → (find t ys ≡ Some x → suc (length (filter q (without_first t ys))) ≡ length (filter q ys)) → find t (y ∷ ys) ≡ Some x
     → (t y ≡ true) ⊎ (t y ≡ false) → suc (length (filter q (without_first t (y ∷ ys)))) ≡ length (filter q (y ∷ ys))
 fewer-at t q y ys x qx rest h (inl hit) =

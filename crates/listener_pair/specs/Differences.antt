@@ -21,7 +21,7 @@ differ_in a b way = record { frame_a = a.frame; frame_b = b.frame; seq = a.seq; 
 abbrev pub between : Presented → Presented → Option Difference
 between a b = option_map (differ_in a b) (way_of a b)
 
--- the difference of batch x of this side and batch y of the other side; none if they do not differ
+-- the difference of batch x of `side` and batch y of the other side; none if they do not differ
 abbrev pub difference_by : Which → Presented → Presented → Option Difference
 difference_by A x y = between x y
 difference_by B x y = between y x
@@ -38,7 +38,8 @@ differences list = filter_map difference_of (pairs list)
 abbrev pub alone : Which → List Placed → ℕ
 alone side list = length (filter (λ x. is_side side x.side) list)
 
--- the counts of a merged list: its pairs, its batches of A and of B that are in no pair, and its pairs that differ
+-- the counts of a merged list: how many pairs it has, how many batches of A and how many of B are in no pair, and how
+-- many pairs differ
 abbrev pub counts_of : List Sided → PairCounts
 counts_of list = record {
   matched = length (pairs list);

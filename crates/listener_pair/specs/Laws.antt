@@ -4,14 +4,14 @@ use Rattle.listener_pair.specs.Merged.{Sided, is_side}
 use Rattle.listener_pair.specs.Pairs.{Paired, fits, pairs}
 
 -- What holds for every pair. Its batches are of different sides and may present the same packet or unit. The earlier
--- batch is one of the 512 batches directly before the later one.
+-- batch is one of the 512 batches directly before the later batch.
 pub record IsPair (pair : Paired) : Type 0 where
   pub sides : is_side pair.later.side pair.earlier.side ≡ false
   pub before : pair.earlier.place < pair.later.place
   pub near : pair.later.place ≤ pair.earlier.place + 512
   pub fits : fits pair.later.side pair.later.batch pair.earlier.batch ≡ true
 
--- the batch at position `place` is in this pair
+-- the batch at position `place` is in `pair`
 abbrev pub is_in : ℕ → Paired → Bool
 is_in place pair = pair.earlier.place == place || pair.later.place == place
 

@@ -24,18 +24,18 @@ pub record MatchingState : Type 0 where
   pub waiting_b : List Placed
   pub counts : PairCounts
 
--- a side has not ended, and has no next batch
+-- the side has not ended, and has no next batch
 abbrev pub lacks : Bool → Option Presented → Bool
 lacks true next = false
 lacks false None = true
 lacks false (Some batch) = false
 
--- the side whose next batch or whose end the matching wants: A if it lacks its next batch, otherwise B if it lacks its
--- next batch, otherwise none
+-- the side that must present its next batch or end: A if A lacks its next batch; otherwise B if B lacks its next batch;
+-- otherwise none
 abbrev pub wanted : MatchingState → Option Which
 wanted m = if lacks m.ended_a m.next_a then Some A else if lacks m.ended_b m.next_b then Some B else None
 
--- the number of next batches
+-- how many sides have a next batch
 abbrev pub nexts_left : MatchingState → ℕ
 nexts_left m = length (option_to_list m.next_a) + length (option_to_list m.next_b)
 
@@ -61,7 +61,7 @@ nexts None (Some b) = of_side B b ∷ []
 nexts (Some a) (Some b) =
     if int_lt (first_instant b) (first_instant a) then of_side B b ∷ of_side A a ∷ [] else of_side A a ∷ of_side B b ∷ []
 
--- Nothing more is known. Either the next batch of the merged list depends on what a side presents later, or both sides
+-- No next batch is known. Either the next batch of the merged list depends on what a side presents later, or both sides
 -- have ended and no batch is left.
 abbrev pub IsIdle : MatchingState → Type 0
 IsIdle m = known m.ended_a m.ended_b (nexts m.next_a m.next_b) ≡ []
@@ -97,7 +97,7 @@ abbrev pub window : Which → ℕ → List Placed → List Placed
 window side place list = filter (is_within side place) list
 
 -- The matching was given the batches `xs` of A and `ys` of B, each list in order, and has returned `given` differences.
--- `done` is the part of the merged list that it has worked through.
+-- `done` is the prefix of the merged list that the matching has worked through.
 pub record StandsFor (xs ys : List Presented) (given : ℕ) (m : MatchingState) : Type 0 where
   pub few : length xs + length ys < 2 ^ 63
   pub done : List Sided

@@ -15,7 +15,7 @@ pub record Sided : Type 0 where
 abbrev pub all_of : Which → List Presented → List Sided
 all_of side batches = map (λ b. record { side = side; batch = b }) batches
 
--- x put into a list that is ordered by first instant, before the first batch that is not earlier than x
+-- a list ordered by first instant, after x was inserted before the first batch that is not earlier than x
 abbrev pub put_before : Sided → List Sided → List Sided
 put_before x [] = x ∷ []
 put_before x (y ∷ ys) = if int_lt (first_instant y.batch) (first_instant x.batch) then y ∷ put_before x ys else x ∷ y ∷ ys
@@ -25,8 +25,8 @@ unfoldable pub by_instant : List Sided → List Sided
 by_instant [] = []
 by_instant (x ∷ rest) = put_before x (by_instant rest)
 
--- What A and B present, in one list ordered by first instant. At the same instant, batches of A come before batches of
--- B. Apart from that, each side's batches keep their order.
+-- What A and B present, in one list ordered by first instant. Batches of A come before batches of B with the same first
+-- instant. Batches of one side keep their order.
 unfoldable pub merged : List Presented → List Presented → List Sided
 merged xs ys = by_instant (all_of A xs ++ all_of B ys)
 
@@ -37,7 +37,7 @@ IsInOrder (x ∷ rest) = AllByRecursion (λ y. first_instant x ≤ℤ first_inst
 
 -- ---- what is known of the merged list before both sides have ended
 
--- two sides are the same
+-- the two sides are the same
 abbrev pub is_side : Which → Which → Bool
 is_side A A = true
 is_side A B = false
@@ -50,8 +50,8 @@ abbrev pub is_settled : Bool → Which → List Sided → Bool
 is_settled ended side list = ended || list_any (λ x. is_side side x.side) list
 
 -- The known part of a merged list, given which sides have ended. A batch is known if each side that has not ended has
--- presented this batch or a later one. Whatever the two sides present later, the known part stays a prefix of the
--- merged list.
+-- presented this batch or a later batch of the list. Whatever the two sides present later, the known part stays a
+-- prefix of the merged list.
 unfoldable pub known : Bool → Bool → List Sided → List Sided
 known ended_a ended_b [] = []
 known ended_a ended_b (x ∷ rest) =

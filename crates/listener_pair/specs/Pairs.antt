@@ -16,7 +16,7 @@ abbrev pub are_near : Presented → Presented → Bool
 are_near a b = nat_le (unsigned_abs (first_instant a -ℤ first_instant b) * a.line.den) (64 * a.count * a.line.num)
 
 -- A batch of A and a batch of B may present the same packet or unit. If neither batch is a unit of H.264, they are near
--- each other. If one is a unit, both are units and at the same instant.
+-- each other. If one is a unit, both are units with the same instant.
 unfoldable pub within_reach : Presented → Presented → Bool
 within_reach a b =
     if is_unit a || is_unit b
@@ -33,8 +33,8 @@ reaches B x y = within_reach y x
 unfoldable pub fits : Which → Presented → Presented → Bool
 fits side x y = y.seq == x.seq && reaches side x y
 
--- Batch x may be paired with the unpaired batch y: y is of the other side and among the 512 batches directly before x,
--- both have the same sequence number, and they are within reach.
+-- Batch x may be paired with the unpaired batch y. This holds if y is of the other side and among the 512 batches
+-- directly before x, both batches have the same sequence number, and they are within reach.
 abbrev pub may_pair : Placed → Placed → Bool
 may_pair x y = nat_le x.place (y.place + 512) && not (is_side x.side y.side) && fits x.side x.batch y.batch
 
@@ -58,13 +58,13 @@ at_place place x = record { place = place; side = x.side; batch = x.batch }
 abbrev pub partner_of : Placed → List Placed → Option Placed
 partner_of x unpaired = find (may_pair x) unpaired
 
--- The unpaired batches after x is added. If x has a partner, these are the earlier ones without the partner; otherwise
--- the earlier ones and x.
+-- The unpaired batches after x is added. If x has a partner, these are the earlier unpaired batches without the
+-- partner. Otherwise, these are the earlier unpaired batches and x.
 abbrev pub left_by : Placed → List Placed → Option Placed → List Placed
 left_by x unpaired None = unpaired ++ x ∷ []
 left_by x unpaired (Some partner) = without_first (may_pair x) unpaired
 
--- the unpaired batches after x is added, given the unpaired batches before
+-- the unpaired batches after x is added; `unpaired` are the unpaired batches before x
 abbrev pub unpaired_with : Placed → List Placed → List Placed
 unpaired_with x unpaired = left_by x unpaired (partner_of x unpaired)
 

@@ -14,24 +14,25 @@ sample_size batch = length batch.bytes / batch.count
 abbrev pub sample_bytes : Presented → ℕ → List ℕ
 sample_bytes batch j = take (sample_size batch) (drop (j * sample_size batch) batch.bytes)
 
--- how sample j differs between a batch of A and a batch of B: in its instant; if not, in its bytes
+-- how sample j differs between a batch of A and a batch of B: in its instant or, if the instants are equal, in its
+-- bytes
 unfoldable pub sample_way : Presented → Presented → ℕ → Option Way
 sample_way a b j =
     if same_instant (sample_instant a j) (sample_instant b j)
     then (if bytes_eq (sample_bytes a j) (sample_bytes b j) then None else Some (Bytes j))
     else Some (At j (sample_instant a j) (sample_instant b j))
 
--- the first way, or if there is none, the second
+-- the first way if there is one, and otherwise the second
 abbrev pub or_way : Option Way → Option Way → Option Way
 or_way (Some way) other = Some way
 or_way None other = other
 
--- the way in which the first differing sample differs, among the first n samples; none if none of them differs
+-- how the first differing sample among the first n samples differs; none if no sample differs
 unfoldable pub first_way : Presented → Presented → ℕ → Option Way
 first_way a b zero = None
 first_way a b (suc n) = or_way (first_way a b n) (sample_way a b n)
 
--- How a batch of A and a batch of B differ; none if they do not. They may differ in the number of samples. Otherwise
--- the first sample that differs decides: it differs in its instant or, if not, in its bytes.
+-- How a batch of A and a batch of B differ; none if they do not differ. If they have the same number of samples, the
+-- first differing sample decides: it differs in its instant or, if the instants are equal, in its bytes.
 unfoldable pub way_of : Presented → Presented → Option Way
 way_of a b = if a.count == b.count then first_way a b a.count else Some (Count a.count b.count)

@@ -65,8 +65,8 @@ impl Matching {
         })
     }
 
-    /// The side whose next batch, or whose end, must be given next: A if A has not ended and has no next batch;
-    /// otherwise B if B has not ended and has no next batch; otherwise `None`.
+    /// The side for which `take` or `end` must be called next: A if A has not ended and has no next batch; otherwise B
+    /// if B has not ended and has no next batch; otherwise `None`.
     pub fn wants(&self) -> Option<Which>
         ensures { result ≡ wanted self.now }
     {
@@ -102,7 +102,7 @@ impl Matching {
     }
 
     /// Returns the next difference in the known part of the merged list; `None` exactly if that part has no further
-    /// difference. Each difference uses up the next batch of a side. Allocates nothing.
+    /// difference. A call that returns a difference consumes at least one of the two next batches. Allocates nothing.
     pub fn next_difference(&mut self) -> Option<Difference>
         ensures given { (xs ys : List Presented) (given : ℕ) → StandsFor xs ys given self.old → result ≡ slice_get (differences (known_of self.old xs ys)) given }
         ensures stands { (xs ys : List Presented) (given : ℕ) → StandsFor xs ys given self.old → StandsFor xs ys (given + length (option_to_list result)) self.new }
@@ -121,16 +121,16 @@ impl Matching {
         }
     }
 
-    /// The counts of the known part, after all its differences were returned. A batch that is not paired yet counts as
-    /// in no pair.
+    /// The counts of the known part, if `next_difference` has returned `None` and nothing was taken or ended after
+    /// that. A batch that is not paired yet counts as in no pair.
     pub fn counts(&self) -> PairCounts
         ensures { IsIdle self.now → (xs ys : List Presented) (given : ℕ) → StandsFor xs ys given self.now → result ≡ counts_of (known_of self.now xs ys) }
     {
         self.counts
     }
 
-    /// Returns the memory of the samples of a batch of side `which` that was paired or dropped, if any is kept. It can
-    /// be used again.
+    /// Returns the memory of a batch of side `which` that was paired or dropped, so that it can be used again. Returns
+    /// `None` if no such memory is kept.
     pub fn take_spent(&mut self, which: Which) -> Option<Bytes>
         ensures { self.new ≡ self.old }
     {

@@ -40,7 +40,7 @@ fn reaches(side: Which, x: &Timed, y: &Timed) -> bool
     }
 }
 
-/// Whether batch `x` of `side` may be paired with the unpaired batch `y` of the other side, if `y` is among the 512
+/// Whether batch `x` of `side` may be paired with the unpaired batch `y` of the other side. `y` must be among the 512
 /// batches before `x`.
 #[tactic(auto, unfolding(crate::specs::Pairs::fits))]
 pub fn fits(side: Which, x: &Timed, y: &Timed) -> bool

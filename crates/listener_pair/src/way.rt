@@ -55,8 +55,8 @@ fn first_of_samples(a: &Batch, b: &Batch) -> Option<Way>
     None
 }
 
-/// How a batch of A and a batch of B differ; `None` if they do not. Batches with the same line and equal bytes are not
-/// compared sample by sample.
+/// How a batch of A and a batch of B differ; `None` if they do not differ. Batches with the same line and equal bytes
+/// are not compared sample by sample.
 #[tactic(auto, unfolding(crate::specs::Ways::way_of))]
 pub fn way_of(a: &Batch, b: &Batch) -> Option<Way>
     ensures { result ≡ way a.now b.now }

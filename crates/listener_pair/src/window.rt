@@ -99,8 +99,8 @@ impl Waiting {
         }
     }
 
-    /// Adds a batch. There is room, because at most 511 other batches wait. Without room, all waiting batches would be
-    /// dropped.
+    /// Adds a batch. There is always room, because at most 511 other batches wait. If there were no room, all waiting
+    /// batches would be dropped.
     #[inline(always)]
     fn keep(&mut self, batch: Placed)
         ensures { length self.old < 512 → self.new ≡ self.old ++ batch ∷ [] }
@@ -126,9 +126,8 @@ fn find_partner(waiting: &VecDeque<Placed>, side: Which, x: &Timed) -> Option<us
     None
 }
 
-/// Takes the next batch of a side. It is paired with the first waiting batch of the other side with which it may be
-/// paired. If there is no such batch, it waits. Waiting batches that are then not among the last 512 batches are
-/// dropped.
+/// Takes the next batch of a side. If it may be paired with a waiting batch of the other side, it is paired with the
+/// first such batch. Otherwise it waits. Then waiting batches that are not among the last 512 batches are dropped.
 #[inline(always)]
 pub fn enter(
     side: Which,

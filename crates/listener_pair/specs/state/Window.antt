@@ -44,14 +44,14 @@ abbrev pub made_on : Which → Placed → MatchingState → Option Paired
 made_on A x m = made x m.waiting_b
 made_on B x m = made x m.waiting_a
 
--- the batches that x adds to the waiting ones: x itself if it made no pair
+-- x if x made no pair, because x then waits; otherwise no batch
 abbrev pub kept : Placed → Option Paired → List Placed
 kept x None = x ∷ []
 kept x (Some pair) = []
 
--- Batch x was added, and made this pair or none. `own` and `other` are the batches that waited on its side and on the
--- other side before; `own_then` and `other_then` are those that wait afterwards. `next` is the position of the batch
--- after x.
+-- Batch x was added, and made this pair or none. Before that, `own` were the waiting batches of the side of x, and
+-- `other` those of the other side. After that, `own_then` and `other_then` are the waiting batches of these sides.
+-- `next` is the position of the batch after x.
 pub record Enters (x : Placed) (next : ℕ) (own other own_then other_then : List Placed) (pair : Option Paired) : Type 0 where
   pub made : pair ≡ made x other
   pub others : other_then ≡ without_passed next (without_first (takes x) other)
@@ -99,7 +99,7 @@ pub record Tells (pair : Option Paired) (entered : Entered) : Type 0 where
 
 -- ---- the next batch
 
--- the side of whichever next batch is first in merged order
+-- of the two next batches, the side of the one that is first in merged order
 abbrev pub first_side : Option Presented → Option Presented → Option Which
 first_side None None = None
 first_side (Some a) None = Some A

@@ -1,4 +1,4 @@
--- If no batch of the known part is left, nothing more is known.
+-- If no batch of the known part is left, the matching is idle.
 use Rattle.std.proofs.Common.{◌≤◌, Option, Some, None, length, ap, sym, ◌∙◌, arith}
 use Rattle.std.specs.Prelude.{slice_get}
 use Rattle.std.specs.Option.{option_to_list}
