@@ -41,7 +41,6 @@ floor_natural a d some = floor_only (pos a) (floor_of (pos a) d) (pos (a / d)) d
 steps : (f : ℤ) (k : ℕ) → f ≡ neg_ℤ (pos 0) → (f +ℤ pos k) *ℤ pos 1000000000 ≡ pos (k * 1000000000)
 steps f k e = rw e (omega (arith, ints))
 
--- the instant of sample j of a packet that is stamped on its first sample
 pub counted_sample : (p : Packet) (x : ℤ) (rate j : ℕ) → p.rate ≡ rate → 1 ≤ rate → sample_instant (counted_from_first p x) j ≡ x +ℤ pos (nominal_offset rate j)
 counted_sample p x rate j same some =
     ap (λ (z : ℤ). x +ℤ floor_of z p.rate) (steps (neg_ℤ (pos 0)) j refl)

@@ -1,4 +1,4 @@
--- A listener gets one packet of each frame of a gateway, with the piece that the frame carries.
+-- A listener gets one packet from each frame of a gateway. The packet carries the same piece as the frame.
 use Rattle.std.proofs.Common.{◌≡◌, ℕ, suc, ◌+◌, ◌%◌, ◌^◌, ◌<◌, false, List, [], ◌∷◌, All, map, filter, Option, None, refl, ap, subst, ◌∙◌, arith}
 use Rattle.std.specs.List.{AllByRecursion, enumerate_from}
 use Rattle.std.proofs.lemmas.List.Elements.{All-cons, All-nil}
@@ -117,7 +117,7 @@ entries_are to shape id cs is small all =
 
 -- ---- what is presented
 
--- The entries of the schedule of a listener without a clock are `entries`, and its buffer is never full.
+-- The listener has no clock, the entries of its schedule are `entries`, and its buffer is never full.
 pub record IsSchedule (plan : ListenPlan) (records : List Record) (entries : List Entry) : Type 0 where
   pub without : (schedule_plan plan).clock ≡ false
   pub entries_is : entries_in plan records ≡ entries

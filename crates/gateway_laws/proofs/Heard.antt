@@ -39,7 +39,6 @@ timestamp_small x =
     let same = low_of (int_rem_euclid x (pos (2 ^ 32))) low in
     omega (arith, ints, same, below)
 
--- a timestamp means the instant that was stamped
 means : (x : ℤ) → pos 0 ≤ℤ x → unfolded (timestamp_at x) (arrival_at x) ≡ x
 means x begun =
     let low = rest_natural x (2 ^ 32) in

@@ -153,7 +153,6 @@ record AreTaken (clock : Clock) (plan : SchedulePlan) (entries : List Entry) (ba
   accepted_is : accepted clock plan entries n ≡ placed 0 (take n batches)
   sorted_is : by_instant (placed 0 (take n batches)) ≡ placed 0 (take n batches)
 
--- item n is accepted
 accept : (clock : Clock) (plan : SchedulePlan) (entries : List Entry) (batches : List Presented) (n : ℕ) (b : Presented) → slice_get batches n ≡ Some b → (is : AreFree clock plan entries batches) → accepted clock plan entries n ≡ placed 0 (take n batches) → (t : IsTimedAt clock plan entries n b)
     → verdict_in clock plan entries n t.item ≡ Ok (record { place = n; instant = first_instant b; batch = b })
 accept clock plan entries batches n b e is before t =

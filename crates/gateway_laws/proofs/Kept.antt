@@ -142,7 +142,7 @@ no_rest interval (inl e) = rw e refl
 no_rest interval (inr (inl e)) = rw e refl
 no_rest interval (inr (inr e)) = rw e refl
 
--- what is presented of the frames of all pieces is exactly the samples of the batches that were not skipped
+-- the samples that are presented of the frames of all pieces are exactly those of the batches that were not skipped
 heard_of_cuts : (to : To) (shape : Shape) (id : ℕ) (batches : List Presented) (records : List Record) (plan : ListenPlan) → IsShape shape → id < 2 ^ 64 → AllByRecursion BeginsInTime batches
     → records ≡ map record_of (map (cut_frame to shape id) (cuts_after to shape nothing_given batches)) → Hears id plan records → Presents to (Some shape) batches (presented_of (shown_of plan records))
 heard_of_cuts to shape id batches records plan is small begins e hears =

@@ -40,7 +40,8 @@ use Rattle.gateway_laws.proofs.Heard.{timestamp_small}
 
 -- ---- pieces
 
--- A packet can carry the piece: the piece lies in its batch, which has the stream's shape, and its block count is a byte.
+-- A packet can carry the piece: the piece lies in its batch, the batch has the stream's shape, and the piece's block
+-- count is a byte.
 pub record IsCarried (to : To) (shape : Shape) (c : Cut) : Type 0 where
   pub within : IsWithin to shape c.batch c.piece
   pub size : length c.batch.bytes ≡ c.batch.count * (value_in to * shape.channels)

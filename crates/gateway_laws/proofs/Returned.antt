@@ -139,7 +139,7 @@ turn_body on shape b = record { instant = b.instant; count = b.count; bytes = tu
 abbrev heard_of : To → Shape → ℕ → Cut → Presented
 heard_of to shape i c = counted_from_first (packet_heard to shape i c) (cut_instant c)
 
--- the one piece into which `heard_of` is cut: all samples of piece c
+-- the only piece into which the batch `heard_of` is cut; it has all samples of piece c
 abbrev piece_of : Cut → ℕ → Piece
 piece_of c block = record { first = 0; count = c.piece.count; block = block }
 
@@ -160,7 +160,7 @@ heard_start to shape i c is = starts_at (packet_heard to shape i c) (cut_instant
 heard_pieces : (to : To) (shape : Shape) (i : ℕ) (c : Cut) (block : ℕ) → IsShape shape → IsCarried to shape c → HasRoom (other to) shape c → pieces_of (other to) shape (heard_of to shape i c) block ≡ piece_of c block ∷ []
 heard_pieces to shape i c block is fine room = one_piece (other to) shape (heard_of to shape i c) block (record { begun = refl; num = refl; den = refl; fits = room }) (some_rate shape is) fine.within.some
 
--- all of these instants are after the last sample that was given out
+-- all instants of the list are after the instant `last`, if there is one
 abbrev IsOver : Option ℤ → List ℤ → Type 0
 IsOver None xs = ⊤
 IsOver (Some last) xs = AllByRecursion (λ y. last <ℤ y) xs
@@ -232,7 +232,7 @@ heard_again to shape id batches plan is small begins hears =
     ∙ stamped_presented clock_spot (schedule_plan plan) (packets_heard to shape 1 cuts) (map cut_instant cuts) schedule.without (stamped_all to shape (packets_heard to shape 1 cuts) cuts carry)
     (rise_all to shape nothing_given batches (all_rising batches begins)) schedule.room)
 
--- if a gateway converts what is presented of another gateway's frames, it sends the same bodies, converted
+-- a gateway that converts another gateway's frames sends the same bodies, converted
 turned_again : (to : To) (shape : Shape) (id : ℕ) (batches : List Presented) (plan : ListenPlan) → IsShape shape → id < 2 ^ 64 → AllByRecursion BeginsInTime batches → Hears id plan (gateway_records to (Some shape) id batches)
     → AllByRecursion (HasRoom (other to) shape) (cuts_after to shape nothing_given batches)
     → map (body_of (other to) shape) (cuts_after (other to) shape nothing_given (presented_again plan to shape id batches)) ≡ map (turn_body (other to) shape) (map (body_of to shape) (cuts_after to shape nothing_given batches))

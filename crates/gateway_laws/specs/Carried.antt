@@ -10,8 +10,8 @@ use Rattle.am824_gateway.specs.Packets.{samples_of}
 use Rattle.am824_gateway.specs.Samples.{Sample, part, values_out}
 use Rattle.gateway_laws.specs.Stamped.{IsStamped}
 
--- The packet carries a piece: it is stamped with the instant of the piece's first sample, and has the piece's samples
--- at the stream's rate.
+-- The packet carries a piece. Its timestamp is that of the piece's first sample, and it has the piece's samples at the
+-- stream's rate.
 pub record CarriesCut (to : To) (shape : Shape) (p : Packet) (c : Cut) : Type 0 where
   pub stamped : IsStamped p (cut_instant c)
   pub rate : p.rate ≡ shape.rate
@@ -25,13 +25,13 @@ CarryCuts to shape [] (c ∷ cs) = ⊥
 CarryCuts to shape (p ∷ ps) [] = ⊥
 CarryCuts to shape (p ∷ ps) (c ∷ cs) = CarriesCut to shape p c × CarryCuts to shape ps cs
 
--- n samples, from sample j on, that a listener hears in a batch of the format that a gateway sends
+-- n samples of a batch that a listener presents of a gateway's packets, from sample j on
 abbrev pub heard_from : To → Shape → Presented → ℕ → ℕ → List Sample
 heard_from to shape batch j zero = []
 heard_from to shape batch j (suc n) =
     record { instant = sample_instant batch j; values = values_out to shape.channels (part (value_out to * shape.channels) j batch.bytes) }
     ∷ heard_from to shape batch (suc j) n
 
--- the samples that a listener hears in a batch of the format that a gateway sends
+-- the samples of a batch that a listener presents of a gateway's packets
 abbrev pub samples_heard : To → Shape → Presented → List Sample
 samples_heard to shape batch = heard_from to shape batch 0 batch.count

@@ -14,12 +14,12 @@ use Rattle.am824_gateway.specs.Packets.{samples_of, timestamp_at}
 use Rattle.am824_gateway.specs.Pieces.{arrival_at}
 
 -- The sample to which the timestamp of a piece's packet belongs. In PCM it is the first sample (IEEE 1722-2016, 7). In
--- AM824 it is in the first block whose count is a multiple of SYT_INTERVAL (IEC 61883-6).
+-- AM824 it is the sample in the first data block whose block count is a multiple of SYT_INTERVAL (IEC 61883-6).
 abbrev pub rule_of : To → Shape → Piece → HeadRule
 rule_of Am824 shape p = Blocks p.block (interval_of shape.rate)
 rule_of Aaf shape p = Own
 
--- what a listener reads of the frame that carries piece c; the frame is record number `frame` of the capture
+-- the packet that a listener reads from the frame of piece c; the frame is record number `frame` of the capture
 abbrev pub packet_heard : To → Shape → ℕ → Cut → Packet
 packet_heard to shape frame c = record {
   frame = frame;
@@ -34,7 +34,8 @@ packet_heard to shape frame c = record {
   bytes = samples_of to shape c.batch c.piece;
 }
 
--- what a listener reads of the frames that carry these pieces; the first frame is record number `frame` of the capture
+-- the packets that a listener reads from the frames of these pieces; the first frame is record number `frame` of the
+-- capture
 abbrev pub packets_heard : To → Shape → ℕ → List Cut → List Packet
 packets_heard to shape frame [] = []
 packets_heard to shape frame (c ∷ cs) = packet_heard to shape frame c ∷ packets_heard to shape (suc frame) cs

@@ -17,15 +17,15 @@ abbrev pub IsNotFull : Shown → Type 0
 IsNotFull (Present batch) = Unit {0}
 IsNotFull (Flag frame seq reason) = reason ≢ Full
 
--- Entry i is an item. It can be presented as `batch`, by what is known when it is judged. No packet up to this item
--- arrived after the first instant of `batch`.
+-- Entry i is an item, and is timed as `batch` when it is judged. Neither this item nor an earlier packet arrived after
+-- the first instant of `batch`.
 pub record IsTimedAt (clock : Clock) (plan : SchedulePlan) (entries : List Entry) (i : ℕ) (batch : Presented) : Type 0 where
   pub item : Item
   pub there : slice_get entries i ≡ Some (OfItem item)
   pub batch_is : timed clock plan (prefix_of plan entries i) item ≡ Ok batch
   pub early : now_at entries i ≤ℤ first_instant batch
 
--- Each entry is an item that is timed, the first instants rise, and the buffer is never full.
+-- Entry i is timed as batch i, the first instants of the batches rise, and the buffer is never full.
 pub record AreInOrder (clock : Clock) (plan : SchedulePlan) (entries : List Entry) (batches : List Presented) : Type 0 where
   pub all : length batches ≡ length entries
   pub timed_at : (i : ℕ) (batch : Presented) → slice_get batches i ≡ Some batch → IsTimedAt clock plan entries i batch

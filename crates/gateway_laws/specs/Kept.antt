@@ -26,14 +26,14 @@ use Rattle.gateway_laws.specs.Noted.{nothing_found}
 
 -- ---- what listeners present
 
--- A listener of the stream with this id has no clock, and its buffer is never full for these records.
+-- The listener hears the stream with this ID and has no clock. Its buffer is never full for these records.
 pub record Hears (id : ℕ) (plan : ListenPlan) (records : List Record) : Type 0 where
   pub stream : plan.stream ≡ id
   pub clock : plan.clock ≡ None
   pub room : AllByRecursion IsNotFull (shown_of plan records)
 
 -- The samples that are presented of a gateway's capture are exactly those of the batches that the gateway did not skip:
--- in order, once, with the same values at the same instants. If the stream has no shape, nothing is presented.
+-- in order, each once, with the same values at the same instants. If the stream has no shape, nothing is presented.
 abbrev pub Presents : To → Option Shape → List Presented → List Presented → Type 0
 Presents to None batches heard = heard ≡ []
 Presents to (Some shape) batches heard = flat_map (samples_heard to shape) heard ≡ flat_map (samples_presented to shape) (given_batches to shape nothing_given batches)
@@ -45,7 +45,8 @@ SkipsNone to (Some shape) batches = given_batches to shape nothing_given batches
 
 -- ---- what `check` finds
 
--- `check` notes this of a record: it is an Ethernet frame that holds a packet of a stream with a valid id.
+-- `seen` is what `check` notes of a record. The record is an Ethernet frame that holds a packet of a stream with a
+-- valid ID.
 pub record IsNotedAs (bytes : List ℕ) (seen : Seen) : Type 0 where
   pub frame : frame_refusal bytes ≡ None
   pub ethertype : (frame_of bytes).ethertype ≡ avtp_ethertype
@@ -54,17 +55,17 @@ pub record IsNotedAs (bytes : List ℕ) (seen : Seen) : Type 0 where
   pub reserved : has_reserved (packet_of (packet_in bytes)) ≡ seen.reserved
   pub stamp : stamp_is_off (packet_of (packet_in bytes)) ≡ seen.stamp_wrong
 
--- If `check` has made `notes` before, it makes a note about each of these records, and finds nothing.
+-- `check` has made `notes` before. It makes a note of each of these records, and finds nothing.
 abbrev pub FindsNothingAfter : List Seen → List Record → Type 0
 FindsNothingAfter notes [] = ⊤
 FindsNothingAfter notes (r ∷ records) =
     (seen : Seen) × IsNotedAs r.bytes seen × (findings notes seen ≡ nothing_found) × FindsNothingAfter (notes ++ seen ∷ []) records
 
--- ---- both
+-- ---- a capture as a whole
 
 -- The bytes are a whole capture of the frames that a gateway to this format, under this ID, makes of these batches. A
--- listener without a clock whose buffer is never full presents exactly the samples of the batches that were not
--- skipped. `check` finds nothing.
+-- listener that has no clock, and whose buffer is never full, presents exactly the samples of the batches that were not
+-- skipped. `check` finds nothing in the capture.
 pub record Keeps (to : To) (shape : Option Shape) (id : ℕ) (batches : List Presented) (bytes : List ℕ) : Type 0 where
   pub records : whole_records bytes ≡ map record_of (gateway_frames to shape id batches)
   pub whole : first_refusal bytes ≡ None

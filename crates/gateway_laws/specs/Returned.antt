@@ -12,7 +12,7 @@ use Rattle.am824_gateway.specs.declared.scan.To.TheVariants.{Aaf, Am824}
 use Rattle.am824_gateway.specs.Packets.{gateway_frames}
 use Rattle.am824_gateway.specs.Scan.{shape_in}
 
--- the other one of the two formats
+-- the other format
 abbrev pub other : To → To
 other Am824 = Aaf
 other Aaf = Am824
@@ -21,7 +21,7 @@ other Aaf = Am824
 abbrev pub gateway_records : To → Option Shape → ℕ → List Presented → List Record
 gateway_records to shape id batches = map record_of (gateway_frames to shape id batches)
 
--- The frames that a gateway makes, under this stream ID, of what a listener presents of `records`. The gateway's shape
--- is the one that a scan finds in `records`.
+-- The frames that a gateway sends under this stream ID, if it converts what a listener presents of `records`. The
+-- gateway's shape is the one that a scan finds in `records`.
 abbrev pub frames_made : To → ListenPlan → ℕ → List Record → List SentFrame
 frames_made to plan id records = gateway_frames to (shape_in plan.stream records) id (presented_of (shown_of plan records))

@@ -22,7 +22,7 @@ pub record IsStamped (p : Packet) (instant : ℤ) : Type 0 where
   pub early : p.arrival ≤ℤ instant
   pub begun : pos 0 ≤ℤ instant
 
--- the packets are stamped with these instants, one by one
+-- packet i is stamped with instant i, and there are as many packets as instants
 abbrev pub AreStamped : List Packet → List ℤ → Type 0
 AreStamped [] [] = ⊤
 AreStamped [] (x ∷ xs) = ⊥
@@ -33,7 +33,7 @@ AreStamped (p ∷ ps) (x ∷ xs) = IsStamped p x × AreStamped ps xs
 abbrev pub counted_from_first : Packet → ℤ → Presented
 counted_from_first p instant = samples_at p (nominal_spot p.rate (record { instant = instant; first = neg_ℤ (pos 0) }))
 
--- the batches of all packets, each counted from the instant of the packet's first sample
+-- the batches of all packets; the samples of packet i are counted from instant i
 abbrev pub all_counted : List Packet → List ℤ → List Presented
 all_counted [] xs = []
 all_counted (p ∷ ps) [] = []

@@ -36,23 +36,23 @@ ghost use Rattle.listener.specs.Laws.{presented_of};
 ghost use Rattle.pcap_frames.specs.Capture.{Record};
 ghost use Rattle.gateway_laws.specs.Stamped.{AreStamped, all_counted, packet_entries};
 
-/// Let each item of a schedule have an instant and arrive at or before it, let the items arrive in the order of their
-/// instants, and let the buffer never be full. Then all items are presented, in that order.
+/// Let the items of a schedule arrive in the order of their first instants, each at or before its own first instant. If
+/// the buffer is never full, all items are presented, in this order.
 pub fn items_in_order_are_presented()
     ensures { (clock : Clock) (plan : SchedulePlan) (entries : List Entry) (batches : List Presented) → AreInOrder clock plan entries batches → map (λ (a : Accepted). a.batch) (presented (given clock plan entries)) ≡ batches }
 {}
 
 /// Let the timestamp of each packet belong to its first sample, and let the packets arrive in time and in the order of
-/// their timestamps. A listener without a clock whose buffer is never full presents each packet once, in order. Each
-/// sample is counted at the nominal rate from the timestamp of its own packet.
+/// their timestamps. A listener that has no clock, and whose buffer is never full, presents each packet once, in order.
+/// Each sample is counted at the nominal rate from the timestamp of its own packet.
 pub fn stamped_packets_in_order_are_presented()
     ensures { (clock : Clock) (plan : SchedulePlan) (packets : List Packet) (instants : List ℤ) → plan.clock ≡ false → AreStamped packets instants → Rise instants
         → AllByRecursion IsNotFull (shown clock plan (packet_entries packets)) → map (λ (a : Accepted). a.batch) (presented (given clock plan (packet_entries packets))) ≡ all_counted packets instants }
 {}
 
-/// Let packets carry the pieces of batches whose instants rise. A listener without a clock whose buffer is never full
-/// presents exactly the samples of the batches that were not skipped: in order, once, with the same values at the same
-/// instants.
+/// Let packets carry the pieces of batches whose instants rise. A listener that has no clock, and whose buffer is never
+/// full, presents exactly the samples of the batches that were not skipped: in order, each once, with the same values
+/// at the same instants.
 pub fn packets_of_pieces_are_heard()
     ensures { (clock : Clock) (plan : SchedulePlan) (to : ToValue) (shape : ShapeValue) (given_before : GivenOut) (batches : List Presented) (packets : List Packet) → plan.clock ≡ false → IsShape shape → AllByRecursion HasRisingInstants batches
         → CarryCuts to shape packets (cuts_after to shape given_before batches) → AllByRecursion IsNotFull (shown clock plan (packet_entries packets))
@@ -61,7 +61,7 @@ pub fn packets_of_pieces_are_heard()
 
 /// A listener reads the frames of a gateway as packets that carry the pieces of the batches. Each timestamp belongs to
 /// the packet's first sample. This is true in AM824, too, because block counts are raised to a multiple of
-/// SYT_INTERVAL. From instant 0 on, a timestamp means the instant that was stamped.
+/// SYT_INTERVAL. From the timestamp of a sample at 0 or later, a listener computes exactly the instant of that sample.
 pub fn frames_carry_the_pieces()
     ensures { (to : ToValue) (shape : ShapeValue) (given_before : GivenOut) (frame : ℕ) (batches : List Presented) → IsShape shape → given_before.block % interval_of shape.rate ≡ 0 → AllByRecursion BeginsInTime batches
         → CarryCuts to shape (packets_heard to shape frame (cuts_after to shape given_before batches)) (cuts_after to shape given_before batches) }
@@ -74,25 +74,25 @@ pub fn nothing_is_found_in_frames()
         → findings (map (cut_seen to id) earlier) (cut_seen to id c) ≡ nothing_found }
 {}
 
-/// Let the batches begin at 0 or later and their instants rise, as is true of every listener's batches. Then the frames
-/// of a gateway are a whole capture that reads back. A listener without a clock whose buffer is never full presents
-/// exactly the samples of the batches that were not skipped: in order, once, with the same values at the same instants.
-/// `check` finds nothing in the capture.
+/// Let the batches begin at 0 or later and their instants rise, as is true of every listener's batches. Then the
+/// capture that a gateway makes is read without a refusal, and its records are the gateway's frames. A listener that
+/// has no clock, and whose buffer is never full, presents exactly the samples of the batches that were not skipped: in
+/// order, each once, with the same values at the same instants. `check` finds nothing in the capture.
 pub fn captures_of_pieces_are_kept()
     ensures { (to : ToValue) (shape : Option ShapeValue) (id : ℕ) (batches : List Presented) → IfSome shape IsShape → id < 2 ^ 64 → AllByRecursion BeginsInTime batches
         → Keeps to shape id batches (capture_of (gateway_frames to shape id batches)) }
 {}
 
-/// Let the packets of a gateway be presented at least 500 ns apart. A listener without a clock, with a buffer of at
-/// least the default size, hears all of them. Its buffer is never full, because a packet arrives at most 2 ms before it
-/// is presented.
+/// Let the packets of a gateway be presented at least 500 ns apart. The buffer of a listener that has no clock is then
+/// never full, if it has at least the default size. The reason: each packet arrives at most 2 ms before it is
+/// presented.
 pub fn default_buffers_are_never_full()
     ensures { (to : ToValue) (shape : Option ShapeValue) (id : ℕ) (batches : List Presented) (plan : ListenPlan) → IfSome shape IsShape → id < 2 ^ 64 → AllByRecursion BeginsInTime batches → ArePacketsSpread to shape batches → HasDefaultRoom id plan
         → Hears id plan (gateway_records to shape id batches) }
 {}
 
-/// Each batch that a listener presents begins at 0 or later, and its instants rise, whatever the records and whether
-/// the listener has a clock or not. This is also true of what is due while more records may follow.
+/// Each batch that a listener presents begins at 0 or later, and its instants rise. This holds for any records, with or
+/// without a clock. It also holds for the batches that are due while more records may follow.
 pub fn presented_batches_begin_in_time()
     ensures shown { (plan : ListenPlan) (records : List Record) → AllByRecursion BeginsInTime (presented_of (shown_of plan records)) }
     ensures due { (plan : ListenPlan) (records : List Record) → AllByRecursion BeginsInTime (presented_of (due_of plan records)) }
@@ -106,9 +106,10 @@ pub fn captures_of_pieces_can_be_turned()
         → shape_in id (gateway_records to (Some shape) id batches) ≡ Some shape }
 {}
 
-/// Let AM824 of a gateway be converted to PCM under any stream ID, and that PCM to AM824 under the first ID, each time
-/// with the shape that the scan finds. The result has the same bytes. The listeners have no clock, and their buffers
-/// are never full. Default buffers are never full if the packets are presented at least 500 ns apart.
+/// Convert AM824 that a gateway made to PCM under any stream ID, and convert this PCM back to AM824 under the original
+/// ID. Each time, use the shape that a scan finds. The result has the same bytes as the original. This requires
+/// listeners that have no clock and whose buffers are never full. Buffers of at least the default size are never full
+/// if the packets are presented at least 500 ns apart.
 pub fn am824_comes_back()
     ensures heard { (shape : Option ShapeValue) (id via : ℕ) (batches : List Presented) (there back : ListenPlan) → IfSome shape IsShape → id < 2 ^ 64 → via < 2 ^ 64 → AllByRecursion BeginsInTime batches
         → Hears id there (gateway_records Am824 shape id batches) → Hears via back (map record_of (frames_made Aaf there via (gateway_records Am824 shape id batches)))

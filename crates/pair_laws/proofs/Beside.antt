@@ -105,7 +105,7 @@ part-few t front part back all p =
 
 -- ---- the positions of the batches that wait
 
--- The waiting batch `u` is of A, and is at its position in `done`.
+-- The waiting batch `u` is of A. `done` has this batch at the position that `u` states.
 record IsAt (done : List Sided) (u : Placed) : Type 0 where
   front : List Sided
   back : List Sided
@@ -160,7 +160,6 @@ sides-length (x ∷ l) = at x.side x.batch (sides-length l)
     at A b e = omega arith
     at B b e = omega arith
 
--- the batches of side `s` in three parts of a list
 pub parts : (s : Which) (front mid rest : List Sided) → batches_of s (front ++ (mid ++ rest)) ≡ batches_of s front ++ (batches_of s mid ++ batches_of s rest)
 parts s front mid rest = batches-append s front (mid ++ rest) ∙ ap (λ (l : List Presented). batches_of s front ++ l) (batches-append s mid rest)
 
@@ -218,7 +217,6 @@ unpaired-at place us x rest f e = unpaired-cons place us x rest ∙ ap (λ (o : 
 abbrev AllSame : List Paired → Type 0
 AllSame ps = AllByRecursion (λ (p : Paired). p.earlier.batch ≡ p.later.batch) ps
 
--- if batch x makes no pair and `AreSame` holds for `rest`, it holds for x and `rest`
 same-none : (place : ℕ) (us : List Placed) (x : Sided) (rest : List Sided) → partner_of (at_place place x) us ≡ None → batches_of B (x ∷ rest) ≡ batches_of B rest → AreSame (suc place) (us ++ at_place place x ∷ []) rest → AreSame place us (x ∷ rest)
 same-none place us x rest e b s = record {
   pairs = subst AllSame (sym (pairs-at place us x rest None e)) s.pairs;
@@ -226,7 +224,6 @@ same-none place us x rest e b s = record {
   count = ap length (pairs-at place us x rest None e) ∙ s.count ∙ ap length (sym b);
 }
 
--- if batch x is paired with an equal batch and `AreSame` holds for `rest`, it holds for x and `rest`
 same-some : (place : ℕ) (us : List Placed) (x : Sided) (rest : List Sided) (u : Placed) → partner_of (at_place place x) us ≡ Some u → u.batch ≡ x.batch → batches_of B (x ∷ rest) ≡ x.batch ∷ batches_of B rest → AreSame (suc place) (without_first (may_pair (at_place place x)) us) rest → AreSame place us (x ∷ rest)
 same-some place us x rest u e same b s = record {
   pairs = subst AllSame (sym (pairs-at place us x rest (Some u) e)) (same, s.pairs);
@@ -284,8 +281,8 @@ batches-with : (us : List Placed) (p : Placed) (more : List Presented) → Batch
 batches-with [] p more = refl
 batches-with (u ∷ us) p more = ap (λ (l : List Presented). u.batch ∷ l) (batches-with us p more)
 
--- Let `rest` be the batches after `done` and x. If the waiting batches and then the batches of A in `rest` are the
--- batches of B in `rest`, `AreSame` holds for `rest`.
+-- The induction step after `done` and x. If the waiting batches, followed by the batches of A in `rest`, are equal to
+-- the batches of B in `rest`, then `AreSame` holds for `rest`.
 abbrev GoOn : List Sided → Sided → List Sided → Type 0
 GoOn done x rest = (us : List Placed) → AllByRecursion (IsAt (done ++ x ∷ [])) us → BatchesOf us ++ batches_of A rest ≡ batches_of B rest → AreSame (suc (length done)) us rest
 

@@ -7,7 +7,7 @@ use Rattle.listener.specs.Laws.{IsOfJournal, IsOfPacket}
 use Rattle.listener_pair.specs.declared.placed.Placed.{Placed}
 use Rattle.listener_pair.specs.Pairs.{Paired}
 
--- the samples of a batch are 7/8 to 9/8 of their nominal spacing apart, at this rate
+-- the spacing of the batch's samples is 7/8 to 9/8 of the nominal spacing at this rate
 pub record HasPace (rate : ℕ) (batch : Presented) : Type 0 where
   pub some : 1 ≤ batch.line.den
   pub least : 7000000000 * batch.line.den ≤ 8 * (rate * batch.line.num)

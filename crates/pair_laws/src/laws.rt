@@ -17,20 +17,20 @@ ghost use Rattle.capture_pair.specs.Pairing.{Continues, EndsAreClosed, HavePlan,
 ghost use Rattle.pair_laws.specs.Agreeing.{IsOfAnother, IsOneOf, IsPairOf, IsPresentedOfTalker};
 ghost use Rattle.pair_laws.specs.Beside.{IsPresentation};
 
-/// A capture compared with itself never differs, whatever it holds: all that a listener presents of it is paired, each
-/// batch with itself. This requires that each sequence number is a byte.
+/// A capture compared with itself never differs, whatever it holds: each batch that a listener presents of it is paired
+/// with itself. This requires that each sequence number is a byte.
 pub fn a_capture_beside_itself_never_differs()
     ensures differ { (list : List Presented) → IsPresentation list → differences (merged list list) ≡ [] }
     ensures matched { (list : List Presented) → IsPresentation list → counts_of (merged list list) ≡ record { matched = length list; only_a = 0; only_b = 0; differ = 0 } }
     ensures presented { (plan : ListenPlan) (records : List Record) → AllByRecursion (λ x. x.seq < 256) (presented_of (shown_of plan records)) → IsPresentation (presented_of (shown_of plan records)) }
 {}
 
-/// Let two captures be of one talker that keeps the rules. It does not matter which packets of the talker and of its
-/// clock each capture lost, repeated or reordered, nor where the talker or the clock restarts.
+/// Let two captures be of one talker that keeps the rules. Each capture may lose, repeat or reorder any packets of the
+/// talker and of its clock, and the talker and the clock may restart anywhere.
 ///
-/// The captures never differ. Each pair is of one packet or unit of the talker, no pair differs, and two batches of the
-/// same packet or unit are a pair. So the pairs are exactly the packets and units that both captures present. Both
-/// listeners use the clock, or neither does. Their buffers, look-ahead and lead may differ.
+/// The captures never differ. Each pair is of one packet or unit of the talker, and no pair differs. If both captures
+/// present the same packet or unit, the two batches are a pair. So the pairs are exactly the packets and units that
+/// both captures present. Both listeners use the clock, or neither does. Their buffers, look-ahead and lead may differ.
 pub fn captures_of_one_talker_never_differ()
     ensures differ { (shift : ℤ) (p : PacketJournal) (plan other : ListenPlan) (records others : List Record) → HearsTalker shift p plan records → HearsTalker shift p other others → by_clock other ≡ by_clock plan
         → differences (merged (presented_of (shown_of plan records)) (presented_of (shown_of other others))) ≡ [] }
@@ -45,8 +45,8 @@ pub fn captures_of_one_talker_never_differ()
 {}
 
 /// If all batches of both sides are of one talker, no pair differs: each pair is of one packet or unit. The batches may
-/// be all that listeners present, or the part that is known while the captures continue. All batches that a listener
-/// presents of the talker are batches of the talker.
+/// be all that listeners present, or the part that is known while the captures continue. If a capture is of the talker,
+/// all batches that a listener presents of it are batches of the talker.
 pub fn batches_of_one_talker_never_differ()
     ensures differ { (shift : ℤ) (by : Bool) (p : PacketJournal) (list : List Sided) → IsConforming shift p → AllByRecursion (λ x. IsPresentedOfTalker by p x.batch) list → differences list ≡ [] }
     ensures one { (shift : ℤ) (by : Bool) (p : PacketJournal) (list : List Sided) → IsConforming shift p → AllByRecursion (λ x. IsPresentedOfTalker by p x.batch) list → AllByRecursion (IsOneOf by p) (pairs list) }
@@ -61,9 +61,10 @@ pub fn what_was_given_stays()
         → take given (differences (known_by new (records ++ more) (others ++ more_others))) ≡ take given (differences (known_by old records others)) }
 {}
 
-/// A pair may want more of one capture, for example because that capture cannot be read on. What is known then is the
-/// known part of what is due of that capture's records so far, and of all that is shown of the other capture, however
-/// far the other capture is read. After both are closed, all that both show is known.
+/// A pair may want more of one capture, for example because that capture cannot be read any further. Then the known
+/// part depends on two lists: the batches that are due by that capture's records so far, and all batches of the other
+/// capture. Reading more of the other capture does not change the known part. After both captures are closed, all that
+/// both listeners show is known.
 pub fn what_a_fault_leaves_is_known()
     ensures a { (plan : ListenPlan) (records others more : List Record) (given : ℕ) (pair : PairState) → StandsFor records others given pair → HavePlan plan pair → EndsAreClosed pair → wanted_by pair ≡ Some A → is_closed pair.a ≡ false → (is_closed pair.b ≡ true → more ≡ [])
         → known_by pair records others ≡ known false true (merged (presented_of (due_of plan records)) (presented_of (shown_of plan (others ++ more)))) }
@@ -73,8 +74,8 @@ pub fn what_a_fault_leaves_is_known()
         → known_by pair records others ≡ merged (presented_of (shown_of plan records)) (presented_of (shown_of plan others)) }
 {}
 
-/// What is known of two captures of one talker has no differences, however far each capture was read. This is true of
-/// what is due so far and of all that is shown.
+/// The known part of two captures of one talker has no differences, however far each capture was read. This is true
+/// whether the batches of a capture are only those that are due so far or all that are shown.
 pub fn what_is_known_of_one_talker_never_differs()
     ensures pair { (shift : ℤ) (p : PacketJournal) (plan : ListenPlan) (records others : List Record) (pair : PairState) → HearsTalker shift p plan records → HearsTalker shift p plan others → HavePlan plan pair → differences (known_by pair records others) ≡ [] }
     ensures due_a { (shift : ℤ) (p : PacketJournal) (plan : ListenPlan) (records others : List Record) (ended_a ended_b : Bool) → HearsTalker shift p plan records → HearsTalker shift p plan others

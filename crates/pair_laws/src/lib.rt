@@ -1,4 +1,4 @@
-//! Laws of the pairs of two captures: a capture compared with itself never differs, and neither do two captures of one talker.
+//! Laws of the pairs of two captures: two captures of one talker never differ, and a capture never differs from itself.
 #![tactic(auto)]
 
 pub mod laws;

@@ -101,7 +101,6 @@ module _ (plan : TalkPlan) (rate : IsSome (fdf_of plan.rate)) (most : plan.chann
   -- ---- the records of a capture
 
   module _ (p : PacketJournal) (lead : ℕ) (whole : (n : ℕ) → n < p.times.packets → IsWhole plan p n) (silent : p.times.clock.packets ≡ 0) where
-    -- if the records `rs` have no fault, `r` and `rs` have no fault
     step : (origins : List Origin) (first : Option Shape) (i frame : ℕ) (r : Record) (rs : List Record) (b : Bool) → belongs stream_kinds p.stream r.bytes ≡ b
         → IfSome first (λ s. s ≡ record { rate = plan.rate; channels = plan.channels })
         → AreFrom p lead origins (map (λ (x : ℕ × Record). delivery x.0 x.1) (cond (b || false) ((i, r) ∷ filter (λ (x : ℕ × Record). is_delivered p.stream None x.1.bytes) (enumerate_from (i + 1) rs)) (filter (λ (x : ℕ × Record). is_delivered p.stream None x.1.bytes) (enumerate_from (i + 1) rs))))

@@ -79,8 +79,7 @@ some_by x rate slow over = elim (cases_lt x 1000) [
 some_offset : (rate : ℕ) → 0 < rate → rate ≤ 192000 → 1000 ≤ nominal_offset rate 1
 some_offset rate some slow = let over = (is_offset rate 1 some).over in some_by (nominal_offset rate 1) rate slow (omega (arith, over))
 
--- The arithmetic of `first_apart`: if `n + last + one` is at most `m`, `x + y` at most `n`, and `m - 1` at most `z +
--- w`, then `x + y + last + 999` is at most `z + w`.
+-- the arithmetic of `first_apart`
 after_by : (s j x y k z w n m most last one front : ℕ) → x + y ≤ n → m ≤ z + w + 1 → j ≤ k → n + last ≤ front → front + one ≤ most → most ≤ m → 1000 ≤ one → s + j + x + y + last + 999 ≤ s + k + z + w
 after_by s j x y k z w n m most last one front under over jumps step next more least = omega (arith, under, over, jumps, step, next, more, least)
 
@@ -109,7 +108,7 @@ first_apart plan n m p less =
     (nominal_offset plan.rate (n * plan.count + (plan.count - 1)))
     first.from second.to jumps step.from one.from more (some_offset plan.rate some range.most)
 
--- no packet of an input that a talker takes ends after 4,100,000,000 seconds
+-- no packet of a talker's input ends after 4,100,000,000 seconds
 pub ends_early : (plan : TalkPlan) (n : ℕ) → IsAudioPlan plan → n * plan.count ≤ 268435456 → first_instant plan n + nominal_offset plan.rate (plan.count - 1) ≤ 4100000000000000000
 unfolding nominal_instant
 ends_early plan n p events =

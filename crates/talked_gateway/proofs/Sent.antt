@@ -40,7 +40,7 @@ times_by (Aaf format true) plan input kind = record { audio = tt; rate = refl; c
 times_by TalkAm824 plan input kind = record { audio = tt; rate = refl; count = refl }
 times_by (TalkH264 last_stamp) plan input kind = absurd kind
 
--- Packet n begins in the journal at most 3 ns before its instant in the plan, and at most 1 ns after it. At most
+-- In the journal, packet n begins at most 3 ns before and at most 1 ns after its instant in the plan. At most
 -- 268,435,456 events are before the packet.
 record IsDue (plan : TalkPlan) (j : Journal) (n : ℕ) : Type 0 where
   from : first_instant plan n ≤ j.due n + 3
@@ -63,8 +63,8 @@ is_due plan input n p limit =
 -- ---- a batch
 
 -- The batch is packet n of the plan. It begins at most 3 ns before the packet's instant in the plan, and ends at most 2
--- ns after the packet's last instant there. Its samples are at least 500 ns apart. The packet ends early enough for a
--- capture.
+-- ns after the packet's last instant in the plan. Its samples are at least 500 ns apart. In the plan, the packet ends
+-- at 4,100,000,000 seconds or earlier.
 pub record IsSent (plan : TalkPlan) (n : ℕ) (batch : Presented) : Type 0 where
   pub from : pos (first_instant plan n) ≤ℤ (sample_instant batch 0 +ℤ pos 3)
   pub to : (k : ℕ) → k < batch.count → sample_instant batch k ≤ℤ pos (first_instant plan n + nominal_offset plan.rate (plan.count - 1) + 2)

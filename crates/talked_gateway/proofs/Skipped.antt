@@ -31,7 +31,7 @@ use Rattle.talked_gateway.proofs.Sent.{IsBefore, IsSent, sent, sent_before}
 
 -- ---- what a gateway asks of batches
 
--- The batch has a sample, its samples are at least 500 ns apart, and they are early enough for a capture.
+-- The batch has a sample, its samples are at least 500 ns apart, and all of them are early enough for a capture.
 pub record IsInTime (batch : Presented) : Type 0 where
   pub some : 1 ≤ batch.count
   pub apart : (i k : ℕ) → i < k → k < batch.count → (sample_instant batch i +ℤ pos 500) ≤ℤ sample_instant batch k
@@ -69,7 +69,7 @@ none_late to shape batch (suc most) first block is =
     by false e rest = refl
     by true e rest = both _ _ (not_late batch first is (let within : first < batch.count = grind (arith, nat_tests) in within)) rest
 
--- the batch begins after the last sample that was given out, if there is one
+-- the batch begins after the instant `last`, if there is one
 abbrev IsAfter : Option ℤ → Presented → Type 0
 IsAfter None batch = ⊤
 IsAfter (Some last) batch = last <ℤ sample_instant batch 0
@@ -81,7 +81,6 @@ not_over (Some last) batch after = not_le (sample_instant batch 0) last after
 not_skipped : (to : To) (shape : Shape) (given : Given) (batch : Presented) → has_shape to shape batch ≡ true → IsInTime batch → IsAfter given.last batch → skip_by to shape given batch ≡ None
 not_skipped to shape given batch shaped is after = rw (shaped, not_over given.last batch after, none_late to shape batch batch.count 0 given.block is) refl
 
--- the batches after a batch begin after its last sample
 all_after : (batch : Presented) (batches : List Presented) → IsInTime batch → AllByRecursion (IsBefore batch) batches → AllByRecursion (IsAfter (Some (sample_instant batch (batch.count - 1)))) batches
 all_after batch [] is before = tt
 all_after batch (b ∷ bs) is before =

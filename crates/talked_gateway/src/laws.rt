@@ -20,10 +20,10 @@ ghost use Rattle.talked_headline.specs.Premises.{ListensTo, captured};
 use talked_headline::laws::talked_keeps_headline;
 use talker::laws::{journal_conforms, losses_are_delivered};
 
-/// Let a listener without a clock hear a capture of an audio plan in which a scan finds no fault, whatever the capture
-/// loses, repeats or reorders. A gateway skips nothing that the listener presents: each packet begins after the end of
-/// the earlier packets, and arrives before 2^32 seconds. This is also true of what is due while more records may
-/// follow.
+/// Let a listener without a clock hear a capture of an audio plan. The capture may lose, repeat or reorder packets, but
+/// a scan must find no fault in it. Then a gateway skips nothing that the listener presents: each packet begins after
+/// the end of the earlier packets, and arrives before 2^32 seconds. This is also true of what is due while more records
+/// may follow.
 ///
 /// Some packets may have no timestamp, as in sparse PCM and in AM824 whose packets have fewer blocks than SYT_INTERVAL.
 /// Then the listener's lead must be within 127 packets' time of the plan's lead.
@@ -37,9 +37,10 @@ pub fn nothing_talked_is_skipped()
     talked_keeps_headline();
 }
 
-/// Let a gateway convert what a listener without a clock presents of a capture of an audio plan, under any stream ID.
-/// Let a scan find no fault in that capture. Another listener without a clock, with a buffer of at least the default
-/// size, has room for all that the gateway makes. So the gateway's promises of what listeners present are true for it.
+/// Let a scan find no fault in a capture of an audio plan. Let a gateway convert, under any stream ID, what a listener
+/// without a clock presents of this capture. A second listener that has no clock, and at least the default buffer, then
+/// has room for all packets of the gateway. So the gateway's promises about what listeners present hold for the second
+/// listener.
 pub fn default_listeners_hear_turned_captures()
     ensures { (to : ToValue) (plan : TalkPlan) (input places : List ℕ) (listen : ListenPlan) (id : ℕ) (hearing : ListenPlan) → ListensTo plan input listen → listen.clock ≡ None → first_fault to listen.stream (captured plan input places) ≡ None
         → id < 2 ^ 64 → HasDefaultRoom id hearing → Hears id hearing (map record_of (frames_made to listen id (captured plan input places))) }
@@ -48,9 +49,9 @@ pub fn default_listeners_hear_turned_captures()
     talked_keeps_headline();
 }
 
-/// Let a plan without a media clock send PCM of 24 bits, at a rate that AM824 has and with at most 256 channels. A scan
-/// finds no fault in a capture of it, whatever the capture loses, repeats or reorders. So a gateway converts all that
-/// is presented.
+/// Let a plan without a media clock send PCM of 24 bits, at a rate that AM824 has and with at most 256 channels. Then a
+/// scan finds no fault in a capture of this plan, whatever packets the capture loses, repeats or reorders. So a gateway
+/// converts all that is presented.
 pub fn talked_pcm_can_be_turned()
     ensures { (plan : TalkPlan) (input places : List ℕ) (listen : ListenPlan) (sparse : Bool) → ListensTo plan input listen → plan.kind ≡ Aaf Int24 sparse → plan.crf ≡ None → IsSome (fdf_of plan.rate) → plan.channels ≤ 256
         → first_fault Am824 listen.stream (captured plan input places) ≡ None }
