@@ -111,7 +111,7 @@ header_fits subtype id n instant long kind small size = (
   ),
 )
 
--- The code of a sample rate names it in IEC 61883-6, and gives its SYT_INTERVAL.
+-- In IEC 61883-6, the code of the rate means this rate, and gives its SYT_INTERVAL.
 pub record IsNamed (rate : ℕ) : Type 0 where
   pub named : rate_of_fdf (unwrap_or (fdf_of rate) 0) ≡ Some rate
   pub few : unwrap_or (fdf_of rate) 0 ≤ 6
@@ -127,7 +127,7 @@ named_by rate (Some fdf) e some =
 pub is_named : (shape : Shape) → IsShape shape → IsNamed shape.rate
 is_named shape is = named_by shape.rate (fdf_of shape.rate) refl is.rate
 
--- The code of a sample rate names it in AAF.
+-- In AAF, the code of the rate means this rate.
 pub record IsPcmRate (rate : ℕ) : Type 0 where
   pub named : rate_of (unwrap_or (rate_code rate) 0) ≡ Some rate
   pub few : unwrap_or (rate_code rate) 0 ≤ 10
@@ -266,7 +266,7 @@ iec_read shape id c is small fine =
 
 -- ---- of which stream
 
--- The packet in a record is of this stream, whatever format its reader expects.
+-- The record is a frame whose packet has this subtype, stream ID and sequence number.
 pub record IsOfStream (subtype id seq : ℕ) (bytes : List ℕ) : Type 0 where
   pub accepted : frame_refusal bytes ≡ None
   pub ethertype : (frame_of bytes).ethertype ≡ avtp_ethertype

@@ -53,7 +53,7 @@ impl PairCounts {
         }
     }
 
-    /// The counts with one more batch of `side` that is in no pair.
+    /// The counts after one more batch of `side` that is in no pair.
     pub(crate) fn with_alone(self, side: Which) -> Self
         ensures { result ≡ with_alone side self }
     {
@@ -69,8 +69,8 @@ impl PairCounts {
         }
     }
 
-    /// The counts with one more pair. The pair consists of a new batch of `side` and a batch of the other side that was
-    /// in no pair. `differs` says whether the pair differs.
+    /// The counts after one more pair. The pair consists of a new batch of `side` and a batch of the other side that
+    /// was in no pair. `differs` says whether the pair differs.
     pub(crate) fn with_pair(self, side: Which, differs: bool) -> Self
         ensures { result ≡ with_pair side differs self }
     {

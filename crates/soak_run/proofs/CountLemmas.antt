@@ -42,7 +42,6 @@ IsFew n = n < 2 ^ 64 - 1
 one : (n : ℕ) → IsFew n → one_more n ≡ n + 1
 one n few = omega (arith, few)
 
--- the counts with one more item that is shown
 with_one : (d p l r u f : ℕ) (x : Shown) → IsFew p → IsFew l → IsFew r → IsFew u → IsFew f → with_shown (counts_with d p l r u f) x
     ≡ counts_with d (p + counted (is_present x)) (l + counted (is_late x)) (r + counted (is_repeat x)) (u + counted (is_untimed x)) (f + counted (is_full x))
 with_one d p l r u f (Present batch) a b c e g = same_counts d (one_more p) l r u f (p + 1) (l + 0) (r + 0) (u + 0) (f + 0) (one p a) (none l) (none r) (none u) (none f)
@@ -52,7 +51,6 @@ with_one d p l r u f (Flag frame seq Untimed) a b c e g = same_counts d p l r (o
 with_one d p l r u f (Flag frame seq Full) a b c e g = same_counts d p l r u (one_more f) (p + 0) (l + 0) (r + 0) (u + 0) (f + 1) (none p) (none l) (none r) (none u) (one f g)
 with_one d p l r u f (Flag frame seq reason) a b c e g = same_counts d p l r u f (p + 0) (l + 0) (r + 0) (u + 0) (f + 0) (none p) (none l) (none r) (none u) (none f)
 
--- if a list has few items, few of them are counted
 few_of : (p : Shown → Bool) (list : List Shown) → IsFew (length list) → IsFew (count_by p list)
 few_of p list few = omega (arith, few, count_by-le-length p list)
 

@@ -1,5 +1,5 @@
--- What a listener shows of the deliveries is what it shows of their capture's bytes. It keeps the headline, and each
--- delivery is counted once.
+-- A listener shows the same of the deliveries as of the bytes of their capture. What it shows keeps the headline, and
+-- each delivery is counted once.
 use Rattle.std.proofs.Common.{◌≡◌, ℕ, ◌+◌, pos, ◌≤◌, arith, false, List, length, refl, sym, ap, subst, ◌∙◌, None}
 use Rattle.std.specs.Prelude.{◌==◌}
 use Rattle.std.proofs.lemmas.List.{length-map}
@@ -75,7 +75,6 @@ records_long : (packets : ℕ) → length (soak_records packets) ≡ length (del
 unfolding soak_records
 records_long packets = length-map (deliveries_of packets) (captured (soak_stream packets))
 
--- if there are no fragments, the number of items that are shown is the number of packets
 counted_by : (shown fragments packets : ℕ) → fragments ≡ 0 → shown + fragments ≡ packets → shown ≡ packets
 counted_by shown fragments packets none sum = omega (arith, none, sum)
 

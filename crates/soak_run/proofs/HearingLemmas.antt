@@ -123,8 +123,6 @@ module _ {old new : ListenState} {records : List Record} {items : List Shown} (o
   pub shows_closed : is_closed new ≡ true → ((given : ℕ) → StandsFor records given old → StandsFor records given new) → Shows records old items → Shows records new items
   shows_closed closed step was = shows_further (out_at_end old new records opened closed plan) step was
 
--- the records of the first `given + 1` deliveries are those of the first `given` deliveries, and then that of the next
--- delivery
 records_next : (talker : Talking) (deliveries : List (ℤ × ℕ)) (given : ℕ) (other : ℤ × ℕ) → given < length deliveries
     → records_of talker deliveries (given + 1) ≡ records_of talker deliveries given ++ captured (stream_of talker.plan talker.input) (get_or deliveries given other) ∷ []
 records_next talker deliveries given other more = map_more (captured (stream_of talker.plan talker.input)) deliveries given other more

@@ -37,7 +37,7 @@ ended hearing = pull_at hearing.stage
 abbrev pub handed : SoakCounts → SoakCounts → List Shown → Type 0
 handed begun now items = now ≡ with_all begun items
 
--- Of `delivered` deliveries, the items shown so far were counted, except for those that wait in the pipe.
+-- All items shown so far of `delivered` deliveries were counted, except for those that wait in the pipe.
 pub record HasCounted (delivered : ℕ) (begun now : Hearing) (pipe : Pipe) (counts : SoakCounts) : Type 0 where
   pub items : List Shown
   pub shown : HasShown begun now items
@@ -59,7 +59,6 @@ counted_none d begun pipe counts giving shown empty live none is = record {
   room = let few = begun.few in omega (arith, none, few);
 }
 
--- if a receiver and its pipe agree before a round on how they ended, they agree after it
 ends_on : (h h' : Hearing) (a b : Pipe) → ended_with a ≡ ended h → EndsWith ended h h' a b → ended_with b ≡ ended h'
 ends_on h h' a b is with =
     elim (ended_with a) as (λ (e : Option Pull). ended_with a ≡ e → ended_with b ≡ ended h') [
@@ -87,7 +86,6 @@ ended_whole Showing is = absurd cc
 ended_whole Ended is = refl
 ended_whole NoMemory is = absurd (let e : pull.Memory ≡ pull.Done = cc in cc)
 
--- if all deliveries were given, their records are the records of all deliveries
 all_records : (talker talker' : Talking) (ds ds' : List (ℤ × ℕ)) (given : ℕ) → talker' ≡ talker → ds' ≡ ds → length ds' ≤ given → records_of talker' ds' given ≡ map (captured (stream_of talker.plan talker.input)) ds
 all_records talker talker' ds ds' given same all within =
     ap (λ (l : List (ℤ × ℕ)). map (captured (stream_of talker'.plan talker'.input)) l) (take_all given ds' within ∙ all)

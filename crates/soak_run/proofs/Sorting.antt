@@ -7,7 +7,7 @@ use Rattle.std.proofs.lemmas.Bool.{and_parts, and_from, not-true, not_from_false
 use Rattle.std.proofs.lemmas.List.Sorted.{sorted_far}
 
 module _ {X : Type 0} (lt : X → X → Bool) where
-  -- x put into a list, after the elements at its beginning that are less than x
+  -- a list after x is inserted, behind the elements at its beginning that are less than x
   abbrev pub put : X → List X → List X
   put x [] = x ∷ []
   put x (y ∷ ys) = cond (lt y x) (y ∷ put x ys) (x ∷ y ∷ ys)
@@ -64,7 +64,6 @@ module _ {X : Type 0} (lt : X → X → Bool) (o : IsStrictWeakOrder lt) where
 
   -- ---- one order
 
-  -- if y is least in `ys` and an element of `ys` ties with z, z is not less than y
   not-below : (y z w : X) (ys l : List X) → Least y ys → filter (ties lt z) ys ≡ w ∷ l → lt z y ≡ false
   unfolding Least
   not-below y z w [] l least e = absurd cc
@@ -83,7 +82,8 @@ module _ {X : Type 0} (lt : X → X → Bool) (o : IsStrictWeakOrder lt) where
   tails : (a b : X) (xs ys : List X) → a ∷ xs ≡ b ∷ ys → xs ≡ ys
   tails a b xs ys e = cc
 
-  -- two rising lists have the same first element, if for each x the same elements of both tie with x
+  -- two rising lists have the same first element if, for each x, the elements that tie with x are the same in both
+  -- lists
   first-same : (y z : X) (ys zs : List X) → Least y ys → Least z zs
       → ((x : X) → filter (ties lt x) (y ∷ ys) ≡ filter (ties lt x) (z ∷ zs)) → y ≡ z
   unfolding Least

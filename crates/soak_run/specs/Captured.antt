@@ -1,5 +1,5 @@
--- A capture of the deliveries of a stream over a bad network, as a listener hears it. This project defines it; it is
--- from no standard.
+-- The stream that is sent over a bad network, the capture of its deliveries, and the listener that hears the capture.
+-- This project defines them; they are from no standard.
 use Rattle.std.specs.Prelude.{ℕ, ℤ, pos, ◌-◌, ◌*◌, ◌%◌, List, ◌++◌, map, None}
 use Rattle.std.specs.List.{flat_map, range_with_len}
 use Rattle.byteorder.specs.Endian.{big_bytes}
@@ -29,15 +29,15 @@ soak_stream packets = stream_of soak_plan (soak_input packets)
 
 -- ---- what is captured
 
--- a delivery of a stream: the frame of its packet, captured whole when it arrives
+-- the record of a delivery: the frame of the delivered packet, captured whole when it arrives
 abbrev pub captured : Stream → ℤ × ℕ → Record
 captured stream delivery = record_of (record (frame_of stream delivery.1) { arrival = delivery.0 })
 
--- the records of all deliveries of a number of packets
+-- the records of all deliveries of this many packets
 unfoldable pub soak_records : ℕ → List Record
 soak_records packets = map (captured (soak_stream packets)) (deliveries_of packets)
 
--- the capture of all deliveries of a number of packets
+-- the capture of all deliveries of this many packets
 abbrev pub soak_capture : ℕ → List ℕ
 soak_capture packets = capture_spelling capture_style (soak_records packets)
 

@@ -1,4 +1,4 @@
--- What becomes of the deliveries, counted.
+-- How many deliveries have each outcome.
 use Rattle.std.specs.Prelude.{ℕ, ◌+◌, Bool, true, false, List, length, count_by}
 use Rattle.sample_schedule.specs.declared.shown.Reason.TheVariants.{Full, Late, Repeat, Untimed}
 use Rattle.sample_schedule.specs.declared.shown.Shown.{Shown}
@@ -43,14 +43,14 @@ outcomes delivered shown = record {
   full = count_by is_full shown;
 }
 
--- how many items were presented or flagged, all together
+-- the number of all items that were presented or flagged
 abbrev pub total : SoakCounts → ℕ
 total counts = counts.presented + counts.late + counts.repeat + counts.untimed + counts.full
 
--- what a listener shows of the deliveries of a number of packets
+-- what a listener shows of the deliveries of this many packets
 abbrev pub soak_shown : ℕ → List Shown
 soak_shown packets = shown_of soak_listener (soak_records packets)
 
--- what becomes of the deliveries of a number of packets, counted
+-- how many deliveries have each outcome, if this many packets are sent
 unfoldable pub soak_counts : ℕ → SoakCounts
 soak_counts packets = outcomes (length (deliveries_of packets)) (soak_shown packets)

@@ -35,8 +35,8 @@ delay_by draw = draw % 64 * 40000
 
 -- ---- the copies of each packet
 
--- How many numbers are drawn before the number of packet n: for each earlier packet, one for itself and one for each of
--- its copies.
+-- How many numbers are drawn before the number for packet n. For each earlier packet, one number is drawn for the
+-- packet, and one for each of its copies.
 unfoldable pub draws_before : ℕ → ℕ → ℕ
 draws_before seed zero = 0
 draws_before seed (suc n) = draws_before seed n + 1 + copies_by (draw_after seed (draws_before seed n))
@@ -59,7 +59,7 @@ all_copies seed packets = flat_map (copies seed) (range_with_len 0 packets)
 
 -- ---- as they arrive
 
--- a sorted list with one more copy, which is put after the copies that arrive earlier
+-- a sorted list after one more copy is inserted, behind all copies that arrive earlier
 abbrev pub put_in : ℤ × ℕ → List (ℤ × ℕ) → List (ℤ × ℕ)
 put_in copy [] = copy ∷ []
 put_in copy (next ∷ rest) = if int_lt next.0 copy.0 then next ∷ put_in copy rest else copy ∷ next ∷ rest
@@ -69,7 +69,7 @@ abbrev pub by_arrival : List (ℤ × ℕ) → List (ℤ × ℕ)
 by_arrival [] = []
 by_arrival (copy ∷ rest) = put_in copy (by_arrival rest)
 
--- The deliveries of the first `packets` packets, by arrival, then by packet, then by copy. The seed of the noise is the
--- number of packets.
+-- The deliveries of the first `packets` packets, sorted by arrival, then by packet, then by copy. The seed of the noise
+-- is the number of packets.
 abbrev pub deliveries_of : ℕ → List (ℤ × ℕ)
 deliveries_of packets = by_arrival (all_copies packets packets)

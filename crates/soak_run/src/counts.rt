@@ -1,4 +1,4 @@
-//! What becomes of deliveries, counted.
+//! Counts of what becomes of deliveries.
 
 ghost use Rattle.std.specs.Prelude.{◌≡◌, []};
 ghost use Rattle.soak_run.specs.state.Counting.{with_flag as with_flag_of, with_shown as with_shown_of};
@@ -8,8 +8,8 @@ use avtp_base::Failed;
 use presenter_ring::Presenter;
 use sample_schedule::{Reason, Shown};
 
-/// What becomes of the delivered packets of a stream. As a presenter it counts the items that it gets. Each count stops at 2^64
-/// - 1, because a presenter may get any number of items; no count of `soak` gets that far.
+/// How many deliveries of a stream have each outcome. As a presenter, this type counts the items that it gets. Each count
+/// stops at 2^64 - 1, because a presenter may get any number of items. No count of `soak` gets that far.
 #[derive(Clone, Copy, Debug, PartialEq, Eq)]
 pub struct SoakCounts {
     /// The number of deliveries, which are the packets that arrive. A packet that arrives twice counts twice.
@@ -41,7 +41,7 @@ impl SoakCounts {
         }
     }
 
-    /// The counts with one more item that is shown.
+    /// The counts after one more item was shown.
     fn with_shown(self, shown: &Shown) -> Self
         ensures { result ≡ with_shown_of self shown.now }
     {
@@ -54,7 +54,7 @@ impl SoakCounts {
         }
     }
 
-    /// The counts with one more item that is flagged.
+    /// The counts after one more item was flagged.
     fn with_flag(self, reason: Reason) -> Self
         ensures { result ≡ with_flag_of self reason }
     {

@@ -108,8 +108,8 @@ impl<'a> Hearing<'a> {
         })
     }
 
-    /// Gives the next delivery to the listener. If all deliveries were given, closes the listener. All that was due
-    /// before must have been shown.
+    /// Gives the next delivery to the listener. If all deliveries were given, closes the listener. All items that were
+    /// due before the call must have been shown.
     fn go_on(&mut self) -> Result<(), NoMemory>
         requires giving { self.old.stage ≡ Stage.Giving }
         requires idle { IsIdle self.old.listener }

@@ -1,4 +1,5 @@
-//! A stream of many packets over a bad network, heard by a listener: what becomes of each delivery, counted.
+//! Sends a stream of many packets over a bad network, lets a listener hear it, and counts what becomes of the
+//! deliveries.
 #![tactic(auto)]
 
 mod counts;

@@ -21,7 +21,7 @@ use std::alloc::Global;
 use std::thread::Threads;
 use talker::{TalkFault, Talker};
 
-/// The most items that wait between the thread that hears the stream and the thread that counts.
+/// The maximum number of items that wait between the thread that hears the stream and the thread that counts.
 const RING: u32 = 64;
 
 /// What becomes of deliveries of a talker's packets: one thread hears them, and another counts what is shown.
@@ -63,7 +63,7 @@ fn is_over(pipe: &Pipe) -> bool
     }
 }
 
-/// The only fault that this stream can have is that memory runs out.
+/// The only possible fault of this stream is that memory runs out.
 fn want_of_memory(_fault: TalkFault) -> NoMemory
     requires { _fault ≡ Memory }
 {

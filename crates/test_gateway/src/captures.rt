@@ -1,4 +1,4 @@
-//! Captures of an audio stream, written byte by byte as the standards say, from the words of a table's row.
+//! Captures of an audio stream. Each is made from the words of a row of a table, byte by byte as the standards say.
 
 ghost use Rattle.std.specs.Prelude.{◌≤◌, ◌<◌};
 
@@ -30,11 +30,11 @@ struct Source {
     start: u64,
     /// The block count of the first data block.
     dbc: u64,
-    /// After how many packets the stream restarts, or 0 for never; and how far presentation times jump at each restart,
-    /// in nanoseconds.
+    /// The number of packets after which the stream restarts, or 0 if it never restarts; and how far presentation times
+    /// jump at each restart, in nanoseconds.
     restart: u64,
     jump: u64,
-    /// How long before its first instant a packet is captured, in nanoseconds.
+    /// The time from the capture of a packet to its first instant, in nanoseconds.
     lead: u64,
     /// A number that the values depend on.
     noise: u64,
@@ -286,7 +286,7 @@ pub fn records_of(alloc: Global, row: &str) -> Result<Vec<Recorded>, NoMemory> {
     Ok(records)
 }
 
-/// A little-endian capture of these records that counts nanoseconds.
+/// A little-endian capture of these records, with times in nanoseconds.
 pub fn capture_of(alloc: Global, records: &[Recorded]) -> Result<Vec<u8>, NoMemory> {
     let mut bytes = Vec::new(alloc);
     bytes.extend_from_slice(&[0x4d, 0x3c, 0xb2, 0xa1, 2, 0, 4, 0, 0, 0, 0, 0])?;

@@ -32,8 +32,8 @@ packets=1 start=4294967295999000000 lead=9000000 count=246, packets=1 start=4294
 packets=0 => 0 0:
 ";
 
-/// Streams that are converted to PCM, in rows of the same form. In the first row, the timestamp of the first packet
-/// belongs to its fifth block, and the second packet is counted from that block.
+/// Streams that are converted to PCM, in rows of the same form as in `TO_AM824`. In the first row, the timestamp of the
+/// first packet belongs to its fifth block, and the samples of the second packet are counted from that block.
 const TO_AAF: &str = "\
 am824 channels=1 packets=2 dbc=12 start=4999916666 | 1@30=2a05f200 => 2 4: 4999916666*1 4999937500*5 5000041666*1 5000062500*5
 am824 packets=1 => 1 1: 1002000000*6
@@ -114,9 +114,9 @@ fn batches_of_another_shape_are_skipped(rt: HostRuntime) -> Result<(), Fail> {
     Ok(())
 }
 
-/// A stream of PCM, the index of a frame that is made of it, and how that frame begins: from the packet on, without the
-/// stream ID. A block count that is not a multiple of the SYT interval is raised to the next multiple. The block count
-/// wraps after 255.
+/// A stream of PCM, the index of one of the frames to which it is converted, the arrival of that frame, and the frame's
+/// first bytes: from the packet on, without the stream ID. A block count that is not a multiple of the SYT interval is
+/// raised to the next multiple. The block count wraps after 255.
 const FRAMES: &str = "\
 packets=1 | 0 => 1000000000 00810000 3bb94e80 0000000000385fa03f0200009002ffff
 packets=2 | 1 => 1000125000 00810100 3bbb36c8 0000000000385fa03f0200089002ffff
@@ -131,7 +131,7 @@ packets=2 channels=256 count=1 | 1 => 1000020833 00810100 3bb99fe1 0000000004085
 packets=1 start=1999999 | 0 => 0 00810000 001e847f 0000000000385fa03f0200009002ffff
 ";
 
-/// How a frame begins, without its stream ID.
+/// The arrival of a frame, and its first bytes: from the packet on, without the stream ID.
 fn start_of(alloc: Global, records: &[Recorded], place: usize) -> Result<String, Fail> {
     let record = records.get(place).ok_or("no such frame")?;
     let head = hex::encode(alloc, record.frame.get(18..22).unwrap_or(&[]))?;

@@ -161,7 +161,7 @@ fn turn_all(
     Ok(())
 }
 
-/// What a gateway of this shape makes of what a listener presents of these records.
+/// Converts what a listener presents of these records, by a gateway for streams of this shape.
 pub fn turn_as(
     alloc: Global,
     to: To,
@@ -182,7 +182,7 @@ pub fn turn_as(
     Ok(turned)
 }
 
-/// What a gateway makes of these records after it has scanned them.
+/// Scans these records, and converts what a listener presents of them.
 pub fn turn_scanned(
     alloc: Global,
     to: To,

@@ -27,7 +27,7 @@ pcap 0=00 | pcap 4=03 => magic at 0, version_major at 4, matched 0 only 0 0 diff
 pcap 01000000 80969800 42000000 42000000 frame 142=01 152=3c51e500 | pcap 105=fb 01000000 80969800 42000000 42000000 frame 142=01 152=3c51e500 => 1 1 seq 0 Bytes { sample: 5 }, matched 2 only 0 0 differ 1
 ";
 
-/// The most bytes of a piece.
+/// The maximum number of bytes of a piece.
 const MOST: usize = 1_000;
 
 /// A pair, how many more pieces it may be fed, and which captures have ended.

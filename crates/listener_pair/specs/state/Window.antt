@@ -71,12 +71,12 @@ abbrev pub risen_if : Bool → ℕ → ℕ
 risen_if true n = risen n
 risen_if false n = n
 
--- the counts with one more batch of a side that is in no pair
+-- the counts after one more batch of a side that is in no pair
 abbrev pub with_alone : Which → PairCounts → PairCounts
 with_alone A counts = record counts { only_a = risen counts.only_a }
 with_alone B counts = record counts { only_b = risen counts.only_b }
 
--- The counts with one more pair. The pair consists of a new batch of a side and a batch of the other side that was in
+-- The counts after one more pair. The pair consists of a new batch of a side and a batch of the other side that was in
 -- no pair.
 abbrev pub with_pair : Which → Bool → PairCounts → PairCounts
 with_pair A differs counts = record counts { matched = risen counts.matched; only_b = counts.only_b - 1; differ = risen_if differs counts.differ }
