@@ -86,8 +86,9 @@ fault_rows to first s =
     row Channels (nat_lt 256 s.channels || not (s.channels == first.channels)) ∷
     row Label (not s.linear) ∷ []
 
--- The fault of a record's content, if the first packet of samples has the shape `first`. A record without anything that
--- can be presented (`Silent`) has no fault. A packet of H.264 always has the fault `Kind`.
+-- The fault of a record's content. `first` is the shape of the stream's first packet of samples, if that packet comes
+-- before this record, and otherwise `None`. A record without anything that can be presented (`Silent`) has no fault. A
+-- packet of H.264 always has the fault `Kind`.
 abbrev pub content_fault : To → Option Shape → Content → Option ScanFault
 content_fault to first Silent = None
 content_fault to first Video = Some Kind
@@ -98,8 +99,8 @@ pub record FaultAt : Type 0 where
   pub frame : ℕ
   pub fault : ScanFault
 
--- The fault of record `frame`. If this record has no fault, `later` is returned, which is the first fault of the
--- records after it.
+-- The fault of record `frame`. If this record has no fault, the result is `later`, the first fault of the records after
+-- it.
 abbrev pub fault_or : ℕ → Option ScanFault → Option FaultAt → Option FaultAt
 fault_or frame None later = later
 fault_or frame (Some fault) later = Some (record { frame = frame; fault = fault })

@@ -69,7 +69,7 @@ impl Model for Gateway {
     ghost invariant = { IsGateway };
 }
 
-/// The headers of the frames of a stream, if it has a shape.
+/// The headers of the frames of a stream, if the stream has a shape.
 fn headers_for(to: To, shape: Option<Shape>, id: u64) -> [u8; AM824_HEADERS]
     requires { IfSome shape IsShape }
     ensures { IfSome shape (λ shape. HasHeaders to shape id result) }
@@ -97,7 +97,8 @@ impl Current {
             .write(out, number, batch.instant(piece.first), piece, values);
     }
 
-    /// Writes the frame of a piece of the batch into the first bytes of `out`. `turn` is the turn of that frame.
+    /// Writes the frame of a piece of the batch into the first bytes of `out`. `turn` states the frame's number and
+    /// size.
     fn write_front(&self, piece: Piece, turn: Turn, out: &mut [u8])
         requires cut { IsCut self.now (piece ∷ []) }
         requires size { turn.size ≡ frame_size self.now.stream.to self.now.stream.shape piece }
@@ -179,7 +180,7 @@ impl Gateway {
     }
 
     /// Cuts the next batch that is presented into pieces, and returns their number. It may be called while `batches` is
-    /// below 2^44. A skipped batch changes nothing. It allocates nothing.
+    /// below 2^44. A skipped batch changes nothing. The call allocates nothing.
     ///
     /// A batch is skipped for the first of these reasons that holds: `ShapeOff`: there is no shape, the batch is a unit
     /// of H.264, it does not have one value of 24 bits for each channel of each sample, or a value has a label other

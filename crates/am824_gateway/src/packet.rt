@@ -27,16 +27,16 @@ pub(crate) const AM824_HEADERS: usize = ETHERNET_HEADER + 32;
 /// The length of the headers of a frame of PCM.
 const AAF_HEADERS: usize = ETHERNET_HEADER + 24;
 
-/// Where a frame has the packet's sequence number (IEEE 1722-2016, 4.4.4).
+/// The offset of the packet's sequence number in a frame (IEEE 1722-2016, 4.4.4).
 const SEQUENCE_NUMBER: usize = ETHERNET_HEADER + 2;
 
-/// Where a frame has the packet's timestamp.
+/// The offset of the packet's timestamp in a frame.
 const TIMESTAMP: usize = ETHERNET_HEADER + 12;
 
-/// Where a frame has the number of bytes after the stream header.
+/// The offset of the stream data length in a frame: the number of bytes after the stream header.
 const DATA_LENGTH: usize = ETHERNET_HEADER + 20;
 
-/// Where a frame of AM824 has the block count of its first data block (IEC 61883-1).
+/// The offset of the block count in a frame of AM824: that of the packet's first data block (IEC 61883-1).
 const BLOCK_COUNT: usize = ETHERNET_HEADER + 27;
 
 /// What all packets of a stream have in common: their format, their sample rate and channels, and their stream id.

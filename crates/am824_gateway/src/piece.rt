@@ -53,8 +53,8 @@ pub(crate) fn arrival_of(instant: i64) -> i64
     (instant - TRANSIT).max(0)
 }
 
-/// Whether `late` is true, or a packet whose first sample is presented at `instant` would arrive too late for a capture
-/// to state.
+/// Whether `late` is true, or the packet whose first sample is presented at `instant` would arrive at a time that a
+/// capture cannot state.
 fn is_late_with(late: bool, instant: i64) -> bool
     requires { IsInstant instant }
     ensures { result ≡ (late || int_le (pos captures_end) (arrival_at instant)) }

@@ -68,7 +68,7 @@ fn is_other_rate(first: Shape, rate: u32) -> bool
     fdf_of(rate).is_none() || rate != first.rate
 }
 
-/// The first fault of a packet of samples, if the first packet of samples has the shape `first`.
+/// The first fault of a packet of samples. `first` is the shape of the stream's first packet of samples.
 fn fault_of(to: To, first: Shape, samples: &Samples) -> Option<ScanFault>
     ensures { result ≡ first_of (fault_rows to first samples.now) }
 {

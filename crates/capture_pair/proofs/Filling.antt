@@ -1,4 +1,4 @@
--- Both sides of a matching are filled. Its next difference is then the next one in all that the sides present.
+-- After both sides of a matching are filled, its next difference is the next difference of all that the sides present.
 use Rattle.std.proofs.Common.{◌≡◌, ℕ, ◌+◌, ◌<◌, ◌≤◌, Bool, true, false, cond, ◌⊎◌, inl, inr, List, [], ◌∷◌, ◌++◌, length, take, drop, Option, Some, None, refl, sym, ap, ◌∙◌, subst, arith}
 use Rattle.std.specs.Prelude.{IfNone, IsSome, is_some, slice_get}
 use Rattle.std.specs.Option.{option_to_list}

@@ -1,4 +1,5 @@
--- Two listeners with the same plan, each of which is fed the bytes of a capture, and the differences of what they present.
+-- Two listeners with the same plan, each of which is fed the bytes of a capture, and the differences between what they
+-- present.
 use Rattle.std.specs.Prelude.{◌≡◌, ℕ, ◌+◌, ◌^◌, ◌≤◌, List, length, Option}
 use Rattle.listener.specs.declared.plan.ListenPlan.{ListenPlan}
 use Rattle.listener.specs.Feeding.{Feeding, Keeps as KeepsFed, StandsFor as IsFed, is_ended, out, work}
@@ -20,7 +21,7 @@ abbrev pub fed_of : Which → FedPair → Feeding
 fed_of A pair = pair.a
 fed_of B pair = pair.b
 
--- the bytes of the capture of a side
+-- the bytes of side A (`bytes`) or of side B (`others`)
 abbrev pub bytes_of : Which → List ℕ → List ℕ → List ℕ
 bytes_of A bytes others = bytes
 bytes_of B bytes others = others
@@ -44,8 +45,7 @@ pub record AreShort (bytes others : List ℕ) : Type 0 where
 abbrev pub known_by : FedPair → List ℕ → List ℕ → List Sided
 known_by pair bytes others = known (is_ended pair.a) (is_ended pair.b) (merged (presented_of (out pair.a bytes)) (presented_of (out pair.b others)))
 
--- The pair was fed `bytes` of A and `others` of B. It has returned `given` differences of the known part of what both
--- present.
+-- The pair was fed `bytes` of A and `others` of B, and has returned the first `given` differences of the known part.
 abbrev pub StandsFor : List ℕ → List ℕ → ℕ → FedPair → Type 0
 StandsFor bytes others given pair = Pairs (λ list n. IsFed bytes n pair.a) (λ list n. IsFed others n pair.b) (out pair.a bytes) (out pair.b others) given pair.matching
 

@@ -1,4 +1,5 @@
--- Two listeners with the same plan, each of which is given the records of a capture, and the differences of what they present.
+-- Two listeners with the same plan, each of which is given the records of a capture, and the differences between what
+-- they present.
 use Rattle.std.specs.Prelude.{◌≡◌, ℕ, ◌+◌, ◌≤◌, Bool, true, List, [], length, take, Option, Some}
 use Rattle.pcap_frames.specs.Capture.{Record}
 use Rattle.sample_schedule.specs.Batches.{Presented}
@@ -37,8 +38,8 @@ pub record HavePlan (plan : ListenPlan) (pair : PairState) : Type 0 where
   pub a : pair.a.plan ≡ plan
   pub b : pair.b.plan ≡ plan
 
--- The batches that a listener presents of `records`. While it is open, these are the batches that are due; after it is
--- closed, all batches.
+-- The batches that a listener presents of `records`. While the listener is open, these are the batches that are due.
+-- After it is closed, these are all batches.
 abbrev pub presented_by : ListenState → List Record → List Presented
 presented_by listener records = presented_of (out listener records)
 
@@ -66,8 +67,8 @@ pub record Pairs (ShowsA ShowsB : List Shown → ℕ → Type 0) (list other : L
   pub filled_a : wanted m ≡ Some A → shown_a ≡ length list
   pub filled_b : wanted m ≡ Some B → shown_b ≡ length other
 
--- The pair was given `records` of A and `others` of B. It has returned `given` differences of the known part of what
--- both present.
+-- The pair was given `records` of A and `others` of B, and has returned the first `given` differences of the known
+-- part.
 abbrev pub StandsFor : List Record → List Record → ℕ → PairState → Type 0
 StandsFor records others given pair = Pairs (λ list n. IsGiven records n pair.a) (λ list n. IsGiven others n pair.b) (out pair.a records) (out pair.b others) given pair.matching
 

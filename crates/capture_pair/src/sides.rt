@@ -49,8 +49,8 @@ fn is_wanted(matching: &Matching, which: Which) -> bool
     }
 }
 
-/// If side `which` is wanted, gives the side's next batch to the matching, if that batch is known. If there is no
-/// further batch and the listener has ended, the side ends.
+/// If side `which` is wanted, asks for its next batch, and gives this batch to the matching. If there is no further
+/// batch and the listener has ended, the side ends.
 fn fill<S: Source>(source: &mut S, matching: &mut Matching, which: Which)
     ensures filled { (taken : Taken) (list other : List ShownValue) (n k given : ℕ) → S.shows source.old taken list n → IsHeard list → IsHeard other → MatchesOn which list other n k given matching.old → Filled (S.shows source.new taken) which list other k given matching.new }
     ensures fills { Fills which (S.kept source.old).ended (S.is_quiet source.new) matching.old matching.new }

@@ -24,7 +24,7 @@ pub trait Source {
     /// What does not change while the listener is asked for items.
     ghost kept: { Self → Kept };
 
-    /// The most items that the listener can still show.
+    /// The maximum number of items that the listener can still show.
     ghost work: { Self → ℕ };
 
     /// Returns the next item that the listener shows of what it took so far; `None` exactly if it has shown all of

@@ -18,7 +18,7 @@ pub record CarriesCut (to : To) (shape : Shape) (p : Packet) (c : Cut) : Type 0 
   pub count : p.count ≡ c.piece.count
   pub bytes : p.bytes ≡ samples_of to shape c.batch c.piece
 
--- the packets carry the pieces, one by one
+-- packet i carries piece i, and there are as many packets as pieces
 abbrev pub CarryCuts : To → Shape → List Packet → List Cut → Type 0
 CarryCuts to shape [] [] = ⊤
 CarryCuts to shape [] (c ∷ cs) = ⊥

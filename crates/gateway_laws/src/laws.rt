@@ -83,8 +83,8 @@ pub fn captures_of_pieces_are_kept()
         → Keeps to shape id batches (capture_of (gateway_frames to shape id batches)) }
 {}
 
-/// Let the packets of a gateway be presented at least 500 ns apart. The buffer of a listener that has no clock is then
-/// never full, if it has at least the default size. The reason: each packet arrives at most 2 ms before it is
+/// Let the packets of a gateway be presented at least 500 ns apart. Then the buffer of a listener without a clock is
+/// never full if the buffer has at least the default size. The reason: each packet arrives at most 2 ms before it is
 /// presented.
 pub fn default_buffers_are_never_full()
     ensures { (to : ToValue) (shape : Option ShapeValue) (id : ℕ) (batches : List Presented) (plan : ListenPlan) → IfSome shape IsShape → id < 2 ^ 64 → AllByRecursion BeginsInTime batches → ArePacketsSpread to shape batches → HasDefaultRoom id plan
@@ -106,10 +106,10 @@ pub fn captures_of_pieces_can_be_turned()
         → shape_in id (gateway_records to (Some shape) id batches) ≡ Some shape }
 {}
 
-/// Convert AM824 that a gateway made to PCM under any stream ID, and convert this PCM back to AM824 under the original
-/// ID. Each time, use the shape that a scan finds. The result has the same bytes as the original. This requires
-/// listeners that have no clock and whose buffers are never full. Buffers of at least the default size are never full
-/// if the packets are presented at least 500 ns apart.
+/// Take AM824 that a gateway made. Convert it to PCM under any stream ID, and convert this PCM back to AM824 under the
+/// original ID. Each time, use the shape that a scan finds. The result has the same bytes as the original. This
+/// requires listeners that have no clock and whose buffers are never full. Buffers of at least the default size are
+/// never full if the packets are presented at least 500 ns apart.
 pub fn am824_comes_back()
     ensures heard { (shape : Option ShapeValue) (id via : ℕ) (batches : List Presented) (there back : ListenPlan) → IfSome shape IsShape → id < 2 ^ 64 → via < 2 ^ 64 → AllByRecursion BeginsInTime batches
         → Hears id there (gateway_records Am824 shape id batches) → Hears via back (map record_of (frames_made Aaf there via (gateway_records Am824 shape id batches)))

@@ -12,8 +12,8 @@ use Rattle.listener_pair.specs.Merged.{Sided, is_side}
 use Rattle.listener_pair.specs.Pairs.{Paired, pairs, unpaired}
 use Rattle.listener_pair.specs.Ways.{way_of}
 
--- the difference of a batch of A and a batch of B that differ in this way: the numbers of their frames, their sequence
--- number, and the way
+-- the difference of two batches that differ as `way` says: the numbers of their frames, their sequence number, and
+-- `way`
 abbrev pub differ_in : Presented → Presented → Way → Difference
 differ_in a b way = record { frame_a = a.frame; frame_b = b.frame; seq = a.seq; way = way }
 

@@ -15,7 +15,7 @@ pub record Sided : Type 0 where
 abbrev pub all_of : Which → List Presented → List Sided
 all_of side batches = map (λ b. record { side = side; batch = b }) batches
 
--- a list ordered by first instant, after x was inserted before the first batch that is not earlier than x
+-- a list ordered by first instant, with x inserted before the first batch that is not earlier than x
 abbrev pub put_before : Sided → List Sided → List Sided
 put_before x [] = x ∷ []
 put_before x (y ∷ ys) = if int_lt (first_instant y.batch) (first_instant x.batch) then y ∷ put_before x ys else x ∷ y ∷ ys
@@ -26,7 +26,7 @@ by_instant [] = []
 by_instant (x ∷ rest) = put_before x (by_instant rest)
 
 -- What A and B present, in one list ordered by first instant. Batches of A come before batches of B with the same first
--- instant. Batches of one side keep their order.
+-- instant. Batches of one side with the same first instant keep their order.
 unfoldable pub merged : List Presented → List Presented → List Sided
 merged xs ys = by_instant (all_of A xs ++ all_of B ys)
 

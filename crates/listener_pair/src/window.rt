@@ -127,7 +127,7 @@ fn find_partner(waiting: &VecDeque<Placed>, side: Which, x: &Timed) -> Option<us
 }
 
 /// Takes the next batch of a side. If it may be paired with a waiting batch of the other side, it is paired with the
-/// first such batch. Otherwise it waits. Then waiting batches that are not among the last 512 batches are dropped.
+/// first such batch. Otherwise it waits. Waiting batches that are no longer among the last 512 batches are dropped.
 #[inline(always)]
 pub fn enter(
     side: Which,

@@ -26,7 +26,7 @@ delivering-none seed number noise next old s n = record {
   copies = sym (append-nil old);
 }
 
--- with one more number drawn, one more copy is delivered
+-- after one more number is drawn, one more copy is delivered
 pub delivering-more : (seed number count noise next : ℕ) (arrival : ℤ) (old new : List (ℤ × ℕ)) → Delivering seed number count noise old new → next ≡ next_state noise
     → arrival ≡ pos (arrival_of soak_plan number + delay_by (drawn next)) → Delivering seed number (count + 1) next old (new ++ (arrival, number) ∷ [])
 delivering-more seed number count noise next arrival old new so n a = record {

@@ -28,7 +28,7 @@ pub const SOAK_PLAN: TalkPlan = TalkPlan {
     crf: None,
 };
 
-/// The unit in which copies are delayed, in nanoseconds.
+/// The delay of each copy is a multiple of this number of nanoseconds.
 const DELAY_STEP: u32 = 40_000;
 
 /// The number of copies of a packet that are delivered, if `draw` is drawn for the packet.

@@ -18,14 +18,15 @@ pub fn capture_is_heard()
     ensures shown { (packets : ℕ) → packets ≤ 1000000 → (heard_of soak_listener (soak_capture packets)).shown ≡ soak_shown packets }
 {}
 
-/// The deliveries meet the whole premise of the headline: no copy is so late that it could be taken for another packet.
+/// The deliveries meet the whole premise of the headline (`HearsTalker`): no copy is so late that it could be taken for
+/// another packet.
 pub fn deliveries_are_heard()
     ensures { (packets : ℕ) → packets ≤ 1000000 → HearsTalker (pos 0) (soak_stream packets).journal soak_listener (soak_records packets) }
 {
     packet_again();
 }
 
-/// What is shown of the deliveries keeps the headline.
+/// What is shown of the deliveries keeps the headline (`KeepsHeadline`).
 pub fn deliveries_keep_headline()
     ensures { (packets : ℕ) → packets ≤ 1000000 → KeepsHeadline (pos 0) (soak_stream packets).journal soak_listener (soak_records packets) (soak_shown packets) }
 {

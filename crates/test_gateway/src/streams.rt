@@ -1,5 +1,6 @@
-//! Streams that are converted and converted back: all rates, channels, counts near the longest piece, sparse PCM, AM824 that is
-//! stamped in a later block, restarts and losses.
+//! Streams that are converted and converted back: streams of all rates and of several numbers of channels, with packets
+//! about as long as the longest piece, sparse PCM, AM824 that is stamped in a later block, and streams with restarts
+//! and losses.
 
 use crate::captures::{Recorded, records_of};
 use crate::checking::is_clean;

@@ -14,14 +14,14 @@ use Rattle.am824_gateway.specs.Pieces.{is_late, most_frames}
 use Rattle.am824_gateway.specs.Scan.{IsShape}
 use Rattle.am824_gateway.specs.state.Streams.{HasHeaders, IsStream}
 
--- A piece lies within its batch, fits one packet, and arrives in time.
+-- A piece lies within its batch, fits one packet, and its packet arrives early enough for a capture.
 pub record IsWithin (to : To) (shape : Shape) (batch : Presented) (p : Piece) : Type 0 where
   pub inside : p.first + p.count ≤ batch.count
   pub some : 1 ≤ p.count
   pub fits : p.count ≤ most_frames to shape.channels
   pub in_time : is_late batch p ≡ false
 
--- The batch is of the stream's shape, and its pieces lie within it.
+-- The batch has the stream's shape, and each of `pieces` lies within the batch.
 pub record IsCut (c : Current) (pieces : List Piece) : Type 0 where
   pub stream : IsStream c.stream
   pub presentable : IsPresentable c.batch

@@ -44,7 +44,7 @@ abbrev pub made_on : Which → Placed → MatchingState → Option Paired
 made_on A x m = made x m.waiting_b
 made_on B x m = made x m.waiting_a
 
--- x if x made no pair, because x then waits; otherwise no batch
+-- the batches that x adds to the waiting batches: x, if x made no pair, and otherwise none
 abbrev pub kept : Placed → Option Paired → List Placed
 kept x None = x ∷ []
 kept x (Some pair) = []
