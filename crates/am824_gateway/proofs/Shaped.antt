@@ -133,7 +133,8 @@ all_other to shape (d ∷ ds) all =
 
 -- ---- packets of samples
 
--- The packet has one value of 24 bits for each channel of each sample, and only the label of linear audio.
+-- The packet has one value of 24 bits for each channel of each sample. If the values have labels, each label is that of
+-- linear audio of 24 bits.
 pub record HasValues (to : To) (shape : Option Shape) (p : Packet) : Type 0 where
   pub found : Shape
   pub is : shape ≡ Some found
