@@ -28,7 +28,7 @@ most_frames to channels = most_bytes to / (value_out to * channels)
 -- ---- where a batch is cut
 
 -- A piece begins with sample `first` of a batch. Sample k of this piece is at its nominal instant, counted from the
--- piece's first sample. Listeners count the samples of a packet from its timestamp in the same way.
+-- piece's first sample. This is how listeners count the samples of a packet from its timestamp.
 abbrev pub is_nominal : ℕ → Presented → ℕ → ℕ → Bool
 is_nominal rate batch first k =
     int_eq (sample_instant batch (first + k)) (sample_instant batch first +ℤ pos (nominal_offset rate k))

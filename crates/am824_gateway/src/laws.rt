@@ -27,7 +27,7 @@ pub fn batches_follow_each_other()
         given_by to shape given (batches ++ batch ∷ []) ≡ given_by to shape (given_by to shape given batches) (batch ∷ []) }
 {}
 
-/// If the instants of each batch rise, the instants of all pieces rise, too. Each packet is presented after all earlier
+/// If the instants of each batch rise, the instants of all pieces rise. Each packet is presented after all earlier
 /// packets, and does not arrive before the previous packet. So a listener presents the packets in the order in which
 /// they are sent.
 pub fn instants_rise_through_all_pieces()
