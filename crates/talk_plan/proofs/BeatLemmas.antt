@@ -93,8 +93,6 @@ steady b start m is =
       shorter = little_more (period (pair_from b start m)) (period (pair_from b start (suc m))) b.up b.down (omega (arith, q.from, p.to)) is.slow;
     }
 
--- If a run starts at least 4 ns after the nominal instant of event (m + 2) * `spacing`, it starts at least 3 ns after
--- point m + 1 plus the last period.
 pub renewed : (b : Beat) (start m next : ℕ) → IsBeat b → start + nominal_offset b.rate (suc (suc m) * b.spacing) + 4 ≤ next
     → point_at b start (suc m) + period (pair_from b start m) + 3 ≤ next
 renewed b start m next is far =
@@ -104,7 +102,7 @@ renewed b start m next is far =
 
 -- ---- the instant with which an event is stamped
 
--- how many nanoseconds after point k + 1 the r-th event after that point is stamped
+-- the stamped time from point k + 1 to the r-th event after it, in nanoseconds
 abbrev pub part_of : Beat → ℕ → ℕ → ℕ → ℕ
 part_of b start k r = r * (point_at b start (suc k) - point_at b start k) / b.spacing
 
@@ -137,7 +135,6 @@ pub stamped_early : (b : Beat) (start e : ℕ) → e < b.spacing → stamped_at 
 unfolding stamped_at
 stamped_early b start e h = rw (lt-ltb e b.spacing h) refl
 
--- if `f` is at most r/w of the period `p`, it is at most 1 ns longer than the time of r events
 part_under : (w rate r p f : ℕ) → 1 ≤ w → r < w → f * w ≤ r * p → p * rate ≤ w * 1000000000 + rate → f * rate ≤ r * 1000000000 + rate
 part_under w rate r p f some small under slow = elim (cases_lt (r * 1000000000 + rate) (f * rate)) [
   | inl more ↦
@@ -166,7 +163,7 @@ pub record IsStamped (b : Beat) (start e instant : ℕ) : Type 0 where
   pub under : instant * b.rate ≤ start * b.rate + e * 1000000000 + b.rate
   pub over : start * b.rate + e * 1000000000 < instant * b.rate + 3 * b.rate
 
--- the stamped time of r events after point k + 1 is the part r / `spacing` of the period `p`, rounded down
+-- the stamped time from point k + 1 to the r-th event after it is r / `spacing` of the period `p`, rounded down
 pub record IsPart (b : Beat) (start k r p : ℕ) : Type 0 where
   pub under : part_of b start k r * b.spacing ≤ r * p
   pub over : r * p < part_of b start k r * b.spacing + b.spacing
@@ -188,7 +185,6 @@ late_near b start e k r is place small =
     let over = part_over b.spacing b.rate r (period (pair_from b start k)) f is.some small part.over p.over in
     record { under = omega (arith, x.under, under); over = omega (arith, x.over, over) }
 
--- from the second point on, event e is e % w events after a point
 placed : (e w : ℕ) → 1 ≤ w → w ≤ e → (suc (e / w - 1) * w + e % w ≡ e) × (e % w < w)
 placed e w some late =
     let split = div-add-mod' e w in
@@ -232,15 +228,12 @@ within_so instant later den num p from to =
     let g = rw e at to in
     record { from = omega (arith, ints, f); to = omega (arith, ints, g) }
 
--- dividing both sides of a bound by the clock's frequency keeps the bound
 lower_by : (up w x y p : ℕ) → 1 ≤ up → x * (2 * (w * up)) ≤ y * (2 * (w * up)) + p * up → x * (2 * w) ≤ y * (2 * w) + p
 lower_by up w x y p some h = at_most up (x * (2 * w)) (y * (2 * w) + p) some (omega arith)
 
 upper_by : (up w x y p : ℕ) → y * (2 * (w * up)) + p * up < x * (2 * (w * up)) + 2 * (p * (w * up)) → y * (2 * w) + p < x * (2 * w) + 2 * (p * w)
 upper_by up w x y p h = less up (y * (2 * w) + p) (x * (2 * w) + 2 * (p * w)) (omega arith)
 
--- If a pair that ends with point `t` covers an instant near event `e`, point `t` is not after event `e`. Point `t` is
--- `place` events after the start.
 not_sooner : (w rate s t instant p e place : ℕ) → 1 ≤ w → rate ≤ 192000 → instant * rate ≤ s + e * 1000000000 + rate → s + place * 1000000000 < t * rate + rate
     → p * rate ≤ w * 1000000000 + rate → t * (2 * w) ≤ instant * (2 * w) + p → place ≤ e
 not_sooner w rate s t instant p e place some slow under at long covers = elim (cases_lt e place) [
@@ -296,7 +289,6 @@ covering b start m e is c =
     of.over whole.1 in
     div-eq_of_lt-le b.spacing (omega arith) (omega arith)
 
--- The stamp of an event from the second point on is covered by the pair that ends with the last point up to the event.
 within_then : (instant later den num p : ℕ) → later * (2 * den) ≤ instant * (2 * den) + num → instant * (2 * den) + num < later * (2 * den) + 2 * (p * den)
     → (pos 0 ≤ℤ ((pos instant -ℤ pos later) *ℤ pos (2 * den) +ℤ pos num)) × (((pos instant -ℤ pos later) *ℤ pos (2 * den) +ℤ pos num) <ℤ pos (2 * (p * den)))
 within_then instant later den num p from to =
@@ -477,6 +469,5 @@ computed b start e x y part late at before is =
     let sum : start + x + part ≡ point_at b start (e / b.spacing) + e % b.spacing * p / b.spacing = omega (arith, at, parts) in
     sum ∙ sym (stamped_if b start e (nat_lt e b.spacing) refl late)
 
--- no point is before an earlier one
 pub rising : (b : Beat) (m n : ℕ) → IsBeat b → m ≤ n → nominal_offset b.rate (m * b.spacing) ≤ nominal_offset b.rate (n * b.spacing)
 rising b m n is h = more_offset b.rate (m * b.spacing) (n * b.spacing) (omega (arith, is.rate_from)) (mul-le-mul_right b.spacing h)

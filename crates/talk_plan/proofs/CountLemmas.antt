@@ -15,7 +15,6 @@ rises_by g rises a k (suc d) e =
 pub rises : (g : ℕ → ℕ) → ((k : ℕ) → g k ≤ g (k + 1)) → (a k : ℕ) → a ≤ k → g a ≤ g k
 rises g each a k h = rises_by g each a k (k - a) (omega arith)
 
--- the values over a range with one more number
 pub map_more : {X : Type 0} (f : ℕ → X) (a i : ℕ) → map f (range_with_len a (suc i)) ≡ map f (range_with_len a i) ++ (f (a + i) ∷ [])
 map_more f a zero = let here : a ≡ a + 0 = omega arith in ap (λ (n : ℕ). f n ∷ []) here
 map_more f a (suc i) =

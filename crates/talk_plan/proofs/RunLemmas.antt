@@ -88,7 +88,7 @@ new_bit r jump n ok other = elim (next_run r jump n ok) [
   | inr e ↦ e
 ]
 
--- a later packet is of the same run or of a later one
+-- a later packet is of the same run or of a later run
 pub no_later_run : (r : Option ℕ) (jump m n : ℕ) → Restarts r jump → m ≤ n → run_by r m ≤ run_by r n
 no_later_run None jump m n ok h = omega arith
 no_later_run (Some packets) jump m n ok h =

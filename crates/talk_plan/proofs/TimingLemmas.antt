@@ -27,7 +27,7 @@ short_offset rate k least =
     let under = is.under in
     omega arith
 
--- `z` is the sum of `x` and `y`, or a nanosecond more
+-- `z` is `x` + `y` or `x` + `y` + 1
 pub record IsSum (x y z : ℕ) : Type 0 where
   pub from : x + y ≤ z
   pub to : z ≤ x + y + 1
@@ -82,7 +82,6 @@ lead_within plan n = omega arith
 
 -- ---- the next packet
 
--- `x` and `y` are the times of two parts of n events; `z` and `w` are the times of two parts of n + count events
 apart_by : (s j x y k z w a b c d n count rate : ℕ) → a + b ≡ n → c + d ≡ n + count → j * rate ≤ k * rate → 24 * rate ≤ count * 1000000000
     → x * rate ≤ a * 1000000000 → y * rate ≤ b * 1000000000 → c * 1000000000 < z * rate + rate → d * 1000000000 < w * rate + rate
     → 4 * ((s + j + x + y) * rate) + 3 * (count * 1000000000) + 16 * rate ≤ 4 * ((s + k + z + w) * rate)

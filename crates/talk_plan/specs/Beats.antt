@@ -49,11 +49,11 @@ pair_from b start m = record {
   down = b.down;
 }
 
--- The next run starts at `next`, at least 4 nanoseconds after the `events` events of the run that starts at `start`.
+-- the next run starts at least 4 nanoseconds after the nominal end of a run
 abbrev pub IsNextStart : Beat → ℕ → ℕ → ℕ → Type 0
 IsNextStart b start events next = start + nominal_offset b.rate events + 4 ≤ next
 
--- counted by the pair, the event of the clock nearest to `instant` is at `instant`, to the nanosecond
+-- if events of the clock are counted by the pair, the event nearest to `instant` is at `instant`, to the nanosecond
 abbrev pub IsOnEvent : Pair → ℕ → ℕ → Type 0
 IsOnEvent pair rate instant =
     instant_at (spot_by pair rate (pos instant)).line (spot_by pair rate (pos instant)).from ≡ pos instant

@@ -5,7 +5,7 @@ use Rattle.talk_plan.specs.declared.plan.TalkPlan.{TalkPlan}
 use Rattle.talk_plan.specs.Timing.{mr_of, seq_of, timestamp_of}
 
 -- The stream header of packet n (IEEE 1722-2016, 4.4.4), for a payload of `length` bytes. If `stamp` is an instant, the
--- header has its timestamp.
+-- header has the timestamp of that instant.
 abbrev pub header_of : ℕ → Option ℕ → TalkPlan → ℕ → ℕ → StreamHeader
 header_of subtype stamp plan n length = record {
   subtype = subtype;

@@ -38,11 +38,11 @@ fdf_of rate =
 abbrev pub interval_of : ℕ → ℕ
 interval_of rate = unwrap_or (option_and_then syt_interval (fdf_of rate)) 8
 
--- the most bytes of samples that a packet of AAF holds in an Ethernet frame
+-- the maximum number of sample bytes in an AAF packet that fits an Ethernet frame
 abbrev pub most_samples : ℕ
 most_samples = 1476
 
--- the most bytes of data blocks that a packet of IEC 61883 holds in an Ethernet frame
+-- the maximum number of data block bytes in an IEC 61883 packet that fits an Ethernet frame
 abbrev pub most_blocks : ℕ
 most_blocks = 1468
 
@@ -61,7 +61,7 @@ HasRate Am824 rate = IsSome (fdf_of rate)
 HasRate (H264 last_stamp) rate = ⊥
 
 -- The data blocks of an AM824 packet have at most 256 quadlets each, and fit an Ethernet frame. A packet has at least
--- SYT_INTERVAL / 8 data blocks, so that there is a stamped block in every 8 packets.
+-- SYT_INTERVAL / 8 data blocks, so every 8 packets have a stamped block.
 pub record FitsBlocks (plan : TalkPlan) : Type 0 where
   pub quadlets : plan.channels ≤ 256
   pub some : interval_of plan.rate ≤ 8 * plan.count
@@ -89,8 +89,8 @@ Restarts (Some packets) jump = IsRestart packets jump
 -- ---- the media clock
 
 -- How many sample frames a stream has from one point of the clock to the next. These sample frames take as long as
--- `interval` events at the clock's frequency, its base frequency times the factor of its pull (IEEE 1722-2016, 10).
--- `rate` is the stream's sample rate.
+-- `interval` events of the clock. The clock's frequency is its base frequency times the factor of its pull (IEEE
+-- 1722-2016, 10). `rate` is the stream's sample rate.
 unfoldable pub spacing_of : CrfPlan → ℕ → ℕ
 spacing_of crf rate = crf.interval * rate * pull_down crf.pull / (crf.rate * pull_up crf.pull)
 
@@ -120,8 +120,8 @@ abbrev pub HasClock : Option CrfPlan → ℕ → ℕ → Option ℕ → Type 0
 HasClock None rate count restart = ⊤
 HasClock (Some crf) rate count restart = IsClockPlan crf rate count restart
 
--- With a clock, the lead is at least 3 ns. The reason: a timestamp can be up to 2 ns before its sample's nominal
--- instant, and a packet's first sample up to 3 ns before its own.
+-- With a clock, the lead is at least 3 ns. The reason: a timestamp can be up to 2 ns earlier than its sample's nominal
+-- instant, and the first sample of a packet can be due up to 3 ns earlier than its nominal instant.
 abbrev pub IsAhead : Option CrfPlan → ℕ → Type 0
 IsAhead None lead = ⊤
 IsAhead (Some crf) lead = 3 ≤ lead
@@ -175,20 +175,20 @@ pub record IsNearLead (plan : TalkPlan) (lead : ℕ) : Type 0 where
   pub from : plan.lead * plan.rate < lead * plan.rate + 127 * (plan.count * 1000000000)
   pub to : lead * plan.rate < plan.lead * plan.rate + 127 * (plan.count * 1000000000)
 
--- what a stream of this kind demands of a listener's lead: it is near the plan's lead if some packets of audio have no
--- timestamp
+-- What a stream of this kind demands of a listener's lead. If some packets of audio have no timestamp, the lead must be
+-- near the plan's lead. Otherwise, any lead will do.
 abbrev pub ExpectsBy : TalkKind → TalkPlan → ℕ → Type 0
 ExpectsBy (Aaf format false) plan lead = ⊤
 ExpectsBy (Aaf format true) plan lead = IsNearLead plan lead
 ExpectsBy Am824 plan lead = plan.count < interval_of plan.rate → IsNearLead plan lead
 ExpectsBy (H264 last_stamp) plan lead = ⊤
 
--- A listener tells audio packets without a timestamp apart by their arrivals, so it must expect them about when the
--- plan sends them. Any lead will do for PCM that is not sparse, for AM824 whose packets have at least SYT_INTERVAL data
--- blocks, and for H.264.
+-- A listener identifies audio packets without a timestamp by their arrivals, so its lead must then be near the plan's
+-- lead. Any lead will do for PCM that is not sparse, for AM824 whose packets have at least SYT_INTERVAL data blocks,
+-- and for H.264.
 abbrev pub Expects : TalkPlan → ℕ → Type 0
 Expects plan lead = ExpectsBy plan.kind plan lead
 
--- the most bytes that an input may have
+-- the maximum number of bytes in an input
 abbrev pub most_input : ℕ
 most_input = 268435456

@@ -11,7 +11,7 @@ pub record Row : Type 0 where
 abbrev pub row : TalkFault → Bool → Row
 row fault holds = record { fault = fault; holds = holds }
 
--- the first present fault of a list, if there is one
+-- the fault of the first row whose fault is present, if there is one
 abbrev pub first_of : List Row → Option TalkFault
 first_of [] = None
 first_of (r ∷ rows) = if r.holds then Some r.fault else first_of rows

@@ -156,7 +156,7 @@ impl TalkPlan {
         }
     }
 
-    /// The instant that the timestamp of packet `n` has if it belongs to the packet's first sample frame, in
+    /// If the timestamp of packet `n` belongs to the packet's first sample frame, the instant of this timestamp, in
     /// nanoseconds of gPTP. The packet is sent at `arrival`.
     #[tactic(auto, using(crate::proofs::TimingLemmas::lead_within))]
     pub fn first_stamped_instant(&self, n: u64, arrival: i64) -> u64
@@ -187,7 +187,7 @@ impl TalkPlan {
     }
 
     /// The stream header of packet `n` (IEEE 1722-2016, 4.4.4), for a payload of `length` bytes. If `stamp` is an
-    /// instant, the header has its timestamp.
+    /// instant, the header has the timestamp of that instant.
     pub fn header(&self, subtype: u8, stamp: Option<u64>, n: u64, length: u16) -> StreamHeader
         requires { Restarts self.now.restart self.now.jump }
         ensures { result ≡ header_of subtype stamp self.now n length }

@@ -68,7 +68,6 @@ one_unit units p q n is other = elim (cases_lt p.unit q.unit) [
   ]
 ]
 
--- if n is the number of one of unit i's packets, packet n carries unit i
 pub unit_found : (units : List (ℕ × ℕ)) (i n : ℕ) → packets_before units i ≤ n → n < packets_before units (suc i) → (place_of units n).unit ≡ i
 unit_found units i n from to =
     let here : IsPlaced units (record { unit = i; fragment = n - packets_before units i }) n = record { number = omega arith; within = omega arith } in

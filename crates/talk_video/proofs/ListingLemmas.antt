@@ -16,7 +16,7 @@ use Rattle.talk_video.specs.Streams.{AreInside, IsInside, first_units, unit_in}
 use Rattle.talk_plan.proofs.CountLemmas.{map_more}
 use Rattle.talk_video.proofs.AccessLemmas.{size_of}
 
--- `x` is at index `k` of `xs`, and `rest` follows it
+-- `x` is at index `k` of `xs`, and `rest` is what follows `x` in `xs`
 pub record IsHead {X : Type 0} (xs : List X) (k : ℕ) (d x : X) (rest : List X) : Type 0 where
   pub at : get_or xs k d ≡ x
   pub next : drop (suc k) xs ≡ rest
@@ -42,7 +42,7 @@ sliced_by true s may = refl
 sliced_by false true may = refl
 sliced_by false false may = refl
 
--- `unit` is unit i of the byte stream, and the later units are those found after its end
+-- `unit` is unit i of the byte stream, and units i + 1 and later are those found after the end of `unit`
 pub record IsNextUnit (bytes : List ℕ) (i : ℕ) (unit : ℕ × ℕ) : Type 0 where
   pub known : i < length (nal_units bytes)
   pub at : unit_at (nal_units bytes) i ≡ unit

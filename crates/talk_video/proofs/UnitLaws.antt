@@ -23,7 +23,7 @@ pub same_or_next : (bytes : List ℕ) (units : List (ℕ × ℕ)) (i : ℕ)
     → (access_unit bytes units (suc i) ≡ access_unit bytes units i) ⊎ (access_unit bytes units (suc i) ≡ suc (access_unit bytes units i))
 same_or_next bytes units i = flag_is (begins bytes units (suc i)) (access_unit bytes units i) (access_unit bytes units (suc i)) refl
 
--- if unit i + 1 does not begin an access unit, it is in the access unit of unit i
+-- if unit i + 1 does not begin an access unit, it belongs to the access unit of unit i
 stays : (bytes : List ℕ) (units : List (ℕ × ℕ)) (i : ℕ) → begins bytes units (suc i) ≡ false → access_unit bytes units (suc i) ≡ access_unit bytes units i
 stays bytes units i e = rw e (omega arith)
 

@@ -24,7 +24,7 @@ listed_at v i d is h =
 pub listed_all : (v : VideoStream) → IsVideo v → length v.units.items ≡ length (nal_units v.input.now)
 listed_all v is = ap length is.units ∙ length-map-range_with_len (unit_in v.input.now) 0 (length (nal_units v.input.now))
 
--- in the list, the units that begin with packet n or an earlier one precede all others
+-- in the list, the units whose first packet is at most n precede all others
 pub parted : (v : VideoStream) (n : ℕ) → IsVideo v → IsPartitionedBy (λ (u : NalUnit). nat_le u.first n) v.units.items
 parted v n is i j d le below e =
     let all = listed_all v is in
@@ -35,7 +35,7 @@ parted v n is i j d le below e =
     let so : (get_or v.units.items i d).first ≤ n = omega arith in
     grind (arith, nat_tests)
 
--- a binary search finds the index after that of packet n's unit
+-- the binary search returns 1 more than the index of packet n's unit
 pub searched : (v : VideoStream) (n r : ℕ) → IsVideo v → n < v.packets → r ≤ length v.units.items
     → IsPartitionPoint (λ (u : NalUnit). nat_le u.first n ≡ true) (λ (u : NalUnit). nat_le u.first n ≡ false) v.units.items r → r ≡ suc (place_in v n).unit
 searched v n r is known within point =

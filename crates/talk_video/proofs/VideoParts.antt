@@ -98,7 +98,6 @@ ends_is v n access next is more e f =
     let other : (suc n == all_packets (nal_units v.input.now)) ≡ false = grind (arith, nat_tests) in
     rw (other, e, f, s) refl
 
--- the packet that the code builds from these values is packet n of the stream
 pub packet_is : (v : VideoStream) (n : ℕ) (unit : NalUnit) (part : NalPart) (body : List ℕ) (instant counted nal : ℕ) (stamp : Option ℕ) (header : StreamHeader) (marker : Bool)
     → unit ≡ unit_in v.input.now (place_in v n).unit → part ≡ part_by (packets_for (unit.from, unit.to)) (n - unit.first)
     → body ≡ body_by (part_by (packets_for (unit.from, unit.to)) (n - unit.first)) (n - unit.first) (rest_in v.input.now (unit.from, unit.to))
@@ -143,7 +142,6 @@ packet_short last_stamp plan bytes units n =
     let short = short_at bytes units (place_of units n) in
     omega arith
 
--- the length of packet n's frame, from the values that the code uses
 pub frame_length : (v : VideoStream) (n : ℕ) (unit : NalUnit) (part : NalPart) (body : List ℕ) (counted : ℕ)
     → unit ≡ unit_in v.input.now (place_in v n).unit → part ≡ part_by (packets_for (unit.from, unit.to)) (n - unit.first)
     → body ≡ body_by (part_by (packets_for (unit.from, unit.to)) (n - unit.first)) (n - unit.first) (rest_in v.input.now (unit.from, unit.to))

@@ -38,7 +38,7 @@ may_begin bytes unit =
     is_in 6 9 (type_in bytes unit) || is_in 14 18 (type_in bytes unit)
     || ((is_in 1 2 (type_in bytes unit) || type_in bytes unit == 5) && is_first_slice bytes unit)
 
--- before unit i, the current access unit has a slice
+-- before unit i, the current access unit already has a slice
 abbrev pub is_sliced : List ℕ → List (ℕ × ℕ) → ℕ → Bool
 is_sliced bytes units zero = false
 is_sliced bytes units (suc i) = has_slice bytes (unit_at units i) || (is_sliced bytes units i && not (may_begin bytes (unit_at units i)))

@@ -17,7 +17,7 @@ has_start_code bytes = list_any (is_start_code bytes) (range_with_len 0 (length 
 abbrev pub has_other_type : List ℕ → Bool
 has_other_type bytes = list_any (λ unit. not (is_single_type (type_in bytes unit))) (nal_units bytes)
 
--- the most packets of an access unit, few enough that their sequence numbers all differ
+-- The maximum number of packets of an access unit. The sequence numbers of that many packets all differ.
 abbrev pub most_packets : ℕ
 most_packets = 255
 

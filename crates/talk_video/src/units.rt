@@ -20,7 +20,7 @@ use talk_plan::TalkFault;
 /// The start code before each unit (ITU-T H.264, annex B).
 const START_CODE: [u8; 3] = [0, 0, 1];
 
-/// The most packets of an access unit.
+/// The maximum number of packets of an access unit.
 const MOST_PACKETS: u64 = 255;
 
 /// A NAL unit, and which packets of the stream carry it.
@@ -42,7 +42,7 @@ pub struct Units {
     /// How many units were passed, and where the last one of them ends.
     number: usize,
     at: usize,
-    /// The last access unit of the units that were passed has a slice.
+    /// The access unit of the last passed unit has a slice.
     sliced: bool,
     /// How many of the units that were passed begin a new access unit.
     begun: u64,

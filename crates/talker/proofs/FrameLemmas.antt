@@ -11,7 +11,6 @@ in_order f rises a zero = refl
 in_order f rises a (suc zero) = refl
 in_order f rises a (suc (suc n)) = rw (in_order f rises (a + 1) (suc n), rises a) refl
 
--- `P` holds for all frames of the list if it holds for each frame numbered below a + n
 pub each : (f : ℕ → SentFrame) (P : SentFrame → Type 0) (a n : ℕ) → ((k : ℕ) → k < a + n → P (f k)) → AllByRecursion P (map f (range_with_len a n))
 each f P a zero h = tt
 each f P a (suc n) h = (h a (omega arith), each f P (a + 1) n (λ k below. h k (omega arith)))
@@ -28,7 +27,6 @@ numbered f a (suc n) (suc k) j h e = numbered f (a + 1) n k j (omega arith) (ome
 
 -- ---- frames of two lists
 
--- `P` holds for all frames of the list if it holds for each frame numbered a to a + n - 1
 pub each_from : (f : ℕ → SentFrame) (P : SentFrame → Type 0) (a n : ℕ) → ((k : ℕ) → a ≤ k → k < a + n → P (f k)) → AllByRecursion P (map f (range_with_len a n))
 each_from f P a zero h = tt
 each_from f P a (suc n) h = (h a (omega arith) (omega arith), each_from f P (a + 1) n (λ k from below. h k (omega arith) (omega arith)))
@@ -46,7 +44,6 @@ put_all : (P : SentFrame → Type 0) (f : SentFrame) (xs : List SentFrame) → P
 put_all P f [] here all = (here, tt)
 put_all P f (x ∷ xs) here all = put_by P f x xs (int_le f.arrival x.arrival) here all.0 all.1 (put_all P f xs here all.1)
 
--- what holds for each frame of a list still holds for each after they are sorted by arrival
 pub sorted_all : (P : SentFrame → Type 0) (xs : List SentFrame) → AllByRecursion P xs → AllByRecursion P (by_arrival xs)
 sorted_all P [] all = tt
 sorted_all P (x ∷ xs) all = put_all P x (by_arrival xs) all.0 (sorted_all P xs all.1)

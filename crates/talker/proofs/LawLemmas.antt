@@ -26,7 +26,6 @@ use Rattle.talk_audio.proofs.PcmLemmas.{packet_again}
 use Rattle.talker.proofs.StreamLemmas.{AreCarried, all_carried, all_frames, at_number, frames_in, next_near, numbers_of, packets_in, some_carried, spelled}
 use Rattle.talker.proofs.TalkLemmas.{frames_alone, plan_keeps}
 
--- if `fdf` names the plan's rate and `interval` is the SYT interval of `fdf`, these bounds imply `FitsBlocks`
 pub named_blocks : (plan : TalkPlan) (fdf interval : ℕ) → rate_of_fdf fdf ≡ Some plan.rate → syt_interval fdf ≡ Some interval → plan.channels ≤ 256
     → interval ≤ 8 * plan.count
     → plan.count * block_size plan.channels ≤ 1468 → FitsBlocks plan
@@ -74,7 +73,6 @@ later f g e = grind (arith, ints)
 sooner : (f g : SentFrame) → int_le f.arrival g.arrival ≡ true → f.arrival ≤ℤ g.arrival
 sooner f g e = grind (arith, ints)
 
--- if `g` is not sent after `f`, inserting `f` into the frames after `g` keeps them in order of arrival
 behind : (g f : SentFrame) (frames : List SentFrame) → g.arrival ≤ℤ f.arrival → RiseByArrival (g ∷ frames) → RiseByArrival (g ∷ put_in f frames)
 behind g f [] h rise = (h, tt)
 behind g f (x ∷ frames) h rise =
@@ -138,7 +136,6 @@ near_as (H264 last_stamp) j numbers kind = absurd kind
 pub audio_near : (plan : TalkPlan) (input : List ℕ) (given : List SentFrame) → IsAudioPlan plan → StaysNear plan input given
 audio_near plan input given p = near_as plan.kind (journal plan input).times (packet_numbers given) p.kind
 
--- if all frames of a plan are captured in order, adjacent packets of H.264 are near each other
 near_by : (kind : TalkKind) (plan : TalkPlan) (input : List ℕ) → plan.kind ≡ kind → IsPlanOf kind plan → length input ≤ most_input
     → StaysNearBy kind (journal plan input).times (packet_numbers (frames plan input))
 near_by (Aaf format sparse) plan input e p limit = tt

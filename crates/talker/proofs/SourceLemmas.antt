@@ -64,7 +64,6 @@ none_more true true c late e = refl
 none_more true false true late e = refl
 none_more true false false late e = rw e refl
 
--- the only faults of an H.264 plan and its input are those of the input's NAL units
 pub video_fault : (plan : TalkPlan) (input : List ℕ) (last_stamp : Bool) → IsVideoPlan plan → plan.kind ≡ H264 last_stamp → length input ≤ most_input
     → fault_of plan input ≡ units_fault input
 unfolding fault_of units_fault

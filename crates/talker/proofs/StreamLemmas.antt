@@ -45,7 +45,7 @@ pub record IsStream (plan : TalkPlan) (s : Stream) : Type 0 where
   pub early : (n : ℕ) → IsAhead plan.crf plan.lead → n < packets_in s → s.arrival n ≤ s.journal.times.due n
   -- the frame of each packet fits Ethernet
   pub size : (n : ℕ) → n < packets_in s → length (packet_bytes (s.journal.packet n)) ≤ 1518
-  -- the packets of the clock are sent in order and before 2^32 seconds, and the frame of each fits Ethernet
+  -- each packet of the clock is sent before 2^32 seconds and not before its predecessor, and its frame fits Ethernet
   pub clock_rising : (m : ℕ) → s.clock_arrival m ≤ s.clock_arrival (m + 1)
   pub clock_sent : (m : ℕ) → m < clocks_in s → s.clock_arrival m < 2 ^ 32 * 1000000000
   pub clock_size : (m : ℕ) → m < clocks_in s → length (clock_bytes (s.journal.clock_packet m)) ≤ 1518
@@ -118,7 +118,7 @@ pub record IsClockFrame (s : Stream) (f : SentFrame) : Type 0 where
   pub known : number < clocks_in s
   pub same : f ≡ clock_frame_of s number
 
--- the frame is that of a packet of the stream or of the clock
+-- `f` is the frame of a packet of the stream or of the clock
 abbrev pub IsFrameOf : Stream → SentFrame → Type 0
 IsFrameOf s f = IsStreamFrame s f ⊎ IsClockFrame s f
 
@@ -164,7 +164,7 @@ kept P h (x ∷ xs) each = kept_by P (h x) (filter_map h xs) (each x) (kept P h 
     kept_by P None ys here rest = rest
     kept_by P (Some y) ys here rest = (here, rest)
 
--- each frame at one of the indices `places` is that of a packet
+-- each frame at an index in `places` is the frame of a packet
 pub frames_in : (s : Stream) (places : List ℕ) → AllByRecursion (IsFrameOf s) (filter_map (slice_get (frames_of s)) places)
 frames_in s places = kept (IsFrameOf s) (slice_get (frames_of s)) places (λ k. at_place (IsFrameOf s) (frames_of s) k (all_frames s))
 
@@ -265,8 +265,6 @@ next_near j a (suc (suc n)) = ((λ first second unstamped. (omega arith, omega a
 unrolled : (f : ℕ → SentFrame) (a n : ℕ) → a < n → map f (range_with_len a (n - a)) ≡ f a ∷ map f (range_with_len (a + 1) (n - (a + 1)))
 unrolled f a n h = let more : n - a ≡ suc (n - (a + 1)) = omega arith in rw more refl
 
--- if no packet of the stream from b on is sent before packet a of the clock, the frame of packet a is the first that is
--- left
 pub clock_first : (plan : TalkPlan) (s : Stream) (a b : ℕ) → IsStream plan s → a < clocks_in s
     → ((k : ℕ) → b ≤ k → k < packets_in s → s.clock_arrival a ≤ s.arrival k)
     → left_of s a b ≡ clock_frame_of s a ∷ left_of s (a + 1) b
@@ -283,8 +281,6 @@ clock_first plan s a b is h sooner =
     rw (unrolled (clock_frame_of s) a (clocks_in s) h)
     (stays_first f (clocks ++ packets) (all_of (λ g. int_le f.arrival g.arrival ≡ true) clocks packets later others))
 
--- if packet b of the stream is sent before all packets of the clock from a on, the frame of packet b is the first that
--- is left
 pub packet_first : (plan : TalkPlan) (s : Stream) (a b : ℕ) → IsStream plan s → b < packets_in s
     → ((m : ℕ) → a ≤ m → m < clocks_in s → s.arrival b < s.clock_arrival m)
     → left_of s a b ≡ frame_of s b ∷ left_of s a (b + 1)

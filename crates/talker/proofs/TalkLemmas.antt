@@ -88,7 +88,7 @@ clocked_by (Aaf format sparse) plan crf e p = p
 clocked_by Am824 plan crf e p = p
 clocked_by (H264 last_stamp) plan crf e p = absurd (let none = p.crf in cc)
 
--- a plan with a media clock is one of audio
+-- only a plan of audio has a media clock
 pub clocked_plan : (plan : TalkPlan) (crf : CrfPlan) → IsPlan plan → plan.crf ≡ Some crf → IsAudioPlan plan
 clocked_plan plan crf p e = clocked_by plan.kind plan crf e p
 
@@ -150,7 +150,6 @@ source_limit : (source : Source) → IsSource source → length (input_in source
 source_limit (OfAudio stream input) is = is.1
 source_limit (OfVideo v) is = is.limit
 
--- the stream of a source is that of the source's plan
 pub source_is : (source : Source) → IsSource source → IsOf (plan_in source) (stream_in_source source)
 source_is source is = is_of (plan_in source) (input_in source) (source_plan source is) (source_limit source is)
 
@@ -263,7 +262,7 @@ ended (Some c) plan s packets a b of e clock other at most =
       | inr not ↦ omega arith
     ]
 
--- `f` is at index `k` of `xs`, and `rest` follows it
+-- `f` is at index `k` of `xs`, and `rest` is what follows `f` in `xs`
 pub record IsFirst (xs : List SentFrame) (k : ℕ) (f : SentFrame) (rest : List SentFrame) : Type 0 where
   pub at : slice_get xs k ≡ Some f
   pub next : drop (k + 1) xs ≡ rest

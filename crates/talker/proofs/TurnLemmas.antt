@@ -57,7 +57,7 @@ most_by : (clock : Bool) (plan : TalkPlan) (s : Stream) (n : ℕ) → IsOf plan 
 most_by true plan s m of known = of.keeps.clock_size m known
 most_by false plan s n of known = of.keeps.size n known
 
--- the arrival is one that a capture can record: from 0 to below 2^32 seconds
+-- a capture can record the arrival: it is at least 0 and below 2^32 seconds
 pub record IsEarly (arrival : ℤ) : Type 0 where
   pub at : ℕ
   pub is : arrival ≡ pos at
@@ -81,7 +81,7 @@ turn_within source turn is sends = turn_most (plan_in source) (stream_in source)
 
 -- ---- a packet's turn
 
--- `o` is a frame with the fields of `turn` and as many bytes as `turn` says
+-- `o` is a frame that has the fields of `turn`, and `turn` has the frame's number of bytes
 pub record HasFrame (o : Option SentFrame) (turn : Turn) : Type 0 where
   pub bytes : List ℕ
   pub next : o ≡ Some (frame_in turn bytes)
@@ -119,7 +119,7 @@ is_turn t turn of sends at =
       most = turn_most t.plan s turn of sends;
     }
 
--- `f` is the frame of the packet that its number and its clock flag name
+-- `f` is the frame of the packet that the number and the clock flag of `f` name
 record IsKnown (s : Stream) (f : SentFrame) : Type 0 where
   known : f.number < packets_by f.clock s
   same : f ≡ frame_by f.clock s f.number
@@ -150,7 +150,6 @@ sending t turn is =
       same = of.same;
     }
 
--- if `out` holds the bytes of the turn's frame, the turn with these bytes is the talker's next frame
 pub sent_next : (t : Talking) (turn : Turn) (out : List ℕ) → IsTurn t turn → out ≡ (turn_frame (stream_of t.plan t.input) turn).bytes
     → slice_get (frames t.plan t.input) t.given ≡ Some (frame_in turn out)
 sent_next t turn out is e =
@@ -168,7 +167,6 @@ pub record IsPacketStep (s : Stream) (a b : ℕ) : Type 0 where
   pub more : b < packets_in s
   pub step : IsFirst (frames_of s) (a + b) (frame_of s b) (left_of s a (b + 1))
 
--- if a frame is left, the next one is that of packet a of the clock or of packet b of the stream
 step_of : (plan : TalkPlan) (s : Stream) (a b : ℕ) (f : SentFrame) → IsOf plan s → a ≤ clocks_in s → b ≤ packets_in s
     → drop (a + b) (frames_of s) ≡ left_of s a b → slice_get (frames_of s) (a + b) ≡ Some f
     → IsClockStep s a b ⊎ IsPacketStep s a b
@@ -201,7 +199,6 @@ same_frame f g o e h = cc
 other_clock : (f g : SentFrame) (b c : Bool) → f ≡ g → f.clock ≡ b → g.clock ≡ c → b ≡ c
 other_clock f g b c e h k = sym h ∙ ap (λ (f : SentFrame). f.clock) e ∙ k
 
--- if the next frame belongs to the clock, it is that of packet a of the clock
 pub clock_turn : (plan : TalkPlan) (s : Stream) (a b : ℕ) (f : SentFrame) → IsOf plan s → a ≤ clocks_in s → b ≤ packets_in s
     → drop (a + b) (frames_of s) ≡ left_of s a b → slice_get (frames_of s) (a + b) ≡ Some f
     → f.clock ≡ true → IsClockStep s a b

@@ -99,8 +99,8 @@ abbrev pub packet_numbers : List SentFrame → List ℕ
 packet_numbers [] = []
 packet_numbers (f ∷ frames) = if f.clock then packet_numbers frames else f.number ∷ packet_numbers frames
 
--- For H.264 that stamps only last fragments: adjacent packets of these numbers are near each other. For other streams:
--- always true.
+-- If a stream of H.264 stamps only last fragments, adjacent packets in the list of numbers are near each other. For
+-- other streams, always true.
 abbrev pub StaysNearBy : TalkKind → Journal → List ℕ → Type 0
 StaysNearBy (Aaf format sparse) j numbers = ⊤
 StaysNearBy Am824 j numbers = ⊤

@@ -4,16 +4,16 @@ use Rattle.talker.specs.declared.turn.Turn.{Turn}
 use Rattle.talker.specs.Frames.{SentFrame, frames}
 use Rattle.talker.specs.Talking.{Talking}
 
--- the frame with the turn's fields and these bytes
+-- the frame with the fields of a turn and with the given bytes
 abbrev pub frame_in : Turn → List ℕ → SentFrame
 frame_in turn bytes = record { arrival = turn.arrival; number = turn.number; clock = turn.clock; bytes = bytes }
 
--- the turn of a frame, which has the number of the frame's bytes instead of the bytes
+-- the turn of a frame: it keeps the number of the frame's bytes, but not the bytes
 abbrev pub turn_of : SentFrame → Turn
 turn_of f = record { arrival = f.arrival; number = f.number; clock = f.clock; size = length f.bytes }
 
--- The turn is that of the next frame. A capture can record the frame: it arrives before 2^32 seconds and has at most
--- 1518 bytes.
+-- `turn` is the turn of the talker's next frame. A capture can record this frame: it arrives before 2^32 seconds and
+-- has at most 1518 bytes.
 pub record IsTurn (t : Talking) (turn : Turn) : Type 0 where
   pub next : option_map turn_of (slice_get (frames t.plan t.input) t.given) ≡ Some turn
   pub begun : pos 0 ≤ℤ turn.arrival

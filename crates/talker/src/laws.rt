@@ -32,9 +32,10 @@ use packet_journal::laws::records_of_both_are_delivered;
 pub use talk_plan::laws::{clocks_keep_time, rates_are_named};
 pub use talk_video::laws::{access_units_begin, units_are_carried};
 
-/// Packet `n` is sent at the plan's start plus the time of the sample frames before its own, rounded down. With restarts, each
-/// run is delayed by all jumps before it, and the time of its sample frames is counted anew. Packets of H.264 are sent at the
-/// plan's start plus the time of the access units before their own.
+/// Packet `n` of audio is sent at the plan's start plus the time that all earlier sample frames take, rounded down.
+/// With restarts, each run is delayed by the jumps of all earlier restarts, and the time of its sample frames is
+/// counted from the start of the run. A packet of H.264 is sent at the plan's start plus the time that all earlier
+/// access units take.
 pub fn packets_are_paced()
     ensures steady { (plan : TalkPlan) (n : ℕ) → plan.restart ≡ None → arrival_of plan n ≡ nat_abs plan.start + n * plan.count * 1000000000 / plan.rate }
     ensures restarting { (plan : TalkPlan) (packets n : ℕ) → plan.restart ≡ Some packets
@@ -45,7 +46,7 @@ pub fn packets_are_paced()
 
 /// The clock has a timestamp at the first sample frame of the stream, and at each later sample frame whose number is a
 /// multiple of the spacing. The clock's timestamps and packets are numbered across all runs. With restarts, the instant
-/// of a timestamp is counted anew in each run, and a packet has the restart bit of its run.
+/// of a timestamp is counted from the start of its run, and a packet has the restart bit of its run.
 pub fn clocks_are_paced()
     ensures points { (plan : TalkPlan) (crf : CrfPlan) (packets s : ℕ) → IsPlan plan → plan.crf ≡ Some crf
         → s < points_for crf plan packets ↔ s * spacing_of crf plan.rate < packets * plan.count }
@@ -73,8 +74,8 @@ pub fn packets_are_sent_in_time()
         → IsSomeAnd (slice_get (stream_frames plan input) n) (λ f. f.arrival ≤ℤ pos ((journal plan input).times.due n)) }
 {}
 
-/// If no restart lies between a packet and the seventh before it, the packet has a head in the plan's journal. One of
-/// the eight packets is stamped, and the last of the eight is counted from the stamped one.
+/// If no restart lies between packet n and the seventh packet before it, packet n has a head in the plan's journal. Of
+/// these eight packets, one is stamped, and packet n is counted from the stamped packet.
 pub fn packets_have_heads()
     ensures { (plan : TalkPlan) (input : List ℕ) (n : ℕ) → IsAudioPlan plan → 7 ≤ n → run_of plan (n - 7) ≡ run_of plan n
         → IsSome (head_of (journal plan input).times n) }
@@ -118,7 +119,7 @@ pub fn journal_conforms()
 /// The capture of a plan delivers its journal: its records carry each packet of the stream and of its clock once.
 /// Without a clock, the records carry the packets of the stream in order. The capture delivers the journal to every
 /// listener, except for sparse PCM and for AM824 with fewer data blocks in a packet than its SYT interval. For sparse
-/// PCM and such AM824, the listener must expect packets by about the plan's lead before their first instants.
+/// PCM and such AM824, the listener's lead must be about the plan's lead.
 pub fn capture_delivers()
     ensures carries { (plan : TalkPlan) (input : List ℕ) (lead : ℕ) → IsPlan plan → plan.crf ≡ None → length input ≤ most_input → Expects plan lead
         → AllCarry (journal plan input) lead (range_with_len 0 (journal plan input).times.packets) (records plan input) }
@@ -130,8 +131,8 @@ pub fn capture_delivers()
 
 /// A capture may lose, repeat or reorder a plan's frames, each captured when it was sent. The capture still reads back
 /// as exactly the records of the captured frames, and delivers the plan's journal to the listeners that
-/// `capture_delivers` names. If NAL units of H.264 are stamped only on their last fragments, adjacent captured
-/// fragments must be of packets that are at most 254 apart.
+/// `capture_delivers` names. If NAL units of H.264 are stamped only on their last fragments, there is a further
+/// condition: the numbers of adjacent captured packets differ by at most 254, unless both packets are stamped.
 pub fn losses_are_delivered()
     ensures records { (plan : TalkPlan) (input places : List ℕ) → IsPlan plan → length input ≤ most_input
         → whole_records (capture_of (frames_at plan input places)) ≡ map record_of (frames_at plan input places) }

@@ -31,7 +31,8 @@ pub struct Talker<'a> {
     clock: Option<ClockStream>,
     packets: u64,
     clocks: u64,
-    /// How many packets of the stream, and of the clock, were given in the order of sending.
+    /// How many packets of the stream were given in the order of sending, and in the next field, how many packets of
+    /// the clock.
     given_packets: u64,
     given_clocks: u64,
     /// The frame that was lent last.

@@ -33,7 +33,7 @@ input_in (OfVideo stream) = stream.input.now
 abbrev pub stream_in : Source → Stream
 stream_in source = stream_of (plan_in source) (input_in source)
 
--- the source is that of this plan and this input
+-- `source` is made from `plan` and `input`
 pub record IsSourceOf (plan : TalkPlan) (input : List ℕ) (source : Source) : Type 0 where
   pub source_is : IsSource source
   pub plan_is : plan_in source ≡ plan

@@ -36,7 +36,7 @@ pub record IsTurnOf (s : Stream) (clock : Bool) (number : ℕ) (turn : Turn) : T
   pub number_is : turn.number ≡ number
   pub clock_is : turn.clock ≡ clock
 
--- the turn sends a packet of a source that has this clock
+-- `turn` sends a packet of the stream or of the clock of `source`, and `clock` is the clock of `source`
 pub record IsSending (source : Source) (clock : Option ClockStream) (turn : Turn) : Type 0 where
   pub source_is : IsSource source
   pub clock_is : IsClockOf clock (plan_in source) (stream_in source).journal.times.packets

@@ -11,7 +11,6 @@ use Rattle.talk_video.proofs.AccessLemmas.{unit_known}
 use Rattle.talk_video.proofs.VideoLists.{parted, searched}
 use Rattle.talk_video.proofs.video.VideoStream.place_of_unit.Goals as goal
 
--- in the slice that is searched, the units that begin with packet n or an earlier one precede all others
 parted_in : (v : VideoStream) (n : ℕ) (xs : List NalUnit) → xs ≡ v.units.items → IsVideo v → IsPartitionedBy (λ (u : NalUnit). nat_le u.first n) xs
 parted_in v n xs e is = subst (λ (xs : List NalUnit). IsPartitionedBy (λ (u : NalUnit). nat_le u.first n) xs) (sym e) (parted v n is)
 
