@@ -90,8 +90,6 @@ standard (suc (suc (suc (suc (suc (suc (suc fdf))))))) interval few e = absurd (
 interval_is : (f : Am824Format) (plan : TalkPlan) → IsAm824 f plan → interval_of plan.rate ≡ f.interval
 interval_is f plan is = rw (is.code, is.interval) refl
 
--- If the later packet has no stamped block and is counted from a block of the earlier one, that is the block that the
--- earlier packet stamps.
 between : (x y n count interval : ℕ) → IsInterval interval → x + y ≡ n → count ≤ (interval - n % 256 % interval) % interval → 1 ≤ n % 256 % interval
     → n % 256 % interval ≤ y → y < n % 256 % interval + count → (interval - x % 256 % interval) % interval + n % 256 % interval ≡ y
 between x y n count interval (inl e) sum unstamped some from to = rw e (between_8 (rw e at unstamped) (rw e at some) (rw e at from) (rw e at to))
@@ -185,7 +183,6 @@ blocks_found plan n p of eighth unstamped behind =
 goes_on : (m c : ℕ) → (m + c) % 256 ≡ (m % 256 + c) % 256
 goes_on m c = omega arith
 
--- the stamped block of packet 0 is its first one
 first_block : (plan : TalkPlan) (interval : ℕ) → IsInterval interval → (interval - 0 * plan.count % 256 % interval) % interval ≡ 0
 first_block plan interval of = let none : 0 * plan.count ≡ 0 = omega arith in rw none (none_left interval of)
   where

@@ -72,7 +72,7 @@ events_in_run (Some k) count jump packets n i ok e within =
     let times : (n - n / k * k + 1) * count ≤ k * count = mul-le-mul_right count (omega arith) in
     rw (← same) (omega arith)
 
--- Packet n is of the run of point s, and point s + 1 is the last point up to the event that the packet stamps.
+-- Packet n is in the run of point s, and point s + 1 is the last point up to the event that the packet stamps.
 record IsTold (kind : Kind) (plan : TalkPlan) (crf : CrfPlan) (n s : ℕ) : Type 0 where
   run : run_at plan crf s ≡ run_of plan n
   at : stamped_event kind plan n / spacing_of crf plan.rate ≡ suc (place_of plan crf s)

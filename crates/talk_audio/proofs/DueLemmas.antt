@@ -163,7 +163,6 @@ from_by kind plan n far head true true e f h = stamped_by (is_stamped (rule_of k
         } ≡ head = cc in
         rw (← same) (record { back = before far.packets n e; one_run = one_flag (mr_of plan (n - far.packets)) (mr_of plan n) f; instant = refl; first = refl })
 
--- within a run, the number of packet n's first event is `samples` above that of sample frame i of packet m
 same_run : (plan : TalkPlan) (m d n i samples : ℕ) → IsAudioPlan plan → m + d ≡ n → run_of plan m ≡ run_of plan n → i + samples ≡ d * plan.count
     → event_of plan m i + samples ≡ event_of plan n 0
 same_run plan m d n i samples p place same sum =
@@ -225,7 +224,6 @@ record IsNearby (x : ℤ) (first : ℕ) : Type 0 where
   from : due ≤ first
   to : first ≤ due + 1
 
--- at the nominal rate, the instant `due` is `index` samples before `stamp`
 at_before : (due stamp index rate : ℕ) → IsBefore rate due stamp index → IsAt (nominal_line (pos stamp) rate) (neg_ℤ (pos index) +ℤ pos 0) (pos due)
 at_before due stamp index rate is =
     let z : ℤ = pos due -ℤ pos stamp in
@@ -235,8 +233,6 @@ at_before due stamp index rate is =
     let to = is.to in
     record { not_after = omega (arith, ints); last = omega (arith, ints) }
 
--- If `c` is the time of i events, rounded up, the nominal instants of events e0 and e0 + i are c or c - 1 nanoseconds
--- apart.
 before_event : (start q f c e e0 i rate : ℕ) → 1 ≤ start → e0 + i ≡ e → 0 < rate → q * rate ≤ e * 1000000000 → e * 1000000000 < q * rate + rate
     → f * rate ≤ e0 * 1000000000 → e0 * 1000000000 < f * rate + rate → i * 1000000000 ≤ c * rate → c * rate < i * 1000000000 + rate
     → (c ≤ start + q) × (start + q ≤ start + f + c) × (start + f + c ≤ start + q + 1)
@@ -261,7 +257,6 @@ before_event start q f c e e0 i rate some sum some_rate under over least most fr
       | inr h ↦ omega arith
     ]
 
--- counted `b` events forward from a nominal instant, a sample frame is at its own nominal instant or 1 ns before it
 forward : (start e b e0 rate : ℕ) → 0 < rate → e + b ≡ e0
     → IsNearby (instant_at (nominal_line (pos (start + nominal_offset rate e)) rate) (pos b +ℤ pos 0)) (start + nominal_offset rate e0)
 forward start e b e0 rate some sum =
@@ -269,7 +264,6 @@ forward start e b e0 rate some sum =
     let none : b + 0 ≡ b = omega arith in
     record { due = start + nominal_offset rate e + nominal_offset rate b; same = rw none refl; from = omega (arith, is.from); to = omega (arith, is.to) }
 
--- counted `i` events back from a nominal instant, a sample frame is at its own nominal instant or 1 ns before it
 backward : (start e i e0 rate : ℕ) → 1 ≤ start → 0 < rate → e0 + i ≡ e
     → IsNearby (instant_at (nominal_line (pos (start + nominal_offset rate e)) rate) (neg_ℤ (pos i) +ℤ pos 0)) (start + nominal_offset rate e0)
 backward start e i e0 rate some some_rate sum =
@@ -307,7 +301,7 @@ nearby start e e0 rate first some some_rate at = elim (cases_lt e0 e) [
       rw ahead (forward start e (e0 - e) e0 rate some_rate (omega arith))
 ]
 
--- `x` is at most `late_by` after the nominal instant `first`, and at most `early_by` + 1 ns before it
+-- `x` is at most `late_by` after the nominal instant `first`, and at most `early_by` + 1 ns before `first`
 record IsNearly (crf : Option CrfPlan) (x : ℤ) (first : ℕ) : Type 0 where
   due : ℕ
   same : x ≡ pos due

@@ -102,7 +102,6 @@ has_format plan p = has_by plan plan.kind refl p.kind p
 
 -- ---- all frames
 
--- if the input has all samples of packet n, these are the packet's samples
 pub whole_of : (s : AudioStream) (input : List ℕ) (n : ℕ) → IsAudio s → samples_size s ≤ length (drop (n * samples_size s) input)
     → take (samples_size s) (drop (n * samples_size s) input) ≡ samples_in (audio_of s) s.plan input n
 whole_of s input n is whole = whole_samples (audio_of s).silence (audio_of s).frame s.plan.count n input (format_of s is).silence whole

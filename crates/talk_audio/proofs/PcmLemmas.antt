@@ -53,7 +53,7 @@ zeros f plan p is = take-replicate (plan.count * frame_size plan.channels f.form
 
 -- ---- headers
 
--- packet 0's header with its first four bytes and its timestamp replaced is packet n's header
+-- replacing the first four bytes and the timestamp of packet 0's header gives packet n's header
 over_header : (format : AafFormat) (sparse : Bool) (plan : TalkPlan) (n : ℕ) (samples first : List ℕ) (h : StreamHeader)
     → first ≡ spelling aaf_layout (aaf_packet format sparse plan 0 [])
     → h ≡ (aaf_packet format sparse plan n samples).header
@@ -94,7 +94,7 @@ over_steady format true plan n samples headers instant steady has stamp =
 over_steady format false plan n samples headers instant steady has stamp =
     rw (has.frame, steady_header format plan n samples (drop 18 headers) instant steady.once has.packet stamp) refl
 
--- both headers of a packet's frame, Ethernet's and the packet's
+-- the Ethernet header of a packet's frame, then the packet's own header
 abbrev pub both_headers : Packet → List ℕ
 both_headers v = spelling (frame_layout true) (ethernet []) ++ spelling aaf_layout v
 
@@ -106,7 +106,6 @@ has_both v =
     let parts = parted (spelling (frame_layout true) (ethernet [])) (spelling aaf_layout v) 18 (length-spelling (frame_layout true) (ethernet [])) in
     record { frame = parts.0; packet = parts.1 }
 
--- a header of 24 bytes with the bytes from p to q and four bytes at 12 overwritten
 patched_is : (h a t : List ℕ) (p q : ℕ) → length h ≡ 24 → p + length a ≡ q → q ≤ 12
     → take 12 (take p h ++ (a ++ drop q h)) ++ (t ++ drop 16 (take p h ++ (a ++ drop q h)))
     ≡ take p h ++ (a ++ (take (12 - q) (drop q h) ++ (t ++ take 8 (drop 16 h))))
@@ -121,7 +120,6 @@ patched_is h a t p q lh la few =
     ∙ sym (take_all 8 (drop 16 h) (omega (arith, length-drop 16 h, lh))) in
     rw (whole, front, end) simp append_assoc
 
--- both headers of a frame, with parts of the packet's header overwritten and Ethernet's header unchanged
 pub patched_behind : (o o1 o2 o3 all a t : List ℕ) (p n : ℕ) → length o ≡ 42 → length all ≡ 42 → length a ≡ n → p + n ≤ 12
     → o1 ≡ take 0 o ++ (all ++ drop (0 + 42) o) → o2 ≡ take (18 + p) o1 ++ (a ++ drop (18 + p + n) o1) → o3 ≡ take (18 + 12) o2 ++ (t ++ drop (18 + 12 + 4) o2)
     → o3 ≡ take 18 all ++ (take p (drop 18 all) ++ (a ++ (take (12 - (p + length a)) (drop (p + length a) (drop 18 all)) ++ (t ++ take 8 (drop 16 (drop 18 all))))))

@@ -33,7 +33,6 @@ laid_over size rest whole part =
     (drop (length rest) whole) k in
     rw split (over ∙ ap (λ (xs : List ℕ). rest ++ xs) (sym (drop-take (length rest) k whole)))
 
--- the samples of a packet if the input ends with them or within them
 pub last_samples : (silence : List ℕ) (frame count n : ℕ) (input : List ℕ) → length (drop (n * (count * frame)) input) ≤ count * frame
     → filled_up silence (drop (n * (count * frame)) input) ≡ samples_of silence frame count input n
 unfolding samples_of
@@ -42,7 +41,6 @@ last_samples silence frame count n input part =
     let all = take_all (count * frame) (drop (n * (count * frame)) input) part in
     rw (← moved, all) refl
 
--- the samples of a packet if the input has all of them
 pub whole_samples : (silence : List ℕ) (frame count n : ℕ) (input : List ℕ) → length silence ≡ count * frame
     → count * frame ≤ length (drop (n * (count * frame)) input)
     → take (count * frame) (drop (n * (count * frame)) input) ≡ samples_of silence frame count input n

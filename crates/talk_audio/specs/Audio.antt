@@ -20,10 +20,10 @@ pub record Audio : Type 0 where
   pub frame : ℕ
   -- the samples of a packet of silence, which fill up the last packet
   pub silence : List ℕ
-  -- packet n, with these samples
+  -- packet n, with the given samples
   pub packet : ℕ → List ℕ → PacketView
 
--- this many quadlets of silence: each has the label of linear audio of 24 bits, and the value 0 (IEC 61883-6)
+-- the given number of quadlets of silence; each has the label of linear audio of 24 bits, and the value 0 (IEC 61883-6)
 unfoldable pub silent_quadlets : ℕ → List ℕ
 silent_quadlets quadlets = flat_map (big_bytes 4) (replicate quadlets 0x40000000)
 

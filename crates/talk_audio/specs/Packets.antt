@@ -27,7 +27,7 @@ abbrev pub kind_of : Bool → Kind
 kind_of false = DenseAaf
 kind_of true = SparseAaf
 
--- packet n of PCM, with these samples
+-- packet n of PCM, with the given samples
 abbrev pub aaf_packet : AafFormat → Bool → TalkPlan → ℕ → List ℕ → Packet
 aaf_packet format sparse plan n samples = record {
   header = header_of aaf_subtype (stamp_of (kind_of sparse) plan n) plan n (plan.count * frame_size plan.channels format);
@@ -48,11 +48,12 @@ aaf_packet format sparse plan n samples = record {
 abbrev pub dbc_of : TalkPlan → ℕ → ℕ
 dbc_of plan n = n * plan.count % 256
 
--- the kind of a stream of AM824: stamped by the SYT interval of its rate, with blocks counted from 0
+-- the kind of a stream of AM824: the SYT interval of the stream's rate decides which blocks are stamped, and blocks are
+-- counted from 0
 abbrev pub am824_kind : TalkPlan → Kind
 am824_kind plan = Am824 (interval_of plan.rate) (λ n. dbc_of plan n)
 
--- packet n of AM824, with these data blocks, not from an IEEE 1394 bus
+-- packet n of AM824, with the given data blocks; the packet is not from an IEEE 1394 bus
 abbrev pub iec_packet : TalkPlan → ℕ → List ℕ → Iec
 iec_packet plan n blocks = record {
   header = header_of iec_subtype (stamp_of (am824_kind plan) plan n) plan n (8 + plan.count * block_size plan.channels);
@@ -72,6 +73,6 @@ iec_packet plan n blocks = record {
   reserved = false;
 }
 
--- the bytes of the frame of packet n of PCM, with these samples
+-- the bytes of the frame of packet n of PCM, with the given samples
 abbrev pub aaf_bytes : AafFormat → Bool → TalkPlan → ℕ → List ℕ → List ℕ
 aaf_bytes format sparse plan n samples = packet_bytes (Pcm (aaf_packet format sparse plan n samples))

@@ -23,7 +23,7 @@ pub record IsPcm (pcm : PcmFormat) (plan : TalkPlan) : Type 0 where
   pub kind : plan.kind ≡ Aaf pcm.format pcm.sparse
   pub code : rate_code plan.rate ≡ Some pcm.code
 
--- these bytes are the Ethernet header, then the packet header, of the frame of a packet of PCM
+-- `headers` is the Ethernet header and then the packet header of the frame of the PCM packet `v`
 pub record HasHeaders (headers : List ℕ) (v : Packet) : Type 0 where
   pub frame : take 18 headers ≡ spelling (frame_layout true) (ethernet [])
   pub packet : drop 18 headers ≡ spelling aaf_layout v

@@ -29,7 +29,7 @@ pub struct AudioStream {
     pub size: usize,
 }
 
-/// The most bytes that a packet's samples have.
+/// The maximum number of bytes in a packet's samples.
 pub(crate) const SAMPLES_LIMIT: usize = 1476;
 
 impl AudioStream {
@@ -129,7 +129,7 @@ impl AudioStream {
         }
     }
 
-    /// Writes the frame of packet `n`, which is sent at `arrival`, with these samples.
+    /// Writes the frame of packet `n`, which is sent at `arrival`, with the given samples.
     #[inline(always)]
     fn write_samples(&self, out: &mut [u8], n: u64, arrival: i64, samples: &[u8])
         requires sent { IsSentOf self.now n arrival }

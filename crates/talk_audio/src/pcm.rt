@@ -209,7 +209,7 @@ impl PcmFormat {
         }
     }
 
-    /// Writes the frame of packet `n`, for a stream that is steady or not. Kept out of line.
+    /// Writes the frame of packet `n` of any stream, steady or not. This function is kept out of line.
     #[cold]
     #[inline(never)]
     fn write_marked(&self, plan: &TalkPlan, out: &mut [u8], n: u64, arrival: i64, samples: &[u8])

@@ -130,7 +130,6 @@ pub record HasFrames (plan : TalkPlan) (input : List ℕ) (lead a k : ℕ) : Typ
   pub carry : AllCarry (journal plan input) lead (range_with_len a k) (map record_of sent)
   pub long : length sent ≡ k
 
--- if each of the packets `a` to a + k - 1 has a frame, the frames at these indices carry these packets, in order
 pub frames_of : (plan : TalkPlan) (input : List ℕ) (lead a k : ℕ) → ((i : ℕ) → i < a + k → (f : SentFrame) × ((slice_get (frames plan input) i ≡ Some f) × Carries (journal plan input) lead i (record_of f))) → HasFrames plan input lead a k
 frames_of plan input lead a zero each = record { sent = []; same = λ places. refl; carry = tt; long = refl }
 frames_of plan input lead a (suc k) each =
@@ -145,7 +144,7 @@ frames_of plan input lead a (suc k) each =
 
 -- ---- the deliveries of these frames
 
--- the deliveries of records, numbered from `i` on, and the condition that each record belongs to the stream
+-- the deliveries of a list of records, numbered from `i` on
 unfoldable pub numbered : ℕ → List Record → List Delivery
 numbered i [] = []
 numbered i (r ∷ rs) = delivery i r ∷ numbered (i + 1) rs

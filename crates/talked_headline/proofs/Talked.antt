@@ -22,7 +22,7 @@ heard_by (Aaf format true) plan input kind = tt
 heard_by Am824 plan input kind = tt
 heard_by (H264 last_stamp) plan input kind = absurd kind
 
--- the kind of the journal is one that the headline covers
+-- the headline covers the kind of the journal
 pub kind_heard : (plan : TalkPlan) (input : List ℕ) → IsAudioPlan plan → IsAudioStream (journal plan input).times.kind
 kind_heard plan input p = heard_by plan.kind plan input p.kind
 

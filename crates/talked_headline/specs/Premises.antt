@@ -31,7 +31,7 @@ pub record ListensTo (plan : TalkPlan) (input : List ℕ) (listen : ListenPlan) 
 -- ---- H.264
 
 -- An H.264 plan sends `input`, and the listener listens to the plan's stream. If the plan stamps only the last
--- fragments of units, adjacent captured fragments are of packets at most 254 apart, unless both packets are stamped.
+-- fragments of units, the numbers of adjacent captured packets differ by at most 254, unless both packets are stamped.
 -- The listener may have any lead.
 pub record ListensToVideo (plan : TalkPlan) (input places : List ℕ) (listen : ListenPlan) : Type 0 where
   pub last_stamp : Bool

@@ -50,8 +50,8 @@ pub fn talked_keeps_headline()
 }
 
 /// A capture of an H.264 plan meets the whole premise of the headline. The capture may lose, repeat or reorder frames.
-/// If the plan stamps only the last fragments of units, adjacent captured fragments must be of packets that are at most
-/// 254 apart.
+/// If the plan stamps only the last fragments of units, there is a further condition: the numbers of adjacent captured
+/// packets differ by at most 254, unless both packets are stamped.
 pub fn talked_video_is_heard()
     ensures { (plan : TalkPlan) (input places : List ℕ) (listen : ListenPlan) → ListensToVideo plan input places listen → HearsTalker (pos 0) (journal plan input) listen (captured plan input places) }
 {

@@ -83,7 +83,6 @@ timed_head : (j : Journal) (lead room : ℕ) (c : Copy) (came : List ℕ) → Is
 timed_head j lead room c came (inl own) = stamped_head j c.number own
 timed_head j lead room c came (inr k) = counted_head j lead room c came k
 
--- if packet n and all packets before it are sent by the time `due`, the packet at index `j` is sent by then
 all_early : (plan : TalkPlan) (input before after : List ℕ) (n due j : ℕ) (o : Origin) → All (λ (m : ℕ). (stream_of plan input).arrival m ≤ due) before → (stream_of plan input).arrival n ≤ due → j ≤ length before → slice_get (map OfStream (before ++ n ∷ after)) j ≡ Some o → sent_by (stream_of plan input) o ≤ due
 all_early plan input [] after n due zero o all own le at = let same : OfStream n ≡ o = cc in subst (λ (x : Origin). sent_by (stream_of plan input) x ≤ due) same own
 all_early plan input [] after n due (suc j) o all own le at = absurd (omega arith)

@@ -113,7 +113,6 @@ not_before plan input listen rs os (suc i) o w kind at =
 same_delivery : (a b : Delivery) → Some a ≡ Some b → a ≡ b
 same_delivery a b e = cc
 
--- if the packet of delivery `e` is sent by the time `last`, the delivery arrives by then
 pub came_by : (plan : TalkPlan) (input : List ℕ) (listen : ListenPlan) (rs : List Record) (os : List Origin) (k last : ℕ) (e : Delivery) → IsCaught plan input listen rs os → slice_get (deliveries_of listen rs) k ≡ Some e → ((o : Origin) → slice_get os k ≡ Some o → sent_by (stream_of plan input) o ≤ last) → e.arrival ≤ℤ pos last
 came_by plan input listen rs os k last e w at before =
     let o = origin_at (journal plan input) listen.lead os (deliveries_of listen rs) k e w.from at in

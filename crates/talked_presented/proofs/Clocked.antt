@@ -130,8 +130,6 @@ sent_is plan n r =
 clock_sent_is : (plan : TalkPlan) (crf : CrfPlan) (m : ℕ) → IsAudioPlan plan → plan.crf ≡ Some crf → plan.restart ≡ None → clock_arrival crf plan m ≡ run_start plan 0 + nominal_offset plan.rate (m * crf.points * spacing_of crf plan.rate) - plan.lead
 clock_sent_is plan crf m p e r = ap (λ (x : ℕ). x - plan.lead) (steady_points plan crf (first_point crf m) p e r)
 
--- the first point of clock packet m is at or before packet n's first sample exactly if clock packet m is sent no later
--- than packet n
 sent_by_then : (plan : TalkPlan) (crf : CrfPlan) (input : List ℕ) (m n : ℕ) → IsClocked plan crf (journal plan input).times → ((m : ℕ) → (stream_of plan input).clock_arrival m ≡ clock_arrival crf plan m)
     → (m * crf.points * spacing_of crf plan.rate ≤ n * plan.count → (stream_of plan input).clock_arrival m ≤ (stream_of plan input).arrival n) × ((stream_of plan input).clock_arrival m ≤ (stream_of plan input).arrival n → m * crf.points * spacing_of crf plan.rate ≤ n * plan.count)
 sent_by_then plan crf input m n c sent =
@@ -144,8 +142,8 @@ sent_by_then plan crf input m n c sent =
 
 -- ---- which packets of the clock arrived by the time of a packet
 
--- when packet n is sent, exactly those packets of the clock have arrived that have a point at or before packet n's
--- first sample
+-- when packet n is sent, a packet of the clock has arrived exactly if it has a point at or before packet n's first
+-- sample
 came_upto : (plan : TalkPlan) (crf : CrfPlan) (input : List ℕ) (os : List Origin) (i n s : ℕ) → IsClocked plan crf (journal plan input).times → ((m : ℕ) → (stream_of plan input).clock_arrival m ≡ clock_arrival crf plan m) → IsOverStamp plan crf (journal plan input).times n s
     → n * plan.count / spacing_of crf plan.rate ≡ suc s → (q : IsPlaced (stream_of plan input) 0 0 os i n) → (suc s / crf.points < q.clocks) × (q.clocks ≤ suc s / crf.points + 1)
 came_upto plan crf input os i n s c sent over at q =

@@ -31,7 +31,7 @@ use Rattle.talk_clock.specs.Clock.{AreFew, clock_mr, clock_packets, clock_times,
 use Rattle.talk_clock.proofs.ClockPoints.{beside, known as known_place, number, pair_is, place_of, run_at, size_is}
 use Rattle.talk_clock.proofs.ClockRules.{point_small}
 
--- The journal of a plan with a clock and without restarts, in which each packet stamps its first sample.
+-- `j` is the journal of a plan with a clock and without restarts, and each packet of the plan stamps its first sample.
 pub record IsClocked (plan : TalkPlan) (crf : CrfPlan) (j : Journal) : Type 0 where
   pub talked : IsAudioPlan plan
   pub crf_is : plan.crf ≡ Some crf
@@ -47,7 +47,7 @@ pub record IsClocked (plan : TalkPlan) (crf : CrfPlan) (j : Journal) : Type 0 wh
 abbrev pub stamp_at : TalkPlan → CrfPlan → ℕ → ℕ
 stamp_at plan crf n = stamped_at (beat_of crf plan) (run_start plan 0) (n * plan.count)
 
--- the packet of the clock that holds point s, and the index of point s in it
+-- the packet of the clock that holds point s, and the index of point s in that packet
 abbrev pub place_at : CrfPlan → ℕ → Place
 place_at crf s = record { packet = s / crf.points; at = s % crf.points }
 
@@ -245,8 +245,6 @@ last_in count m lt near =
     let last : last_of 64 (range_with_len 0 count) ≡ range_with_len (0 + (count - 64)) (count - (count - 64)) = ap (λ (k : ℕ). drop (k - 64) (range_with_len 0 count)) (length-range_with_len 0 count) ∙ drop_range 0 count (count - 64) in
     subst (λ (l : List ℕ). Contains l m) (sym last) (in_range (0 + (count - 64)) (count - (count - 64)) m (omega arith) (omega arith))
 
--- if exactly those packets of the clock arrived that have a point up to the timestamp, the two points around the
--- timestamp arrived
 pub covered_here : (plan : TalkPlan) (crf : CrfPlan) (j : Journal) (n s count : ℕ) → IsOverStamp plan crf j n s → 1 ≤ crf.points → suc s / crf.points < count → count ≤ suc s / crf.points + 1 → IsCoveredBy j.clock (pos 0) j.rate (range_with_len 0 count) (pos (stamp_at plan crf n))
 covered_here plan crf j n s count over some low high =
     let here = div-add-mod' s crf.points in

@@ -176,7 +176,6 @@ repeated_fits =
       bytes = omega arith;
     }
 
--- the only unit of a byte stream, which one packet carries, must be presented, although the packet is captured twice
 pub unit_fits : UnitMustBePresented (thirty false) one_unit (default_listener 0x0200000000010001) [] 0 0 (0 ∷ [])
 unfolding sent_units units_fault part_by units_from bits
 unit_fits =

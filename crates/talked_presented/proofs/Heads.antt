@@ -59,8 +59,6 @@ eighth_found count n e =
 
 -- ---- AM824
 
--- If the later packet has no stamped block and is counted from a block of the earlier one, that is the block that the
--- earlier packet stamps.
 between : (x y n count interval : ℕ) → IsInterval interval → x + y ≡ n → count ≤ (interval - n % 256 % interval) % interval → 1 ≤ n % 256 % interval
     → n % 256 % interval ≤ y → y < n % 256 % interval + count → (interval - x % 256 % interval) % interval + n % 256 % interval ≡ y
 between x y n count interval (inl e) sum unstamped some from to = rw e (between_8 (rw e at unstamped) (rw e at some) (rw e at from) (rw e at to))
@@ -76,7 +74,6 @@ between x y n count interval (inr (inr e)) sum unstamped some from to = rw e (be
     between_32 : count ≤ (32 - n % 256 % 32) % 32 → 1 ≤ n % 256 % 32 → n % 256 % 32 ≤ y → y < n % 256 % 32 + count → (32 - x % 256 % 32) % 32 + n % 256 % 32 ≡ y
     between_32 unstamped some from to = omega arith
 
--- the distance `r` in blocks is at least 1, at most that of 7 packets, and at most `m`
 back_few : (r interval m count : ℕ) → IsInterval interval → r ≡ m % 256 % interval → interval ≤ 8 * count → count ≤ (interval - r) % interval → (1 ≤ r) × ((r ≤ 7 * count) × (r ≤ m))
 back_few r interval m count (inl e) is eighth unstamped = back_few_8 (rw e at is) (rw e at eighth) (rw e at unstamped)
   where

@@ -82,7 +82,8 @@ pub record IsStreamNext (s : Stream) (a b n : ℕ) : Type 0 where
   pub known : b < packets_in s
   pub first : (m : ℕ) → a ≤ m → m < clocks_in s → s.arrival b < s.clock_arrival m
 
--- after `a` packets of the clock and `b` packets of the stream, these packets are left, in the order of sending
+-- after `a` packets of the clock and `b` packets of the stream, the list names the packets that are left, in the order
+-- of sending
 abbrev pub AreMerged : Stream → ℕ → ℕ → List Origin → Type 0
 AreMerged s a b [] = (clocks_in s ≤ a) × (packets_in s ≤ b)
 AreMerged s a b (OfClock m ∷ os) = IsClockNext s a b m × AreMerged s (a + 1) b os
@@ -138,8 +139,8 @@ all_merged plan s is = merge (clocks_in s - 0 + (packets_in s - 0)) plan s 0 0 i
 
 -- ---- the index of a packet of the stream
 
--- Packet n of the stream is at index `i` of `os`. Before packet n are, in order, the packets of the stream from `b` on,
--- and the packets of the clock from `a` on that are sent by then.
+-- Packet n of the stream is at index `i` of `os`. The entries before index `i` are, in the order of sending, all
+-- packets of the stream from `b` to n - 1, and those packets of the clock from `a` on that are sent before packet n.
 pub record IsPlaced (s : Stream) (a b : ℕ) (os : List Origin) (i n : ℕ) : Type 0 where
   pub low : b ≤ n
   pub known : n < packets_in s

@@ -226,7 +226,7 @@ whole_caught plan input listen p none limit expects h are =
     is_caught plan input listen (records plan input) (map OfStream (range_with_len 0 N)) h (plan_keeps plan input plan_is limit) expects are (all_sent s 0 N (omega arith)) (stream_heard (journal plan input) listen.clock (range_with_len 0 N))
     (ap (map record_of) (frames_alone plan input plan_is none limit ∙ sym (stream_frames_are s (range_with_len 0 N))))
 
--- delivery n is that of packet n
+-- delivery n is a copy of packet n
 pub caught_at : (plan : TalkPlan) (input : List ℕ) (listen : ListenPlan) (rs : List Record) (n : ℕ) → IsWhole plan input listen rs → n < (journal plan input).times.packets → IsCaughtAt (journal plan input) (stream_of plan input) listen rs n (OfStream n)
 caught_at plan input listen rs n w lt = w.each n (OfStream n) (packet_at 0 (journal plan input).times.packets n n lt (omega arith))
 

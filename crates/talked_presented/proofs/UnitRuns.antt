@@ -37,7 +37,6 @@ one_more_middle part m j middle e i from to = elim (cases_lt j i) [
   | inr before ↦ middle i from before
 ]
 
--- if a unit begins with packet m and does not end with a packet up to k, the unit ends with a later packet
 scan : (fuel : ℕ) (j : Journal) (part : ℕ → Part) (m k : ℕ) → IsVideo j part → m ≤ k → suc k + fuel ≡ j.packets → part m ≡ First → AreMiddle part m k → HasEnd j part m
 scan zero j part m k is le sum first middle =
     let all : j.packets ≡ suc k = omega arith in

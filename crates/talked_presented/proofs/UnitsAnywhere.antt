@@ -68,7 +68,6 @@ all_streamed p part lead (k ∷ ks) (d ∷ ds) h shows from =
     let here = video_streamed d (video_copy (pos 0) p part lead k d h.conforming h.kind from.0 (All-head Shows d ds shows)).subtype in
     rw here (ap (λ (l : List Delivery). d ∷ l) (all_streamed p part lead ks ds h (All-tail Shows d ds shows) from.1))
 
--- as many deliveries end a unit as packets do
 counted : (p : PacketJournal) (part : ℕ → Part) (lead : ℕ) (ks : List ℕ) (ds : List Delivery) → IsHeard p part lead → All Shows ds → AreFrom p lead (map OfStream ks) ds
     → length (filter (λ (d : Delivery). ends_unit (part_in d)) ds) ≡ length (filter (λ (k : ℕ). ends_unit (part k)) ks)
 counted p part lead [] [] h shows from = refl
@@ -107,7 +106,6 @@ all_in : (Q : ℕ → Type 0) (a k : ℕ) → ((m : ℕ) → a ≤ m → m < a +
 all_in Q a zero each = All-nil Q
 all_in Q a (suc k) each = All-cons Q a (range_with_len (a + 1) k) (each a (omega arith) (omega arith)) (all_in Q (a + 1) k (λ m low high. each m (omega arith) (omega arith)))
 
--- an origin at an index within `xs` names a packet of `xs`, for which `Q` holds
 first_of : (Q : ℕ → Type 0) (xs rest : List ℕ) (j : ℕ) (o : Origin) → All Q xs → j < length xs → slice_get (map OfStream (xs ++ rest)) j ≡ Some o → (k : ℕ) × ((o ≡ OfStream k) × Q k)
 first_of Q [] rest j o all lt at = absurd (omega arith)
 first_of Q (x ∷ xs) rest zero o all lt at = let same : OfStream x ≡ o = cc in (x, (sym same, All-head Q x xs all))

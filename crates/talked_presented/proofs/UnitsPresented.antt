@@ -39,7 +39,7 @@ use Rattle.talked_presented.proofs.UnitCapture.{AreMade, AreUnitsFrom, IsUnitMad
 use Rattle.talked_presented.proofs.UnitRuns.{ends_so, inside_unit, unit_ends, unit_low}
 use Rattle.listener_laws.proofs.Anywhere.{not_full}
 
--- Each unit arrives in time. When packet n is judged, the waiting packets are among the last `buffer` ones.
+-- Each unit arrives in time. When packet n is judged, the waiting packets are among the last `buffer` packets.
 pub record AreTimelyUnits (p : PacketJournal) (part : ℕ → Part) (plan : ListenPlan) (d : ℕ → Delivery) (arr : ℕ → ℕ) : Type 0 where
   pub capture : IsVideoCapture p part plan d
   pub arrived : (n : ℕ) → (d n).arrival ≡ pos (arr n)
@@ -88,7 +88,6 @@ same_long p part lead d s m [] (x ∷ xs) are = absurd are
 same_long p part lead d s m (n ∷ ends) [] are = absurd are
 same_long p part lead d s m (n ∷ ends) (x ∷ xs) are = ap suc (same_long p part lead d (suc n) m ends xs are.1)
 
--- if one unit ends after another, it begins after the other unit has ended
 after_end : (part : ℕ → Part) (s a t b : ℕ) → AreUnit part s a → AreUnit part t b → a < b → a < t
 after_end part s a t b first second lt = elim (cases_lt a t) [
   | inl before ↦ before
@@ -116,7 +115,7 @@ instant_is kind part by p n x e is = (subst (λ (k : Kind). IsAtBy k by p.times 
 time_is : (kind : Kind) (part : ℕ → Part) (by : Bool) (p : PacketJournal) (n : ℕ) → kind ≡ H264 part → IsAtBy kind by p.times n 0 (pos (p.times.due n))
 time_is kind part by p n e = rw e (refl, refl)
 
--- What holds when unit i is judged, whose packets are `start` to `n`.
+-- What holds when unit i is judged. The packets of unit i are `start` to `n`.
 record IsNow (p : PacketJournal) (part : ℕ → Part) (plan : ListenPlan) (ends : List ℕ) (i start n : ℕ) (now : ℤ) : Type 0 where
   known : n < p.times.packets
   packets : AreUnit part start n
@@ -156,7 +155,7 @@ stands_few by p part plan ends i start n k now (x ∷ xs) some w e are =
 taken_size : (by : Bool) (p : PacketJournal) (part : ℕ → Part) (plan : ListenPlan) (ends : List ℕ) (i start n k : ℕ) (now : ℤ) (a : Accepted) → IsNow p part plan ends i start n now → (t : IsUnitTaken by p part ends k a) → length a.batch.bytes ≤ (suc t.n - t.start) * 1500
 taken_size by p part plan ends i start n k now a w t = let same = t.bytes in rw same (w.size t.start t.n t.packets t.is.known)
 
--- the first of the units `xs`, if there is one, begins with packet `low` or a later one
+-- the first of the units `xs`, if there is one, begins with packet `low` or a later packet
 abbrev BeginsFrom : (by : Bool) (p : PacketJournal) (part : ℕ → Part) (ends : List ℕ) (k low : ℕ) (xs : List Accepted) → AreOf (IsUnitTaken by p part ends) k xs → Type 0
 BeginsFrom by p part ends k low [] are = ⊤
 BeginsFrom by p part ends k low (x ∷ xs) are = low ≤ are.0.start
@@ -165,7 +164,7 @@ next_begins : (by : Bool) (p : PacketJournal) (part : ℕ → Part) (plan : List
 next_begins by p part plan ends i start n k now x [] w t are = tt
 next_begins by p part plan ends i start n k now x (y ∷ xs) w t are = after_end part t.start t.n are.0.start are.0.n t.packets are.0.packets (w.turn k (k + 1) t.n are.0.n (omega arith) t.at are.0.at)
 
--- the waiting units from packet `low` up to the judged unit have at most 1,500 bytes a packet
+-- the waiting units from packet `low` up to the judged unit have at most 1,500 bytes for each packet
 light : (by : Bool) (p : PacketJournal) (part : ℕ → Part) (plan : ListenPlan) (ends : List ℕ) (i start n k low : ℕ) (now : ℤ) (xs : List Accepted) → IsNow p part plan ends i start n now → k + length xs ≡ i → low ≤ start
     → (are : AreOf (IsUnitTaken by p part ends) k xs) → BeginsFrom by p part ends k low xs are → total_bytes (standing now xs) ≤ (start - low) * 1500
 light by p part plan ends i start n k low now [] w e le are from = omega arith

@@ -19,8 +19,8 @@ abbrev pub waiting_at : TalkPlan → List ℕ → ℕ → List ℕ → List ℕ
 waiting_at plan input n packets = filter (λ (k : ℕ). nat_le ((stream_of plan input).arrival n) ((journal plan input).times.due k)) packets
 
 -- Packet n of a plan without a clock is captured after the packets `before` and before the packets `after`. Packet n
--- has a timestamp, or can be counted from a timestamp among the packets up to it and the next `look`. No packet before
--- packet n was captured after packet n is due.
+-- has a timestamp, or can be counted from the timestamp of an earlier captured packet or of one of the next `look`
+-- captured packets. All packets of `before` were captured no later than the instant at which packet n is due.
 pub record ComesInTime (plan : TalkPlan) (input : List ℕ) (listen : ListenPlan) (before : List ℕ) (n : ℕ) (after : List ℕ) : Type 0 where
   pub talk : ListensTo plan input listen
   pub alone : plan.crf ≡ None
@@ -30,9 +30,9 @@ pub record ComesInTime (plan : TalkPlan) (input : List ℕ) (listen : ListenPlan
   pub timed : IsTimed (journal plan input).times listen.lead (listen.look + 16) (sent_copy plan input n) (take (length before + listen.look + 1) (before ++ n ∷ after))
   pub in_time : All (λ (k : ℕ). (stream_of plan input).arrival k ≤ (journal plan input).times.due n) before
 
--- The copy of packet n must be presented for three reasons. The copy is captured in time. The copy is the first of its
--- packet. The buffer has room for the copy and for all earlier packets that are not yet due, if each takes 1,500 bytes;
--- no packet takes more.
+-- The copy of packet n must be presented for three reasons. The copy is captured in time. The copy is the first one of
+-- its packet. The buffer has room for the copy and for all earlier packets that are not yet due, even if each of them
+-- takes 1,500 bytes, the maximum.
 pub record MustBePresented (plan : TalkPlan) (input : List ℕ) (listen : ListenPlan) (before : List ℕ) (n : ℕ) (after : List ℕ) : Type 0 where
   pub comes : ComesInTime plan input listen before n after
   pub first : All (λ (k : ℕ). k ≢ n) before
@@ -40,9 +40,9 @@ pub record MustBePresented (plan : TalkPlan) (input : List ℕ) (listen : Listen
   pub bytes : (length (waiting_at plan input n before) + 1) * 1500 ≤ listen.room
 
 -- Packets `from` to n of a plan of H.264, which carry one unit, are captured in order, after the packets `front` and
--- before the packets `after`. The unit must be presented for three reasons. No packet of `front` was captured after the
--- unit is due. The unit's last packet is not in `front`. The buffer has room for the unit and for all units completed
--- in `front`, if each takes 255 packets of 1,500 bytes; no unit takes more.
+-- before the packets `after`. The unit must be presented for three reasons. All packets of `front` were captured no
+-- later than the instant at which the unit is due. The unit's last packet is not in `front`. The buffer has room for
+-- the unit and for all units completed in `front`, even if each of them takes 255 packets of 1,500 bytes, the maximum.
 pub record UnitMustBePresented (plan : TalkPlan) (input : List ℕ) (listen : ListenPlan) (front : List ℕ) (from n : ℕ) (after : List ℕ) : Type 0 where
   pub talk : ListensToVideo plan input (front ++ (range_with_len from (n - from) ++ n ∷ after)) listen
   pub sent : All (λ (k : ℕ). k < (journal plan input).times.packets) (front ++ n ∷ after)

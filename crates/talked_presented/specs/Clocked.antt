@@ -19,8 +19,8 @@ use Rattle.talked_presented.specs.Whole.{HoldsLead, default_listener}
 abbrev pub first_covered : CrfPlan → TalkPlan → ℕ
 first_covered crf plan = div_ceil (spacing_of crf plan.rate) plan.count
 
--- A batch is that of packet `first` or of a later packet. A flag is that of an earlier packet, with the reason
--- `noclock`.
+-- If a batch is shown, it is that of packet `first` or of a later packet. If a flag is shown, it is that of an earlier
+-- packet, with the reason `noclock`.
 abbrev pub IsFrom : PacketJournal → ℕ → Shown → Type 0
 IsFrom p first (Present batch) = (n : ℕ) × ((first ≤ n) × IsOfPacket true p n batch)
 IsFrom p first (Flag frame seq reason) = (n : ℕ) × ((n < first) × ((seq ≡ n % 256) × (reason ≡ NoClock)))

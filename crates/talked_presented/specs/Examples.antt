@@ -10,7 +10,7 @@ use Rattle.talker.specs.Examples.{restarting, six_blocks}
 abbrev pub plain : Bool → TalkPlan
 plain sparse = record restarting { kind = Aaf Int16 sparse; restart = None }
 
--- 30 access units a second; every packet has a timestamp, or only the last packet of each NAL unit
+-- 30 access units of H.264 a second; if the argument is `true`, only the last packet of each NAL unit has a timestamp
 abbrev pub thirty : Bool → TalkPlan
 thirty last_stamp = record restarting { kind = H264 last_stamp; rate = 30; restart = None }
 

@@ -14,8 +14,8 @@ use Rattle.talk_plan.specs.Plan.{IsAudioPlan, IsVideoPlan, interval_of, most_inp
 use Rattle.talker.specs.Journal.{journal, stream_of}
 use Rattle.talked_headline.specs.Premises.{ListensTo, part_sent}
 
--- Exactly these packets are shown, in this order. Each packet is presented once, with its bytes and at its instants,
--- and nothing is flagged.
+-- Exactly the packets with the given numbers are shown, in that order. Each packet is presented once, with its bytes
+-- and at its instants, and nothing is flagged.
 abbrev pub ArePresented : Bool → PacketJournal → List ℕ → List Shown → Type 0
 ArePresented by p [] [] = ⊤
 ArePresented by p [] (s ∷ rest) = ⊥

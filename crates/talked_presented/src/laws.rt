@@ -95,7 +95,7 @@ pub fn defaults_present_by_clock()
 }
 
 /// If the listener has room for the waiting units, it presents each unit of a whole capture of an H.264 plan, once and
-/// in order, and flags nothing. Each packet may have a timestamp, or only the last one of each unit.
+/// in order, and flags nothing. Either all packets have timestamps, or only the last packet of each unit has one.
 pub fn whole_video_is_presented()
     ensures { (plan : TalkPlan) (input : List ℕ) (listen : ListenPlan) → HearsUnits plan input listen
         → ArePresented (by_clock listen) (journal plan input) (unit_ends plan input) (shown_of listen (whole_records (capture plan input))) }
@@ -128,9 +128,9 @@ pub fn defaults_hear_units()
 }
 
 /// A capture of an audio plan without a clock may lose, repeat or reorder packets. A copy of a packet must be
-/// presented, wherever it is in the capture, if four conditions hold. The packet has a timestamp or can be counted from
-/// one that arrived. No packet before the copy was captured after the packet is due. The copy is the first of the
-/// packet. The buffer has room for the copy.
+/// presented, wherever the copy is in the capture, if four conditions hold. The packet has a timestamp or can be
+/// counted from one that arrived. All packets before the copy were captured no later than the instant at which the
+/// packet is due. The copy is the first of the packet. The buffer has room for the copy.
 pub fn talked_copy_is_welcome()
     ensures { (plan : TalkPlan) (input before after : List ℕ) (n : ℕ) (listen : ListenPlan) → MustBePresented plan input listen before n after
         → (made : MadeItem) × IsWelcome (journal plan input) listen (captured plan input (before ++ n ∷ after)) (length before) n made }
@@ -143,7 +143,8 @@ pub fn talked_copy_is_welcome()
 }
 
 /// Assume that a packet whose copy must be presented is captured again, anywhere later in the capture. The later copy
-/// must be flagged as a repeat if it can be timed, and no packet before that copy was captured after the packet is due.
+/// must be flagged as a repeat, if two conditions hold. The later copy can be timed. All packets before the later copy
+/// were captured no later than the instant at which the packet is due.
 pub fn talked_copy_is_further()
     ensures { (plan : TalkPlan) (input before between after : List ℕ) (n : ℕ) (listen : ListenPlan) → MustBePresented plan input listen before n (between ++ n ∷ after) → ComesInTime plan input listen (before ++ n ∷ between) n after
         → (made : MadeItem) × IsFurther (journal plan input) listen (captured plan input ((before ++ n ∷ between) ++ n ∷ after)) (length (before ++ n ∷ between)) n made }
@@ -158,8 +159,8 @@ pub fn talked_copy_is_further()
 
 /// A capture of an H.264 plan may lose, repeat or reorder packets. A unit must be presented, wherever it is in the
 /// capture, if four conditions hold. All packets of the unit are captured in order, with no other packet of the stream
-/// between them. No packet before the unit was captured after the unit is due. The last packet of the unit was not
-/// captured before. The buffer has room for the unit.
+/// between them. All packets before the unit were captured no later than the instant at which the unit is due. The last
+/// packet of the unit was not captured before. The buffer has room for the unit.
 pub fn talked_unit_anywhere_is_welcome()
     ensures { (plan : TalkPlan) (input front after : List ℕ) (from n : ℕ) (listen : ListenPlan) → UnitMustBePresented plan input listen front from n after
         → (place : ℕ) × ((made : MadeItem) × IsWelcome (journal plan input) listen (captured plan input (front ++ (range_with_len from (n - from) ++ n ∷ after))) place n made) }
@@ -171,16 +172,16 @@ pub fn talked_unit_anywhere_is_welcome()
     units_anywhere_are_welcome();
 }
 
-/// If exactly `packets` are presented and nothing is flagged, the listener counts as many presented items, and no
-/// flagged one.
+/// If exactly the packets in `packets` are presented and nothing is flagged, the listener counts one presented item for
+/// each of these packets, and no flagged item.
 pub fn presented_are_counted()
     ensures presented { (by : Bool) (p : PacketJournal) (packets : List ℕ) (plan : ListenPlan) (records : List Record) → ArePresented by p packets (shown_of plan records) → (counts_of plan records (shown_of plan records)).presented ≡ length packets }
     ensures flagged { (by : Bool) (p : PacketJournal) (packets : List ℕ) (plan : ListenPlan) (records : List Record) → ArePresented by p packets (shown_of plan records) → (counts_of plan records (shown_of plan records)).flagged ≡ 0 }
 {}
 
-/// Example plans of each kind, with a clock and without, meet the premises of the laws about default options, whatever
-/// they send. If packets 0, 2, 1 and 1 of a plan are captured, in this order, the first copy of packet 1 must be
-/// presented. A unit of one packet that is captured twice must be presented, too.
+/// Example plans of each kind, with a clock and without, meet the premises of the laws about default options, for any
+/// input. If packets 0, 2, 1 and 1 of a plan are captured, in this order, the first copy of packet 1 must be presented.
+/// A unit of one packet that is captured twice must be presented, too.
 pub fn examples_are_so()
     ensures dense { (input : List ℕ) → length input ≤ most_input → HasDefaultLead (plain false) input }
     ensures sparse { (input : List ℕ) → length input ≤ most_input → HasDefaultLead (plain true) input }
