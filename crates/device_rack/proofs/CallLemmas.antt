@@ -22,7 +22,6 @@ first_or_other n ns x has =
       | inr there ↦ inr there
     ]
 
--- counting anew after `k` calls, and then after one more, is counting anew after k + 1 calls
 pub later-again : (k : ℕ) (ns : List ℕ) → later 1 (later k ns) ≡ later (k + 1) ns
 later-again k [] = refl
 later-again k (n ∷ ns) =
@@ -35,7 +34,6 @@ later-again k (n ∷ ns) =
       | inr h ↦ rw (gone k n ns h, gone (k + 1) n ns (omega arith)) (later-again k ns)
     ]
 
--- if call k + 1 fails, it is call 1 when calls are counted anew after `k` calls
 pub next_is_told : (k : ℕ) (ns : List ℕ) → Contains ns (k + 1) → Contains (later k ns) 1
 next_is_told k [] has = absurd (none (k + 1) has)
 next_is_told k (n ∷ ns) has =

@@ -17,7 +17,7 @@ use Rattle.cvf_format.proofs.AnnexBLemmas.{three_read}
 
 -- ---- numbers that pass no test are skipped
 
--- if the last number of a range passes a test, it is the last one that passes
+-- if the last number of a range passes a test, it is the last number that passes
 last_passes : (test : ℕ → Bool) (m a : ℕ) (o : Option ℕ) → test (a + m) ≡ true → last_or o (filter test (range_with_len a (suc m))) ≡ Some (a + m)
 last_passes test zero a o there = let here : a + 0 ≡ a = omega arith in let t : test a ≡ true = rw here at there in rw (here, t) refl
 last_passes test (suc m) a o there =
@@ -122,7 +122,6 @@ module _ (bytes unit : List ℕ) (us : List Presented) (at : ℕ) (carried : IsC
         three_read bytes (at + 1) 0 0 1 (header_byte 1) (ap (λ (k : ℕ). get_or bytes k 0) second ∙ header_byte 2) (ap (λ (k : ℕ). get_or bytes k 0) third ∙ header_byte 3);
   }
 
-  -- no start code begins at `k` if one of its bytes differs from the byte read there
   no_code_by : (k j byte : ℕ) → j < 3 → get_or bytes (k + j) 0 ≡ byte → byte ≢ get_or start_code j 0 → is_start_code bytes k ≡ false
   no_code_by k j byte few is differs = not_there bytes start_code k (λ o. differs (sym is ∙ o.reads j few))
 
@@ -173,7 +172,7 @@ module _ (bytes unit : List ℕ) (us : List Presented) (at : ℕ) (carried : IsC
       rw (place, ends, count)
       (ap (option_map (λ last. (at + 4, last + 1))) (last_passes (is_other_byte bytes) m (at + 4) None (other_there bytes unit (coded us) (at + 4) carried stands m is)))
 
-  -- the units from `at` on are this unit and those after its end
+  -- the units from `at` on are `unit` and the units after the end of `unit`
   one_more : (m : ℕ) → m + 1 ≡ length unit → units_from bytes at ≡ (at + 4, at + 4 + m + 1) ∷ units_from bytes (at + 4 + length unit)
   unfolding units_from
   one_more m is =

@@ -1,4 +1,4 @@
--- What holds for each place after a list of items was given: none, one, or one list after another.
+-- What holds for each place of a rack after items were given, one after another.
 use Rattle.std.proofs.Common.{◌≡◌, ◌≢◌, ℕ, zero, suc, ◌-◌, ◌==◌, ◌<◌, ◌≤◌, ◌⊎◌, ◌↔◌, Bool, true, false, cond, not, inl, inr, List, [], ◌∷◌, ◌++◌, length, get_or, Any, Contains, MatchBool, Option, None, Some, IfSome, refl, sym, ap, subst, ◌∙◌, arith, append_assoc, append-nil, true≢false, ne_eqb}
 use Rattle.std.specs.Global.{Global}
 use Rattle.std.specs.List.{AllZip}
@@ -36,7 +36,6 @@ contains_first n ks c = (c.0, 1, c.1, c.2, (omega arith, omega arith))
 none_within : (ks : List ℕ) → ¬ Any (IsWithin 0) ks
 none_within ks a = omega (arith, a.4.0, a.4.1)
 
--- if a number that is counted anew after one call is within n, some original number is within n + 1
 later_within : (n : ℕ) (ks : List ℕ) → Any (IsWithin n) (later 1 ks) → Any (IsWithin (suc n)) ks
 later_within n [] a = absurd (omega (arith, a.2))
 later_within n (k ∷ ks) a = either (k - 1 == 0) (later_within n ks) a
@@ -87,7 +86,7 @@ module _ {Device : Type 0} (took : Device → List Shown → Type 0) (faults : D
       by None = tt
       by (Some numbers) = (λ live. absurd (true≢false live), λ a. absurd (none_within numbers a))
 
-  -- if a device does not take the first item, it is given none of the others
+  -- if a device does not take the first item, it is given no later item
   turned : (shown : Shown) (items : List Shown) (before after : Device) → WasHanded took faults failing shown before after false → WasHandedAll took faults failing (shown ∷ items) before after false
   turned shown items before after was = record {
     takes = λ live. absurd (true≢false (sym live));
@@ -102,7 +101,7 @@ module _ {Device : Type 0} (took : Device → List Shown → Type 0) (faults : D
       by None told = tt
       by (Some numbers) told = (λ live. contains_first (length items) numbers (told.0.0 refl), λ a. refl)
 
-  -- if a device takes the first item, it is given the others
+  -- if a device takes the first item, it is given the later items
   went_on : (shown : Shown) (items : List Shown) (before between after : Device) (live : Bool)
       → WasHanded took faults failing shown before between true → WasHandedAll took faults failing items between after live → WasHandedAll took faults failing (shown ∷ items) before after live
   went_on shown items before between after live was all = record {

@@ -50,7 +50,6 @@ module _ {D : Type 0} (took : D → List Shown → Type 0) (faults : D → ℕ) 
       by false was true is all one = absurd (true≢false (sym is ∙ ap (λ (o : Outlet D). o.live) all ∙ was))
       by false was false is all one = one ∙ all
 
-  -- if there is a device, giving it `items` and then `shown` is giving it all of them
   pub both_more : (items : List Shown) (shown : Shown) (x y z : Option (Outlet D)) → Both (AreHandedTo took faults (λ d. None) items) x y → Both (IsHandedTo took faults (λ d. None) shown) y z
       → Both (AreHandedTo took faults (λ d. None) (items ++ shown ∷ [])) x z
   both_more items shown None None None all one = tt

@@ -12,7 +12,6 @@ use Rattle.sample_schedule.specs.declared.shown.Shown.TheVariants.{Present, Flag
 use Rattle.device_rack.specs.declared.silence.Silence.{Silence}
 use Rattle.device_rack.specs.Output.{annexb, batch_of, batches, raw, raw_behind, sample_batches, silence_before, units}
 
--- adding a batch to the items adds it to the batches that pass a test, unless it fails the test
 kept_more : (test : Presented → Bool) (items : List Shown) (batch : Presented)
     → filter test (batches (items ++ Present batch ∷ [])) ≡ filter test (batches items) ++ filter test (batch ∷ [])
 kept_more test items batch =

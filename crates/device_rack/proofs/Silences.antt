@@ -33,7 +33,6 @@ range-same f a b (suc k) same =
     same_next : (j : ℕ) → f (a + suc j) ≡ f (b + suc j) → f (a + 1 + j) ≡ f (b + 1 + j)
     same_next j e = let l : a + 1 + j ≡ a + suc j = omega arith in let r : b + 1 + j ≡ b + suc j = omega arith in rw (l, r) e
 
--- whole quadlets of silence, followed by silence, are silence
 silence_more : (silence : Silence) (q k : ℕ) → silence_of silence (4 * q) ++ silence_of silence k ≡ silence_of silence (4 * q + k)
 silence_more silence q k =
     let start : 0 + 4 * q ≡ 4 * q = omega arith in
@@ -41,7 +40,6 @@ silence_more silence q k =
     ∙ ap (λ (b : ℕ). silence_of silence (4 * q) ++ map (silent_byte silence) (range_with_len b k)) start
     ∙ ap (λ (xs : List ℕ). silence_of silence (4 * q) ++ xs) (range-same (silent_byte silence) (4 * q) 0 k (λ j. let start : 0 + j ≡ j = omega arith in rw start (silent_byte-again silence q j))))
 
--- whole pieces of silence, followed by silence, are silence
 pub pieces_more : (silence : Silence) (pieces k : ℕ) → silence_of silence (pieces * 1024) ++ silence_of silence k ≡ silence_of silence (pieces * 1024 + k)
 pieces_more silence pieces k =
     let quadlets : pieces * 1024 ≡ 4 * (256 * pieces) = omega arith in

@@ -14,7 +14,6 @@ use Rattle.device_rack.specs.Written.{AppendsUpTo, HasTakenRaw, HasTakenUnits, I
 use Rattle.device_rack.specs.state.Written.{AppendsPrefix}
 use Rattle.device_rack.proofs.Outputs.{annexb_of_unit, last_more, raw_of_samples, samples_of_samples}
 
--- if a sink takes `bs` and then a prefix of `adds`, it takes `bs` and a part that together are a prefix of `more`
 up_to : (a b c : SinkState) (bs adds more : List ℕ) → more ≡ bs ++ adds → Appends a.held b.held bs → AppendsPrefix b.held c.held adds → AppendsUpTo a c bs more
 up_to a b c bs adds more is first taken =
     let part = taken.0 in
@@ -24,7 +23,7 @@ up_to a b c bs adds more is first taken =
 
 -- ---- samples
 
--- if the samples of `more` are those of `items`, the device has taken `more`, too
+-- a device that has taken `items` has also taken `more`, if `more` has the same samples
 pub raw_same : {S : Type 0} (state : S → SinkState) (start : SinkState) (device : RawDevice S) (items more : List Shown)
     → sample_batches more ≡ sample_batches items → HasTakenRaw state start device items → HasTakenRaw state start device more
 raw_same state start device items more same taken = record {
@@ -51,7 +50,7 @@ raw_added state start old new items batch samples taken failed silence previous 
       (silence_before (silence_in old) (last_or None (sample_batches items)) batch ++ batch.bytes) first added);
 }
 
--- if the sink takes only a prefix of the silence and the samples of a batch, it holds a prefix of the output
+-- if the sink takes only a prefix of a batch's silence and samples, the sink holds a prefix of the output
 pub raw_part : {S : Type 0} (state : S → SinkState) (start now : SinkState) (old : RawDevice S) (items : List Shown) (batch : Presented)
     → is_unit batch ≡ false → raw_failed old ≡ false → HasTakenRaw state start old items
     → AppendsPrefix (state (raw_sink old)).held now.held (silence_before (silence_in old) (last_or None (sample_batches items)) batch ++ batch.bytes)

@@ -7,8 +7,8 @@ use Rattle.std.proofs.lemmas.List.Filters.{length-filter_both}
 use Rattle.std.specs.Int.{from_bool}
 use Rattle.std.proofs.lemmas.List.Elements.{AllZip-push}
 
--- The elements before i were changed as `R` says, and those from i on are unchanged. Of the elements before i, `turned`
--- more pass the test than before.
+-- The elements before index i were changed as `R` says, and the elements from index i on are unchanged. The change
+-- raised the number of elements that pass the test by `turned`.
 pub record HasWalked {X : Type 0} (R : X → X → Type 0) (test : X → Bool) (old new : List X) (i turned : ℕ) : Type 0 where
   pub long : length new ≡ length old
   pub changed : AllZip R (take i old) (take i new)
@@ -18,7 +18,7 @@ pub record HasWalked {X : Type 0} (R : X → X → Type 0) (test : X → Bool) (
 pub HasWalked-start : {X : Type 0} (R : X → X → Type 0) (test : X → Bool) (xs : List X) → HasWalked R test xs xs 0 0
 HasWalked-start R test xs = record { long = refl; changed = tt; rest = refl; count = refl }
 
--- the element at i is still the old one
+-- the element at index i is unchanged
 same_ahead : {X : Type 0} (old new : List X) (i : ℕ) (x : X) → i < length old → length new ≡ length old → drop i new ≡ drop i old → x ≡ get_or new i x → (x ≡ get_or old i x) × (drop (i + 1) new ≡ drop (i + 1) old)
 same_ahead old new i x below long rest is =
     let a : drop i new ≡ get_or new i x ∷ drop (i + 1) new = drop_more new i x (omega arith) in
@@ -49,12 +49,10 @@ HasWalked-end R test old new i turned walked all =
     let right : take i new ≡ new = take_all i new (omega (arith, walked.long)) in
     (rw (left, right) at walked.changed, rw (left, right) at walked.count)
 
--- the elements that pass a test and those that fail it are as many as all elements
 pub both_counts : {X : Type 0} (test : X → Bool) (xs : List X) → count_by test xs + count_by (λ x. not (test x)) xs ≡ length xs
 both_counts test xs =
     omega (arith, length-filter_both test (λ x. not (test x)) (λ x. refl) xs, length-filter test xs, length-filter (λ x. not (test x)) xs)
 
--- if an element turns from `true` to `false`, the number of `false` elements rises by 1
 pub turned_counts : (old new turned : Bool) → turned ≡ (old && not new) → (old ≡ false → new ≡ false) → cond (not new) 1 0 ≡ cond (not old) 1 0 + from_bool turned
 turned_counts true true turned is stays = rw is refl
 turned_counts true false turned is stays = rw is refl

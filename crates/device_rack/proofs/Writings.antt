@@ -10,7 +10,7 @@ use Rattle.avtp_base.specs.Faults.{IsCounted}
 use Rattle.avtp_base.specs.States.{SinkState}
 use Rattle.device_rack.specs.state.Written.{AppendsPrefix, HasWritten}
 
--- if a sink takes `taken` bytes and then `n` of the others, it takes the first taken + n bytes
+-- if a sink takes `taken` bytes and then `n` of the remaining bytes, it takes the first taken + n bytes
 pub taken_more : (a b c : Option (List ℕ)) (bytes : List ℕ) (taken n : ℕ)
     → Appends a b (take taken bytes) → Appends b c (take n (take (length bytes - taken) (drop taken bytes)))
     → Appends a c (take (taken + n) bytes)
@@ -18,7 +18,6 @@ taken_more a b c bytes taken n first second =
     let rest : take (length bytes - taken) (drop taken bytes) ≡ drop taken bytes = take_all (length bytes - taken) (drop taken bytes) (simp length-drop (omega arith)) in
     rw (take-add taken n bytes) (Appends-trans a b c (take taken bytes) (take n (drop taken bytes)) first (subst (λ (l : List ℕ). Appends b c (take n l)) rest second))
 
--- a prefix of the first bytes is a prefix of all bytes
 prefix_of_all : (a b : Option (List ℕ)) (xs ys : List ℕ) → AppendsPrefix a b xs → AppendsPrefix a b (xs ++ ys)
 prefix_of_all a b xs ys taken =
     let part = taken.0 in
@@ -26,7 +25,6 @@ prefix_of_all a b xs ys taken =
     let is : part ++ rest ≡ xs = taken.1.1 in
     (part, (rest ++ ys, sym (append_assoc part rest ys) ∙ ap (λ (zs : List ℕ). zs ++ ys) is), taken.2)
 
--- all of the first bytes and a prefix of the next ones are a prefix of all bytes
 prefix_behind : (a b c : Option (List ℕ)) (xs ys : List ℕ) → Appends a b xs → AppendsPrefix b c ys → AppendsPrefix a c (xs ++ ys)
 prefix_behind a b c xs ys first taken =
     let part = taken.0 in
@@ -34,7 +32,6 @@ prefix_behind a b c xs ys first taken =
     let is : part ++ rest ≡ ys = taken.1.1 in
     (xs ++ part, (rest, append_assoc xs part rest ∙ ap (λ (zs : List ℕ). xs ++ zs) is), Appends-trans a b c xs part first taken.2)
 
--- a failed call that is counted from `g` is counted from `f`, too, because `g` is `f`
 counted-then : {T U : Type 0} {f g h : ℕ} {e e' : Failed} → g ≡ f → IsCounted {T = T} g h (Err e) → IsCounted {T = U} f h (Err e')
 counted-then quiet counted = record {
   never_falls = rw (← quiet) counted.never_falls;

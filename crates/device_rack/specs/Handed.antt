@@ -20,7 +20,7 @@ pub record WasHandedAll {Device : Type 0} (took : Device → List Shown → Type
 
 -- What giving items to the places of a rack does. The device of each place has a type of its own.
 module _ {Kind : Type 0} {Value : Kind → Type 0} where
-  -- places were given these items, one after another
+  -- places were given the items of a list, one after another
   unfoldable pub HandsAll : (DynBox Kind Global Value → List Shown → Type 0) → (DynBox Kind Global Value → ℕ) → (DynBox Kind Global Value → Option (List ℕ)) → List Shown → List (Place Kind Value) → List (Place Kind Value) → Type 0
   HandsAll took faults failing [] before after = after ≡ before
   HandsAll took faults failing (shown ∷ items) before after =

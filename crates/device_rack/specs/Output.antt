@@ -48,7 +48,7 @@ at_least_0 (negsuc n) = 0
 abbrev pub samples_in : Line → ℤ → ℕ
 samples_in line span = at_least_0 (floor_of (pos 2 *ℤ span *ℤ pos line.den +ℤ pos line.num) (2 * line.num))
 
--- the most bytes of silence that are written between two batches
+-- the maximum number of bytes of silence that are written between two batches
 abbrev pub longest_silence : ℕ
 longest_silence = 16777216
 
@@ -65,8 +65,8 @@ silent_byte Am824 j = if j % 4 == 0 then 0x40 else 0
 abbrev pub silence_of : Silence → ℕ → List ℕ
 silence_of silence count = map (silent_byte silence) (range_with_len 0 count)
 
--- the silence from the end of the batch `before` to the next batch, in samples of the line of `before`; none if there
--- is no batch before
+-- The silence from the end of the batch `before` to the next batch, in samples of the line of `before`. If the next
+-- batch is the first one, there is no silence.
 abbrev pub silence_before : Silence → Option Presented → Presented → List ℕ
 silence_before silence None batch = []
 silence_before silence (Some before) batch =

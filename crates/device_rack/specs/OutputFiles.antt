@@ -32,7 +32,7 @@ module _ {S : Type 0} where
   abbrev pub UnitsHanded : (S → SinkState) → List Shown → Outlet (AnnexBDevice S) → Outlet (AnnexBDevice S) → Type 0
   UnitsHanded state = AreHandedTo (λ device items. (start : SinkState) × HasTakenUnits state start device items) (λ device. (state (annexb_sink device)).faults) (λ device. None)
 
-  -- both devices, if they exist, were given these items until they failed
+  -- each of the two devices that exists was given `items` until it failed
   pub record AreOutput (state : S → SinkState) (items : List Shown) (before after : OutputFiles S) : Type 0 where
     pub raw : Both (RawHanded state items) before.raw after.raw
     pub units : Both (UnitsHanded state items) before.units after.units

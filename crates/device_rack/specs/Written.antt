@@ -18,7 +18,7 @@ pub record IsPrevious (previous : Previous) (batch : Presented) : Type 0 where
   pub end : previous.end ≡ sample_instant batch batch.count
   pub size : previous.size ≡ sample_size batch
 
--- what is kept of the batch before, or nothing if there was no batch
+-- what is kept of the last batch; nothing if there was no batch
 abbrev pub IsPreviousOf : Option Previous → Option Presented → Type 0
 IsPreviousOf None None = ⊤
 IsPreviousOf None (Some batch) = ⊥
@@ -53,6 +53,6 @@ module _ {S : Type 0} where
   abbrev pub HasTakenUnits : (S → SinkState) → SinkState → AnnexBDevice S → List Shown → Type 0
   HasTakenUnits state start device items = annexb_failed device ≡ false → Appends start.held (state (annexb_sink device)).held (annexb items)
 
--- a sink took `bs` and then a part, which together are a prefix of `more`
+-- a sink took bytes that begin with `bs` and are a prefix of `more`
 abbrev pub AppendsUpTo : SinkState → SinkState → List ℕ → List ℕ → Type 0
 AppendsUpTo before after bs more = (part : List ℕ) × IsPrefix (bs ++ part) more × Appends before.held after.held (bs ++ part)

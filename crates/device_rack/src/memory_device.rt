@@ -7,8 +7,8 @@ use avtp_base::{Bytes, Failed, NoMemory};
 use sample_schedule::{Batch, Shown};
 use std::alloc::Global;
 
-/// Keeps copies of the items that it takes. The device's calls are numbered from 1, and the calls whose numbers it was
-/// given fail.
+/// Keeps copies of the items that it takes. The device's calls are numbered from 1. A call fails if its number is among
+/// those with which the device was made.
 ///
 /// If there is no memory to keep an item, this item and every later one is taken without being kept.
 #[derive(Drop)]
@@ -60,7 +60,7 @@ impl MemoryDevice {
     ghost use Rattle.device_rack.specs.MemoryDevice.{kept_items, is_cut, failing_calls, fault_count};
     ghost use Rattle.device_rack.specs.state.MemoryDevice.{HasTaken};
 
-    /// A device that has taken nothing, and whose calls with the numbers `fails` fail. Allocates nothing.
+    /// A device that has taken nothing. Its calls with the numbers in `fails` fail. Allocates nothing.
     pub fn over(alloc: Global, fails: Vec<u64>) -> Self
         ensures empty { kept_items result ≡ [] }
         ensures whole { is_cut result ≡ false }

@@ -25,7 +25,7 @@ impl Previous {
     ghost use Rattle.device_rack.specs.Output.{samples_in, silence_before, silence_of, silent_bytes};
     ghost use Rattle.device_rack.specs.Written.{IsPrevious, IsPreviousOf};
 
-    /// The most bytes of silence between two batches.
+    /// The maximum number of bytes of silence between two batches.
     const LONGEST: usize = 16_777_216;
 
     /// What is kept of a batch.

@@ -22,7 +22,7 @@ fn write_all<S: Sink>(sink: &mut S, bytes: &[u8]) -> Result<(), Failed>
     Ok(())
 }
 
-/// Writes `count` bytes of silence, as `write_all` does.
+/// Writes `count` bytes of silence. If the sink fails, it has taken a prefix of these bytes.
 fn write_silence<S: Sink>(sink: &mut S, silence: Silence, count: usize) -> Result<(), Failed>
     ensures { HasWritten (S.state sink.old) (S.state sink.new) result (silence_of silence count) }
 {
@@ -36,7 +36,7 @@ fn write_silence<S: Sink>(sink: &mut S, silence: Silence, count: usize) -> Resul
     write_all(sink, &piece[..count % Silence::PIECE])
 }
 
-/// Writes samples after a number of bytes of silence, as `write_all` does.
+/// Writes a number of bytes of silence, and then samples. If the sink fails, it has taken a prefix of these bytes.
 pub fn write_samples<S: Sink>(
     sink: &mut S,
     silence: Silence,
@@ -49,7 +49,7 @@ pub fn write_samples<S: Sink>(
     write_all(sink, bytes)
 }
 
-/// Writes a unit after a start code, as `write_all` does.
+/// Writes a start code, and then a unit. If the sink fails, it has taken a prefix of these bytes.
 pub fn write_unit<S: Sink>(sink: &mut S, bytes: &[u8]) -> Result<(), Failed>
     ensures { HasWritten (S.state sink.old) (S.state sink.new) result (0 ∷ 0 ∷ 0 ∷ 1 ∷ bytes.now) }
 {

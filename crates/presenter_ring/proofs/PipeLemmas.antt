@@ -13,7 +13,6 @@ use Rattle.presenter_ring.specs.state.Backs.{HasPresented}
 use Rattle.presenter_ring.specs.Pipes.{ring_of, waiting_in, ended_with, known_free_of, pushed_by, popped_by, work, HasMoved, IsDrained, IsRound}
 use Rattle.presenter_ring.specs.state.Pipes.{IsStill, HasStepped, KeepsRing}
 
--- the items that were in the ring, then the pushed ones, are the popped ones, then those in the ring now
 in_ring : (received known popped known' sent pushed : List Shown) → received ++ known ≡ sent → (received ++ popped) ++ known' ≡ sent ++ pushed → known ++ pushed ≡ popped ++ known'
 in_ring received known popped known' sent pushed old new =
     append_cancel_left received (known ++ pushed) (popped ++ known')
@@ -169,8 +168,8 @@ module _ {R P : Type 0} (gave : R → R → List Shown → Type 0) (left : R →
     works = omega (arith, x.works, y.works, length-append x.presented y.presented);
   }
 
-  -- If the presented items and those that wait were all given items before a round, they are all given items after it,
-  -- too.
+  -- Assume that, before a round, the presented items and then the waiting items are all items given so far. The same
+  -- holds after the round.
   pub runs_on : (r r' : R) (p p' : P) (a b : Pipe) (shown taken : List Shown) → (m : HasMoved gave left handed r r' p p' a b)
       → shown ++ waiting_in a ≡ taken → (shown ++ m.presented) ++ waiting_in b ≡ taken ++ m.given
   runs_on r r' p p' a b shown taken m h =

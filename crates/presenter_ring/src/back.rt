@@ -27,7 +27,7 @@ impl Back {
     ghost use Rattle.rtrb.specs.Ring.{received, known_items};
     ghost use Rattle.presenter_ring.specs.state.Backs.{HasPresented, IsOneMore, IsIdle, TakesBackTurn};
 
-    /// Pops one item and presents it. Returns whether there was one.
+    /// Pops one item and presents it. Returns whether there was an item in the ring.
     fn present_next<P: Presenter, G: Gate>(
         &mut self,
         presenter: &mut P,

@@ -5,7 +5,7 @@
 pub enum Side {
     /// An item was put into the ring.
     Push,
-    /// An item was taken out of it.
+    /// An item was taken out of the ring.
     Pop,
 }
 

@@ -17,7 +17,7 @@ use std::thread::Threads;
 /// How a round ended.
 #[derive(Clone, Copy, Debug, PartialEq, Eq)]
 pub enum Round {
-    /// More is to come.
+    /// No presentation failed, and the presenter has not got every item yet.
     More,
     /// The receiver has ended, and the presenter got every item.
     Drained,
@@ -182,7 +182,8 @@ impl Pipe {
     /// item for which there is no slot. The presenter's side pops and presents items, at most as many as the ring has
     /// room for, until a presentation fails. The gate is called after each push and each pop.
     ///
-    /// If `ended` is `None`, the receiver must not have ended. All items together must be at most 2^62.
+    /// If `ended` is `None`, the receiver must not have ended. In all rounds together, the receiver may give at most
+    /// 2^62 items.
     pub fn round<T: Threads + Sync, R: Receiver, P: Presenter, G: Gate>(
         &mut self,
         rt: &T,

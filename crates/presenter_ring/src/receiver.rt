@@ -23,8 +23,8 @@ pub enum Pull {
     Memory,
 }
 
-/// Gives items, one after another, until it ends. `gave` relates an earlier state of the receiver to a later one,
-/// because a side that borrows the receiver does not keep the first state.
+/// Gives items, one after another, until it ends. `gave` relates two states of the receiver, an earlier one and a later
+/// one, because a side that borrows the receiver does not keep the receiver's first state.
 pub trait Receiver: Send {
     ghost use Rattle.std.specs.Prelude.{List, ℕ, Option};
     ghost use Rattle.sample_schedule.specs.declared.shown.Shown.{Shown as ShownValue};
@@ -33,7 +33,7 @@ pub trait Receiver: Send {
     /// The first state became the second when the receiver gave these items, in this order.
     ghost gave: { Self → Self → List ShownValue → Type 0 };
 
-    /// The most items that the receiver can still give.
+    /// The maximum number of items that the receiver can still give.
     ghost left: { Self → ℕ };
 
     /// The answer with which the receiver ended, if it has ended.
@@ -46,8 +46,8 @@ pub trait Receiver: Send {
         ensures left { left self.new + length (items_of result) ≤ left self.old }
         ensures ended { ended self.new ≡ ending_of result };
 
-    /// Whether `next` may have to wait for its input. Before such a wait, the items that were given so far are best
-    /// presented.
+    /// Whether `next` may have to wait for its input. The items that were given so far should be presented before such
+    /// a wait.
     fn may_wait(&self) -> bool {
         false
     }

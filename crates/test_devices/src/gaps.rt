@@ -24,7 +24,7 @@ struct Gap {
 }
 
 const GAPS: [Gap; 8] = [
-    // one packet is missing; none is missing; the next packet begins where the last one did
+    // One packet is missing. No packet is missing. The next packet begins at the same instant as the packet before it.
     Gap {
         before: PACKET,
         next: 1_002_250_000,
@@ -40,7 +40,7 @@ const GAPS: [Gap; 8] = [
         next: 1_002_000_000,
         silent: 0,
     },
-    // half a sample, and less than half a sample
+    // half a sample is missing; less than half a sample is missing
     Gap {
         before: SHORT,
         next: 6,
@@ -51,8 +51,8 @@ const GAPS: [Gap; 8] = [
         next: 5,
         silent: 0,
     },
-    // two samples end at 8 / 3 ns, which is rounded down to 2 ns; from there to 4 ns, one and a half samples of 4 / 3
-    // ns fit
+    // Two samples end at 8 / 3 ns, which is rounded down to 2 ns. The 2 ns from there to 4 ns fit one and a half
+    // samples of 4 / 3 ns.
     Gap {
         before: Samples {
             num: 4,
@@ -63,13 +63,13 @@ const GAPS: [Gap; 8] = [
         next: 4,
         silent: 2,
     },
-    // samples of no bytes
+    // the samples have no bytes
     Gap {
         before: Samples { size: 0, ..SHORT },
         next: 100,
         silent: 0,
     },
-    // at most 16,777,216 bytes, in whole samples
+    // there are at most 16,777,216 bytes of silence, in whole samples
     Gap {
         before: Samples { size: 3, ..SHORT },
         next: 1_000_000_000,

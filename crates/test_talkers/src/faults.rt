@@ -18,7 +18,8 @@ const ROWS: [Row; 16] = [
     (Planned::Video, &[], 0, Some(TalkFault::StartCode)),
     (Planned::Video, &[1, 2, 3], 0, Some(TalkFault::StartCode)),
     (Planned::Video, &[0, 0, 0, 0], 0, Some(TalkFault::StartCode)),
-    // units of types 28, 0 and 24, which are refused; then a unit of type 23, and no unit
+    // Units of types 28, 0 and 24 are refused. A unit of type 23 is accepted, and so is an input that has start codes
+    // but no unit.
     (
         Planned::Video,
         &[0, 0, 1, 0x1c, 1],

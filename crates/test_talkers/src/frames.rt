@@ -77,7 +77,8 @@ fn is_same(sent: Sent<'_>, frame: &Frame) -> bool {
         && sent.bytes == frame.bytes.as_slice()
 }
 
-/// A talker writes exactly these frames in order, and also returns those of the stream by their numbers.
+/// Checks that a talker writes exactly these frames in order, and that it also returns each frame of the stream by its
+/// packet's number.
 fn check_written(
     rt: &impl Abort,
     name: &str,
@@ -150,7 +151,7 @@ fn check_row(rt: &impl Abort, alloc: Global, row: &Row) -> Result<(), Fail> {
     check_written(rt, name, begin(alloc, plan, &input)?, &frames)
 }
 
-/// The frames of each row's plan are as expected.
+/// Checks that the frames of each row's plan are those that the row lists.
 pub fn check_rows(rt: &impl Abort, alloc: Global, rows: &[Row]) -> Result<(), Fail> {
     for row in rows {
         check_row(rt, alloc, row)?;

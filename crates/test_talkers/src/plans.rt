@@ -17,7 +17,7 @@ pub enum Planned {
     Pcm88200,
     Pcm176400,
     Sparse,
-    /// Sparse, with a restart after each ten packets.
+    /// Sparse PCM, with a restart after every ten packets.
     Restarting,
     Blocks,
     /// One data block in a packet at 44.1 kHz.

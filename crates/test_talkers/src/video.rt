@@ -91,13 +91,13 @@ const ACCESS: [(&[u16], &[i64]); 8] = [
     ),
     // slices in data partitions
     (&[0x4280, 0x4380, 0x4480, 0x4280, 0x4380], &[1, 1, 1, 2, 2]),
-    // the first slice of a picture, in any order of types
+    // first slices of pictures, with types in any order
     (&[0x419a, 0x6588, 0x4288], &[1, 2, 3]),
     // no access unit begins before the first slice
     (&[0x0605, 0x0910, 0x0e80, 0x6588, 0x0910], &[1, 1, 1, 1, 2]),
 ];
 
-/// Access unit 1 is sent at 1 s, and each further one a second after the one before it. The last packet of each access
+/// Access unit 1 is sent at 1 s, and each later access unit 1 s after its predecessor. The last packet of each access
 /// unit has the marker.
 #[test]
 fn a_picture_begins_an_access_unit(rt: HostRuntime) -> Result<(), Fail> {
