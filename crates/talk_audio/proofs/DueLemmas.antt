@@ -412,5 +412,5 @@ pub record IsFormatOf (plan : TalkPlan) (a : Audio) (headers : ℕ) : Type 0 whe
   pub bytes : (n : ℕ) (samples : List ℕ) → length samples ≡ plan.count * a.frame → length (packet_bytes (a.packet n samples)) ≡ headers + plan.count * a.frame
   pub packet : (packets n : ℕ) (samples : List ℕ) → plan.id < 2 ^ 64 → length samples ≡ plan.count * a.frame
       → IsPacket a.kind (audio_times a.kind plan packets) plan.id n (a.packet n samples)
-  -- if a packet has no timestamp, a listener must expect packets with a lead near the plan's
+  -- if a packet has no timestamp, a listener's lead must be near the plan's lead
   pub leads : (lead n : ℕ) → Expects plan lead → is_stamped (rule_of a.kind n) n plan.count ≡ false → IsNearLead plan lead

@@ -71,7 +71,7 @@ pub record IsAudio (stream : AudioStream) : Type 0 where
   pub size : stream.size ≡ samples_size stream
   pub fits : stream.size ≤ 1476
 
--- how many bytes the headers of a frame have: the tagged Ethernet header and that of the format
+-- how many bytes the headers of a frame have: the tagged Ethernet header and the format's header
 abbrev pub headers_by : Format → ℕ
 headers_by (OfPcm p) = 42
 headers_by (OfAm824 a) = 50

@@ -55,7 +55,7 @@ pub(crate) fn block_size(channels: u16) -> usize
     4 * usize::from(channels)
 }
 
-/// Quadlets of silence, as many as a packet of any format can hold.
+/// Quadlets of silence, enough for a packet of any format.
 #[tactic(auto, unfolding(crate::specs::Audio::silent_quadlets))]
 pub(crate) fn silent_quadlets() -> [u8; SAMPLES_LIMIT]
     ensures { result ≡ silent_quadlets_of 369 }

@@ -143,8 +143,8 @@ impl AudioStream {
         }
     }
 
-    /// Writes the frame of packet `n`, which is sent at `arrival`. The packet's samples are `rest`, the end of the
-    /// input, filled up with silence.
+    /// Writes the frame of packet `n`, which is sent at `arrival`. The packet's samples are `rest`, which is the end of
+    /// the input, and then silence.
     // This code seldom runs while audio is sent. Like the code for clock packets, stamps on a clock and H.264, this
     // code is marked cold, so that it takes no registers from the code that runs often.
     #[cold]

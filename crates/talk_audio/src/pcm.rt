@@ -223,7 +223,7 @@ impl PcmFormat {
     }
 
     /// Writes a frame: the headers of packet 0's frame, with `part` written at offset `at` of the packet's header and
-    /// with this timestamp; then the samples.
+    /// with the given timestamp; then the samples.
     #[inline(always)]
     fn write_over<const N: usize>(
         &self,

@@ -38,7 +38,7 @@ begun n packets = div-mul-le_self n packets
 
 -- ---- the next packet
 
--- packet n + 1 is the first of the next run, which has at least 8 packets
+-- packet n + 1 is the first packet of the next run, which has at least 8 packets
 pub record IsRenewed (r : Option ℕ) (n : ℕ) : Type 0 where
   pub run : run_by r (suc n) ≡ suc (run_by r n)
   pub kept : (k : ℕ) → k < 8 → run_by r (suc n + k) ≡ suc (run_by r n)

@@ -49,7 +49,7 @@ pair_from b start m = record {
   down = b.down;
 }
 
--- the next run starts at least 4 nanoseconds after the nominal end of a run
+-- the next run starts at least 4 nanoseconds after the nominal end of the run before it
 abbrev pub IsNextStart : Beat → ℕ → ℕ → ℕ → Type 0
 IsNextStart b start events next = start + nominal_offset b.rate events + 4 ≤ next
 

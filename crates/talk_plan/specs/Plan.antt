@@ -73,8 +73,8 @@ FitsPacket (Aaf format sparse) plan = plan.count * frame_size plan.channels form
 FitsPacket Am824 plan = FitsBlocks plan
 FitsPacket (H264 last_stamp) plan = ⊥
 
--- A restart after each `packets` packets, which sets presentation times `jump` nanoseconds forward. Listeners rely on a
--- restart bit that keeps its value for at least 8 packets.
+-- There is a restart after every `packets` packets, and each restart sets presentation times `jump` nanoseconds
+-- forward. Listeners rely on a restart bit that keeps its value for at least 8 packets.
 pub record IsRestart (packets jump : ℕ) : Type 0 where
   pub some : 8 ≤ packets
   pub most : packets ≤ 1000000000

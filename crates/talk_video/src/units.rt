@@ -26,7 +26,7 @@ const MOST_PACKETS: u64 = 255;
 /// A NAL unit, and which packets of the stream carry it.
 #[derive(Clone, Copy, Debug)]
 pub struct NalUnit {
-    /// The offset of its first byte, and the offset after its last.
+    /// The offset of its first byte, and the offset after its last byte.
     pub from: usize,
     pub to: usize,
     /// Its access unit, from 0.
@@ -35,7 +35,7 @@ pub struct NalUnit {
     pub first: u64,
 }
 
-/// A walk over the NAL units of a byte stream. A first walk finds faults and needs no memory; a second one lists the
+/// A walk over the NAL units of a byte stream. A first walk finds faults and needs no memory; a second walk lists the
 /// units. With two walks, a fault is found even if memory runs out.
 #[derive(Clone, Copy, Debug)]
 pub struct Units {

@@ -33,10 +33,10 @@ pub struct VideoStream<'a> {
     pub packets: u64,
 }
 
-/// How many bytes of a NAL unit each of its fragments carries, except the last. The unit's first byte is not counted.
+/// How many bytes of a NAL unit each fragment carries, except the last fragment. The unit's first byte is not counted.
 const FULL_BODY: usize = 1398;
 
-/// How many bytes of a packet its stated length does not count.
+/// The number of a packet's bytes that the packet's stated length does not count.
 const UNCOUNTED: usize = 24;
 
 /// Which part of a unit fragment `k` is, if the unit has `packets` fragments.

@@ -24,7 +24,7 @@ use Rattle.talked_presented.specs.Whole.{HasEachHead}
 use Rattle.talked_presented.proofs.Known.{IsInterval, interval_is, not_below}
 use Rattle.talked_presented.proofs.Sent.{stamped_head}
 
--- The stamped packet that packet n is counted from is at most n packets before it.
+-- Packet n is counted from a stamped packet at most n packets before it.
 record IsFoundBefore (kind : Kind) (count n : ℕ) : Type 0 where
   is : IsFound kind count n
   before : is.far.packets ≤ n

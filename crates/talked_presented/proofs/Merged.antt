@@ -27,7 +27,7 @@ pub stream_frames_are : (s : Stream) (ks : List ℕ) → map (frame_by s) (map O
 stream_frames_are s [] = refl
 stream_frames_are s (k ∷ ks) = ap (λ (l : List SentFrame). frame_of s k ∷ l) (stream_frames_are s ks)
 
--- when the packet that an origin names is sent
+-- the sending time of the packet that an origin names
 abbrev pub sent_by : Stream → Origin → ℕ
 sent_by s (OfStream n) = s.arrival n
 sent_by s (OfClock m) = s.clock_arrival m

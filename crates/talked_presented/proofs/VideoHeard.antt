@@ -25,7 +25,6 @@ all_below : (n a m : ℕ) → a + n ≤ m → All (λ (k : ℕ). k < m) (range_w
 all_below zero a m le = All-nil (λ (k : ℕ). k < m)
 all_below (suc n) a m le = All-cons (λ (k : ℕ). k < m) a (range_with_len (a + 1) n) (omega arith) (all_below n (a + 1) m (omega arith))
 
--- the frames at the indices of all packets are all frames of the plan
 all_frames : (plan : TalkPlan) (input : List ℕ) → (h : IsDefaultVideo plan input) → frames_at plan input (range_with_len 0 (journal plan input).times.packets) ≡ frames plan input
 all_frames plan input h =
     let s = stream_of plan input in

@@ -46,7 +46,7 @@ timely plan a headers input n p is limit h =
     let fewer : n * plan.count ≤ n * plan.count * a.frame = le-mul_of_pos_right (n * plan.count) is.some in
     omega (arith, mul_assoc n plan.count a.frame)
 
--- each sample frame of packet n is due at most 184,500,001 ns after the first
+-- the nominal instant of each sample frame of packet n is at most 184,500,001 ns after that of the first sample frame
 soon : (plan : TalkPlan) (n i : ℕ) → IsAudioPlan plan → i < plan.count
     → (first_instant plan n ≤ nominal_instant plan n i) × (nominal_instant plan n i ≤ first_instant plan n + 184500001)
 unfolding nominal_instant
@@ -178,7 +178,7 @@ near_by arrival lead plan_lead first due rate time at from to wide soon late =
     let most : (arrival + plan_lead) * rate ≤ (due + 3) * rate = mul-le-mul_right rate (omega arith) in
     (omega arith, omega arith)
 
--- packet n arrives about `lead` before its nominal first instant
+-- if a listener's `lead` is near the plan's lead, packet n arrives about `lead` before its nominal first instant
 near_due : (kind : Kind) (plan : TalkPlan) (packets lead n : ℕ) → IsAudioPlan plan → IsKindOf plan kind → IsNearLead plan lead
     → IsWithin (audio_times kind plan packets) 128 (arrival_of plan n + lead) (due_in (nominal_times kind plan packets) n)
 near_due kind plan packets lead n p k near =

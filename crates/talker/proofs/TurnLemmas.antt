@@ -81,7 +81,7 @@ turn_within source turn is sends = turn_most (plan_in source) (stream_in source)
 
 -- ---- a packet's turn
 
--- `o` is a frame that has the fields of `turn`, and `turn` has the frame's number of bytes
+-- `o` is a frame with the fields of `turn`, and the length of the frame is the size in `turn`
 pub record HasFrame (o : Option SentFrame) (turn : Turn) : Type 0 where
   pub bytes : List ℕ
   pub next : o ≡ Some (frame_in turn bytes)

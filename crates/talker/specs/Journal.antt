@@ -13,7 +13,8 @@ use Rattle.talk_audio.specs.Journal.{audio_journal}
 
 -- ---- streams
 
--- A stream as it is sent: its packets and those of its clock, their times, and the time at which each is sent.
+-- A stream as it is sent: the journal of its packets and of its clock, and when each packet of the stream and of the
+-- clock is sent.
 pub record Stream : Type 0 where
   pub journal : PacketJournal
   pub arrival : ℕ → ℕ
@@ -29,7 +30,7 @@ video_stream last_stamp plan input units = record {
   clock_arrival = λ m. clock_arrival_by plan.crf plan m;
 }
 
--- a plan of this kind stamps only the last fragment of each NAL unit, which only H.264 can do
+-- a plan of this kind stamps only the last fragment of each NAL unit; this is possible only for H.264
 abbrev pub stamps_last : TalkKind → Bool
 stamps_last (Aaf format sparse) = false
 stamps_last Am824 = false

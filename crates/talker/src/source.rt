@@ -106,7 +106,7 @@ impl<'a> Source<'a> {
         }
     }
 
-    /// The media clock of a stream of this many packets, if there is one.
+    /// The media clock of a stream of `packets` packets, if there is one.
     pub fn clock(&self, packets: u64) -> Option<ClockStream>
         requires source { IsSource self.now }
         requires packets { packets ≡ (stream_in self.now).journal.times.packets }

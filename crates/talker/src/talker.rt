@@ -65,22 +65,22 @@ impl<'a> Talker<'a> {
     /// 24 bits (IEC 61883-6). For H.264, the input is a byte stream of NAL units (ITU-T H.264, annex B). The input has
     /// at most 268,435,456 bytes.
     ///
-    /// A plan has a start of 0 to 4 * 10^18 and a lead of 1 to 10^9. A plan of audio has no restarts, or a restart
-    /// after every `restart` packets, 8 to 10^9, with a jump of 4 to 10^9. PCM, sparse or not, has one of AAF's rates
-    /// and 1 to 1023 channels. A packet of PCM has 1 to 1476 sample frames, of together at most 1476 bytes. AM824 has
-    /// one of the rates of IEC 61883-6 and 1 to 256 channels. A packet of AM824 has at least SYT_INTERVAL / 8 data
-    /// blocks, of together at most 1468 bytes. H.264 has a rate of 1 to 240 and neither restarts nor a clock; its
-    /// channels and its count are not read.
+    /// A plan has a start of 0 to 4 * 10^18 and a lead of 1 to 10^9. A plan of audio either has no restarts, or has
+    /// `restart` from 8 to 10^9 and `jump` from 4 to 10^9. PCM, sparse or not, has one of AAF's rates and 1 to 1023
+    /// channels. A packet of PCM has 1 to 1476 sample frames, with at most 1476 bytes together. AM824 has one of the
+    /// rates of IEC 61883-6 and 1 to 256 channels. A packet of AM824 has at least SYT_INTERVAL / 8 data blocks, with at
+    /// most 1468 bytes together. H.264 has a rate of 1 to 240 and neither restarts nor a clock; its channels and its
+    /// count are not read.
     ///
     /// A media clock has a base frequency of 1 to 200,000,000 Hz, a pull of 0 to 5, and 1 to 180 timestamps in a
     /// packet. The time from one timestamp to the next is 1 to 65,535 events of the clock, and a whole number of sample
     /// frames. With restarts, a run of the stream takes as long as a multiple of 8 packets of the clock.
     ///
-    /// Returns `Frames` exactly if an audio input is not a whole number of sample frames. For H.264, returns exactly
-    /// the first of three faults that the input has. `StartCode`: there is no start code. `NalType`: a NAL unit has a
-    /// type other than 1 to 23. `Packets`: an access unit needs more than 255 packets. Returns `Arrival` exactly if
-    /// there is none of these faults and a packet would arrive at 2^32 seconds or later. No packet of a plan within
-    /// these limits does. Returns `Memory` if memory runs out.
+    /// Returns `Frames` exactly if an audio input is not a whole number of sample frames. An input of H.264 is tested
+    /// for three faults, and the first one found is returned. `StartCode`: there is no start code. `NalType`: a NAL
+    /// unit has a type other than 1 to 23. `Packets`: an access unit needs more than 255 packets. Returns `Arrival`
+    /// exactly if there is none of these faults and a packet would arrive at 2^32 seconds or later. No packet of a plan
+    /// within these limits arrives so late. Returns `Memory` if memory runs out.
     pub fn begin(alloc: Global, plan: TalkPlan, input: &'a [u8]) -> Result<Self, TalkFault>
         requires plan { IsPlan plan }
         requires limit { length input.now ≤ most_input }

@@ -7,7 +7,7 @@ pub struct Turn {
     pub arrival: i64,
     /// The number of its packet in the stream, or in the clock, from 0.
     pub number: u64,
-    /// It is a packet of the media clock.
+    /// Whether the packet is one of the media clock.
     pub clock: bool,
     /// The number of bytes in its frame.
     pub size: usize,
