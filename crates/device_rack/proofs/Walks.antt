@@ -59,7 +59,7 @@ turned_counts true false turned is stays = rw is refl
 turned_counts false true turned is stays = absurd (let h = stays refl in cc)
 turned_counts false false turned is stays = rw is refl
 
--- at most `i` elements were turned
+-- `turned` is at most `i`
 pub HasWalked-bound : {X : Type 0} (R : X → X → Type 0) (test : X → Bool) (old new : List X) (i turned : ℕ) → HasWalked R test old new i turned → turned ≤ i
 HasWalked-bound R test old new i turned walked =
     omega (arith, count_by-le-length test (take i new), length-take i new, walked.count)

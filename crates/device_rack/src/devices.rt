@@ -11,7 +11,7 @@ pub trait Devices {
     ghost use Rattle.std.specs.Prelude.{List, ℕ};
     ghost use Rattle.sample_schedule.specs.declared.shown.Shown.{Shown as ShownValue};
 
-    /// From the first state to the second, the devices were given these items.
+    /// The first state became the second when the devices were given these items, in this order.
     ghost handed: { Self → Self → List ShownValue → Type 0 };
 
     /// How many of the devices have failed.

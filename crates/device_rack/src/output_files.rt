@@ -12,7 +12,7 @@ use crate::raw::RawDevice;
 use avtp_files::Sink;
 use sample_schedule::Shown;
 
-/// At most one device of each kind that writes a file.
+/// At most one device that writes raw samples, and at most one device that writes units.
 #[derive(Drop)]
 pub struct OutputFiles<S> {
     raw: Option<Outlet<RawDevice<S>>>,
@@ -22,7 +22,7 @@ pub struct OutputFiles<S> {
 impl<S: Sink + Drop> OutputFiles<S> {
     ghost use Rattle.device_rack.specs.OutputFiles.{AreLive, raw_outlet, units_outlet};
 
-    /// These devices, which are live.
+    /// The given devices, all of them live.
     pub fn over(raw: Option<RawDevice<S>>, units: Option<AnnexBDevice<S>>) -> Self
         ensures raw { AreLive raw (raw_outlet result) }
         ensures units { AreLive units (units_outlet result) }

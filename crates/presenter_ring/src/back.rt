@@ -11,7 +11,8 @@ use avtp_base::{Bytes, Failed};
 use rtrb::{Consumer, Producer};
 use sample_schedule::Shown;
 
-/// The consumer's end of the ring, and the producer's end of the ring that returns the samples of presented items.
+/// The consumer's end of the ring that carries items, and the producer's end of the ring that returns the samples of
+/// presented items.
 #[derive(Drop)]
 pub struct Back {
     pub consumer: Consumer<Shown>,

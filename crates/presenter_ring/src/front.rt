@@ -13,8 +13,8 @@ use avtp_base::Bytes;
 use rtrb::{Consumer, Producer, PushError};
 use sample_schedule::Shown;
 
-/// The producer's end of the ring, and the consumer's end of the ring that returns the samples of presented items.
-/// `hand` is the item for which there was no free slot, and `ended` is how the receiver ended.
+/// The producer's end of the ring that carries items, and the consumer's end of the ring that returns the samples of
+/// presented items. `hand` is the item for which there was no free slot, and `ended` is how the receiver ended.
 #[derive(Drop)]
 pub struct Front {
     pub producer: Producer<Shown>,
@@ -35,7 +35,7 @@ impl Front {
     ghost use Rattle.presenter_ring.specs.Fronts.{ended_of};
     ghost use Rattle.presenter_ring.specs.state.Fronts.{HasFed, IsStuck, Pushes, Takes};
 
-    /// The item in `hand`, or else the receiver's next one, unless the receiver ends.
+    /// The item in `hand`. If `hand` is empty, the receiver's next item, or `None` if the receiver has ended.
     #[inline(always)]
     fn next_item<R: Receiver>(&mut self, receiver: &mut R) -> Option<Shown>
         requires live { ended_of self.old ≡ None → R.ended receiver.old ≡ None }
@@ -82,7 +82,7 @@ impl Front {
         }
     }
 
-    /// Pushes the item in `hand`, or else one that it pulls. Returns whether an item was pushed.
+    /// Pushes the item in `hand`. If `hand` is empty, pulls an item and pushes it. Returns whether an item was pushed.
     #[inline(always)]
     fn push_next<R: Receiver, G: Gate>(&mut self, receiver: &mut R, gate: &G) -> bool
         requires live { ended_of self.old ≡ None → R.ended receiver.old ≡ None }

@@ -169,7 +169,7 @@ impl AudioStream {
         &input[n as usize * self.size..]
     }
 
-    /// Writes the frame of packet `n` of the input, which is sent at `arrival`.
+    /// Writes the frame of packet `n`, which is made from the input and sent at `arrival`.
     #[tactic(auto, using(crate::proofs::SampleLemmas::last_samples, crate::proofs::FormatLemmas::whole_of))]
     #[inline(always)]
     pub fn write(&self, out: &mut [u8], input: &[u8], n: u64, arrival: i64)

@@ -36,7 +36,7 @@ pub struct VideoStream<'a> {
 /// How many bytes of a NAL unit each fragment carries, except the last fragment. The unit's first byte is not counted.
 const FULL_BODY: usize = 1398;
 
-/// The number of a packet's bytes that the packet's stated length does not count.
+/// How many bytes of a packet are not counted in the packet's stated length.
 const UNCOUNTED: usize = 24;
 
 /// Which part of a unit fragment `k` is, if the unit has `packets` fragments.

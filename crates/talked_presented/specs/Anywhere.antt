@@ -39,7 +39,7 @@ pub record MustBePresented (plan : TalkPlan) (input : List ℕ) (listen : Listen
   pub some : length (waiting_at plan input n before) < listen.buffer
   pub bytes : (length (waiting_at plan input n before) + 1) * 1500 ≤ listen.room
 
--- Packets `from` to n of a plan of H.264, which carry one unit, are captured in order, after the packets `front` and
+-- Packets `from` to n of a plan of H.264 carry one unit, and are captured in order, after the packets `front` and
 -- before the packets `after`. The unit must be presented for three reasons. All packets of `front` were captured no
 -- later than the instant at which the unit is due. The unit's last packet is not in `front`. The buffer has room for
 -- the unit and for all units completed in `front`, even if each of them takes 255 packets of 1,500 bytes, the maximum.

@@ -67,7 +67,7 @@ clock_frames plan input = numbered_clock (stream_of plan input)
 
 -- ---- all frames
 
--- the list with a frame inserted before the first frame that does not arrive earlier
+-- a frame is inserted into a list, before the first frame of the list that arrives at the same time or later
 abbrev pub put_in : SentFrame → List SentFrame → List SentFrame
 put_in f [] = f ∷ []
 put_in f (g ∷ frames) = if int_le f.arrival g.arrival then f ∷ g ∷ frames else g ∷ put_in f frames

@@ -33,9 +33,9 @@ pub use talk_plan::laws::{clocks_keep_time, rates_are_named};
 pub use talk_video::laws::{access_units_begin, units_are_carried};
 
 /// Packet `n` of audio is sent at the plan's start plus the time that all earlier sample frames take, rounded down.
-/// With restarts, each run is delayed by the jumps of all restarts up to its beginning, and the time of its sample
-/// frames is counted from the beginning of the run. A packet of H.264 is sent at the plan's start plus the time that
-/// all earlier access units take.
+/// With restarts, the time of all earlier runs and the time within the run are rounded separately, and each restart
+/// delays all later packets by the plan's jump. A packet of H.264 is sent at the plan's start plus the time that all
+/// earlier access units take.
 pub fn packets_are_paced()
     ensures steady { (plan : TalkPlan) (n : ℕ) → plan.restart ≡ None → arrival_of plan n ≡ nat_abs plan.start + n * plan.count * 1000000000 / plan.rate }
     ensures restarting { (plan : TalkPlan) (packets n : ℕ) → plan.restart ≡ Some packets

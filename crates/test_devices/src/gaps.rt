@@ -24,7 +24,8 @@ struct Gap {
 }
 
 const GAPS: [Gap; 8] = [
-    // One packet is missing. No packet is missing. The next packet begins at the same instant as the packet before it.
+    // In these three rows, one packet is missing, no packet is missing, and the next packet begins at the same instant
+    // as the packet before it.
     Gap {
         before: PACKET,
         next: 1_002_250_000,
@@ -40,7 +41,7 @@ const GAPS: [Gap; 8] = [
         next: 1_002_000_000,
         silent: 0,
     },
-    // half a sample is missing; less than half a sample is missing
+    // In these two rows, half a sample is missing, and less than half a sample is missing.
     Gap {
         before: SHORT,
         next: 6,

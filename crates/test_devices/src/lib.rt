@@ -1,4 +1,4 @@
-//! Tests of the devices that take what is shown, of the rack that holds them and of the ring before it.
+//! Tests of devices, of racks of devices, and of the ring through which a receiver hands items to a presenter.
 #![tactic(auto)]
 
 #[cfg(test)]

@@ -9,7 +9,7 @@ use std::process::Abort;
 use std::test::Fail;
 use talker::{Sent, TalkPlan, Talker};
 
-/// An input: some bytes, then other bytes, which are repeated.
+/// An input: some bytes, then other bytes that are repeated, and how often they are repeated.
 pub type Input = (&'static [u8], &'static [u8], usize);
 
 /// What is sent for a plan and an input.
@@ -19,7 +19,7 @@ pub struct Row {
     pub input: Input,
     /// How many packets the stream and its clock have, and the size of the capture of all frames.
     pub sums: (u64, u64, usize),
-    /// Indices in the order of sending, and how the line of the frame at each index begins.
+    /// Indices of frames in the order of sending, and for each index, the beginning of the frame's line.
     pub frames: &'static [(usize, &'static str)],
 }
 

@@ -5,7 +5,7 @@ ghost use Rattle.talk_plan.specs.Plan.{IsPlan};
 use aaf_format::AafFormat;
 use talker::{CrfPlan, TalkKind, TalkPlan};
 
-/// A plan: its format, and what differs from six stereo sample frames in a packet at 48 kHz.
+/// A plan: its format, and how it differs from a plan with six stereo sample frames in a packet at 48 kHz.
 #[derive(Clone, Copy)]
 pub enum Planned {
     Pcm,

@@ -27,7 +27,8 @@ pub record HasFed {R : Type 0} (gave : R → R → List Shown → Type 0) (left 
 abbrev pub IsStuck : Front → Front → Type 0
 IsStuck before after = MatchOption after.hand (IsSome (ended_of after)) (λ shown. known_free before.producer ≡ 0)
 
--- `item` is the item that was in `hand`, or else the receiver's next one, or `None` if the receiver has ended.
+-- `item` is the item that was in `hand`. If `hand` was empty, `item` is the receiver's next item, or `None` if the
+-- receiver has ended.
 pub record Takes {R : Type 0} (gave : R → R → List Shown → Type 0) (left : R → ℕ) (ended : R → Option Pull) (receiver receiver' : R) (before after : Front) (item : Option Shown) : Type 0 where
   pub given : List Shown
   pub gives : (begun : R) (items : List Shown) → gave begun receiver items → gave begun receiver' (items ++ given)
