@@ -6,8 +6,8 @@ use avtp_base::Failed;
 use avtp_files::Sink;
 use sample_schedule::Shown;
 
-/// Writes the units that it takes to a sink, in their order, each after a start code (ITU-T H.264, annex B). Samples
-/// and flags add nothing.
+/// Writes to a sink the units that it takes, in order, each after a start code (ITU-T H.264, annex B). Samples and
+/// flags add nothing.
 ///
 /// As long as no `take` has failed, the sink holds what it held at first, followed by all of the output. The first
 /// `take` that fails writes only a prefix of its item's output.

@@ -18,12 +18,12 @@ pub trait Device: Drop {
     /// The number of faults so far, which stops at the greatest 64-bit number.
     ghost faults: { Self → ℕ };
 
-    /// The numbers of its future failing calls, counted from 1, if the device reports them.
+    /// The numbers of the device's future failing calls, counted from 1, if the device reports these numbers.
     ghost failing: { Self → Option (List ℕ) };
 
     /// Takes an item.
     ///
-    /// Returns `Failed` only if the count of faults rose, and then the item was not taken.
+    /// If `Failed` is returned, the count of faults rose and the item was not taken.
     fn take(&mut self, shown: &Shown) -> Result<(), Failed>
         ensures took { OnOk result ((items : List ShownValue) → took self.old items → took self.new (items ++ shown.now ∷ [])) }
         ensures refused { OnErr result ((items : List ShownValue) → took self.old items → took self.new items) }

@@ -8,14 +8,14 @@ use avtp_base::Failed;
 use avtp_files::Sink;
 use sample_schedule::Shown;
 
-/// Writes the samples that it takes to a sink, in their order, with silence for missing ones.
+/// Writes to a sink the samples of the items that it takes, in order, with silence for missing samples.
 ///
-/// Units and flags add nothing. Between two batches of samples, the device writes silence from the end of the first to
-/// the beginning of the second, even if units and flags came between. The silence is rounded to the nearest whole
-/// sample of the first batch's line, half a sample up, and has at most 16,777,216 bytes. If the batches overlap, there
-/// is no silence. Nothing is buffered: all bytes of an item are in the sink when `take` returns `Ok`. As long as no
-/// `take` has failed, the sink holds what it held at first, followed by all of the output. The first `take` that fails
-/// writes only a prefix of its item's output.
+/// Units and flags add nothing. Between two batches of samples, the device writes silence from the end of the first
+/// batch to the beginning of the second, even if units and flags came between. The length of the silence is rounded to
+/// whole samples of the first batch's line, with half a sample rounded up, and is at most 16,777,216 bytes. If the
+/// batches overlap, there is no silence. Nothing is buffered: all bytes of an item are in the sink when `take` returns
+/// `Ok`. As long as no `take` has failed, the sink holds what it held at first, followed by all of the output. The
+/// first `take` that fails writes only a prefix of its item's output.
 #[derive(Drop)]
 pub struct RawDevice<S> {
     sink: S,

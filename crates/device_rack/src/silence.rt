@@ -16,7 +16,7 @@ impl Silence {
     ghost use Rattle.std.specs.Prelude.{◌≡◌};
     ghost use Rattle.device_rack.specs.Output.{silent_byte, silence_of};
 
-    /// The number of bytes in a piece of silence, which consists of whole quadlets.
+    /// The number of bytes in a piece of silence. A piece consists of whole quadlets.
     pub(crate) const PIECE: usize = 1024;
 
     /// Byte `j` of silence.

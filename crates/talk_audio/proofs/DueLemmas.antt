@@ -62,8 +62,8 @@ pub record IsKindOf (plan : TalkPlan) (kind : Kind) : Type 0 where
 
 -- ---- the head of a packet
 
--- The head's instant is near the nominal instant of an event of packet n's run. Counted from the head, packet n is not
--- due before instant 0.
+-- The head's instant is near the nominal instant of an event of packet n's run. If packet n is counted from the head,
+-- it is not due before instant 0.
 pub record IsCounted (plan : TalkPlan) (n : ℕ) (head : Head) : Type 0 where
   pub event : ℕ
   pub stamp : ℕ

@@ -1,4 +1,4 @@
--- The samples of a plan's packets: the input is sample frames, one after another.
+-- The samples of a plan's packets. The input consists of sample frames, one after another.
 use Rattle.std.specs.Prelude.{ℕ, ◌*◌, ◌/◌, ◌%◌, ◌==◌, Bool, List, ◌++◌, length, take, drop}
 use Rattle.std.specs.Int.{div_ceil}
 
@@ -10,7 +10,7 @@ is_whole frame input = length input % frame == 0
 abbrev pub packets_for : ℕ → ℕ → List ℕ → ℕ
 packets_for frame count input = div_ceil (length input / frame) count
 
--- `count` sample frames of the input from number `first` on, or as many as there are
+-- `count` sample frames of the input from number `first` on, or fewer if the input ends before
 abbrev pub sample_frames : ℕ → ℕ → ℕ → List ℕ → List ℕ
 sample_frames frame first count input = take (count * frame) (drop (first * frame) input)
 

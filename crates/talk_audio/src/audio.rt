@@ -89,7 +89,7 @@ impl AudioStream {
         frames.div_ceil(self.plan.count as usize) as u64
     }
 
-    /// The input is a whole number of sample frames.
+    /// Whether the input is a whole number of sample frames.
     pub fn is_whole(&self, input: &[u8]) -> bool
         requires { IsAudio self.now }
         ensures { result ≡ is_whole_by (audio_of self.now).frame input.now }

@@ -17,9 +17,9 @@ use talk_plan::{ETHERNET_HEADER, TalkKind, TalkPlan, write_ethernet};
 #[derive(Clone, Copy, Debug)]
 pub struct PcmFormat {
     pub format: AafFormat,
-    /// Only one packet in eight is stamped.
+    /// Whether only one packet in eight is stamped.
     pub sparse: bool,
-    /// Each packet is stamped, and the media clock never restarts.
+    /// Whether each packet is stamped and the media clock never restarts.
     pub steady: bool,
     /// The code of the sample rate.
     pub code: u8,

@@ -1,4 +1,4 @@
--- A packet of a plan, a sample frame of a packet, and a packet with the time at which it is sent.
+-- The packets of a plan, their sample frames, and when packets are sent.
 use Rattle.std.specs.Prelude.{◌≡◌, ℕ, ℤ, pos, ◌*◌, ◌^◌, ◌<◌, ◌≤◌}
 use Rattle.talk_plan.specs.declared.plan.TalkPlan.{TalkPlan}
 use Rattle.talk_plan.specs.Plan.{IsAudioPlan}

@@ -23,7 +23,8 @@ packets_before units (suc i) = packets_before units i + packets_at units i
 abbrev pub all_packets : List (ℕ × ℕ) → ℕ
 all_packets units = packets_before units (length units)
 
--- which fragment of which unit a packet carries, both counted from 0; a unit that is sent whole is one fragment
+-- A fragment of a unit: the number of the unit, and the number of the fragment in the unit, both from 0. A unit that is
+-- sent whole is one fragment.
 pub record Place : Type 0 where
   pub unit : ℕ
   pub fragment : ℕ

@@ -53,14 +53,14 @@ cvf_by part stamp plan n marker instant nal body = record {
   reserved = false;
 }
 
--- packet n of those that carry `units` of a byte stream
+-- packet n of the packets that carry `units` of a byte stream
 abbrev pub cvf_packet : Bool → TalkPlan → List ℕ → List (ℕ × ℕ) → ℕ → Cvf
 cvf_packet last_stamp plan bytes units n =
     let place = place_of units n in
     cvf_by (part_at units place) (video_stamp last_stamp plan bytes units n) plan n (ends_access_unit bytes units n)
     (video_due plan bytes units n) (nal_in bytes (unit_at units place.unit)) (body_at bytes units place)
 
--- packet n of those that are sent for a byte stream
+-- packet n of the packets that are sent for a byte stream
 abbrev pub sent_packet : Bool → TalkPlan → List ℕ → ℕ → Cvf
 sent_packet last_stamp plan bytes n = cvf_packet last_stamp plan bytes (sent_units bytes) n
 

@@ -42,7 +42,7 @@ pub struct Units {
     /// How many units were passed, and where the last one of them ends.
     number: usize,
     at: usize,
-    /// The access unit of the last passed unit has a slice.
+    /// Whether the access unit of the last passed unit has a slice.
     sliced: bool,
     /// How many of the units that were passed begin a new access unit.
     begun: u64,
@@ -59,7 +59,7 @@ fn unit_type(bytes: &[u8], from: usize, to: usize) -> u8
     bits_at(bytes, from, 0, 8) % 32
 }
 
-/// A unit has a slice of a picture (ITU-T H.264, table 7-1).
+/// Whether a unit has a slice of a picture (ITU-T H.264, table 7-1).
 #[tactic(auto, unfolding(crate::specs::AccessUnits::has_slice))]
 fn has_slice(bytes: &[u8], from: usize, to: usize) -> bool
     requires { IsInside bytes.now (from, to) }
@@ -105,7 +105,7 @@ impl Units {
         }
     }
 
-    /// After the units that were passed, the unit from `from` to `to` begins a new access unit.
+    /// Whether the unit from `from` to `to`, after the units that were passed, begins a new access unit.
     fn is_begun(&self, bytes: &[u8], from: usize, to: usize) -> bool
         requires { IsInside bytes.now (from, to) }
         ensures { result ≡ is_begun_by bytes.now self.now (from, to) }
@@ -150,7 +150,7 @@ impl Units {
     }
 }
 
-/// A packet can carry the unit from `from` to `to`: its type is 1 to 23 (RFC 6184, 5.4).
+/// Whether a packet can carry the unit from `from` to `to`: the unit's type is 1 to 23 (RFC 6184, 5.4).
 fn has_single_type(bytes: &[u8], from: usize, to: usize) -> bool
     requires { IsInside bytes.now (from, to) }
     ensures { result ≡ is_single_type (type_in bytes.now (from, to)) }

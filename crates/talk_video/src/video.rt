@@ -25,7 +25,7 @@ use talk_plan::{ETHERNET_HEADER, TalkFault, TalkPlan, write_ethernet};
 #[derive(Debug, Drop)]
 pub struct VideoStream<'a> {
     pub plan: TalkPlan,
-    /// Each NAL unit is stamped only on its last fragment.
+    /// Whether each NAL unit is stamped only on its last fragment.
     pub last_stamp: bool,
     pub input: &'a [u8],
     pub units: Vec<NalUnit>,
@@ -195,7 +195,7 @@ impl<'a> VideoStream<'a> {
         }
     }
 
-    /// Packet `n` is the last one of its access unit, which is `access_unit`.
+    /// Whether packet `n` is the last one of its access unit, which is `access_unit`.
     fn ends_access_unit(&self, n: u64, access_unit: u64) -> bool
         requires packet { IsPacketOfVideo self.now n }
         requires access_unit { access_unit ≡ access_unit_of self.now.input.now (nal_units self.now.input.now) n }

@@ -26,7 +26,7 @@ six_points = record { id = 0x0200000000010002; rate = 48000; pull = 0; interval 
 abbrev pub with_clock : TalkPlan
 with_clock = record (plain false) { crf = Some six_points }
 
--- AM824 at 48 kHz, in packets of 8 data blocks, one SYT interval, with the clock `six_points`
+-- AM824 at 48 kHz, in packets of 8 data blocks (one SYT interval), with the clock `six_points`
 abbrev pub blocking : TalkPlan
 blocking = record (six_blocks 48000) { count = 8; crf = Some six_points }
 

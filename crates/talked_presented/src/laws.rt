@@ -58,8 +58,8 @@ pub fn whole_capture_is_presented()
 }
 
 /// A listener with the default options of `listen` presents all of an audio plan that has the default lead of `talk`
-/// and no clock. Sparse AAF and AM824 must have no restarts. The plan may have any rate, any number of channels, and
-/// any number of sample frames in a packet.
+/// and no clock. A plan of sparse PCM or of AM824 must have no restarts. The plan may have any rate, any number of
+/// channels, and any number of sample frames in a packet.
 pub fn defaults_present_all()
     ensures hears { (plan : TalkPlan) (input : List ℕ) → HasDefaultLead plan input → HearsAll plan input (default_listener plan.id) }
     ensures presented { (plan : TalkPlan) (input : List ℕ) → HasDefaultLead plan input

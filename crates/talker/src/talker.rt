@@ -268,7 +268,7 @@ fn write_front(source: &Source<'_>, clock: &Option<ClockStream>, turn: Turn, out
     write_frame(source, clock, turn, &mut out[..turn.size]);
 }
 
-/// Packet `m` of the clock exists, and is not sent after packet `n` of the stream if that exists.
+/// Whether packet `m` of the clock exists and is not sent after packet `n` of the stream, if that packet exists.
 fn clock_is_first(
     clock: &Option<ClockStream>,
     source: &Source<'_>,
