@@ -8,7 +8,7 @@ use Rattle.device_rack.specs.Devices.{later}
 abbrev pub kept_items : MemoryDevice → List Shown
 kept_items device = device.items.items
 
--- memory ran out for an item; this item and every later one was taken without being kept
+-- memory ran out for an item; the device took this item and all later items without keeping them
 abbrev pub is_cut : MemoryDevice → Bool
 is_cut device = device.is_cut
 

@@ -12,7 +12,7 @@ pub trait Device: Drop {
     ghost use Rattle.std.specs.Prelude.{List, ℕ, Option};
     ghost use Rattle.sample_schedule.specs.declared.shown.Shown.{Shown as ShownValue};
 
-    /// The device has taken these items, in this order. A new device has taken none.
+    /// The device has taken these items, in this order. A new device has taken no items.
     ghost took: { Self → List ShownValue → Type 0 };
 
     /// The number of faults so far, which stops at the greatest 64-bit number.

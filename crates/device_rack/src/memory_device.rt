@@ -10,7 +10,7 @@ use std::alloc::Global;
 /// Keeps copies of the items that it takes. The device's calls are numbered from 1. A call fails if its number is among
 /// those with which the device was made.
 ///
-/// If there is no memory to keep an item, this item and every later one is taken without being kept.
+/// If there is no memory to keep an item, the device takes this item and all later items without keeping them.
 #[derive(Drop)]
 pub struct MemoryDevice {
     alloc: Global,

@@ -45,7 +45,7 @@ am824 plan = record {
   packet = λ n blocks. Am824Data (iec_packet plan n blocks);
 }
 
--- the audio format of a plan, if the plan is one of audio
+-- the audio format of a plan, if the plan is a plan of audio
 abbrev pub audio_by : TalkKind → TalkPlan → Option Audio
 audio_by (Aaf format sparse) plan = Some (pcm format sparse plan)
 audio_by Am824 plan = Some (am824 plan)

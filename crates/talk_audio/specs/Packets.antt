@@ -21,7 +21,7 @@ stamp_of kind plan n =
 
 -- ---- PCM (IEEE 1722-2016, 7)
 
--- the kind of a stream of PCM: sparse (`true`), with one packet in eight stamped, or dense (`false`), with each packet
+-- the kind of a stream of PCM: sparse (`true`) if one packet in eight is stamped, dense (`false`) if each packet is
 -- stamped
 abbrev pub kind_of : Bool → Kind
 kind_of false = DenseAaf

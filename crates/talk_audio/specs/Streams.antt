@@ -89,7 +89,7 @@ pub record IsSentOf (stream : AudioStream) (n : ℕ) (arrival : ℤ) : Type 0 wh
   pub audio : IsAudio stream
   pub sent : IsSentAt stream.plan n arrival
 
--- The stream is one of audio. The input is not too long and fills more than n packets.
+-- The stream is a valid stream of audio. The input is not too long and fills more than n packets.
 pub record IsPacketOfInput (stream : AudioStream) (input : List ℕ) (n : ℕ) : Type 0 where
   pub audio : IsAudio stream
   pub limit : length input ≤ most_input

@@ -157,8 +157,8 @@ part_over w rate r p f some small over fast = elim (cases_lt (f * rate + 2 * rat
   | inr not ↦ omega arith
 ]
 
--- The stamp of event e is at most 1 ns after its nominal instant, start + e * 10^9 / rate, and less than 3 ns before
--- it.
+-- The stamp of event e is at most 1 ns later and less than 3 ns earlier than the event's nominal instant, start + e *
+-- 10^9 / rate.
 pub record IsStamped (b : Beat) (start e instant : ℕ) : Type 0 where
   pub under : instant * b.rate ≤ start * b.rate + e * 1000000000 + b.rate
   pub over : start * b.rate + e * 1000000000 < instant * b.rate + 3 * b.rate

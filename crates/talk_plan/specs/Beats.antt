@@ -17,8 +17,8 @@ pub record Beat : Type 0 where
   pub up : ℕ
   pub down : ℕ
 
--- The beat's rate is one of audio, and its clock has at most 250 MHz. `spacing` events of the stream take as long as
--- `interval` events of the clock.
+-- The beat's rate is a sample rate of audio, and its clock has at most 250 MHz. `spacing` events of the stream take as
+-- long as `interval` events of the clock.
 pub record IsBeat (b : Beat) : Type 0 where
   pub rate_from : 8000 ≤ b.rate
   pub rate_to : b.rate ≤ 192000
@@ -31,8 +31,8 @@ pub record IsBeat (b : Beat) : Type 0 where
 abbrev pub point_at : Beat → ℕ → ℕ → ℕ
 point_at b start m = start + nominal_offset b.rate (m * b.spacing)
 
--- The instant in the timestamp of event e of the run. Before the second point, the instant is the event's nominal one.
--- From the second point on, the instant is counted from the last point, with the period between the last two points.
+-- The instant in the timestamp of event e of the run. Before the second point, it is the event's nominal instant. From
+-- the second point on, it is counted from the last point, with the period between the last two points.
 unfoldable pub stamped_at : Beat → ℕ → ℕ → ℕ
 stamped_at b start e =
     if nat_lt e b.spacing then start + nominal_offset b.rate e else

@@ -115,7 +115,7 @@ pub record IsClockPlan (crf : CrfPlan) (rate count : ℕ) (restart : Option ℕ)
   pub whole : crf.interval * rate * pull_down crf.pull % (crf.rate * pull_up crf.pull) ≡ 0
   pub runs : HasWholeRuns crf rate count restart
 
--- the plan has no clock, or one that fits the stream
+-- the plan has no clock, or its clock fits the stream
 abbrev pub HasClock : Option CrfPlan → ℕ → ℕ → Option ℕ → Type 0
 HasClock None rate count restart = ⊤
 HasClock (Some crf) rate count restart = IsClockPlan crf rate count restart

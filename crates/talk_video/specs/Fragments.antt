@@ -29,7 +29,7 @@ pub record Place : Type 0 where
   pub unit : ℕ
   pub fragment : ℕ
 
--- the fragment after `p`: the next one of the same unit, or else the first one of the next unit
+-- the fragment after `p`: the next fragment of the same unit, or else the first fragment of the next unit
 abbrev pub next_place : List (ℕ × ℕ) → Place → Place
 next_place units p =
     if nat_lt (suc p.fragment) (packets_at units p.unit) then record { unit = p.unit; fragment = suc p.fragment }

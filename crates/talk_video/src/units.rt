@@ -39,7 +39,7 @@ pub struct NalUnit {
 /// units. With two walks, a fault is found even if memory runs out.
 #[derive(Clone, Copy, Debug)]
 pub struct Units {
-    /// How many units were passed, and where the last one of them ends.
+    /// How many units were passed, and the offset after the last of them.
     number: usize,
     at: usize,
     /// Whether the access unit of the last passed unit has a slice.

@@ -22,7 +22,7 @@ use talker::laws::{
 };
 
 /// A capture of the frames of an audio plan and of its clock meets the whole premise of the headline, for listeners
-/// with the clock and without. The capture may lose, repeat or reorder frames.
+/// with or without the clock. The capture may lose, repeat or reorder frames.
 pub fn talked_is_heard()
     ensures { (plan : TalkPlan) (input places : List ℕ) (listen : ListenPlan) → ListensTo plan input listen → HearsTalker (pos 0) (journal plan input) listen (captured plan input places) }
 {
@@ -69,8 +69,8 @@ pub fn talked_video_keeps_headline()
     headline_holds();
 }
 
-/// A unit of an H.264 plan must be presented if its packets are the first ones of the capture, in order, and there is
-/// room for the unit. What follows does not matter. The unit may have only one packet.
+/// A unit of an H.264 plan must be presented if its packets are the first packets of the capture, in order, and there
+/// is room for the unit. What follows does not matter. The unit may have only one packet.
 pub fn talked_unit_is_welcome()
     ensures { (plan : TalkPlan) (input places : List ℕ) (listen : ListenPlan) (from n : ℕ) → ListensToVideo plan input (range_with_len from (n - from) ++ n ∷ places) listen → HasRoomForUnit plan input listen from n
         → (made : MadeItem) × IsWelcome (journal plan input) listen (captured plan input (range_with_len from (n - from) ++ n ∷ places)) 0 n made }

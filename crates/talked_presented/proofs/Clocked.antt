@@ -197,7 +197,7 @@ by_clock_at SparseAaf j n k x audio at = at
 by_clock_at (Am824 interval dbc) j n k x audio at = at
 by_clock_at (H264 part) j n k x audio at = absurd audio
 
--- point s + 1 of the clock is the last one at or before packet n's first sample
+-- point s + 1 of the clock is the last point at or before packet n's first sample
 record IsLate (plan : TalkPlan) (crf : CrfPlan) (n : ℕ) : Type 0 where
   s : ℕ
   at : n * plan.count / spacing_of crf plan.rate ≡ suc s

@@ -26,7 +26,7 @@ far_by x y rate a b few lt over under above = elim (cases_lt (x + 2000000) y) [
       absurd (omega arith)
 ]
 
--- with the default lead, each access unit is sent after all earlier ones are due
+-- with the default lead, each access unit is sent after all earlier access units are due
 next_far : (plan : TalkPlan) (a b : ℕ) → IsVideoPlan plan → plan.lead ≡ 2000000 → a < b → access_instant plan a + 2000000 < access_instant plan b
 unfolding access_instant
 next_far plan a b p lead lt =

@@ -128,8 +128,8 @@ pub fn defaults_hear_units()
 
 /// A capture of an audio plan without a clock may lose, repeat or reorder packets. A copy of a packet must be
 /// presented, wherever the copy is in the capture, if four conditions hold. The packet has a timestamp or can be
-/// counted from one that arrived. All packets before the copy were captured no later than the instant at which the
-/// packet is due. The copy is the first of the packet. The buffer has room for the copy.
+/// counted from a timestamp that arrived. All packets before the copy were captured no later than the instant at which
+/// the packet is due. The copy is the first copy of the packet. The buffer has room for the copy.
 pub fn talked_copy_is_welcome()
     ensures { (plan : TalkPlan) (input before after : List ℕ) (n : ℕ) (listen : ListenPlan) → MustBePresented plan input listen before n after
         → (made : MadeItem) × IsWelcome (journal plan input) listen (captured plan input (before ++ n ∷ after)) (length before) n made }

@@ -15,8 +15,8 @@ use Rattle.talker.specs.Journal.{Stream, journal, stream_of}
 use Rattle.talk_clock.specs.Clock.{clock_bytes}
 use Rattle.talk_plan.specs.Ethernet.{packet_bytes}
 
--- A frame as it is sent: its time, its packet's number in the stream or in the clock, whether it belongs to the clock,
--- and its bytes.
+-- A frame as it is sent: its time, the number of its packet in the stream or in the clock, whether it belongs to the
+-- clock, and its bytes.
 pub record SentFrame : Type 0 where
   pub arrival : ℤ
   pub number : ℕ
@@ -107,8 +107,9 @@ StaysNearBy Am824 j numbers = ⊤
 StaysNearBy (H264 false) j numbers = ⊤
 StaysNearBy (H264 true) j numbers = AreNear j numbers
 
--- If a plan stamps only the last fragment of each NAL unit, adjacent captured packets are at most 254 numbers apart
--- unless both are stamped. The reason: fragments without a timestamp are told apart only by their sequence numbers.
+-- If a plan stamps only the last fragment of each NAL unit, the numbers of adjacent captured packets differ by at most
+-- 254, unless both packets are stamped. The reason: fragments without a timestamp are told apart only by their sequence
+-- numbers.
 abbrev pub StaysNear : TalkPlan → List ℕ → List SentFrame → Type 0
 StaysNear plan input frames = StaysNearBy plan.kind (journal plan input).times (packet_numbers frames)
 
