@@ -61,7 +61,7 @@ fn live<D: Device>(device: Option<D>) -> Option<Outlet<D>>
     }
 }
 
-/// Gives an item to the device, if there is one that is live.
+/// Gives an item to the device, if there is a live device.
 fn hand<D: Device>(outlet: &mut Option<Outlet<D>>, shown: &Shown)
     ensures { Both (IsHandedTo D.took D.faults D.failing shown.now) outlet.old outlet.new }
 {

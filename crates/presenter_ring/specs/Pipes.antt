@@ -10,7 +10,7 @@ use Rattle.presenter_ring.specs.Fronts.{hand_of, ended_of}
 abbrev pub ring_of : Pipe → List Shown
 ring_of pipe = known_items pipe.back.consumer
 
--- the items that are presented next: those in the ring and then the one in `hand`
+-- the items that are presented next: the items in the ring, and then the item in `hand`
 abbrev pub waiting_in : Pipe → List Shown
 waiting_in pipe = ring_of pipe ++ hand_of pipe.front
 
@@ -48,8 +48,8 @@ pub record IsDrained (pipe : Pipe) : Type 0 where
 abbrev pub work : ℕ → Pipe → ℕ
 work left pipe = 2 * (left + length (hand_of pipe.front)) + length (ring_of pipe)
 
--- What rounds did: which items the receiver gave and which the presenter got. The items that waited before, followed by
--- the given items, are the presented items, followed by the items that wait now.
+-- What rounds did: which items the receiver gave and which the presenter got. Two lists are equal: the items that were
+-- waiting before, followed by the given items; and the presented items, followed by the items that are waiting now.
 pub record HasMoved {R P : Type 0} (gave : R → R → List Shown → Type 0) (left : R → ℕ) (handed : P → P → List Shown → Type 0) (receiver receiver' : R) (presenter presenter' : P) (before after : Pipe) : Type 0 where
   pub given : List Shown
   pub presented : List Shown

@@ -383,7 +383,7 @@ exact b start m e is covers own =
     let same = own_spacing b.up b.spacing b.interval b.rate b.down is.some_up is.same_time own in
     rw (stamped_late b start e m (e % b.spacing) (omega arith) small, eq-eqb b.up (b.rate * b.down) own) (exact_late b start m (e % b.spacing) is small same)
 
--- ---- runs: no pair of one covers an instant of another
+-- ---- runs: no pair of one run covers an instant of another run
 
 pub stamped_from : (b : Beat) (start e : ℕ) → IsBeat b → start ≤ stamped_at b start e
 stamped_from b start e is = elim (cases_lt e b.spacing) [

@@ -75,7 +75,7 @@ carried v n is known =
       within = omega (arith, at.number, at.within);
     }
 
--- ---- there are no more units than bytes
+-- ---- the number of units is at most the number of bytes
 
 kept_few : {X Y : Type 0} (h : X → Option Y) (xs : List X) → length (filter_map h xs) ≤ length xs
 kept_few h [] = omega arith

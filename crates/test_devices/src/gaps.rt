@@ -5,7 +5,7 @@ use avtp_memory::MemorySink;
 use device_rack::{RawDevice, Silence};
 use std::test::Fail;
 
-/// One sample of one byte, of 4 ns.
+/// One sample of one byte, which takes 4 ns.
 const SHORT: Samples = Samples {
     base: 0,
     num: 4,
@@ -52,8 +52,8 @@ const GAPS: [Gap; 8] = [
         next: 5,
         silent: 0,
     },
-    // Two samples end at 8 / 3 ns, which is rounded down to 2 ns. The 2 ns from there to 4 ns fit one and a half
-    // samples of 4 / 3 ns.
+    // Two samples end at 8 / 3 ns, which is rounded down to 2 ns. One and a half samples of 4 / 3 ns fit into the 2 ns
+    // from there to 4 ns.
     Gap {
         before: Samples {
             num: 4,

@@ -40,7 +40,7 @@ impl Receiver for Flags {
     }
 }
 
-/// Counts the items that it gets, and the frames that are out of order. Fails at one of its items.
+/// Counts the items that it gets, and the frames that are out of order. Fails at a chosen item.
 #[derive(Drop)]
 struct Counted {
     items: u64,
@@ -76,7 +76,7 @@ fn frame_of(shown: &Shown) -> u64 {
     }
 }
 
-/// Counts the steps of each side, and the steps whose number is not one more than the last.
+/// Counts the steps of each side, and the steps that are numbered out of order.
 #[derive(Drop)]
 struct Counting {
     pushes: AtomicU64,
