@@ -26,7 +26,7 @@ given_to pipe = pipe.front.given
 abbrev pub capacity_of : Pipe → ℕ
 capacity_of pipe = pipe.capacity
 
--- how many slots of the ring its producer knows to be free
+-- the number of slots that the ring's producer knows to be free
 abbrev pub known_free_of : Pipe → ℕ
 known_free_of pipe = known_free pipe.front.producer
 

@@ -16,7 +16,7 @@ pub enum Ending {
     Memory,
 }
 
-/// Why a receiver gives no more items, if its answer is not an item.
+/// If the receiver's answer is not an item, why the receiver gives no more items.
 pub fn end_of(pull: Pull) -> Option<Ending>
     ensures { option_map pull_of result ≡ ending_of pull }
 {

@@ -4,7 +4,7 @@ use Rattle.talk_plan.specs.declared.plan.TalkPlan.{TalkPlan}
 use Rattle.talk_plan.specs.Plan.{IsAudioPlan}
 use Rattle.talk_plan.specs.Timing.{arrival_of}
 
--- Packet n of a plan of audio. At most 2^28 sample frames precede the packet, because the longest input has no more.
+-- Packet n of a plan of audio. At most 2^28 sample frames precede the packet, because the longest input has 2^28 bytes.
 pub record IsPacketOf (plan : TalkPlan) (n : ℕ) : Type 0 where
   pub talked : IsAudioPlan plan
   pub frames : n * plan.count ≤ 2 ^ 28

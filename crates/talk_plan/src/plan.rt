@@ -16,7 +16,7 @@ pub enum TalkKind {
 /// A media clock that is sent with the stream (IEEE 1722-2016, 10).
 #[derive(Clone, Copy, Debug, PartialEq, Eq)]
 pub struct CrfPlan {
-    /// The stream id of the clock.
+    /// The stream ID of the clock.
     pub id: u64,
     /// The base frequency in Hz.
     pub rate: u32,
@@ -38,7 +38,7 @@ pub struct TalkPlan {
     pub channels: u16,
     /// The number of sample frames in a packet.
     pub count: u32,
-    /// The stream id.
+    /// The stream ID.
     pub id: u64,
     /// When the first packet is sent, in nanoseconds of gPTP.
     pub start: i64,

@@ -48,11 +48,11 @@ access_unit_of bytes units n = access_unit bytes units (place_of units n).unit
 abbrev pub ends_access_unit : List ℕ → List (ℕ × ℕ) → ℕ → Bool
 ends_access_unit bytes units n = (suc n == all_packets units) || not (access_unit_of bytes units (suc n) == access_unit_of bytes units n)
 
--- which part of a unit fragment k is, if the unit has `packets` fragments
+-- whether fragment k of a unit is the whole unit, or the first, a middle or the last of `packets` fragments
 unfoldable pub part_by : ℕ → ℕ → NalPart
 part_by packets k = if packets == 1 then Single else if k == 0 then First else if k + 1 == packets then Last else Middle
 
--- which part of its unit the fragment `p` is
+-- whether the fragment `p` is the whole unit, or the first, a middle or the last fragment of its unit
 abbrev pub part_at : List (ℕ × ℕ) → Place → NalPart
 part_at units p = part_by (packets_at units p.unit) p.fragment
 

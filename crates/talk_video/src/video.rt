@@ -39,7 +39,7 @@ const FULL_BODY: usize = 1398;
 /// How many bytes of a packet are not counted in the packet's stated length.
 const UNCOUNTED: usize = 24;
 
-/// Which part of a unit fragment `k` is, if the unit has `packets` fragments.
+/// Whether fragment `k` of a unit is the whole unit, or the first, a middle or the last of `packets` fragments.
 #[tactic(auto, unfolding(crate::specs::Fragments::part_by))]
 fn part_by(packets: u64, k: u64) -> NalPart
     requires { k < packets }
@@ -90,7 +90,7 @@ impl NalUnit {
         u64::from(fragments(self.to - self.from))
     }
 
-    /// Which part of the unit packet `n` carries.
+    /// Whether packet `n` carries the whole unit, or the first, a middle or the last fragment of the unit.
     fn part(&self, n: u64) -> NalPart
         requires { IsFragmentAt self.now n }
         ensures { result ≡ part_of (packets_for (self.now.from, self.now.to)) (n - self.now.first) }

@@ -59,8 +59,8 @@ pub fn talked_video_is_heard()
     losses_are_delivered();
 }
 
-/// On the premises of `talked_video_is_heard`, what a listener shows of a capture of an H.264 plan keeps the headline.
-/// Each unit that is presented is a whole unit of the plan, with its bytes and at its instant.
+/// Under the premises of `talked_video_is_heard`, what a listener shows of a capture of an H.264 plan keeps the
+/// headline. Each unit that is presented is a whole unit of the plan, with its bytes and at its instant.
 pub fn talked_video_keeps_headline()
     ensures { (plan : TalkPlan) (input places : List ℕ) (listen : ListenPlan) → ListensToVideo plan input places listen
         → KeepsHeadline (pos 0) (journal plan input) listen (captured plan input places) (shown_of listen (captured plan input places)) }
@@ -70,7 +70,7 @@ pub fn talked_video_keeps_headline()
 }
 
 /// A unit of an H.264 plan must be presented if its packets are the first packets of the capture, in order, and there
-/// is room for the unit. What follows does not matter. The unit may have only one packet.
+/// is room for the unit. What the capture holds after these packets does not matter. The unit may have only one packet.
 pub fn talked_unit_is_welcome()
     ensures { (plan : TalkPlan) (input places : List ℕ) (listen : ListenPlan) (from n : ℕ) → ListensToVideo plan input (range_with_len from (n - from) ++ n ∷ places) listen → HasRoomForUnit plan input listen from n
         → (made : MadeItem) × IsWelcome (journal plan input) listen (captured plan input (range_with_len from (n - from) ++ n ∷ places)) 0 n made }

@@ -58,7 +58,7 @@ stamp_is plan crf n e r =
     ap (λ (o : Option CrfPlan). stamped_by o plan n 0) e
     ∙ (ap (λ (g : ℕ). stamped_at (beat_of crf plan) (run_start plan g) (event_of plan n 0)) run ∙ ap (stamped_at (beat_of crf plan) (run_start plan 0)) events)
 
--- if each packet has whole SYT intervals of blocks, each packet stamps its first block
+-- if the number of blocks in a packet is a multiple of the SYT interval, each packet stamps its first block
 first_index : (interval n count : ℕ) → IsInterval interval → count % interval ≡ 0 → (interval - n * count % 256 % interval) % interval ≡ 0
 first_index interval n count (inl e) whole =
     let times : count ≡ 8 * (count / 8) = let w = rw e at whole in omega arith in

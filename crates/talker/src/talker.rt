@@ -24,7 +24,7 @@ use talk_plan::{TalkFault, TalkPlan};
 
 /// Makes the frames of a plan from its input, by number or one after another. The memory of one frame, and of the list
 /// of an H.264 stream's NAL units, is allocated at the beginning. Nothing is allocated later: each frame is lent until
-/// the next is made, or is written into the caller's slice.
+/// the next frame is made, or is written into the caller's slice.
 #[derive(Debug, Drop)]
 pub struct Talker<'a> {
     source: Source<'a>,
