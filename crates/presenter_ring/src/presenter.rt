@@ -14,7 +14,7 @@ pub trait Presenter: Send {
     /// The first state became the second when the presenter got these items, in this order.
     ghost handed: { Self → Self → List ShownValue → Type 0 };
 
-    /// The number of faults so far, which stops at the greatest 64-bit number.
+    /// The number of faults so far. It stops at the greatest 64-bit number.
     ghost faults: { Self → ℕ };
 
     /// Presents an item. Returns `Failed` only if the count of faults rose; even then the item counts as presented.

@@ -33,7 +33,7 @@ due_by j n (Some head) = nat_abs (nominal_instant j head 0)
 abbrev pub due_in : Journal → ℕ → ℕ
 due_in j n = due_by j n (head_of j n)
 
--- the times of `packets` packets of audio, each due at its first sample, counted from its head
+-- the times of `packets` packets of audio; each packet is due at the instant of its first sample, counted from its head
 abbrev pub audio_times : Kind → TalkPlan → ℕ → Journal
 audio_times kind plan packets = record (nominal_times kind plan packets) { due = λ n. due_in (nominal_times kind plan packets) n }
 

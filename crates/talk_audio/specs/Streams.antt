@@ -84,7 +84,7 @@ headers_of stream = headers_by stream.format
 abbrev pub packets_of : AudioStream → List ℕ → ℕ
 packets_of stream input = audio_packets (audio_of stream) stream.plan input
 
--- packet n of a stream, which is sent at `arrival`
+-- packet n of a stream is sent at `arrival`
 pub record IsSentOf (stream : AudioStream) (n : ℕ) (arrival : ℤ) : Type 0 where
   pub audio : IsAudio stream
   pub sent : IsSentAt stream.plan n arrival

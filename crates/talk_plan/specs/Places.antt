@@ -14,7 +14,7 @@ pub record IsFrameOf (plan : TalkPlan) (n i : ℕ) : Type 0 where
   pub packet : IsPacketOf plan n
   pub within : i < plan.count
 
--- Packet n of a plan of audio, which is sent at `arrival`.
+-- Packet n of a plan of audio is sent at `arrival`.
 pub record IsSentAt (plan : TalkPlan) (n : ℕ) (arrival : ℤ) : Type 0 where
   pub packet : IsPacketOf plan n
   pub sent : arrival ≡ pos (arrival_of plan n)

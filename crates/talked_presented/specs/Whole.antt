@@ -34,8 +34,8 @@ pub record IsCloseLead (plan : TalkPlan) (lead : ℕ) : Type 0 where
   pub from : plan.lead * plan.rate ≤ lead * plan.rate + 59 * (plan.count * 1000000000)
   pub to : lead * plan.rate ≤ plan.lead * plan.rate + 59 * (plan.count * 1000000000)
 
--- To time a packet without a timestamp by another packet, a listener must expect packets at about the time at which the
--- plan sends them. If each packet is stamped, any lead will do.
+-- If a packet has no timestamp, the listener must expect packets at about the time at which the plan sends them. If
+-- each packet is stamped, any lead will do.
 abbrev pub ExpectsCounted : TalkKind → TalkPlan → ℕ → Type 0
 ExpectsCounted (Aaf format false) plan lead = ⊤
 ExpectsCounted (Aaf format true) plan lead = IsCloseLead plan lead

@@ -23,13 +23,13 @@ abbrev pub patched : List ℕ → ℕ → List ℕ → ℕ → List ℕ
 patched header at part timestamp =
     take at header ++ (part ++ (take (12 - (at + length part)) (drop (at + length part) header) ++ (big_bytes 4 timestamp ++ take 8 (drop 16 header))))
 
--- packet n of a plan of PCM, which is sent at `arrival`, and its samples
+-- packet n of a plan of PCM is sent at `arrival`, and `samples` has the length of a packet's samples
 pub record IsPcmPacket (pcm : PcmFormat) (plan : TalkPlan) (n : ℕ) (arrival : ℤ) (samples : List ℕ) : Type 0 where
   pub format : IsPcmStream pcm plan
   pub sent : IsSentAt plan n arrival
   pub whole : length samples ≡ plan.count * frame_size plan.channels pcm.format
 
--- packet n of a plan of AM824, and its data blocks
+-- `blocks` has the length of the data blocks of packet n of a plan of AM824
 pub record IsBlockPacket (am824 : Am824Format) (plan : TalkPlan) (n : ℕ) (blocks : List ℕ) : Type 0 where
   pub format : IsAm824 am824 plan
   pub packet : IsPacketOf plan n

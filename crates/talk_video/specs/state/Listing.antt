@@ -65,7 +65,7 @@ is_long_in bytes units zero = false
 is_long_in bytes units (suc i) =
     is_long_in bytes units i || nat_lt most_packets (packets_before units (suc i) - packets_behind bytes units (suc i))
 
--- packet n carries the unit or a fragment of the unit, which is within the byte stream
+-- `unit` is within the byte stream, and packet n carries the unit or a fragment of it
 pub record IsCarried (bytes : List ℕ) (unit : NalUnit) (n : ℕ) : Type 0 where
   pub some : unit.from < unit.to
   pub inside : unit.to ≤ length bytes
