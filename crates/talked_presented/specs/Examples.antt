@@ -18,7 +18,7 @@ thirty last_stamp = record restarting { kind = H264 last_stamp; rate = 30; resta
 abbrev pub silence : List ℕ
 silence = replicate 72 0
 
--- a clock of 48 kHz, with six timestamps in a packet, 160 sample frames apart
+-- a clock of 48 kHz; each of its packets has six timestamps, which are 160 sample frames apart
 abbrev pub six_points : CrfPlan
 six_points = record { id = 0x0200000000010002; rate = 48000; pull = 0; interval = 160; points = 6 }
 
