@@ -170,7 +170,7 @@ all_shown plan records end.Limit all = absurd cc
 whole_first : (plan : ListenPlan) (first others : List Record) → IsPrefix (due_of plan first) (shown_of plan (first ++ others))
 whole_first plan first others = longer_front (due_of plan first) (due_of plan (first ++ others)) (shown_of plan (first ++ others)) (due_stays plan first others) (due_first plan (first ++ others))
 
--- what is shown begins with what is due of the first records, however the reading ended
+-- the shown items begin with the due items of the records `first`, however the reading ended
 first_shown : (plan : ListenPlan) (first others : List Record) (how : End) → IsPrefix (due_of plan first) (shown_by plan (first ++ others) how)
 first_shown plan first others end.Whole = whole_first plan first others
 first_shown plan first others (end.Refused refusal) = whole_first plan first others

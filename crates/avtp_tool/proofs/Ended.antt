@@ -49,7 +49,6 @@ not_write result other is differs e = differs (sym is ∙ e)
 pub ended_as : {h h' : SinkState} {w w' : List ℕ} {ended : Result Status Failed} {result : Status} (other : Status) → other ≢ status.WriteFault → Finishes h h' w w' ended result → result ≡ other → ended ≡ Ok other
 ended_as {result = result} other differs finishes is = (finishes.whole (not_write result other is differs)).0 ∙ ap (λ (s : Status). Ok s) is
 
--- if a run did everything that was asked for, it had done so before its text was written
 pub through_to : {h h' : SinkState} {w w' : List ℕ} {ended : Result Status Failed} {result : Status} → Finishes h h' w w' ended result → is_through result ≡ true → IsThrough ended
 through_to {result = result} finishes through =
     let other : result ≢ status.WriteFault = λ e. (let t : false ≡ true = ap is_through (sym e) ∙ through in cc) in

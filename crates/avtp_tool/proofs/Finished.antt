@@ -13,7 +13,7 @@ written_none : (held : Option (List ℕ)) → written held [] ≡ held
 written_none None = refl
 written_none (Some xs) = ap (λ t. Some t) (append-nil xs)
 
--- If no text is pending before and after, the sink got the whole text.
+-- If no text was pending before the call and none is pending after it, the sink got the whole text.
 pub flushed : (old mid new : Option (List ℕ)) (start last text : List ℕ) → start ≡ [] → last ≡ [] → Appends (written old start) mid text → Keeps mid (written new last) → Appends old new text
 flushed old mid new start last text none ended appends keeps =
     let whole = Appends-kept (written old start) mid (written new last) text appends keeps in
@@ -38,7 +38,7 @@ prefix_of (Some xs) (Some ms) (Some ys) waits text prefix rest more split append
       appends = grew;
     }
 
--- If no text was pending before, the sink got a prefix of the text.
+-- If no text was pending before the call, the sink got a prefix of the text.
 pub gains_prefix : (old mid new : Option (List ℕ)) (start waits text : List ℕ) → start ≡ [] → AppendsPrefix (written old start) mid text → Keeps mid (written new waits) → Grows old new → AppendsPrefix old new text
 gains_prefix old mid new start waits text none p keeps grows =
     prefix_of old mid new waits text p.prefix p.rest grows.more p.split (subst (λ s. Appends (written old s) mid p.prefix) none p.appends) keeps grows.appends

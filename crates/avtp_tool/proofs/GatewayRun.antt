@@ -79,7 +79,7 @@ cut_by asked records came ended text made (end.Refused refusal) other c e t m = 
 cut_by asked records came ended text made end.ReadFault other c e t m = (c, e, t, m)
 cut_by asked records came ended text made end.Limit other c e t m = (c, e, t, m)
 
--- without a read fault, a reading ends as the bytes say, and all bytes within the limit are read
+-- without a read fault, the bytes and the limit decide how a reading ends, and all bytes within the limit are read
 pub by_end : (limit : ℕ) (bytes prefix : List ℕ) (fault : Type 0) (how : End) → (fault → ⊥) → EndsAt limit (Some bytes) fault how prefix → (how ≡ end_of limit bytes) × (prefix ≡ take limit bytes)
 by_end limit bytes prefix fault end.Whole none ends = ends
 by_end limit bytes prefix fault (end.Refused refusal) none ends = ends

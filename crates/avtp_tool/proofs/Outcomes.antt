@@ -72,8 +72,9 @@ tells_cut {result = Ok s} ended yields outcome cut part = record {
 }
 tells_cut {result = Err e} ended yields outcome cut part = record { ended = ended; yields = yields; outcome = outcome; part = part; whole = tt }
 
--- What follows from how the known bytes grew. If they grew by `line`, all of `one` was given out. If they did not grow,
--- the empty part of any yield was given out. Giving out a whole yield is also giving out a part of it.
+-- `Whole y` says that all of the yield `y` was given out, and `Part y` that a part of it was. If the known bytes grew
+-- by `line`, all of `one` was given out. If the known bytes are unchanged, an empty part was given out, which is a part
+-- of any yield. If all of a yield was given out, a part of it was given out.
 pub record Telling {Y : Type 0} (Whole Part : Y → Type 0) (before now : Option (List ℕ)) (line : List ℕ) (one : Y) : Type 0 where
   pub says : Appends before now line → Whole one
   pub none : (y : Y) → Keeps before now → Part y
@@ -115,7 +116,6 @@ tells_end {handed = handed} {before} {h} {h'} {w} {w'} {result = Err e} {ended} 
       };
     }
 
--- If each outcome of `A` is one of `B`, a run that gave out an outcome of `A` gave out one of `B`.
 pub tells_weaker : {Y : Type 0} {A B : Status → Y → Type 0} {Whole Part : Y → Type 0} {result : Result Status Failed} → ((ended : Status) (yields : Y) → A ended yields → B ended yields) → Tells A Whole Part result → Tells B Whole Part result
 tells_weaker weaker t = record { ended = t.ended; yields = t.yields; outcome = weaker t.ended t.yields t.outcome; whole = t.whole; part = t.part }
 

@@ -139,7 +139,6 @@ unscanned_runs {s} {t} {result = result} asked why scan ends =
 
 -- ---- OUT was made
 
--- an outcome for the files and counts after the scan is also an outcome for those before the scan
 outcome_since : (asked : Turning) (all : Files) (shape : Option Shape) (bytes : List ℕ) (a b : Type 0) (ended : Status) (text : List ℕ) (made : Option (List ℕ)) → (a → b) → all asked.input ≡ Some bytes
     → CanTurn asked bytes → shape ≡ shape_asked asked (records_of asked bytes) → TurnedOutcome asked shape bytes a ended text made
     → GatewayOutcome asked all b (asked.input ∷ asked.output ∷ asked.input ∷ []) ended text made

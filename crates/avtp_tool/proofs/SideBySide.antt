@@ -126,7 +126,7 @@ side_begun side listener fresh = record {
   no_fault = λ fault. absurd (let e : None ≡ Some end.ReadFault = sym fresh.unended ∙ fault in cc);
 }
 
--- a listener that only gave out items leaves the state of its side unchanged
+-- if a listener only gave out items, the state of its side is unchanged
 pub side_still : (side : Side) (old new : ListenState) → new.counts.frames ≡ old.counts.frames → is_closed new ≡ is_closed old → IsSideAt side old → IsSideAt side new
 side_still side old new frames closed at = record {
   going = λ unended. let g = at.going unended in (g.0, omega (arith, g.1, frames));
@@ -262,7 +262,6 @@ ended_by side listener at closed = sym at.closed ∙ closed
 
 -- ---- what was compared
 
--- reading one side leaves unchanged what is left to read of the other side
 side_kept : (limit : ℕ) (bytes : List ℕ) (s t : ShelfState) (source : Sourcing) (e : Option End) (records : List Record) → remains_of t source ≡ remains_of s source → SideRead limit bytes s source e records → SideRead limit bytes t source e records
 side_kept limit bytes s t source None records same given = subst (λ (r : Option (List ℕ)). HasGiven limit bytes r source records) (sym same) given
 side_kept limit bytes s t source (Some how) records same given = given
@@ -272,7 +271,8 @@ other_left s t k i source reads apart = ap (λ o. left_at o) (reads.others (slot
   left_at : Option Open → Option (List ℕ)
   left_at o = option_and_then (λ (f : Open). f.left) o
 
--- If a reading did not end with a read fault, it ended as the bytes say, after all records within the limit.
+-- Unless a read fault ended the reading, the bytes and the limit decide how it ended, and `records` are all records
+-- within the limit.
 whole_end : (how : End) (limit : ℕ) (bytes : List ℕ) (fault : Type 0) (records : List Record) → how ≢ end.ReadFault → EndsAfter limit bytes fault how records → (how ≡ end_of limit bytes) × (records ≡ records_in (take limit bytes))
 whole_end how limit bytes fault records other after = at how other after.prefix after.ends after.whole where
   at : (h : End) → h ≢ end.ReadFault → (prefix : List ℕ) → EndsAt limit (Some bytes) fault h prefix → records_in prefix ≡ records → (h ≡ end_of limit bytes) × (records ≡ records_in (take limit bytes))
@@ -281,7 +281,8 @@ whole_end how limit bytes fault records other after = at how other after.prefix 
   at end.ReadFault other prefix ends whole = absurd (other refl)
   at end.Limit other prefix ends whole = (ends.0, sym whole ∙ ap records_in ends.1)
 
--- the records that both sides have given after a step, and what is left to read of the side that was read
+-- In a step, the side `which` gave the records `more` after the records `mine`, and the pair took them. The step
+-- neither closed nor reopened the listener of the other side.
 record SideOn (which : Which) (limit : ℕ) (bytes : List ℕ) (t : ShelfState) (side' : Side) (mine theirs : List Record) (given : ℕ) (pair pair' : PairState) : Type 0 where
   pub more : List Record
   pub read : SideRead limit bytes t side'.source side'.end (mine ++ more)
@@ -369,7 +370,7 @@ told_b {s} {t} {a} {b} {b'} {pair} {pair'} {asked} {x} {y} {before} {mid} {now} 
 
 -- ---- all that a side has
 
--- the records of a side that were not given yet; none if the listener of the side is closed
+-- `more` are the records of a side that were not given yet. There are none if the listener of the side is closed.
 record RestOf (limit : ℕ) (bytes : List ℕ) (records : List Record) (listener : ListenState) : Type 0 where
   pub more : List Record
   pub all : records_in (take limit bytes) ≡ records ++ more
@@ -381,7 +382,7 @@ rest_of limit bytes s source None records listener closed given =
     record { more = first.0; all = first.1; none = λ yes. never (is_closed listener) closed yes }
 rest_of limit bytes s source (Some how) records listener closed given = record { more = []; all = sym given.1 ∙ sym (append-nil records); none = λ yes. refl }
 
--- the differences that were printed are the first of all differences
+-- the first `n` differences that are known now are the first `n` differences of the whole comparison
 pub first_of_all : (s : ShelfState) (c : Comparing) (asked : Agreeing) (x y : List ℕ) (records others : List Record) (n given : ℕ) → n ≤ given → IsSideAt c.a c.pair.a → IsSideAt c.b c.pair.b → HavePlan (plan_of asked.listener) c.pair → EndsAreClosed c.pair
     → SideRead asked.listener.limit x s c.a.source c.a.end records → SideRead asked.listener.limit y s c.b.source c.b.end others → StandsFor records others given c.pair
     → take n (differences (known_by c.pair records others)) ≡ take n (differences (merged_in asked x y))
@@ -408,7 +409,7 @@ prefix_of_all list n before now appends = record {
 
 -- ---- the whole comparison
 
--- Two captures of these bytes were read up to some point, and all known differences were printed.
+-- Captures with the bytes `x` and `y` were read up to some point. All differences known by then were printed.
 pub record IsAllTo (asked : Agreeing) (x y : List ℕ) (shelf : ShelfState) (c : Comparing) (before now : Option (List ℕ)) : Type 0 where
   pub to : IsComparedTo asked x y shelf c before now
   pub all : take to.given (differences (known_by c.pair to.records_a to.records_b)) ≡ differences (known_by c.pair to.records_a to.records_b)
@@ -514,7 +515,7 @@ abbrev pub side_of : Which → Comparing → Side
 side_of A c = c.a
 side_of B c = c.b
 
--- both files are still open, in their slots
+-- both files are still open, each in the slot in which it was opened
 pub record IsReadOn (s u : ShelfState) (first c' : Comparing) : Type 0 where
   pub reads : ReadsTwo s u (slot_of first.a.source) (slot_of first.b.source)
   pub slot_a : slot_of c'.a.source ≡ slot_of first.a.source
@@ -683,7 +684,7 @@ pub kept_on : {t u : ShelfState} {c c' : Comparing} {h h' : SinkState} {w w' : L
 kept_on A on = let r = on.in_a refl in (r.0.kept, r.0.sink)
 kept_on B on = let r = on.in_b refl in (r.0.kept, r.0.sink)
 
--- The listener of a side has taken few enough records to take another.
+-- If the listener of a side is not closed, it has taken fewer than 2^61 records and can take another.
 pub few_on : {s t : ShelfState} {first c : Comparing} (which : Which) → IsAmidTwo s t first c → is_closed (listener_of which c.pair) ≡ false → (listener_of which c.pair).counts.frames < 2 ^ 61
 few_on {c = c} A amid listens = let going = amid.a.going (open_by c.a c.pair.a amid.a listens) in omega (arith, going.1)
 few_on {c = c} B amid listens = let going = amid.b.going (open_by c.b c.pair.b amid.b listens) in omega (arith, going.1)

@@ -150,7 +150,7 @@ quiet_end (end.Refused refusal) before after other counted = counted
 quiet_end end.ReadFault before after other counted = absurd (other refl)
 quiet_end end.Limit before after other counted = counted
 
--- a capture that is opened gets another slot than the file that is written
+-- the slot in which a capture is opened differs from the slot of the file that is written
 opened_apart : {s t : ShelfState} {source : Sourcing} (asked : Turning) (w : ℕ) → IsMadeIn s.slots w → OpensSource s t asked.listener.limit asked.input (Ok source) → slot_of source ≢ w
 opened_apart {s} asked w made opens same =
     let none : s.slots w ≡ None = subst (λ (n : ℕ). s.slots n ≡ None) same opens.tries.opened.free in

@@ -126,8 +126,8 @@ shown_still (Some old) (Some new) files told keeps some = (new, refl, λ name. k
 
 -- ---- why a file was not opened
 
--- `Refuses` still holds with other calls before and after the failed open. None of these calls may count a read fault,
--- and the earlier ones may not change a file.
+-- If other calls precede and follow the failed open, `Refuses` still holds. None of these calls may count a read fault.
+-- The calls before the failed open may not change a file.
 pub refused_around : {name : List ℕ} {fault : OpenFault} (s t u v : ShelfState) → KeepsFiles s.files t.files → t.reading_faults ≡ s.reading_faults → v.reading_faults ≡ u.reading_faults
     → (IsErrOf {T = Sourcing} (Err fault) open_fault.Missing → IsMissing t.files name) → IsOpenCounted {T = Sourcing} t.reading_faults u.reading_faults (Err fault) → Refuses s v name fault
 refused_around {name} {fault} s t u v keeps first last missing counted = record {

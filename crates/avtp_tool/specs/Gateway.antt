@@ -170,7 +170,7 @@ pub data GatewayOutcome (asked : Turning) (files : Files) (fault : Type 0) (came
       → GatewayOutcome asked files fault came ended text made
 
 -- What the capture OUT keeps of IN. OUT is whole. From OUT a listener presents exactly the samples of the batches of IN
--- that are not skipped. The order, values and instants of these samples are those of IN. `check` prints no finding for
+-- that are not skipped. These samples have the same order, values and instants as in IN. `check` prints no finding for
 -- OUT. With status 0 no batch is skipped.
 pub record KeepsInput (asked : Turning) (files : Files) (fault : Type 0) (ended : Status) (capture : List ℕ) : Type 0 where
   pub shape : Option Shape

@@ -28,8 +28,8 @@ use Rattle.avtp_tool.specs.Yield.{Yield}
 abbrev pub ReadsAll : ShelfState → ShelfState → Type 0
 ReadsAll shelf shelf' = IsQuiet shelf.reading_faults shelf'.reading_faults
 
--- `agree` compares the captures `x` and `y`, each up to its end, a refused field or the limit. In both, a listener
--- hears one talker that keeps the rules. Each capture may have lost, repeated or reordered packets.
+-- `agree` compares the captures `x` and `y`, each up to its end, a refused field or the limit. In both captures, a
+-- listener hears the same talker, which keeps the rules. In each capture, packets may be lost, repeated or reordered.
 pub record ComparesTalker (request : Request) (files : Files) (asked : Agreeing) (x y : List ℕ) (shift : ℤ) (p : PacketJournal) : Type 0 where
   pub compares : request ≡ agree asked
   pub told_a : files asked.a ≡ Some x
@@ -47,9 +47,9 @@ pub record Reports (request : Request) (files : Files) (failed : Bool) (handed :
   -- the capture that the run makes, if any
   pub made : Option (List ℕ)
   pub outcome : Outcome request files (Rose shelf.reading_faults shelf'.reading_faults) failed came reached yields made
-  -- Unless memory ran out or a write failed, the run was not cut short. It then ends with the status `reached`. All of
-  -- the text was written, and each item was given to the devices. The shelf was asked for exactly the names `came`. The
-  -- output has what the run makes.
+  -- Unless memory ran out or a write failed, the run ended with the status `reached`. All of the text was written, and
+  -- each item was given to the devices. The shelf was asked for exactly the names `came`. The output has what the run
+  -- makes.
   pub whole : ended ≢ status.Memory → ended ≢ status.WriteFault →
       (ended ≡ reached) × Appends out.held out'.held yields.text × handed yields.items × Asks came shelf shelf' × MakesOutput (output_of request) made shelf.files shelf'.files
   -- In any case, a prefix of the text was written, and a prefix of the items was given to the devices. The output is
@@ -63,14 +63,14 @@ pub record Reports (request : Request) (files : Files) (failed : Bool) (handed :
   -- `made`.
   pub complete : ReadsAll shelf shelf' →
       (came ≡ came_for request files) × (reached ≡ status_for request files failed) × (yields ≡ yield_for request files failed) × (made ≡ made_for request files)
-  -- Each file that `listen` reached yields what the headline says, as far as the file was read and its talker keeps the
-  -- rules. Different files may have different talkers.
+  -- Each file that `listen` reached yields what the headline says of the records that were read. The headline holds for
+  -- records of a talker that keeps the rules. Different files may have different talkers.
   pub headline : (asked : Listening) (earlier later : List (List ℕ)) (name bytes : List ℕ) → request ≡ listen asked → came ≡ earlier ++ name ∷ later →
       files name ≡ Some bytes → HasHeadline asked files (Rose shelf.reading_faults shelf'.reading_faults) earlier name bytes yields
   -- what `agree` prints of two captures of one talker that keeps the rules, if no read fault occurred
   pub agreement : ReadsAll shelf shelf' → (asked : Agreeing) (x y : List ℕ) (shift : ℤ) (p : PacketJournal) →
       ComparesTalker request files asked x y shift p → HasAgreement asked p x y yields.text
-  -- what the capture that `gateway` makes keeps of its input
+  -- what `gateway` keeps of its input in the capture that it makes
   pub kept : (asked : Turning) (capture : List ℕ) → request ≡ gateway asked → made ≡ Some capture →
       KeepsInput asked files (Rose shelf.reading_faults shelf'.reading_faults) reached capture
 
@@ -96,8 +96,8 @@ pub record HasCauses (request : Request) (shelf shelf' : ShelfState) (out out' :
 
 -- ---- the command
 
--- What a run of the request did. `handed items` says that the devices got exactly these items, `still` that the devices are
--- unchanged, and `failed` whether a device failed.
+-- What a run of the request did. `handed items` says that the devices got exactly these items. `still` says that the
+-- devices are unchanged. `failed` says whether a device failed.
 pub record HasRun (request : Request) (handed : List Shown → Type 0) (still : Type 0) (failed : Bool) (shelf shelf' : ShelfState)
     (out out' : SinkState) (ended : Status) : Type 0 where
   -- what the run printed and gave to devices, if the shelf shows its files before and after the run

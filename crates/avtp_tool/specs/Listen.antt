@@ -81,11 +81,12 @@ pub record YieldsHeadline (asked : Listening) (name bytes : List ℕ) (fault : T
   pub read : List ℕ
   pub ends : EndsAt asked.listener.limit (Some bytes) fault how read
   pub same : yields ≡ heard_yield asked name (records_in read) how
-  -- If the records `first` are those of a talker, what is shown begins with what is due of `first`. That part is as the
-  -- headline says, whatever records follow.
+  -- If a talker that keeps the rules sent the records `first`, the shown items begin with the items of `first` that are
+  -- due. Those items are as the headline says, whatever records follow.
   pub front : (shift : ℤ) (p : PacketJournal) (first others : List Record) → records_in read ≡ first ++ others → HearsTalker shift p (plan_of asked.listener) first →
       IsPrefix (due_of (plan_of asked.listener) first) yields.items × IsTrueFront p (plan_of asked.listener) first others
-  -- If all records are those of a talker and the reading was not cut short, all that is shown is as the headline says.
+  -- If a talker that keeps the rules sent all records and the reading was not cut short, all shown items are as the
+  -- headline says.
   pub whole : (shift : ℤ) (p : PacketJournal) → is_cut_short how ≡ false → HearsTalker shift p (plan_of asked.listener) (records_in read) →
       KeepsHeadline shift p (plan_of asked.listener) (records_in read) yields.items
 

@@ -26,14 +26,14 @@ abbrev pub device_status : Bool → Status → Status
 device_status true status.Done = status.DeviceFault
 device_status failed ended = ended
 
--- The last line of a run of `listen`, given whether a device failed and the status of reading the files. There is one
--- only if a device failed and that status is `Done`.
+-- The last line of a run of `listen`, given whether a device failed and the status of reading the files. The line is
+-- empty unless a device failed and that status is `Done`.
 abbrev pub device_notice : Bool → Status → List ℕ
 device_notice true status.Done = device_fault_line
 device_notice failed ended = []
 
--- A possible outcome of a run of `listen` over these files. It is an outcome of reading the files, followed by the last
--- line and the status that a failed device adds.
+-- A possible outcome of a run of `listen` over these files. The run reads the files with the status `heard` and the
+-- yield `given`. If a device failed, the status and the last line can say so.
 pub record ListenOutcome (asked : Listening) (files : Files) (fault : Type 0) (failed : Bool) (came : List (List ℕ)) (ended : Status) (yields : Yield) : Type 0 where
   pub heard : Status
   pub given : Yield

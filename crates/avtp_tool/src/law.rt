@@ -5,9 +5,9 @@ ghost use Rattle.capture_io.specs.Ends.{end_of};
 ghost use Rattle.capture_io.specs.Formats.{AreBytes, as_classic, is_pcapng, records_in};
 ghost use Rattle.avtp_tool.specs.Reading.{file_status, file_yield, Report};
 
-/// `show`, `check` and `listen` report a pcapng capture like a classic capture of the same records that is
-/// little-endian and has nanosecond timestamps. Only the end of the reading depends on the pcapng file: its first
-/// refused field, or the limit on its bytes.
+/// `show`, `check` and `listen` report a pcapng capture like a little-endian classic capture with nanosecond timestamps
+/// and the same records. Only the end of the reading depends on the pcapng file: its first refused field, or the limit
+/// on its bytes.
 pub fn pcapng_reports()
     ensures { (report : Report) (limit : ℕ) (bytes : List ℕ) → AreBytes (take limit bytes) → is_pcapng (take limit bytes) ≡ true →
         (file_status report limit (Some bytes) ≡ report.status (records_in (as_classic (take limit bytes))) (end_of limit bytes))

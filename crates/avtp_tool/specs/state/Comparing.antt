@@ -57,7 +57,7 @@ pub record ReadsTwo (before after : ShelfState) (k j : ℕ) : Type 0 where
   pub writing : after.writing_faults ≡ before.writing_faults
   pub asked : AsksNothing before after
 
--- The files `a` and `b` were opened, in the slots `k` and `j`, which had been free. All else is unchanged.
+-- The file `a` was opened in slot `k`, and the file `b` in slot `j`. Both slots had been free. All else is unchanged.
 pub record OpensSlots (before after : ShelfState) (a b : List ℕ) (k j : ℕ) : Type 0 where
   pub free_a : before.slots k ≡ None
   pub free_b : before.slots j ≡ None
@@ -94,7 +94,7 @@ pub record IsBegun (c : Comparing) : Type 0 where
   pub b : IsFresh c.b c.pair.b
   pub stands : StandsFor [] [] 0 c.pair
 
--- The captures `a` and `b` have known bytes, and none of their records was given to the pair yet.
+-- The shelf shows the bytes of the files `a` and `b`. No record of either file was read yet.
 pub record AreTold (limit : ℕ) (files : Files) (a b : List ℕ) (shelf : ShelfState) (c : Comparing) : Type 0 where
   pub bytes_a : List ℕ
   pub bytes_b : List ℕ
@@ -123,15 +123,15 @@ pub record OpensTwo (before after : ShelfState) (limit : ℕ) (plan : ListenPlan
 
 -- ---- differences
 
--- All differences that are known by now are printed. Or the sink failed at a difference, and only the differences
--- before it are printed.
+-- If `result` is `Ok`, all differences that are known by now are printed. If the sink failed at a difference, only the
+-- earlier differences are printed.
 abbrev pub PrintedAll : List Record → List Record → PairState → List Difference → Option (List ℕ) → Result Unit Failed → Option (List ℕ) → Type 0
 PrintedAll records others pair all base (Ok x) now =
     (given : ℕ) × (take given all ≡ all) × StandsFor records others given pair × Appends base now (difference_lines all)
 PrintedAll records others pair all base (Err e) now =
     (n : ℕ) × StandsFor records others (n + 1) pair × Appends base now (difference_lines (take n all))
 
--- The known differences that had not been printed were printed. If the sink failed, only some of them were printed.
+-- The known differences that had not been printed were printed. If the sink failed, only a prefix of them was printed.
 pub record PrintsDifferences (pair pair' : PairState) (out out' : SinkState) (waits waits' : List ℕ) (result : Result Unit Failed) : Type 0 where
   pub printed : (records others : List Record) (given : ℕ) (base : Option (List ℕ)) → StandsFor records others given pair
       → Appends base (written out.held waits) (difference_lines (take given (differences (known_by pair records others))))
@@ -163,7 +163,7 @@ pub record Shuts (which : Which) (old new : PairState) : Type 0 where
   pub stands : (mine theirs : List Record) (given : ℕ) → StandsOn which mine theirs given old → StandsOn which mine theirs given new
   pub changes : Changes which 0 true old new
 
--- The pair took the held record. Or there was no memory for the record, and nothing changed.
+-- The pair took the record `held`. Or there was no memory for the record, and the pair is unchanged.
 abbrev pub TakesHeld : Which → Option Record → PairState → PairState → Step → Type 0
 TakesHeld which held old new step.Took = (r : Record) × (held ≡ Some r) × Takes which r old new
 TakesHeld which held old new step.NoMemory = new ≡ old
@@ -195,7 +195,8 @@ pub record ReadsOn (which : Which) (shelf shelf' : ShelfState) (c c' : Comparing
 
 -- ---- two captures, as far as they were compared
 
--- A capture that is read, and its listener. The listener is closed once the reading has ended.
+-- A capture that is read, and its listener. The listener is closed exactly if the reading has ended. No read fault
+-- ended the reading.
 pub record IsSideAt (side : Side) (listener : ListenState) : Type 0 where
   pub going : side.end ≡ None → (side.source.ended ≡ None) × (listener.counts.frames + to_do side.source ≤ 2 ^ 41)
   pub closed : is_closed listener ≡ is_some side.end
@@ -220,12 +221,14 @@ pub record IsAmidTwo (shelf shelf' : ShelfState) (old new : Comparing) : Type 0 
   pub plan_a : new.pair.a.plan ≡ old.pair.a.plan
   pub plan_b : new.pair.b.plan ≡ old.pair.b.plan
 
--- The records that were given from a capture so far, or all of its records once its reading has ended.
+-- If the reading of the capture has ended, `records` are all its records within the limit. Otherwise they are the
+-- records that `source` has given so far.
 abbrev pub SideRead : ℕ → List ℕ → ShelfState → Sourcing → Option End → List Record → Type 0
 SideRead limit bytes shelf source None records = HasGivenOf limit bytes shelf source records
 SideRead limit bytes shelf source (Some how) records = (how ≡ end_of limit bytes) × (records ≡ records_in (take limit bytes))
 
--- Two captures with these bytes were read up to some point, and a prefix of the known differences was printed.
+-- Captures with the bytes `x` and `y` were read up to some point. A prefix of the differences known by then was
+-- printed.
 pub record IsComparedTo (asked : Agreeing) (x y : List ℕ) (shelf : ShelfState) (c : Comparing) (before now : Option (List ℕ)) : Type 0 where
   pub records_a : List Record
   pub records_b : List Record
@@ -235,7 +238,7 @@ pub record IsComparedTo (asked : Agreeing) (x y : List ℕ) (shelf : ShelfState)
   pub stands : StandsFor records_a records_b given c.pair
   pub printed : Appends before now (difference_lines (take given (differences (known_by c.pair records_a records_b))))
 
--- A read fault occurred after a prefix of one of two captures, and the differences that were known by then were
+-- A read fault occurred in one of two captures, after the bytes `prefix`. The differences that were known by then were
 -- printed.
 pub data IsCutIn (asked : Agreeing) (x y : List ℕ) (fault : Type 0) (before now : Option (List ℕ)) : Type 0 where
   in_a : (prefix : List ℕ) → EndsAt asked.listener.limit (Some x) fault end.ReadFault prefix
@@ -250,15 +253,15 @@ pub record HasCompared (asked : Agreeing) (x y : List ℕ) (a b : End) (counts :
   pub counted : counts ≡ counts_of (merged_in asked x y)
   pub lines : Appends before now (difference_lines (differences (merged_in asked x y)))
 
--- what a comparison of two captures with these bytes results in, and what it printed
+-- the result of comparing two captures with the bytes `x` and `y`, and what the comparison printed
 abbrev pub ComparesTo : Agreeing → List ℕ → List ℕ → Type 0 → Option (List ℕ) → Option (List ℕ) → Result Compared Failed → Type 0
 ComparesTo asked x y fault before now (Ok (compared.Ended a b counts)) = HasCompared asked x y a b counts before now
 ComparesTo asked x y fault before now (Ok compared.Fault) = IsCutIn asked x y fault before now
 ComparesTo asked x y fault before now (Ok compared.NoMemory) = AppendsPrefix before now (difference_lines (differences (merged_in asked x y)))
 ComparesTo asked x y fault before now (Err e) = AppendsPrefix before now (difference_lines (differences (merged_in asked x y)))
 
--- The count of reading faults rose if a read fault ended the comparison, and is otherwise unchanged. If both readings
--- ended, neither ended with a read fault.
+-- The count of reading faults rose if a read fault stopped the comparison. Otherwise the count is unchanged. If the
+-- result is `Ended`, neither reading ended with a read fault.
 abbrev pub CountsCompared : Result Compared Failed → ℕ → ℕ → Type 0
 CountsCompared (Ok (compared.Ended a b counts)) before after = (a ≢ end.ReadFault) × (b ≢ end.ReadFault) × (after ≡ before)
 CountsCompared (Ok compared.Fault) before after = Rose before after

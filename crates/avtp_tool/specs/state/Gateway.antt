@@ -107,7 +107,7 @@ pub record TurnedOutcome (asked : Turning) (shape : Option Shape) (bytes : List 
   pub printed : text ≡ turned_text asked shape (batches_by asked (records_in prefix) how) how
   pub written : made ≡ Some (turned_capture asked shape (batches_by asked (records_in prefix) how))
 
--- The status is one with which a run of `gateway` can end after its scan found that each record can be converted.
+-- A run of `gateway` can end with this status after its scan found that each record can be converted.
 abbrev pub is_of_gateway : Status → Bool
 is_of_gateway status.Words = false
 is_of_gateway status.DeviceFault = false

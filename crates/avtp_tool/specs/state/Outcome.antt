@@ -1,5 +1,5 @@
 -- Kept for proofs: what private code holds and does. No clause of a public call uses it. The possible outcomes of a
--- command's run: its status, and what it yields. How much of this a run gave out that was cut short.
+-- command's run: its status, and what it yields. A run that was cut short gave out only a part of what it yields.
 use Rattle.std.specs.Prelude.{◌≡◌, ◌≢◌, ◌⊎◌, ℕ, ◌≤◌, List, [], Option, Result, Ok, Err, IfOk, true, IsErr, MatchResult}
 use Rattle.avtp_base.specs.declared.failed.Failed.{Failed}
 use Rattle.avtp_base.specs.declared.failed.OpenFault.{OpenFault}
@@ -21,8 +21,8 @@ abbrev pub IsDone : Result Status Failed → Type 0
 IsDone (Ok ended) = is_done ended ≡ true
 IsDone (Err e) = ⊥
 
--- A run gave out what one of the possible outcomes yields. If memory ran out or a write failed, it gave out only a part
--- of that. Otherwise it gave out all of it, and ended with the outcome's status.
+-- For one of the possible outcomes, the run gave out a part of what the outcome yields. Unless memory ran out or a
+-- write failed, the run gave out all of it and ended with the outcome's status.
 pub record Tells {Y : Type 0} (Outcome : Status → Y → Type 0) (Whole Part : Y → Type 0) (result : Result Status Failed) : Type 0 where
   pub ended : Status
   pub yields : Y
@@ -30,16 +30,17 @@ pub record Tells {Y : Type 0} (Outcome : Status → Y → Type 0) (Whole Part : 
   pub whole : IfOk result (λ s. s ≢ status.Memory → s ≢ status.WriteFault → (s ≡ ended) × Whole yields)
   pub part : Part yields
 
--- a text was given out: the known bytes grew by this text from `before` to `now`
+-- `Tells` for outcomes that yield a text. To give out the text is to append it to the known bytes `before`, which
+-- become `now`.
 abbrev pub TellsText : (Status → List ℕ → Type 0) → Option (List ℕ) → Option (List ℕ) → Result Status Failed → Type 0
 TellsText Outcome before now result = Tells Outcome (Appends before now) (AppendsPrefix before now) result
 
--- a text and items for the devices were given out
+-- `Tells` for outcomes that yield a text and items for the devices
 abbrev pub TellsYield : (Status → Yield → Type 0) → (List Shown → Type 0) → Option (List ℕ) → Option (List ℕ) → Result Status Failed → Type 0
 TellsYield Outcome handed before now result = Tells Outcome (Gives handed before now) (GivesPart handed before now) result
 
--- A whole run gave out what one of the possible outcomes yields. If memory ran out or a write failed, it gave out only
--- a part of that. Otherwise it gave out all of it, ended with the outcome's status, and asked the shelf for exactly the
+-- For one of the possible outcomes, the run gave out a prefix of what the outcome yields. Unless memory ran out or a
+-- write failed, the run gave out all of it, ended with the outcome's status, and asked the shelf for exactly the
 -- outcome's names.
 pub record TellsRun (Outcome : List (List ℕ) → Status → Yield → Type 0) (handed : List Shown → Type 0) (shelf shelf' : ShelfState) (before now : Option (List ℕ)) (result : Result Status Failed) : Type 0 where
   pub came : List (List ℕ)
@@ -85,9 +86,9 @@ pub record Finishes (out out' : SinkState) (waits waits' : List ℕ) (ended : Re
   pub fault : result ≡ status.WriteFault → IsErr ended ⊎ ((ended ≡ Ok status.WriteFault) ⊎ Rose out.faults out'.faults)
   pub quiet : result ≢ status.WriteFault → out'.faults ≡ out.faults
 
--- The count of reading faults of a run that reads some of these files. The run ends with a read fault only if a read
--- fault was counted or one of the files is missing. If the run ends with a status other than `ReadFault`, `Memory` and
--- `WriteFault`, the count is unchanged.
+-- How the count of reading faults changes in a run that reads some of these files. The run ends with a read fault only
+-- if a read fault was counted or one of the files is missing. If the run ends with a status other than `ReadFault`,
+-- `Memory` and `WriteFault`, the count is unchanged.
 pub record CountsReading (names : List (List ℕ)) (files : Option Files) (before after : ℕ) (result : Result Status Failed) : Type 0 where
   pub never_falls : before ≤ after
   pub fault : result ≡ Ok status.ReadFault → Rose before after ⊎ IsOneMissing names files

@@ -161,8 +161,8 @@ pub record AreOpenIn (slots : Slots) (source : Sourcing) (o : Output) : Type 0 w
   pub live : IsSome (slots (slot_of source))
   pub made : IsMadeIn slots o.writer.slot
 
--- A capture was written to a file while another file was read. If the file was a capture without records before, it is
--- a capture of some records now. A writing fault was counted exactly if a packet could not be written.
+-- A capture was written to a file while another file was read. If the written file was a capture without records
+-- before, it is a capture of some records now. A writing fault was counted exactly if a packet could not be written.
 pub record WritesOutput (before after : ShelfState) (old new : Output) (result : Result Turned Failed) : Type 0 where
   pub slot : new.writer.slot ≡ old.writer.slot
   pub made : IsMadeIn after.slots old.writer.slot
