@@ -1,4 +1,4 @@
--- Facts about the arguments of a program, as facts about the arguments that its system shows.
+-- What holds for the arguments of a program also holds for the arguments that its system shows.
 use Rattle.std.proofs.Common.{◌≡◌, ℕ, List, Option, Some, None, subst, refl}
 use Rattle.std.specs.Prelude.{IfSome, IsSome}
 use Rattle.avtp_base.specs.States.{SinkState}

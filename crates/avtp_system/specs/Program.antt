@@ -43,7 +43,7 @@ module _ {S : Type 0} (path : S → List ℕ) (state : S → SinkState) where
   AreAsked (listen asked) outputs = IsFor WritesRaw asked.raw (raw_outlet outputs) × IsFor WritesUnits asked.annexb (units_outlet outputs)
   AreAsked request outputs = (raw_outlet outputs ≡ None) × (units_outlet outputs ≡ None)
 
-  -- A request was run with the devices that it asks for. These devices got the items that the run promises.
+  -- A request was run with the devices that it asks for. `HasRun` says which items these devices got.
   pub record RunsWith (request : Request) (shelf shelf' : ShelfState) (out out' : SinkState) (ended : Status) : Type 0 where
     pub before : OutputFiles S
     pub after : OutputFiles S

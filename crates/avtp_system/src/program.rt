@@ -96,7 +96,7 @@ fn units_device<S: Sink + Drop, Y: System<S>>(
     Ok(AnnexBDevice::over(file))
 }
 
-/// The files that `listen` opens, except the file `name`: its captures, and the file of its other device.
+/// The names of the captures that `listen` reads and of the files of its devices, except the device's file `name`.
 fn other_files(alloc: Global, asked: &Listen<'_>, name: &str) -> Result<Vec<String>, NoMemory> {
     let mut others = Vec::new(alloc);
     for file in asked.files {

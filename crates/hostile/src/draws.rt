@@ -29,7 +29,7 @@ impl Draws {
         (self.words.next_u64() % n as u64) as usize
     }
 
-    /// True once in `n` times.
+    /// True in one of `n` draws, on average.
     pub fn one_in(&mut self, n: usize) -> bool {
         self.below(n) == 0
     }

@@ -87,7 +87,6 @@ shown_whole : (asked : Listening) (bytes read : List ℕ) (how : End) → how �
     → shown_by (plan_of asked.listener) (records_in read) how ≡ shown_of (plan_of asked.listener) (records_in bytes)
 shown_whole asked bytes read how is same = rw (is, same) refl
 
--- if a capture was read to its end, `listen` yields what is shown of the capture, as the headline says
 kept : (asked : Listening) (name bytes : List ℕ) (fault : Type 0) (here : Yield) (p : PacketJournal) → (fault → ⊥) → end_of asked.listener.limit bytes ≡ end.Whole → take asked.listener.limit bytes ≡ bytes
     → HearsTalker (pos 0) p (plan_of asked.listener) (records_in bytes) → (fault × (here ≡ says read_fault_line)) ⊎ YieldsHeadline asked name bytes fault here
     → KeepsHeadline (pos 0) p (plan_of asked.listener) (records_in bytes) (shown_of (plan_of asked.listener) (records_in bytes))

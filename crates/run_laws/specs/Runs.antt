@@ -14,9 +14,9 @@ use Rattle.avtp_words.specs.Grammar.{IsCommandLine, Request}
 use Rattle.avtp_tool.specs.declared.status.Status.{Status}
 use Rattle.avtp_tool.specs.HasRun.{HasRun, ReadsAll}
 
--- A run with these words ended with the status `ended`. Nothing is known of the run but what `run` promises of one
--- request (`HasRun`), with the same `handed`, `still` and `failed`. No read fault occurred. The shelf shows its files:
--- `files` before the run and `files'` after it.
+-- A run with these words ended with the status `ended`. All that is known of the run is what `run` promises of one
+-- request (`HasRun`); there, `handed`, `still` and `failed` mean the same. No read fault occurred. The shelf shows its
+-- files: `files` before the run and `files'` after it.
 pub record Ran (words : List (List ℕ)) (handed : List Shown → Type 0) (still : Type 0) (failed : Bool) (files files' : Files) (ended : Status) : Type 0 where
   pub shelf : ShelfState
   pub shelf' : ShelfState
@@ -28,8 +28,8 @@ pub record Ran (words : List (List ℕ)) (handed : List Shown → Type 0) (still
   pub read : ReadsAll shelf shelf'
 
 -- The devices got what a listener shows of a capture of the plan, as the headline says. The listener presents exactly
--- the packets `packets`, or for H.264 the NAL units that end with them. Each is presented once, in order, with its
--- bytes and at its instants. Nothing else is shown.
+-- the packets `packets`, or for H.264 the NAL units that end with these packets. Each is presented once, in order, with
+-- its bytes and at its instants. Nothing else is shown.
 pub record GaveAll (plan : TalkPlan) (input packets : List ℕ) (handed : List Shown → Type 0) : Type 0 where
   pub items : List Shown
   pub given : handed items

@@ -276,8 +276,8 @@ gateway batches 1 packets 1 skipped 0
     Ok(())
 }
 
-/// One second of each format in 1,000 packets, and then an eighth of a second of AM824. The packets of this last case
-/// have six blocks. The timestamp of such a packet can belong to a later block than its first.
+/// One second of each format in 1,000 packets, and then an eighth of a second of AM824 in packets of six blocks. The
+/// timestamp of a packet of six blocks can belong to a block after the first.
 const SECONDS: &str = "\
 < a.raw noise:96000
 $ talk --format int24 --rate 32000 --channels 1 --count 32 a.raw c

@@ -8,17 +8,22 @@ use std::alloc::Global;
 use std::thread::Threads;
 use vectors_avtp::Draws;
 
-/// A row has five fields. The first has the options of `talk`, whose input has 9,600 bytes. The second has the options
-/// of `listen`. The third has the number of items of the look-ahead. The fourth has the delivered records, in order.
-/// The last has the end of the text, or the least number of packets that are presented.
+/// A row has five fields:
 ///
-/// In the fourth field, `mixed` means the records of `MIXED`. With `7/5/3`, each seventh record is lost, each fifth is
-/// delivered twice, and each third overtakes the record before it. A record that is lost is not delivered at all. With
-/// `drawn:9`, what happens to each record is drawn from the seed 9.
+/// - The options of `talk`. The input of `talk` has 9,600 bytes.
+/// - The options of `listen`.
+/// - The number of items that the listener looks ahead.
+/// - The numbers of the delivered records, in order.
+/// - The end of the text of `listen`, or the minimum number of packets that it presents.
 ///
-/// In the six rows of AAF, the media clock restarts after each 12 packets. Packets 12 to 15 are thus sent after a
-/// restart and before the next timestamp. The first of these rows loses nothing. The others lose packets, lose
-/// timestamps, repeat packets, let packets overtake a timestamp, and let packets overtake a restart, in this order.
+/// In the fourth field, `mixed` stands for the numbers in `MIXED`. `7/5/3` says that every seventh record is lost, every
+/// fifth is delivered twice, and every third overtakes the record before it. A record that is lost is not delivered at
+/// all. `drawn:9` says that the seed 9 decides what happens to each record.
+///
+/// The first six rows are of AAF. In these rows, every eighth packet has a timestamp, and the media clock restarts after
+/// every 12 packets. Packets 12 to 15 are thus sent after a restart and before the next timestamp. Row 1 delivers
+/// packets 0 to 27 once and in order. Row 2 loses packets, row 3 loses timestamps, and row 4 repeats packets. In row 5,
+/// packets overtake a timestamp. In row 6, packets overtake a restart.
 const ROWS: &str = "\
 --sparse --restart 12 |  | 0 | 0 1 2 3 4 5 6 7 8 9 10 11 12 13 14 15 16 17 18 19 20 21 22 23 24 25 26 27 | presented 24 flagged 4
 --sparse --restart 12 |  | 0 | 0 2 5 11 12 16 17 23 24 31 | presented 8 flagged 2

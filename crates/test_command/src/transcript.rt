@@ -214,7 +214,7 @@ pub fn records_in(alloc: Global, capture: &[u8]) -> Result<Vec<&[u8]>, NoMemory>
     Ok(records)
 }
 
-/// A capture of the records of `capture` at these places, in this order.
+/// A capture of the records of `capture` with the numbers `places`, in this order.
 pub fn records_at(alloc: Global, capture: &[u8], places: &[usize]) -> Result<Vec<u8>, NoMemory> {
     let records = records_in(alloc, capture)?;
     let mut picked = Vec::from_slice(alloc, capture.get(..24).unwrap_or(&[]))?;
