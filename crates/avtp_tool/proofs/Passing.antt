@@ -139,7 +139,8 @@ gives_no_more items more (Err e) failed g = record {
   hands = g.hands;
 }
 
--- the presented items are all the given items, or a prefix of them
+-- If only a prefix of the given items was presented because the sink failed, `GivesItems` holds for all given items,
+-- too.
 pub gives_given : {handed : List Shown → Type 0} {h h' : SinkState} {w w' : List ℕ} (A : Type 0) (presented given : List Shown) (result : Result Unit Failed) → OnOk result ((presented ≡ given) × A) → IsPrefix presented given
     → GivesItems handed h h' w w' result presented → GivesItems handed h h' w w' result given
 gives_given {handed} {h} {h'} {w} {w'} A presented given (Ok o) whole first g = subst (GivesItems handed h h' w w' (Ok o)) whole.0 g

@@ -230,7 +230,7 @@ names_apart {asked} to_turn same =
     let e : Some asked.input ≡ Some asked.output = sym to_turn.named ∙ same ∙ to_turn.fresh.named in
     to_turn.fresh.apart cc
 
--- the first `n` records of a prefix are also the first records of the whole list
+-- each prefix of the records `xs` is a prefix of `xs ++ ys`
 first_taken : (n : ℕ) (xs ys : List Record) → (m : ℕ) × (take m (xs ++ ys) ≡ take n xs)
 first_taken zero xs ys = (0, refl)
 first_taken (suc n) [] ys = (0, refl)

@@ -90,9 +90,9 @@ pub record YieldsHeadline (asked : Listening) (name bytes : List ℕ) (fault : T
   pub whole : (shift : ℤ) (p : PacketJournal) → is_cut_short how ≡ false → HearsTalker shift p (plan_of asked.listener) (records_in read) →
       KeepsHeadline shift p (plan_of asked.listener) (records_in read) yields.items
 
--- What a run yields, in three parts. `before` is what the earlier files yield, all of which were read to their ends.
--- `here` is what this file yields: a read fault if it could not be opened, otherwise what the headline says. `after` is
--- what later files yield.
+-- What a run yields, in three parts. The earlier files were all read to their ends, and yield `before`. The file `name`
+-- yields `here`: a read fault if the file could not be opened, otherwise what the headline says. The later files yield
+-- `after`.
 pub record HasHeadline (asked : Listening) (files : Files) (fault : Type 0) (earlier : List (List ℕ)) (name bytes : List ℕ) (yields : Yield) : Type 0 where
   pub before : Yield
   pub done : Status

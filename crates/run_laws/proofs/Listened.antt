@@ -102,7 +102,8 @@ kept asked name bytes fault here p none ends taken hears (inr yields) =
 
 -- ---- the run
 
--- unless memory ran out or a write failed, a run over one capture ends as the reading of the capture ends
+-- unless memory ran out or a write failed, the status depends only on how the reading ended and on whether a device
+-- failed
 ended_by : (id : ℕ) (word name bytes : List ℕ) (files after : Files) (handed : List Shown → Type 0) (still : Type 0) (failed : Bool) (ended : Status) → IsId word id → IsName name → files name ≡ Some bytes
     → Ran (listen_words word name) handed still failed files after ended → ended ≢ status.Memory → ended ≢ status.WriteFault → ended ≡ device_status failed (status_of (end_of (2 ^ 40) bytes))
 ended_by id word name bytes files after handed still failed ended is named holds ran memory written =
