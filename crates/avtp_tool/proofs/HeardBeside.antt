@@ -122,7 +122,7 @@ rewound_other s t k j differ = (let test : (j == k) ≡ false = grind (arith, na
 rewound_left : (s t : ShelfState) (k : ℕ) → left_in (rewound s t k).slots k ≡ left_in s.slots k
 rewound_left s t k = ap (option_and_then (λ (o : Open). o.left)) (rewound_slot s t k)
 
--- from the rewound shelf to `t`, only slot `k` was read
+-- between the rewound shelf and `t`, only slot `k` was read
 reads_since : {s t : ShelfState} {k now w : ℕ} {how : Option End} {done : Result Unit Failed} → ReadsAndWrites s t k now w how done → ReadsCapture (rewound s t k) t k now how
 reads_since {s} {t} {k} beside = record {
   reads = record {

@@ -22,7 +22,7 @@ pub enum Checked {
     Malformed(Refusal),
     /// A packet whose stream ID is not valid.
     Unmarked {
-        /// The packet's stream ID, though it is not valid.
+        /// The packet's stream ID, which is not valid.
         id: u64,
         /// Whether a reserved bit is set.
         reserved: bool,

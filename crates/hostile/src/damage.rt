@@ -53,7 +53,7 @@ fn lengthen(draws: &mut Draws, bytes: &mut Vec<u8>, size: usize) -> Result<(), N
     Ok(())
 }
 
-/// A time that is before or after `time` by one of the amounts in `by`.
+/// A time that differs from `time` by one of the amounts `by`.
 fn moved(draws: &mut Draws, time: u64, by: &[u64]) -> u64 {
     let by = draws.pick(by);
     if draws.one_in(2) {
