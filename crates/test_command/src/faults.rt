@@ -108,8 +108,8 @@ const HEARD_NG: Case = Case {
     ..HEARD
 };
 
-/// Two packets in each of two captures. The first packet of a capture is due once the second arrives. How the first
-/// packets differ is certain once the first capture has ended.
+/// Two packets in each of two captures. The first packet of a capture is due once the second arrives. The difference
+/// between the two first packets is certain once the first capture has ended.
 const AGREED: Case = Case {
     line: "agree --buffer 8 --room 192 0200000000010001 c.pcap d.pcap",
     capture: "\
@@ -207,8 +207,8 @@ pub struct Outcome {
     pub made: Option<Vec<u8>>,
 }
 
-/// Runs a command over files. `calls` are the numbers of the call of the shelf and of the call of the sink that fail.
-/// Each call moves at most `most` bytes.
+/// Runs a command over files. Call number `calls.0` of the shelf and call number `calls.1` of the sink fail. Each call
+/// moves at most `most` bytes.
 pub fn ended<T: Threads + Sync>(
     rt: &T,
     alloc: Global,
