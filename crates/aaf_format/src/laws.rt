@@ -16,7 +16,7 @@ pub fn packet_again()
     ensures { (v : Aaf) (trail : List ℕ) → IsWritableAaf v → Fits aaf_layout v → SpellsAaf (aaf_spelling v ++ trail) (plain_aaf v) }
 {}
 
-/// Bytes that spell a packet with no reserved bit set, and nothing after it, are the bytes written for it.
+/// If bytes spell a packet, set no reserved bit, and end with the packet, they are the bytes written for the packet.
 pub fn one_spelling()
     ensures { (bytes : List ℕ) (v : Aaf) → AreBytes bytes → SpellsAaf bytes v → v.reserved ≡ false
         → length bytes ≡ 24 + v.header.data_length → bytes ≡ aaf_spelling v }

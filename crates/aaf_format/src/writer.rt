@@ -39,8 +39,8 @@ fn format_flags(view: &AafView<'_>) -> u16
     u16::from(view.sparse) << 12 | u16::from(view.evt) << 8
 }
 
-/// Writes a PCM packet, with every reserved bit 0, and returns its length. If the slice is shorter, it returns `Room`
-/// and leaves the slice unchanged.
+/// Writes a PCM packet, with every reserved bit 0, and returns its length. If the slice is shorter than the packet, the
+/// function returns `Room` and leaves the slice unchanged.
 ///
 /// The view must be one that `read_aaf` could return. In such a view the subtype is AAF, the rate code at most 10, and
 /// the channels 1 to 1023. The depth is at most a sample's width, and the event field at most 15. `count` and

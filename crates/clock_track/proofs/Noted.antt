@@ -43,7 +43,6 @@ window-noted shift old new kept spare left is e room notable bounds left_room co
       bounds = subst (λ (l : List Kept). All (HasBounds shift) l) (sym items) (all-one (HasBounds shift) (keep_last 63 old.items) kept (All-drop (HasBounds shift) (length old.items - 63) old.items is.bounds) bounds);
     }
 
--- if the clock kept the window of `rows`, noting `row` makes it keep the window of the longer list
 pub stands-noted : (old new : Buffer Kept) (kept : Kept) (rows : List ClockRow) (row : ClockRow) → IsNoted old new kept → kept_row kept ≡ row → row.usable ≡ true → map kept_row old.items ≡ window rows
     → map kept_row new.items ≡ window (rows ++ row ∷ [])
 stands-noted old new kept rows row e same usable stands =

@@ -166,7 +166,7 @@ pairs-late shift row bounds has late = record {
   across = λ before. across-by shift row before bounds (λ first. by-late shift row bounds first (timestamp row 0) (not_below (timestamp row 0) (2 ^ 62) late));
 }
 
--- no joined pair of the same clock and interval as `pair` has a period longer than `longest`
+-- each joined pair of the same clock and interval as `pair` has a period of at most `longest`
 abbrev pub IsLongest : Pair → ℕ → Type 0
 IsLongest pair longest = (d : ℕ) → 8 * (d * pair.up) ≤ 9 * nominal pair → d ≤ longest
 

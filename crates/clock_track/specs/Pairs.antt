@@ -59,7 +59,8 @@ step_num p = period p * p.up
 abbrev pub step_den : Pair → ℕ → ℕ
 step_den p rate = p.interval * rate * p.down
 
--- the time in nanoseconds from half a sample before the later point to an instant, times 2 * step_den p rate
+-- The period of a pair begins half a sample before its later point. This is the time in nanoseconds from the beginning
+-- of the period to an instant, times 2 * step_den p rate.
 abbrev pub reach : Pair → ℕ → ℤ → ℤ
 reach p rate instant = (instant -ℤ p.later) *ℤ pos (2 * step_den p rate) +ℤ pos (step_num p)
 

@@ -6,8 +6,8 @@ ghost use Rattle.clock_track.specs.state.Bounds.{IsOutside, IsPair, IsWithin, Wi
 
 use crate::pair::Pair;
 
-/// Bounds of some pairs. No later point of these pairs is before `earliest`. A pair ends one period after its later
-/// point, and no pair ends after `latest`.
+/// Bounds of some pairs. The later point of each pair is at or after `earliest`. Each pair ends one period after its
+/// later point, at or before `latest`.
 #[derive(Clone, Copy, Debug)]
 pub struct Bounds {
     pub earliest: i64,
@@ -52,8 +52,8 @@ pub fn widened_by(bounds: &Bounds, pair: Option<Pair>) -> Bounds
     }
 }
 
-/// Whether no pair within the bounds covers `instant`. `lead` is the longest time from an instant to the later point of
-/// a pair that covers the instant, in nanoseconds.
+/// Whether `instant` is at or after the end of the bounds, or before their start by more than `lead` nanoseconds. If
+/// `lead` is the result of `lead_of`, no joined pair within the bounds covers such an instant.
 pub fn excludes(bounds: &Bounds, instant: i64, lead: u64) -> bool
     ensures { IsTrue result → IsOutside bounds.now instant lead }
 {

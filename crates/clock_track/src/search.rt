@@ -31,11 +31,11 @@ pub struct Query {
     pub shift: i64,
     pub instant: i64,
     pub rate: u32,
-    /// The longest time from an instant to the later point of a pair that covers the instant, in nanoseconds.
+    /// A pair covers no instant that is more than this many nanoseconds before the pair's later point.
     pub lead: u64,
 }
 
-/// The longest time from an instant to the later point of a pair that covers the instant, in nanoseconds. This time is
+/// A joined pair covers no instant that is more than this many nanoseconds before the pair's later point. The number is
 /// 9/8 of half a sample of a stream of `rate` samples a second.
 pub fn lead_of(rate: u32) -> u64
     requires { 1 ≤ rate }
@@ -48,7 +48,7 @@ pub fn lead_of(rate: u32) -> u64
 pub trait Rows {
     ghost rows: { Self → List ClockRowValue };
 
-    /// The bounds of the packets' pairs are true if this shift is added to the timestamps.
+    /// If this shift is added to the timestamps, the known bounds hold the packets' pairs.
     ghost bounded: { Self → ℤ → Type 0 };
 
     fn count(&self) -> usize

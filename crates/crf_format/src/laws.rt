@@ -16,7 +16,7 @@ pub fn packet_again()
     ensures { (v : Crf) (trail : List ℕ) → IsWritableCrf v → Fits crf_layout v → SpellsCrf (crf_spelling v ++ trail) (plain_crf v) }
 {}
 
-/// Bytes that spell a packet with no reserved bit set, and nothing after it, are the bytes written for it.
+/// If bytes spell a packet, set no reserved bit, and end with the packet, they are the bytes written for the packet.
 pub fn one_spelling()
     ensures { (bytes : List ℕ) (v : Crf) → AreBytes bytes → SpellsCrf bytes v → v.reserved ≡ false
         → length bytes ≡ 20 + length v.payload → bytes ≡ crf_spelling v }

@@ -213,7 +213,7 @@ unit_passed bytes code k there behind before =
     let ends = end_first bytes (code + 3) (omega (arith, there.fits)) in
     units_skipped bytes (code + 1) k behind (omega (arith, ends.within)) (λ i low high. code_apart bytes code there i low (omega arith))
 
--- the code returns the NAL unit after the start code at `code`
+-- `s`, which the function returns, is the NAL unit after the start code at index `code`
 pub unit_is : (bytes : List ℕ) (code end : ℕ) (r s : Option (ℕ × ℕ)) → end ≡ end_behind bytes (code + 3)
     → r ≡ option_map (λ (last : ℕ). (code + 3, last + 1)) (last_or None (places (is_other_byte bytes) (code + 3) end)) → r ≡ s → unit_behind bytes code ≡ s
 unit_is bytes code end r s ends value is =

@@ -84,7 +84,7 @@ within_fails r e a b = let t = within_so r a b in absurd cc
 length_unit_more : (g : Fragment) (gs : List Fragment) (f : Fragment) → length (unit_of (g ∷ (gs ++ f ∷ []))) ≡ length (unit_of (g ∷ gs)) + length f.body
 length_unit_more g gs f = ap length (unit_more g gs f) ∙ length-append (unit_of (g ∷ gs)) f.body
 
--- a stretch that exceeds the limits still exceeds them with one more fragment
+-- a stretch that exceeds the limits still exceeds them after one more fragment
 pub stays_long : (g : Fragment) (gs : List Fragment) (f : Fragment) → is_within (g ∷ gs) ≡ false → is_within (g ∷ (gs ++ f ∷ [])) ≡ false
 stays_long g gs f e = by (is_within (g ∷ (gs ++ f ∷ []))) refl
   where

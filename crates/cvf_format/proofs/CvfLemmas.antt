@@ -129,7 +129,7 @@ accepted_so bytes e =
 
 -- ---- the part and the first byte of a NAL unit
 
--- the part of its NAL unit that a packet carries determines the bits S and E, and whether the packet's type is FU-A
+-- the part of a NAL unit that a packet carries determines the bits S and E, and whether the packet's type is FU-A
 single_bits : (fragment start end : Bool) → cond fragment (fragment_of start end) Single ≡ Single → fragment ≡ false
 single_bits false start end e = refl
 single_bits true true end e = absurd cc

@@ -63,7 +63,7 @@ unit_behind bytes code =
     option_map (λ last. (code + 3, last + 1))
     (last_or None (places (is_other_byte bytes) (code + 3) (end_behind bytes (code + 3))))
 
--- the NAL units after the start codes from index `at` on, in order
+-- the NAL units whose start codes begin at index `at` or later, in order
 unfoldable pub units_from : List ℕ → ℕ → List (ℕ × ℕ)
 units_from bytes at = filter_map (unit_behind bytes) (places (is_start_code bytes) at (length bytes))
 

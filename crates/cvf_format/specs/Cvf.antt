@@ -148,8 +148,8 @@ abbrev pub cut_off : Field → ℕ → Bool → Row
 cut_off field at holds = record { refusal = record { field = field; at = at; short = true }; holds = holds }
 
 -- The rows of the NAL unit's headers, which come last. One row refuses a type that is neither that of a single unit nor
--- FU-A. The others refuse an FU header that is cut off, has both S and E, or names a type other than that of a single
--- unit.
+-- FU-A. The other rows refuse an FU header that is cut off, has both S and E, or names a type other than that of a
+-- single unit.
 abbrev pub nal_rows : List ℕ → List Row
 nal_rows bytes =
     row NalType 28 (not (is_single_type (bits 28 3 5 bytes) || is_fragment bytes)) ∷
@@ -181,13 +181,13 @@ pub record SpellsCvf (bytes : List ℕ) (v : Cvf) : Type 0 where
   pub body : v.body ≡ body_of v.part v.header.data_length bytes
   pub reserved : v.reserved ≡ sets_reserved v.part bytes
 
--- the part of its NAL unit that a fragment with these bits S and E carries
+-- the part of a NAL unit that a fragment carries, according to its bits S and E
 abbrev pub fragment_of : Bool → Bool → NalPart
 fragment_of true end = First
 fragment_of false true = Last
 fragment_of false false = Middle
 
--- the part of its NAL unit that a packet carries, according to its NAL type and its FU header
+-- the part of a NAL unit that the packet carries, according to its NAL type and its FU header
 abbrev pub part_of : List ℕ → NalPart
 part_of bytes = if is_fragment bytes then fragment_of (is_set 29 0 bytes) (is_set 29 1 bytes) else Single
 

@@ -68,8 +68,8 @@ fn without_zeros(bytes: &[u8], from: usize, end: usize) -> Option<(usize, usize)
 }
 
 /// The first NAL unit whose start code begins at or after `from`: the index of its first byte, and the index after its
-/// last byte. `None` if there is none. If this is called first with 0, and then with the end of each unit, it finds all
-/// units in order. `from` must be at most the number of bytes.
+/// last byte. `None` if there is no such unit. If this function is called first with 0, and then with the end of each
+/// unit, it finds all units in order. `from` must be at most the number of bytes.
 pub fn next_unit(bytes: &[u8], from: usize) -> Option<(usize, usize)>
     requires { from ≤ length bytes.now }
     ensures next { MatchOption result (units_from bytes.now from ≡ []) (λ unit. units_from bytes.now from ≡ unit ∷ units_from bytes.now unit.1) }

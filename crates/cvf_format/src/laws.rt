@@ -16,7 +16,7 @@ pub fn packet_again()
     ensures { (v : Cvf) (trail : List ℕ) → IsWritableCvf v → Fits (layout_of v.part) v → SpellsCvf (cvf_spelling v ++ trail) (plain_cvf v) }
 {}
 
-/// Bytes that spell a packet with no reserved bit set, and nothing after it, are the bytes written for it.
+/// If bytes spell a packet, set no reserved bit, and end with the packet, they are the bytes written for the packet.
 pub fn one_spelling()
     ensures { (bytes : List ℕ) (v : Cvf) → AreBytes bytes → SpellsCvf bytes v → v.reserved ≡ false
         → length bytes ≡ 24 + v.header.data_length → bytes ≡ cvf_spelling v }

@@ -51,8 +51,8 @@ fn packet_header(view: &CvfView<'_>) -> [u8; 30]
     bytes
 }
 
-/// Writes a packet, with every reserved bit 0, and returns its length. If the slice is shorter, it returns `Room` and
-/// leaves the slice unchanged.
+/// Writes a packet, with every reserved bit 0, and returns its length. If the slice is shorter than the packet, the
+/// function returns `Room` and leaves the slice unchanged.
 ///
 /// The view must be one that `read_cvf` could return. In such a view the subtype is CVF, the event field at most 15,
 /// and the type of the NAL unit 1 to 23. `data_length` must be 5 more than the body of a whole unit, or 6 more than

@@ -16,7 +16,7 @@ pub fn packet_again()
     ensures { (v : Iec) (trail : List ℕ) → IsWritableIec v → Fits iec_layout v → SpellsIec (iec_spelling v ++ trail) (plain_iec v) }
 {}
 
-/// Bytes that spell a packet with no reserved bit set, and nothing after it, are the bytes written for it.
+/// If bytes spell a packet, set no reserved bit, and end with the packet, they are the bytes written for the packet.
 pub fn one_spelling()
     ensures { (bytes : List ℕ) (v : Iec) → AreBytes bytes → SpellsIec bytes v → v.reserved ≡ false
         → length bytes ≡ 24 + v.header.data_length → bytes ≡ iec_spelling v }

@@ -65,8 +65,8 @@ fn whole_header(view: &IecView<'_>) -> [u8; 32]
     bytes
 }
 
-/// Writes an IEC 61883-6 packet, with every reserved bit 0, and returns its length. If the slice is shorter, it returns
-/// `Room` and leaves the slice unchanged.
+/// Writes an IEC 61883-6 packet, with every reserved bit 0, and returns its length. If the slice is shorter than the
+/// packet, the function returns `Room` and leaves the slice unchanged.
 ///
 /// The view must be one that `read_iec` could return. In such a view the subtype is IEC 61883, the channel and the SID
 /// at most 63, and `tcode` and `sy` at most 15. The data blocks have 1 to 256 quadlets, and the FDF is at most 6, or

@@ -116,8 +116,6 @@ both_open part from n to first second k low high = elim (cases_lt k n) [
 
 -- ---- the unit
 
--- if none of the packets from `from` to below `to` ends a unit, none of the packets after `from`, up to and including
--- `to`, begins a unit
 inside_of : (j : Journal) (part : ℕ → Part) → IsVideo j part → (from to k : ℕ) → AreOpen part from to → to < j.packets → from < k → k ≤ to → Begins (part k) → ⊥
 inside_of j part is from to zero inner known low high begins = absurd (omega arith)
 inside_of j part is from to (suc k) inner known low high begins = inner k (omega arith) (omega arith) ((is.beside k (omega arith)).1 begins)

@@ -53,7 +53,7 @@ pub record AreDelivered (p : PacketJournal) (lead : ℕ) (ds : List Delivery) : 
   pub copies : AreFrom p lead origins ds
   pub near : AreNear p.times (stream_numbers origins)
 
--- The records deliver the journal's packets to a listener of its stream, with the clock or without. The listener
--- expects packets `lead` nanoseconds before their first instant.
+-- The records deliver the journal's packets to a listener of its stream. If `clock` names a clock stream, the listener
+-- listens to that stream, too. The listener expects packets `lead` nanoseconds before their first instant.
 abbrev pub Delivers : PacketJournal → Option ℕ → ℕ → List Record → Type 0
 Delivers p clock lead records = AreDelivered p lead (deliveries p.stream clock records)

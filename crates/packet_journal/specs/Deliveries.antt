@@ -31,7 +31,7 @@ is_avtp bytes =
     && ((frame_of bytes).ethertype == avtp_ethertype)
     && nat_le 12 (length (packet_in bytes))
 
--- the packet's subtype is one of these, and its stream ID is valid and equal to this one
+-- the packet's subtype is in the list, and its stream ID is valid and equal to the wanted one
 abbrev pub is_wanted : List ℕ → ℕ → Peeked → Bool
 is_wanted kinds id peeked = list_any (λ kind. peeked.subtype == kind) kinds && peeked.sv && (peeked.stream_id == id)
 

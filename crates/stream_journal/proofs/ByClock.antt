@@ -118,7 +118,7 @@ swapped z a b =
     let h : a * (up y + down z * b) ≡ a * (down y + up z * b) = ap (λ (n : ℕ). a * n) f in
     omega (arith, ints)
 
--- a distance of less than 7 * `count` steps and one nanosecond is less than the time of 9 packets
+-- a distance of less than 7 * `count` steps plus one nanosecond is less than the time of 9 packets
 close_by : (z : ℤ) (rate count num den : ℕ) → 1 ≤ den → 1 ≤ rate → rate ≤ count * 1000000000 → 8 * (rate * num) ≤ 9000000000 * den
     → (z *ℤ pos den) <ℤ pos (7 * count * num + den) → (z *ℤ pos (8 * rate)) <ℤ pos (72 * (count * 1000000000))
 close_by z rate count num den some some_rate slow spacing h =
@@ -147,8 +147,8 @@ difference_times x y d =
     let f : d * (up z + down x + up y) ≡ d * (down z + up x + down y) = ap (λ (n : ℕ). d * n) e in
     omega (arith, ints)
 
--- if the numbers of two samples of a line differ by at most k, their instants are less than k steps and one nanosecond
--- apart
+-- if the numbers of two samples of a line differ by at most k, their instants differ by less than k steps plus one
+-- nanosecond
 apart_by : (line : Line) (from first instant at : ℤ) (k : ℕ) → 1 ≤ line.den → neg_ℤ (pos k) ≤ℤ first → first ≤ℤ pos k
     → instant_at line from ≡ instant → instant_at line (from +ℤ first) ≡ at
     → (((at -ℤ instant) *ℤ pos line.den) <ℤ pos (k * line.num + line.den)) × ((neg_ℤ (at -ℤ instant) *ℤ pos line.den) <ℤ pos (k * line.num + line.den))

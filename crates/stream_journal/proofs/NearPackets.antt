@@ -100,7 +100,8 @@ abbrev AtAudio : Bool → Journal → ℕ → ℤ → Type 0
 AtAudio true j n x = IsAtByClock j n 0 x
 AtAudio false j n x = IsAtNominal j n 0 x
 
--- audio packets with equal sequence numbers and near first instants are the same packet, with the clock and without
+-- audio packets with equal sequence numbers and near first instants are the same packet, whether or not the clock is
+-- used
 by_both : (by_clock : Bool) (j : Journal) → IsAudio j → IsClock j.clock → AgreesWithClock j → (n m : ℕ) (x y : ℤ) → n < j.packets → m < j.packets → n % 256 ≡ m % 256
     → AtAudio by_clock j n x → AtAudio by_clock j m y → IsNear j 72 x y → n ≡ m
 by_both true j is clock agrees n m x y known there seq a b near = one_packet j is n m x y known there seq (clock_near j is clock agrees n x known a) (clock_near j is clock agrees m y there b) near

@@ -114,7 +114,7 @@ pub record IsCovered (j : Journal) (n instant : ℕ) (p q : Place) : Type 0 wher
 -- The clock fits the timestamps of an audio stream. At most one joined pair covers each timestamp. If the clock's
 -- frequency is the stream's rate, a covered timestamp is the instant of an event.
 pub record AgreesWithClock (j : Journal) : Type 0 where
-  -- of all joined pairs of the clock's points, at most one covers a timestamp
+  -- each timestamp is covered by at most one joined pair of the clock's points
   pub one : (n instant : ℕ) (p q r s : Place) → IsCovered j n instant p q → IsCovered j n instant r s → (p ≡ r) × (q ≡ s)
   -- if the clock's frequency is the stream's rate, a covered timestamp is the instant of an event
   pub exact : (n instant : ℕ) (p q : Place) → IsCovered j n instant p q → IsOfRate (pair_at j.clock p q) j.rate

@@ -43,8 +43,8 @@ IsFragment SparseAaf n = ⊥
 IsFragment (Am824 interval dbc) n = ⊥
 IsFragment (H264 part) n = (part n ≡ First) ⊎ ((part n ≡ Middle) ⊎ (part n ≡ Last))
 
--- Two fragments of H.264, of which at least one has no timestamp, are at most 254 packets apart. Two fragments with the
--- same timestamp need no rule: their access unit has at most 255 packets.
+-- If at least one of two fragments of H.264 has no timestamp, the fragments are at most 254 packets apart. Two
+-- fragments with the same timestamp need no rule: their access unit has at most 255 packets.
 abbrev pub IsNear : Journal → ℕ → ℕ → Type 0
 IsNear j n m =
     IsFragment j.kind n → IsFragment j.kind m → ((j.stamp n ≡ None) ⊎ (j.stamp m ≡ None)) →

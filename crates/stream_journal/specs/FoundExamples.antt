@@ -7,7 +7,8 @@ use Rattle.time_unfold.specs.declared.stamp.Stamp.{Stamp}
 use Rattle.stream_journal.specs.Examples.{restarted}
 use Rattle.stream_journal.specs.Heads.{stamp_at}
 
--- the distance from packet 9 of `restarted` back to the packet from which it is counted: one packet of 6 sample frames
+-- how far before packet 9 of `restarted` the stamped sample is from which packet 9 is counted: one packet, 6 sample
+-- frames
 abbrev pub one_back : Distance
 one_back = record { packets = 1; samples = 6 }
 

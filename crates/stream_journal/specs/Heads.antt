@@ -29,8 +29,8 @@ pub record IsTrue (j : Journal) (stamp : Stamp) : Type 0 where
   pub number : ℕ
   pub is : IsStampOf j number stamp
 
--- The stamp that a listener searches for if it has a copy of a packet without a timestamp. `far` is the distance from
--- the packet back to that stamp.
+-- The stamp that a listener searches for if it has a copy of a packet without a timestamp. `far` says how far back that
+-- stamp is.
 abbrev pub wanted : Journal → ℕ → Copy → Distance → Want
 wanted j lead c far = record {
   seq = (c.number % 256 + 256 - far.packets) % 256;
@@ -50,12 +50,13 @@ pub record IsUnstamped (j : Journal) (lead : ℕ) (c : Copy) (far : Distance) : 
   pub none : j.stamp c.number ≡ None
   pub back : distance (rule_of j.kind c.number) c.number j.count ≡ Some far
 
--- packet k is not the packet from which packet n is counted, but has the same sequence number
+-- packet k has the sequence number of the packet from which packet n is counted, but is another packet
 pub record IsOther (n k : ℕ) (far : Distance) : Type 0 where
   pub same : (k + far.packets) % 256 ≡ n % 256
   pub other : k + far.packets ≢ n
 
--- The stamp is that of the packet `far.packets` before packet n, and both packets have the same `mr`.
+-- The stamp belongs to an earlier packet, the one that was sent `far.packets` packets before packet n. Both packets
+-- have the same `mr`.
 pub record IsHeadOf (j : Journal) (n : ℕ) (far : Distance) (stamp : Stamp) : Type 0 where
   pub back : far.packets ≤ n
   pub is : IsStampOf j (n - far.packets) stamp

@@ -33,9 +33,9 @@ pub fn packets_are_spaced()
     ensures apart { (j : Journal) (n m : ℕ) → IsAudio j → n + m < j.packets → IsApart j (3 * m) (j.due n) (j.due (n + m)) }
 {}
 
-/// Packet k is not the packet from which packet n is counted, but has the same sequence number. Packet k is at least
-/// 256 numbers from the right packet. An instant counted from packet k's timestamp is more than the time of 189 packets
-/// from the instant at which packet n is due.
+/// Packet k has the sequence number of the packet from which packet n is counted, but is another packet. The numbers of
+/// these two packets differ by at least 256. An instant counted from packet k's timestamp is more than the time of 189
+/// packets from the instant at which packet n is due.
 pub fn other_stamps_are_far()
     ensures numbers { (n k : ℕ) (far : Distance) → IsOther n k far → (k + far.packets + 256 ≤ n) ⊎ (n + 256 ≤ k + far.packets) }
     ensures instants { (j : Journal) (n k instant : ℕ) (far : Distance) → IsAudio j → n < j.packets → k < j.packets → j.stamp k ≡ Some instant → distance (rule_of j.kind n) n j.count ≡ Some far → IsOther n k far → AreApart j 189 (j.due n) (behind j instant far.samples) }
@@ -79,8 +79,9 @@ pub fn clock_lines_are_true()
     ensures sample { (j : Journal) (n k : ℕ) (head : Head) (spot : Spot) → head_of j n ≡ Some head → IsSpotAt j head.instant spot → IsAtByClock j n k (instant_at spot.line ((spot.from +ℤ head.first) +ℤ pos k)) }
 {}
 
-/// With the clock, audio packets with equal sequence numbers and equal first instants are the same packet. The time of
-/// 256 packets is far longer than what the clock can add to the instant at which a packet is due.
+/// With the clock, audio packets with equal sequence numbers and equal first instants are the same packet. Different
+/// packets with equal sequence numbers are due at least the time of 192 packets apart, and the clock moves a first
+/// instant by far less.
 pub fn packets_by_clock_are_told_apart()
     ensures { (j : Journal) (n m : ℕ) (x : ℤ) → Conforms j → IsAudioKind j.kind → n < j.packets → m < j.packets → n % 256 ≡ m % 256 → IsAt true j n 0 x → IsAt true j m 0 x → n ≡ m }
 {}
@@ -92,7 +93,7 @@ pub fn near_packets_are_one()
     ensures { (j : Journal) (by_clock : Bool) (n m : ℕ) (x y : ℤ) → Conforms j → IsAudioKind j.kind → n < j.packets → m < j.packets → n % 256 ≡ m % 256 → IsAt by_clock j n 0 x → IsAt by_clock j m 0 y → IsNear j 72 x y → n ≡ m }
 {}
 
-/// For a copy of a packet without a timestamp, a listener finds a stamp under exactly three conditions. The stamp is
+/// For a copy of a packet without a timestamp, a listener finds a stamp exactly if three conditions hold. The stamp is
 /// that of the packet from which the copy is counted, and is among the last `room` stamps. There is no restart between
 /// the two packets. The copy's arrival plus `lead` is at most the time of 60 packets before or after the packet's first
 /// instant.

@@ -51,8 +51,8 @@ points_size crf plan packets m = min crf.points (points_for crf plan packets - f
 unfoldable pub points_in : CrfPlan → TalkPlan → ℕ → ℕ → List ℕ
 points_in crf plan packets m = map (clock_point crf plan) (range_with_len (first_point crf m) (points_size crf plan packets m))
 
--- the restart bit of clock packet m: that of the stream packet that holds the sample frame of the clock packet's first
--- point
+-- The restart bit of clock packet m. The packet's first point is at a sample frame of the stream. The stream packet
+-- with this sample frame has the same restart bit.
 abbrev pub clock_mr : CrfPlan → TalkPlan → ℕ → Bool
 clock_mr crf plan m = mr_of plan (frame_at crf plan (first_point crf m) / plan.count)
 
@@ -73,7 +73,7 @@ clock_packet crf plan packets m = record {
   reserved = false;
 }
 
--- the time at which clock packet m is sent: the plan's lead before the packet's first point
+-- the time at which clock packet m is sent: earlier than the packet's first point by the plan's lead
 abbrev pub clock_arrival : CrfPlan → TalkPlan → ℕ → ℕ
 clock_arrival crf plan m = clock_point crf plan (first_point crf m) - plan.lead
 

@@ -1,5 +1,5 @@
--- The sample to which an audio packet's timestamp belongs, and the packet from which a packet without a timestamp is
--- counted. Packet numbers count through the stream, and may be reduced modulo 256.
+-- Which sample of an audio packet its timestamp belongs to, and which earlier sample a packet without a timestamp is
+-- counted from. Packets are numbered through the stream, perhaps modulo 256.
 use Rattle.std.specs.Prelude.{ℕ, ◌+◌, ◌-◌, ◌*◌, ◌%◌, ◌==◌, nat_lt, if◌then◌else◌, Option, Some, None}
 use Rattle.std.specs.Int.{div_ceil}
 use Rattle.time_unfold.specs.declared.head_rule.Distance.{Distance}
@@ -19,10 +19,10 @@ stamped_block Own = None
 stamped_block Eight = None
 stamped_block (Blocks dbc interval) = Some ((dbc + stamped_index (Blocks dbc interval)) % 256)
 
--- The distance from packet n, which has `count` samples, back to the stamped sample from which the packet is counted if
--- it has no timestamp. In sparse AAF, the stamped sample is the first sample of the last earlier packet whose number is
--- a multiple of 8. In IEC 61883-6, it is the last earlier block whose block count is a multiple of the interval, if
--- that block is at most 7 packets back.
+-- How far back the stamped sample is if packet n, which has `count` samples, has no timestamp. In sparse AAF, the
+-- stamped sample is the first sample of the last earlier packet whose number is a multiple of 8. In IEC 61883-6, it is
+-- the last earlier block whose block count is a multiple of the interval. `None` for AAF that is not sparse, if the
+-- packet's own first sample is stamped, or if that block is more than 7 packets back.
 abbrev pub distance : HeadRule → ℕ → ℕ → Option Distance
 distance Own n count = None
 distance Eight n count =
@@ -32,8 +32,8 @@ distance (Blocks dbc interval) n count =
     if nat_lt 7 (div_ceil (dbc % interval) count) then None else
     Some (record { packets = div_ceil (dbc % interval) count; samples = dbc % interval })
 
--- in IEC 61883-6, the block count, modulo 256, of the block from which a packet without a timestamp is counted; `None`
--- for AAF
+-- A packet without a timestamp is timed by an earlier stamped block. The result is the count of that block in IEC
+-- 61883-6, modulo 256; `None` for AAF.
 abbrev pub counted_block : HeadRule → Option ℕ
 counted_block Own = None
 counted_block Eight = None

@@ -12,8 +12,8 @@ pub record IsStamp (stamp : Stamp) : Type 0 where
   pub from : neg_ℤ (pos (2 ^ 62)) ≤ℤ stamp.instant
   pub to : stamp.instant <ℤ pos (2 ^ 62 + 2 ^ 31)
 
--- The packet has a valid arrival, a rate of at least 1 Hz, and at most 65,535 samples. The packet's first sample is at
--- most 7 packets of this length after the stamped sample.
+-- The packet has a valid arrival, a rate of at least 1 Hz, and at most 65,535 samples. The stamped sample is before the
+-- packet's first sample by at most 7 times the packet's number of samples.
 pub record IsWant (want : Want) : Type 0 where
   pub arrival : IsArrival want.arrival
   pub rate : 1 ≤ want.rate
@@ -26,7 +26,7 @@ IsRule Own = ⊤
 IsRule Eight = ⊤
 IsRule (Blocks dbc interval) = (interval ≡ 8) ⊎ ((interval ≡ 16) ⊎ (interval ≡ 32))
 
--- a distance is at most 7 packets of `count` samples
+-- the distance is at most 7 packets, and at most 7 * `count` samples
 pub record IsBehind (count : ℕ) (far : Distance) : Type 0 where
   pub packets : far.packets ≤ 7
   pub samples : far.samples ≤ 7 * count

@@ -21,8 +21,8 @@ same_flag false false = true
 abbrev pub candidate : Want → Stamp → ℤ
 candidate want stamp = instant_at (nominal_line stamp.instant want.rate) (pos want.back)
 
--- The packet's first sample, counted from the stamp, is at most the time of 60 packets before or after the packet's
--- arrival plus the lead. The sequence number alone does not distinguish a stamp from the stamp 256 packets away.
+-- The packet's first sample, counted from the stamp, is at most 60 packet durations before or after the packet's
+-- arrival plus the lead. This test is needed because sequence numbers repeat after 256 packets.
 abbrev pub is_near : Want → Stamp → Bool
 is_near want stamp =
     nat_le (unsigned_abs ((want.arrival +ℤ pos want.lead) -ℤ candidate want stamp) * want.rate) (60 * want.count * 1000000000)

@@ -9,8 +9,8 @@ use crate::stamp::{Stamp, Want};
 
 const NANOSECONDS: u64 = 1_000_000_000;
 
-/// How far a packet's first sample, counted from a stamp, may be from the packet's arrival plus the lead, in packets of
-/// the same length.
+/// A stamp is near if the packet's first sample, counted from the stamp, is at most this many packet durations before
+/// or after the packet's arrival plus the lead.
 const REACH: u64 = 60;
 
 fn candidate(stamp: &Stamp, want: &Want) -> i64
@@ -70,12 +70,11 @@ pub fn last_fit(stamps: &[Stamp], want: &Want) -> Option<Stamp>
 /// fits. `None` exactly if none of these stamps fits.
 ///
 /// A stamp fits if it has the wanted sequence number, media clock restart bit, rate and block count, and is near (IEEE
-/// 1722-2016, 7, sparse timestamps; IEC 61883-6, block counts). A stamp is near if it puts the packet's first sample at
-/// most the time of 60 packets before or after the packet's arrival plus the lead.
+/// 1722-2016, 7, sparse timestamps; IEC 61883-6, block counts). A stamp is near if the packet's first sample, counted
+/// from the stamp, is at most 60 packet durations before or after the packet's arrival plus the lead.
 ///
 /// The stamps are in the order of their arrival, with instants from -2^62 to below 2^62 + 2^31 ns. The packet has a
-/// rate of at least 1 Hz and at most 65,535 samples. The stamped sample is at most 7 packets of this length before the
-/// packet's first sample.
+/// rate of at least 1 Hz and at most 65,535 samples. `want.back` is at most 7 times the packet's number of samples.
 pub fn head_among(stamps: &[Stamp], room: u32, want: &Want) -> Option<Stamp>
     requires stamps { All IsStamp stamps.now }
     requires want { IsWant want.now }

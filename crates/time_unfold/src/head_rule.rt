@@ -1,5 +1,4 @@
-//! The stamped sample of a packet, and the distance back to the stamped sample from which a packet without a timestamp
-//! is counted.
+//! Which sample of a packet is stamped, and how far back the stamped sample is for a packet without a timestamp.
 
 ghost use Rattle.std.specs.Prelude.{◌≡◌, ◌≤◌, ◌<◌, ℕ, IfSome};
 ghost use Rattle.time_unfold.specs.Heads.{counted_block as counted_block_of, distance as distance_of, stamped_block as stamped_block_of, stamped_index as stamped_index_of};
@@ -8,7 +7,7 @@ ghost use Rattle.time_unfold.specs.Limits.{IsBehind, IsRule};
 /// Of the packets of a sparse stream, every eighth has a timestamp (IEEE 1722-2016, 7).
 const SPARSE: u32 = 8;
 
-/// The greatest number of packets back to a stamped sample.
+/// The stamped sample is at most this many packets back.
 const FARTHEST: u32 = 7;
 
 /// The rule that says to which sample of a packet its timestamp belongs, and from which stamped sample a packet without
@@ -34,10 +33,10 @@ pub struct Head {
     pub first: i64,
 }
 
-/// The distance from a packet back to the stamped sample from which it is counted.
+/// How far back the stamped sample is from which a packet without a timestamp is counted.
 #[derive(Clone, Copy, Debug, PartialEq, Eq)]
 pub struct Distance {
-    /// The number of packets.
+    /// The number of packets from the packet with the stamped sample to this packet.
     pub packets: u32,
     /// The number of samples from the stamped sample to the packet's first sample.
     pub samples: u32,
@@ -104,8 +103,8 @@ impl HeadRule {
         }
     }
 
-    /// The block count of the block from which a packet without a timestamp is counted (IEC 61883-6); `None` for AAF.
-    /// The interval is 8, 16 or 32.
+    /// A packet without a timestamp is timed by an earlier stamped block. The result is the count of that block, modulo
+    /// 256 (IEC 61883-6); `None` for AAF. The interval is 8, 16 or 32.
     pub fn counted_block(self) -> Option<u8>
         requires { IsRule self }
         ensures { result ≡ counted_block_of self }
@@ -118,12 +117,12 @@ impl HeadRule {
         }
     }
 
-    /// The distance back to the stamped sample from which a packet without a timestamp is counted. In sparse AAF, this
-    /// is the first sample of the last earlier packet whose sequence number is a multiple of 8. In IEC 61883-6, it is
-    /// the last earlier block whose block count is a multiple of the interval.
+    /// How far back the stamped sample is if the packet has no timestamp. In sparse AAF, the stamped sample is the
+    /// first sample of the last earlier packet whose sequence number is a multiple of 8. In IEC 61883-6, it is the last
+    /// earlier block whose block count is a multiple of the interval.
     ///
-    /// `None` for AAF that is not sparse. Also `None` if the packet's own first sample is a stamped one, or if the
-    /// stamped sample is more than 7 packets back. The packet has 1 to 65,535 samples, and the interval is 8, 16 or 32.
+    /// `None` for AAF that is not sparse. Also `None` if the packet's own first sample is stamped, or if the stamped
+    /// sample is more than 7 packets back. The packet has 1 to 65,535 samples, and the interval is 8, 16 or 32.
     pub fn distance(self, seq: u8, count: u32) -> Option<Distance>
         requires rule { IsRule self }
         requires some { 1 ≤ count }

@@ -25,12 +25,12 @@ pub record Widens (old new : Bounds) (later end : ℤ) : Type 0 where
   pub latest : old.latest ≤ℤ new.latest
   pub to : end ≤ℤ new.latest
 
--- the instant is after the bounds, or more than the lead before them
+-- the instant is at or after the end of the bounds, or before their start by more than the lead
 abbrev pub IsOutside : Bounds → ℤ → ℕ → Type 0
 IsOutside bounds instant lead = (bounds.latest ≤ℤ instant) ⊎ ((instant +ℤ pos lead) <ℤ bounds.earliest)
 
--- In a stream of this rate, no joined pair covers an instant that is more than the lead before the pair's later point.
--- The lead is at least 9/8 of half the nominal spacing.
+-- In a stream of this rate, if an instant is before a joined pair's later point by more than the lead, the pair does
+-- not cover the instant. The lead is at least 9/8 of half the nominal spacing of samples.
 abbrev pub IsLead : ℕ → ℕ → Type 0
 IsLead rate lead = (d : ℕ) → rate * d ≤ 562500000 → d ≤ lead
 

@@ -31,8 +31,8 @@ pub record HasBounds (shift : ℤ) (kept : Kept) : Type 0 where
   pub all : HasPairs shift (kept_row kept) kept.bounds
   pub groups : AreGroups shift (kept_row kept) kept.groups.items
 
--- The kept packets and the spare rooms together number 64. Each packet and each spare room has room for any packet's
--- timestamps. The bounds of each packet hold its pairs.
+-- The kept packets and the spare rooms together number 64. Each kept packet's room and each spare room can hold any
+-- packet's timestamps. The bounds of each packet hold its pairs.
 pub record IsWindow (shift : ℤ) (rows : Buffer Kept) (spare : Vec Room) : Type 0 where
   pub capacity : rows.capacity ≡ 64
   pub count : length rows.items + vec_len spare ≡ 64
