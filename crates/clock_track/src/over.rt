@@ -87,9 +87,9 @@ pub fn line_among<R: Rows>(rows: &R, query: &Query) -> ClockAnswer
 /// number, and the same restart bit, frequency and interval.
 ///
 /// A pair covers the instants of one period. The period begins half a sample before the pair's later point. If several
-/// pairs cover the instant, the last of them gives the line. Pairs are ordered by the positions of their later points
-/// in the packets. Pairs with the same later point are ordered by the positions of their earlier points. The answer is
-/// `NoClock` exactly if no pair covers the instant.
+/// pairs cover the instant, the last of these pairs gives the line. Pairs are ordered by the positions of their later
+/// points in the packets. Pairs with the same later point are ordered by the positions of their earlier points. The
+/// answer is `NoClock` exactly if no pair covers the instant.
 ///
 /// If the clock's frequency is `rate`, the line is that of the clock's events, and the sample is the event nearest to
 /// the instant. Otherwise the sample is sample 0 of a line that begins at the instant and has the pair's spacing.

@@ -96,7 +96,7 @@ stays_long g gs f e = by (is_within (g ∷ (gs ++ f ∷ []))) refl
 
 -- ---- what is returned for a stretch: empty or too long, just too long, or within the limits
 
--- What follows if a stretch is empty or exceeded the limits before its last packet. No packet waits, and the last
+-- What follows if a stretch is empty, or exceeded the limits before its last packet. No packet waits, and the last
 -- packet is lost as `Broken`.
 record Overlong (r : List Fragment) : Type 0 where
   waits : waiting r ≡ []
@@ -120,8 +120,8 @@ overlong g gs f e =
       piece = rw (long, front, e) refl;
     }
 
--- What follows if a stretch exceeds the limits only with its last packet. No packet waits, and the last packet is lost
--- as `Long`.
+-- What follows if a stretch exceeds the limits only because of its last packet. No packet waits, and the last packet is
+-- lost as `Long`.
 record JustLong (r : List Fragment) : Type 0 where
   waits : waiting r ≡ []
   apart : is_joined r ≡ false

@@ -165,7 +165,7 @@ cvf_refusal bytes =
 
 -- ---- packets
 
--- a reserved bit of an H.264 packet that carries this part of its NAL unit is set
+-- a reserved bit is set in an H.264 packet that carries this part of its NAL unit
 abbrev pub sets_reserved : NalPart → List ℕ → Bool
 sets_reserved part bytes = any_set (reserved_ranges (layout_of part)) bytes
 

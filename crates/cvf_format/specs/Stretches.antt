@@ -141,7 +141,7 @@ waiting stretch = if is_within stretch && not (is_complete stretch) then stretch
 abbrev pub held : List Event → List Fragment
 held events = waiting (last_stretch events)
 
--- the stretch exceeds the limits only with its last packet
+-- the stretch exceeds the limits only because of its last packet
 abbrev pub is_passed : List Fragment → Bool
 is_passed stretch = not (is_within stretch) && is_within (before_last stretch)
 

@@ -253,7 +253,7 @@ impl Assembler {
             && agrees(self.instant, instant)
     }
 
-    /// Whether the unit stays within the limits with one more fragment.
+    /// Whether the unit stays within the limits after one more fragment.
     #[tactic(auto, unfolding(crate::specs::state::Assembly::has_room))]
     fn has_room_for(&self, body: &[u8]) -> bool
         ensures room { result ≡ has_room self.now body.now }

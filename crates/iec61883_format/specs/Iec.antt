@@ -157,7 +157,8 @@ first_quadlet_rows bytes =
     row Sph 26 (not (bits 26 5 1 bytes == 0)) ∷ []
 
 -- The rows of the second quadlet of the CIP header, which follow the rows of the first quadlet. The rows refuse a QI_2
--- other than 2, an FMT other than audio, and an FDF that names neither a rate nor no data.
+-- other than 2, and an FMT other than audio. They also refuse an FDF that is neither that of a rate nor that of a
+-- no-data packet.
 abbrev pub second_quadlet_rows : List ℕ → List Row
 second_quadlet_rows bytes =
     row Qi2 28 (not (bits 28 0 2 bytes == second_mark)) ∷
@@ -223,7 +224,7 @@ iec_of bytes = record {
   reserved = sets_reserved bytes;
 }
 
--- FDF names a sample rate or no data
+-- the FDF is that of a sample rate, or that of a no-data packet
 abbrev pub IsFdf : ℕ → Type 0
 IsFdf fdf = (fdf ≤ 6) ⊎ (fdf ≡ no_data)
 

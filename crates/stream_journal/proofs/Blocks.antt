@@ -21,7 +21,7 @@ due_by : (j : Journal) (n : ℕ) (r : Option Head) (head : Head) → r ≡ Some 
 due_by j n None head e is = absurd cc
 due_by j n (Some h) head e is = let same : h ≡ head = cc in rw (← same) is
 
--- a talker whose packets satisfy `IsKept` and are spaced keeps the rules
+-- if each packet satisfies `IsKept`, and adjacent packets are far enough apart, the talker keeps the rules
 conforms_by : (rate interval : ℕ) (dues : List ℕ) (stamps : List (Option ℕ)) → 8000 ≤ rate → rate ≤ 192000 → (interval ≡ 8) ⊎ ((interval ≡ 16) ⊎ (interval ≡ 32))
     → Each (IsKept (blocks_of_six rate interval dues stamps)) 8
     → Each (λ n. IsApart (blocks_of_six rate interval dues stamps) 3 ((blocks_of_six rate interval dues stamps).due n) ((blocks_of_six rate interval dues stamps).due (suc n))) 7

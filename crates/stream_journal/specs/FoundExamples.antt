@@ -12,7 +12,7 @@ use Rattle.stream_journal.specs.Heads.{stamp_at}
 abbrev pub one_back : Distance
 one_back = record { packets = 1; samples = 6 }
 
--- The stamp of packet 8 of `restarted`, and then `others` times the stamp of packet 16.
+-- The stamp of packet 8 of `restarted`, followed by `others` copies of the stamp of packet 16.
 abbrev pub followed_stamps : ℕ → List Stamp
 followed_stamps others = stamp_at restarted 8 1003000000 ∷ replicate others (stamp_at restarted 16 1005000000)
 

@@ -60,8 +60,8 @@ own_head j n =
     option_map (λ instant. record { instant = pos instant; first = neg_ℤ (pos (stamped_index (rule_of j.kind n))) }) (j.stamp n)
 
 -- The head of packet n according to the timestamp of an earlier packet, the one that was sent `far.packets` packets
--- before packet n. `None` if there is no earlier packet with that number, if the earlier packet has no timestamp, or if
--- the two packets have different `mr`.
+-- before packet n. `None` if there is no such packet, if that packet has no timestamp, or if the two packets have
+-- different `mr`.
 abbrev pub head_from : Journal → ℕ → Distance → Option Head
 head_from j n far =
     if nat_le far.packets n then

@@ -121,8 +121,8 @@ clock_arrival_by (Some crf) plan m = clock_arrival crf plan m
 unfoldable pub clock_bytes : Crf → List ℕ
 clock_bytes packet = frame_spelling (ethernet (crf_spelling packet))
 
--- The sample frames of this many packets can be counted: no packet begins after sample frame 2^28, and an input has at
--- most 2^28 sample frames.
+-- The sample frames of this many packets can be counted: no packet begins after sample frame 2^28. An input has at most
+-- 2^28 sample frames.
 abbrev pub AreFew : TalkPlan → ℕ → Type 0
 AreFew plan packets = (n : ℕ) → n < packets → n * plan.count ≤ 2 ^ 28
 

@@ -30,7 +30,7 @@ pub struct Want {
     pub arrival: i64,
     /// A packet is expected this many nanoseconds before its first sample.
     pub lead: u32,
-    /// The number of the first sample of the packet without a timestamp, counted from the stamped sample.
+    /// The packet's first sample is this many samples after the stamped sample.
     pub back: u32,
     /// The number of samples of the packet without a timestamp.
     pub count: u32,
