@@ -158,8 +158,8 @@ by-late shift row bounds first second e = cases (nat_lt first (2 ^ 62)) (nat_lt 
 not_below : (a b : ℕ) → b ≤ a → nat_lt a b ≡ false
 not_below a b h = grind (arith, nat_tests)
 
--- if a packet's first timestamp is not a point, bounds that hold the pairs inside the packet hold all pairs of the
--- packet
+-- if a packet's first timestamp is not a point, and the bounds hold the pairs inside the packet, the bounds hold all
+-- pairs of the packet
 pub pairs-late : (shift : ℤ) (row : ClockRow) (bounds : Bounds) → HasInside shift row bounds 0 (timestamps row - 1) → 2 ^ 62 ≤ timestamp row 0 → HasPairs shift row bounds
 pairs-late shift row bounds has late = record {
   inside = has;

@@ -1,4 +1,5 @@
--- If the later point of a pair is too late, the pair does not cover the instant, whatever its earlier point is.
+-- If the later point of a pair is more than one nominal sample after the instant, the pair does not cover the instant,
+-- whatever its earlier point is.
 use Rattle.std.proofs.Common.{◌≡◌, ℕ, ◌^◌, ◌-◌, Bool, true, false, ℤ, List, [], ◌∷◌, Option, Some, None, refl, arith}
 use Rattle.std.specs.Prelude.{nat_lt, if◌then◌else◌}
 use Rattle.std.specs.List.{cons_option, filter_map}

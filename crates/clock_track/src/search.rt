@@ -323,8 +323,8 @@ fn covering_from<R: Rows>(rows: &R, place: usize, row: &Points<'_>, query: &Quer
     }
 }
 
-/// Whether the first timestamp of a packet is missing, is not a point, or is too late. If so, no pair whose later point
-/// is this timestamp covers the instant.
+/// Whether the first timestamp of a packet is missing, is not a point, or is more than one nominal sample after the
+/// instant. If so, no pair whose later point is this timestamp covers the instant.
 fn is_too_late(row: &Points<'_>, query: &Query) -> bool
     requires row { IsRow (row_of row.now) }
     requires shift { IsShift query.now.shift }

@@ -258,7 +258,7 @@ same_packet : (a a' : StreamHeader) (b b' c c' : Bool) (d d' e e' f f' : ℕ) (g
     → packet a b c d e f g h i ≡ packet a' b' c' d' e' f' g' h' i'
 same_packet a a' b b' c c' d d' e e' f f' g g' h h' i i' p q r s t u v w x = rw (p, q, r, s, t, u, v, w, x) refl
 
--- The bytes name `part` as the part of the NAL unit, and `nal` as its first byte.
+-- The bytes name `part` as the part of the NAL unit, and `nal` as the unit's first byte.
 record Named (part : NalPart) (nal : ℕ) (bytes : List ℕ) : Type 0 where
   part_is : part ≡ part_of bytes
   nal_is : nal ≡ nal_of bytes

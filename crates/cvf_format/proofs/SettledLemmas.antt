@@ -110,7 +110,7 @@ ends_more events (f ∷ rest) =
     ∙ ap (λ (fs : List Fragment). fs ++ rest) (after_packet events f)
     ∙ append_assoc (after_cuts events) (f ∷ []) rest
 
--- packets are not linked if one of them, after the first, does not continue a unit
+-- if a packet after the first one does not continue a unit, the packets are not linked
 not_linked : (x : Fragment) (xs : List Fragment) (f : Fragment) (rest : List Fragment) → goes_on f.part ≡ false → are_linked x (xs ++ f ∷ rest) ≡ false
 not_linked x [] f rest e = rw (e, and-false (not (completes x.part))) refl
 not_linked x (y ∷ ys) f rest e = rw (not_linked y ys f rest e) (and-false (follows x y))

@@ -150,8 +150,8 @@ impl Assembler {
         self.push_packet(mark, instant, view)
     }
 
-    /// The mark of fragment `i`, counted from 0, among the fragments that the last packet or cut gave up, in the order
-    /// of their arrival. `i` must be less than the number of these fragments.
+    /// The mark of fragment `i` of those that the last packet or cut gave up. These fragments are counted from 0, in
+    /// the order of their arrival. `i` must be less than the number of these fragments.
     pub fn lost_mark(&self, i: u32) -> Mark
         requires { i < length self.now.lost }
         ensures { (events : List Event) → StandsFor self.now events → slice_get (lost_marks events) i ≡ Some result }

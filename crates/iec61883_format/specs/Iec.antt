@@ -173,8 +173,8 @@ stated_data bytes = data_size (bits 29 0 8 bytes) (bits 20 0 16 bytes - 8)
 abbrev pub stated_block : List ℕ → ℕ
 stated_block bytes = block_size (dbs_of (bits 25 0 8 bytes))
 
--- the row of the data blocks, which comes last: it refuses a stated length if the data is not a whole number of data
--- blocks
+-- The row of the data blocks, which comes last. The row refuses a stated length if the data is not a whole number of
+-- data blocks.
 abbrev pub block_rows : List ℕ → List Row
 block_rows bytes = row StreamDataLength 20 (not (stated_data bytes % stated_block bytes == 0)) ∷ []
 

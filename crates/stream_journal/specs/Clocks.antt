@@ -33,8 +33,8 @@ pub record IsPlace (c : ClockJournal) (p : Place) : Type 0 where
 abbrev pub point : ClockJournal → Place → ℕ
 point c p = get_or (c.points p.packet) p.at 0
 
--- q is the position after p: the next index of the packet or, after the packet's last point, the first index of the
--- next packet
+-- q is the position after p: the next index in the same packet or, if p is the packet's last point, index 0 of the next
+-- packet
 abbrev pub IsNext : ClockJournal → Place → Place → Type 0
 IsNext c p q =
     ((q.packet ≡ p.packet) × (q.at ≡ suc p.at))

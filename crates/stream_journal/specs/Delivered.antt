@@ -30,7 +30,7 @@ pub record IsDelivered (j : Journal) (lead : ℕ) (c : Copy) : Type 0 where
   pub known : c.number < j.packets
   pub arrival : c.arrival ≤ 2 ^ 62
   pub stamped : (instant : ℕ) → j.stamp c.number ≡ Some instant → IsInHalfCircle instant c.arrival
-  -- the arrival of an audio packet without a timestamp, plus `lead`, is less than the time of 128 packets before or
+  -- if an audio packet has no timestamp, the copy's arrival plus `lead` is less than the time of 128 packets before or
   -- after the packet's first instant
   pub unstamped : IsAudioKind j.kind → j.stamp c.number ≡ None → IsWithin j 128 (c.arrival + lead) (j.due c.number)
 

@@ -91,8 +91,8 @@ pub record IsAtNominal (j : Journal) (n k : ℕ) (instant : ℤ) : Type 0 where
   pub is_head : head_of j n ≡ Some head
   pub at : instant ≡ nominal_instant j head k
 
--- With the clock, sample k of packet n is at this instant, according to a joined pair that covers the instant of the
--- packet's head.
+-- Sample k of packet n is at this instant according to the clock. A joined pair of the clock's points covers the
+-- instant of the packet's head, and the instants of the packet's samples follow from that pair.
 pub record IsAtByClock (j : Journal) (n k : ℕ) (instant : ℤ) : Type 0 where
   pub head : Head
   pub is_head : head_of j n ≡ Some head

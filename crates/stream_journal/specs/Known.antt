@@ -18,9 +18,9 @@ use Rattle.stream_journal.specs.Journal.{Journal, head_of, rule_of}
 abbrev pub stamps_in : Journal → List ℕ → List Stamp
 stamps_in j came = filter_map (λ n. option_map (stamp_at j n) (j.stamp n)) came
 
--- A copy of a packet without a timestamp can be counted. The packet from which it is counted has one of the last `room`
--- timestamps that arrived. There is no restart between the two packets. The copy's arrival plus `lead` is at most the
--- time of 60 packets before or after the packet's first instant.
+-- A copy of a packet without a timestamp can be counted. One of the last `room` timestamps that arrived belongs to the
+-- packet from which the copy is counted. There is no restart between the two packets. The copy's arrival plus `lead` is
+-- at most the time of 60 packets before or after the packet's first instant.
 pub record IsCounted (j : Journal) (lead room : ℕ) (c : Copy) (came : List ℕ) : Type 0 where
   pub none : j.stamp c.number ≡ None
   pub far : Distance
@@ -46,9 +46,9 @@ pub record IsCoveredBy (c : ClockJournal) (shift : ℤ) (rate : ℕ) (came : Lis
   pub later_came : Contains (last_of 64 came) later.packet
   pub covers : Covers (pair_at c earlier later) rate instant
 
--- A listener knows the instants of the samples of `c`, a copy of an audio packet, after the stream's packets `came` and
--- the clock's packets `clock_came` arrived. The packet has a timestamp, or is counted from one of the last 16 + `look`
--- timestamps that arrived. If the listener has the clock, two of the clock's points cover that timestamp.
+-- `c` is a copy of an audio packet. After the stream's packets `came` and the clock's packets `clock_came` arrived, a
+-- listener knows the instants of the samples of `c`. The packet has a timestamp, or is counted from one of the last 16
+-- + `look` timestamps that arrived. If the listener has the clock, two of the clock's points cover that timestamp.
 pub record IsKnown (by_clock : Bool) (j : Journal) (shift : ℤ) (lead look : ℕ) (c : Copy) (came clock_came : List ℕ) : Type 0 where
   pub timed : IsTimed j lead (look + 16) c came
   pub covered : by_clock ≡ true → (head : Head) → head_of j c.number ≡ Some head → IsCoveredBy j.clock shift j.rate clock_came head.instant

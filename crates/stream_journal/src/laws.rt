@@ -71,7 +71,8 @@ pub fn joined_pairs_are_true()
 
 /// A listener has any copies of a clock's packets. Each pair that the listener joins is a joined pair of the list of
 /// all points. Each line that the listener finds is that of a joined pair that covers the instant. If the stream agrees
-/// with the clock, a packet's head has at most one such line, and the samples on it are at the journal's instants.
+/// with the clock, a packet's head has at most one such line, and the samples on this line are at the journal's
+/// instants.
 pub fn clock_lines_are_true()
     ensures pairs { (c : ClockJournal) (shift : ℤ) (rows : List ClockRow) → IsClock c → All (IsTrueRow c shift) rows → All (IsTruePair c) (joined_pairs shift (window rows)) }
     ensures spot { (j : Journal) (shift instant : ℤ) (rows : List ClockRow) → IsClock j.clock → All (IsTrueRow j.clock shift) rows → IfSome (clock_spot rows shift instant j.rate) (IsSpotAt j instant) }

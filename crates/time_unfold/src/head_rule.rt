@@ -4,14 +4,14 @@ ghost use Rattle.std.specs.Prelude.{◌≡◌, ◌≤◌, ◌<◌, ℕ, IfSome};
 ghost use Rattle.time_unfold.specs.Heads.{counted_block as counted_block_of, distance as distance_of, stamped_block as stamped_block_of, stamped_index as stamped_index_of};
 ghost use Rattle.time_unfold.specs.Limits.{IsBehind, IsRule};
 
-/// Of the packets of a sparse stream, every eighth has a timestamp (IEEE 1722-2016, 7).
+/// In a sparse stream, every eighth packet has a timestamp (IEEE 1722-2016, 7).
 const SPARSE: u32 = 8;
 
 /// The stamped sample is at most this many packets back.
 const FARTHEST: u32 = 7;
 
-/// The rule that says to which sample of a packet its timestamp belongs, and from which stamped sample a packet without
-/// a timestamp is counted.
+/// Says to which sample of a packet its timestamp belongs, and from which earlier stamped sample a packet without a
+/// timestamp is counted.
 #[derive(Clone, Copy, Debug, PartialEq, Eq)]
 pub enum HeadRule {
     /// AAF: each packet has a timestamp, which belongs to its first sample (IEEE 1722-2016, 7).

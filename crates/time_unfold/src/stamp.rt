@@ -15,14 +15,14 @@ pub struct Stamp {
     pub instant: i64,
 }
 
-/// What a packet without a timestamp looks for: the stamp from which it is counted.
+/// The search for the stamp from which a packet without a timestamp is counted.
 #[derive(Clone, Copy, Debug, PartialEq, Eq)]
 pub struct Want {
     /// The sequence number of the stamped packet.
     pub seq: u8,
     /// The media clock restart bit of the stamped packet.
     pub mr: bool,
-    /// The block count of the stamped packet's stamped block (IEC 61883-6); none for AAF.
+    /// The block count, modulo 256, of the wanted stamped block (IEC 61883-6); none for AAF.
     pub block: Option<u8>,
     /// The nominal rate of the stamped packet, in Hz.
     pub rate: u32,

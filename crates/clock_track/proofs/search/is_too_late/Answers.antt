@@ -1,4 +1,4 @@
--- Proves the case in which the first timestamp is a point and is too late.
+-- Proves the case in which the first timestamp is a point and is more than one nominal sample after the instant.
 use Rattle.std.proofs.Common.{◌≡◌, w64, to_z, of_z, subst, arith}
 use Rattle.std.proofs.lemmas.Int.{ints}
 use Rattle.clock_track.specs.declared.pair.Pair.{Pair}
