@@ -137,7 +137,7 @@ end_none bytes at within none =
     let rest : NonePasses (is_end bytes) at (at + (length bytes - at)) = λ k low high. none k low (omega arith) in
     ap (λ (o : Option ℕ). unwrap_or o (length bytes)) (find_none (is_end bytes) (length bytes - at) at rest)
 
--- the code's test of the byte after two zero bytes is true exactly if a unit ends before these zero bytes
+-- the byte after two zero bytes is at most 1 exactly if a unit ends before these zero bytes
 pub third_tells : (bytes : List ℕ) (at : ℕ) → OccursAt bytes (0 ∷ 0 ∷ []) at → at + 2 < length bytes → leb (get_or bytes (at + 2) 0) 1 ≡ is_end bytes at
 third_tells bytes at two more =
     elim (leb_tells (get_or bytes (at + 2) 0) 1) [
@@ -184,7 +184,7 @@ not_code bytes k at j code e few = false_from_ne_true (is_start_code bytes k) (�
     zero_there (suc zero) few here e one = let z = here.reads 1 (omega arith) in let same : get_or bytes (at + 2) 0 ≡ 0 = rw (← e) z in absurd (omega arith)
     zero_there (suc (suc j)) few here e one = absurd (omega arith)
 
--- no start code begins between the start code at `code` and the end of the unit after it
+-- after the start code at index `code`, no start code begins before the end of the unit
 pub code_apart : (bytes : List ℕ) (code : ℕ) → OccursAt bytes start_code code → NonePasses (is_start_code bytes) (code + 1) (end_behind bytes (code + 3))
 code_apart bytes code there k from below =
     let ends = end_first bytes (code + 3) (omega (arith, there.fits)) in

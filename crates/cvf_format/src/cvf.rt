@@ -34,7 +34,7 @@ pub struct CvfView<'a> {
     /// The H.264 timestamp, in nanoseconds of gPTP modulo 2^32.
     pub h264_timestamp: u32,
     /// The first byte of the NAL unit: F in one bit, NRI in two, and the type, 1 to 23, in five. Each fragment of a
-    /// unit carries this byte, split between its two headers.
+    /// unit carries this byte, split between the fragment's two headers.
     pub nal: u8,
     pub part: NalPart,
     /// The bytes that this packet carries of the NAL unit, without the unit's first byte.

@@ -39,7 +39,7 @@ pub record Journal : Type 0 where
   pub packets : ℕ
   -- the instant of each packet's first sample, or of its access unit
   pub due : ℕ → ℕ
-  -- the instant in a packet's timestamp, if it has one
+  -- the instant in a packet's timestamp, if the packet has a timestamp
   pub stamp : ℕ → Option ℕ
   -- the media clock restart bit of each packet
   pub mr : ℕ → Bool
@@ -54,7 +54,7 @@ rule_of (H264 part) n = Own
 
 -- ---- the instants of a packet's samples
 
--- the head of packet n according to its own timestamp, if it has one
+-- the head of packet n according to its own timestamp; `None` if packet n has no timestamp
 abbrev pub own_head : Journal → ℕ → Option Head
 own_head j n =
     option_map (λ instant. record { instant = pos instant; first = neg_ℤ (pos (stamped_index (rule_of j.kind n))) }) (j.stamp n)
@@ -102,8 +102,8 @@ pub record IsAtByClock (j : Journal) (n k : ℕ) (instant : ℤ) : Type 0 where
   pub covers : Covers (pair_at j.clock earlier later) j.rate head.instant
   pub at : instant ≡ instant_by (pair_at j.clock earlier later) j head k
 
--- Sample k of packet n is at this instant in a stream of this kind, with the clock or at the nominal rate. A NAL unit
--- of H.264 has one sample, at the instant at which its packets are due.
+-- Sample k of packet n is at this instant in a stream of this kind: according to the clock if the Boolean is true, and
+-- at the nominal rate otherwise. A NAL unit of H.264 has one sample, at the instant at which its packets are due.
 abbrev pub IsAtBy : Kind → Bool → Journal → ℕ → ℕ → ℤ → Type 0
 IsAtBy DenseAaf true j n k instant = IsAtByClock j n k instant
 IsAtBy DenseAaf false j n k instant = IsAtNominal j n k instant
@@ -113,7 +113,8 @@ IsAtBy (Am824 interval dbc) true j n k instant = IsAtByClock j n k instant
 IsAtBy (Am824 interval dbc) false j n k instant = IsAtNominal j n k instant
 IsAtBy (H264 part) by_clock j n k instant = (k ≡ 0) × (instant ≡ pos (j.due n))
 
--- Sample k of packet n is at this instant, for listeners with the clock or without. An audio packet without a head has
--- no instants. With the clock, a packet also has no instants if no joined pair covers its head.
+-- Sample k of packet n is at this instant for a listener. The Boolean says whether the listener has the clock. An audio
+-- packet without a head has no instants. With the clock, a packet also has no instants if no joined pair covers its
+-- head.
 abbrev pub IsAt : Bool → Journal → ℕ → ℕ → ℤ → Type 0
 IsAt by_clock j n k instant = IsAtBy j.kind by_clock j n k instant

@@ -76,8 +76,8 @@ pub fn samples_are_clocked()
 {}
 
 /// The rules at their limits. Codes of pull are 0 to 5. Adjacent periods differ by at most a quarter of the 20,833 ns
-/// between two events of 48 kHz. If a stream agrees with its clock, no two joined pairs cover one of its timestamps. An
-/// access unit has at most 255 packets.
+/// between two events of 48 kHz. If a stream agrees with its clock, each timestamp of the stream is covered by at most
+/// one joined pair. An access unit has at most 255 packets.
 pub fn rules_have_limits()
     ensures pull { (pull : ℕ) → IsRegularClock (pulled pull) ↔ pull ≤ 5 }
     ensures steady { (late : ℕ) → IsRegularClock (unsteady late) ↔ late ≤ 5208 }
