@@ -11,7 +11,7 @@ pub fn one_packet()
     ensures { (bytes : List ℕ) → IsSpelledOnce (aaf_refusal bytes) (λ (v : Aaf). SpellsAaf bytes v) }
 {}
 
-/// The bytes written for a packet spell that packet with every reserved bit 0, whatever follows them.
+/// Whatever bytes follow, the bytes written for a packet spell that packet with every reserved bit 0.
 pub fn packet_again()
     ensures { (v : Aaf) (trail : List ℕ) → IsWritableAaf v → Fits aaf_layout v → SpellsAaf (aaf_spelling v ++ trail) (plain_aaf v) }
 {}

@@ -58,7 +58,7 @@ pub trait Rows {
         requires { place < length (rows self.now) }
         ensures { slice_get (rows self.now) place ≡ Some (row_of result) };
 
-    /// Bounds of the pairs whose later point is in the packet at index `place`, if they are known.
+    /// Bounds of the pairs whose later point is in the packet at index `place`; `None` if no bounds are known.
     fn bounds(&self, place: usize) -> Option<Bounds>
         requires { place < length (rows self.now) }
         ensures { (shift : ℤ) (row : ClockRowValue) → bounded self.now shift → slice_get (rows self.now) place ≡ Some row → IfSome result (HasPairs shift row) };

@@ -11,7 +11,7 @@ pub fn one_packet()
     ensures { (bytes : List ℕ) → IsSpelledOnce (crf_refusal bytes) (λ (v : Crf). SpellsCrf bytes v) }
 {}
 
-/// The bytes written for a packet spell that packet with every reserved bit 0, whatever follows them.
+/// Whatever bytes follow, the bytes written for a packet spell that packet with every reserved bit 0.
 pub fn packet_again()
     ensures { (v : Crf) (trail : List ℕ) → IsWritableCrf v → Fits crf_layout v → SpellsCrf (crf_spelling v ++ trail) (plain_crf v) }
 {}

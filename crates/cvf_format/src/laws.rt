@@ -11,7 +11,7 @@ pub fn one_packet()
     ensures { (bytes : List ℕ) → IsSpelledOnce (cvf_refusal bytes) (λ (v : Cvf). SpellsCvf bytes v) }
 {}
 
-/// The bytes written for a packet spell that packet with every reserved bit 0, whatever follows them.
+/// Whatever bytes follow, the bytes written for a packet spell that packet with every reserved bit 0.
 pub fn packet_again()
     ensures { (v : Cvf) (trail : List ℕ) → IsWritableCvf v → Fits (layout_of v.part) v → SpellsCvf (cvf_spelling v ++ trail) (plain_cvf v) }
 {}

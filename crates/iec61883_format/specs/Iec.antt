@@ -1,6 +1,6 @@
 -- IEC 61883-6 packets in AVTP: the encapsulation of IEEE 1722-2016, 5, and the CIP header of IEC 61883-1, which is two
--- quadlets after the stream header. This project's profile accepts packets of audio blocks that are neither split nor
--- packed, and no-data packets.
+-- quadlets after the stream header. This project's profile accepts no-data packets, and packets of audio blocks that
+-- are neither split nor packed.
 use Rattle.std.specs.Prelude.{◌≡◌, ◌⊎◌, ℕ, ◌+◌, ◌-◌, ◌*◌, ◌/◌, ◌%◌, ◌==◌, ◌^◌, ◌<◌, ◌≤◌, Bool, false, not, ◌&&◌, ◌||◌, nat_lt, if◌then◌else◌, List, [], ◌∷◌, ◌++◌, length, take, drop, Option, Some, None}
 use Rattle.time_unfold.specs.declared.head_rule.HeadRule.TheVariants.{Blocks}
 use Rattle.time_unfold.specs.Heads.{stamped_index}

@@ -11,7 +11,7 @@ pub fn one_packet()
     ensures { (bytes : List ℕ) → IsSpelledOnce (iec_refusal bytes) (λ (v : Iec). SpellsIec bytes v) }
 {}
 
-/// The bytes written for a packet spell that packet with every reserved bit 0, whatever follows them.
+/// Whatever bytes follow, the bytes written for a packet spell that packet with every reserved bit 0.
 pub fn packet_again()
     ensures { (v : Iec) (trail : List ℕ) → IsWritableIec v → Fits iec_layout v → SpellsIec (iec_spelling v ++ trail) (plain_iec v) }
 {}

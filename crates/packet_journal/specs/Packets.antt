@@ -124,8 +124,7 @@ spelling_of (Pcm v) = aaf_spelling v
 spelling_of (Am824Data v) = iec_spelling v
 spelling_of (H264Data v) = cvf_spelling v
 
--- what a packet carries: the samples of an audio packet, or a packet's bytes of a NAL unit without the unit's first
--- byte
+-- what a packet carries: audio samples, or bytes of a NAL unit after the unit's first byte
 abbrev pub carried : PacketView → List ℕ
 carried (Pcm v) = v.payload
 carried (Am824Data v) = v.payload

@@ -46,7 +46,7 @@ pub record Follows (c : ClockJournal) (p q : Place) : Type 0 where
   pub second : IsPlace c q
   pub next : IsNext c p q
 
--- The packets of p and q have the same `mr`. Adjacent points that satisfy this are in one run.
+-- The packets of p and q have the same `mr`. If p and q are positions of adjacent points, these points are in one run.
 abbrev pub InOneRun : ClockJournal → Place → Place → Type 0
 InOneRun c p q = c.mr p.packet ≡ c.mr q.packet
 

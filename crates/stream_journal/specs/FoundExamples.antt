@@ -7,8 +7,7 @@ use Rattle.time_unfold.specs.declared.stamp.Stamp.{Stamp}
 use Rattle.stream_journal.specs.Examples.{restarted}
 use Rattle.stream_journal.specs.Heads.{stamp_at}
 
--- how far before packet 9 of `restarted` the stamped sample is from which packet 9 is counted: one packet, 6 sample
--- frames
+-- the distance from packet 9 of `restarted` back to the stamped sample: one packet, 6 sample frames
 abbrev pub one_back : Distance
 one_back = record { packets = 1; samples = 6 }
 

@@ -36,7 +36,7 @@ const POINTS_LIMIT: usize = 180;
 const AUDIO_SAMPLE: u8 = 1;
 
 impl ClockStream {
-    /// The clock of a plan, if it has one, with a stream of this many packets.
+    /// The clock of a plan with a stream of this many packets; `None` if the plan has no clock.
     pub fn of(plan: TalkPlan, stream: u64) -> Option<Self>
         requires plan { IsAudioPlan plan }
         requires few { AreFew plan stream }

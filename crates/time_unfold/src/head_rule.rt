@@ -33,7 +33,7 @@ pub struct Head {
     pub first: i64,
 }
 
-/// How far back the stamped sample is from which a packet without a timestamp is counted.
+/// How far back the stamped sample is for a packet without a timestamp.
 #[derive(Clone, Copy, Debug, PartialEq, Eq)]
 pub struct Distance {
     /// The number of packets from the packet with the stamped sample to this packet.
