@@ -32,7 +32,7 @@ distance (Blocks dbc interval) n count =
     if nat_lt 7 (div_ceil (dbc % interval) count) then None else
     Some (record { packets = div_ceil (dbc % interval) count; samples = dbc % interval })
 
--- A packet without a timestamp is timed by an earlier stamped block. The result is the count of that block in IEC
+-- A packet without a timestamp is timed by an earlier stamped block. The result is the block count of that block in IEC
 -- 61883-6, modulo 256; `None` for AAF.
 abbrev pub counted_block : HeadRule → Option ℕ
 counted_block Own = None

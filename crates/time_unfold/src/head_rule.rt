@@ -103,8 +103,8 @@ impl HeadRule {
         }
     }
 
-    /// A packet without a timestamp is timed by an earlier stamped block. The result is the count of that block, modulo
-    /// 256 (IEC 61883-6); `None` for AAF. The interval is 8, 16 or 32.
+    /// A packet without a timestamp is timed by an earlier stamped block. The result is the block count of that block,
+    /// modulo 256 (IEC 61883-6); `None` for AAF. The interval is 8, 16 or 32.
     pub fn counted_block(self) -> Option<u8>
         requires { IsRule self }
         ensures { result ≡ counted_block_of self }
