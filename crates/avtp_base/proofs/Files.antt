@@ -47,7 +47,6 @@ more_of b c name held bytes has more =
     let same : more.0 ≡ held = cc in
     (more.2.0 ∙ ap (λ (x : List ℕ). Some (x ++ bytes)) same, more.2.1)
 
--- Putting `held` and then appending `bytes` puts `held ++ bytes`. If the files are shown, `of` must be the file's name.
 pub PutsFile-appends : (a b c : Option Files) (name held bytes : List ℕ) (of : Option (List ℕ)) → (IsSome a → of ≡ Some name) → PutsFile a b name held → AppendsTo b c of bytes → PutsFile a c name (held ++ bytes)
 PutsFile-appends None None None name held bytes of named p q = tt
 PutsFile-appends None None (Some c) name held bytes of named p q = absurd q
@@ -71,7 +70,6 @@ KeepsOthers-closed a b c k free p q closed j =
       | inr other ↦ q j other.1 ∙ p j other.1
     ]
 
--- a slot that keeps its file keeps its name
 pub named_as : (a b : Option Open) → option_map file_of b ≡ option_map file_of a → option_and_then (λ (o : Open). o.name) b ≡ option_and_then (λ (o : Open). o.name) a
 named_as None None same = refl
 named_as None (Some b) same = absurd cc

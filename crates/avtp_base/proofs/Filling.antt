@@ -5,7 +5,6 @@ use Rattle.std.proofs.lemmas.List.{drop-take, length-take-le, take-take, take-ap
 use Rattle.std.proofs.Math.Seq.{take-append-add}
 use Rattle.std.specs.List.{refill}
 
--- If w has at most n items, the first n items of a list overwritten with w depend only on the list's first n items.
 rest_stays : (k : ℕ) (xs w : List ℕ) → take (length w + k) (w ++ drop (length w) xs) ≡ take (length w + k) (w ++ drop (length w) (take (length w + k) xs))
 rest_stays k xs w =
     take-append-add w (drop (length w) xs) k
@@ -21,7 +20,6 @@ front_left n xs w (inl lt) =
     let sum : length w + (n - length w) ≡ n = omega arith in
     subst (λ (m : ℕ). take m (w ++ drop (length w) xs) ≡ take m (w ++ drop (length w) (take m xs))) sum (rest_stays (n - length w) xs w)
 
--- if a list is overwritten with w, its first n items are the old first n items, overwritten with w
 pub refill_front : (n m : ℕ) (xs w : List ℕ) → n ≤ m → n ≤ length xs
     → take n (refill m xs (w ++ drop (length w) xs)) ≡ refill (length (take n xs)) (take n xs) w
 refill_front n m xs w within le =

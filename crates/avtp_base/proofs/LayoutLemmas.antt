@@ -1,4 +1,4 @@
--- The bits of a header hold what a writer puts there.
+-- The bits of a written header hold the values that the writer wrote there.
 use Rattle.std.proofs.Common.{◌≡◌, ℕ, zero, suc, ◌+◌, ◌-◌, ◌*◌, ◌/◌, ◌%◌, ◌^◌, ◌<◌, ◌≤◌, Bool, true, false, cond, eqb, List, [], ◌∷◌, ◌++◌, length, get_or, refl, sym, ap, ◌∙◌, append_assoc, arith}
 use Rattle.std.specs.Int.{byte_at, bytes_high_first}
 use Rattle.std.proofs.Math.Nat.{add-mul, div-one, mul_assoc, pow-suc, zero-mul}
@@ -42,7 +42,6 @@ number-split (suc s) m at xs =
     let rest = number-split s m (suc at) xs in
     rw (more, rest, place, power) (regroup (get_or xs at 0) (256 ^ s) (256 ^ m) (big_from (suc at) s xs) (big_from (suc at + s) m xs))
 
--- cutting bits out of the first s bytes gives the same value as cutting them out of all s + m bytes
 shifted : (s m k whole front rest : ℕ) → whole ≡ front * 256 ^ m + rest → rest < 256 ^ m → k ≤ 8 * s
     → front / 2 ^ (8 * s - k) ≡ whole / 2 ^ (8 * (s + m) - k)
 shifted s m k whole front rest e below within =
@@ -50,7 +49,7 @@ shifted s m k whole front rest e below within =
     let places : 8 * (s + m) - k ≡ 8 * m + (8 * s - k) = omega arith in
     rw (places, ← shr-shr whole (8 * m) (8 * s - k), high) refl
 
--- bits that lie within n bytes may be cut out of the number that these n bytes form
+-- The number in bits that lie within n bytes can be cut out of the number that the n bytes form.
 pub bits-wide : (n at first width : ℕ) (xs : List ℕ) → AreBytesAt at n xs → first + width ≤ 8 * n
     → bits at first width xs ≡ big_from at n xs / 2 ^ (8 * n - (first + width)) % 2 ^ width
 unfolding bits
@@ -65,7 +64,7 @@ bits-wide n at first width xs fits within =
 
 -- ---- numbers that adjacent fields spell
 
--- the bits of the packed number above these fields are n
+-- Dividing by 2 ^ (total width of the fields) removes the fields from the packed number, and leaves n.
 packed_front : {V : Type 0} (bs : List (Bits V)) (v : V) (n : ℕ) → FitsBits bs v → packed_behind n bs v / 2 ^ total_width bs ≡ n
 packed_front [] v n fits = div-one n
 packed_front (b ∷ bs) v n fits =
@@ -137,12 +136,13 @@ number_at front rest n x =
 
 -- ---- whole headers
 
--- each part fills whole bytes, and the parts follow each other from byte `at` on
+-- Each part fills whole bytes. The first part begins at byte `at`, and each other part begins where the part before it
+-- ends.
 abbrev pub IsLaid : {V : Type 0} → ℕ → Layout V → Type 0
 IsLaid at [] = Unit {0}
 IsLaid at (p ∷ parts) = (p.at ≡ at) × (total_width p.bits ≡ 8 * size_of p) × IsLaid (at + size_of p) parts
 
--- all bits hold what a writer puts there
+-- each field of the header holds the value that a writer writes for the view
 abbrev pub Holds : {V : Type 0} → Layout V → V → List ℕ → Type 0
 Holds [] v bytes = Unit {0}
 Holds (p ∷ parts) v bytes = HoldsBits p.at 0 p.bits v bytes × Holds parts v bytes

@@ -1,4 +1,4 @@
--- Bytes that hold what a writer puts into a header are the written header.
+-- If bytes hold the values that a writer writes for a view, they are the bytes that the writer writes.
 use Rattle.std.proofs.Common.{◌≡◌, ℕ, zero, suc, ◌+◌, ◌-◌, ◌*◌, ◌/◌, ◌%◌, ◌^◌, ◌<◌, ◌≤◌, List, [], ◌∷◌, ◌++◌, length, take, drop, get_or, refl, sym, ap, subst, ◌∙◌, append_assoc, inl, inr, arith}
 use Rattle.std.specs.Int.{bytes_high_first}
 use Rattle.std.proofs.Math.Nat.{div-eq_of_lt, div-one}
@@ -46,7 +46,7 @@ bytes_behind n at xs bytes i lt =
     let e : at + suc i ≡ suc at + i = omega arith in
     rw e at h
 
--- if n bytes give the same number in two lists, these bytes are the same in the two lists
+-- If n bytes of `xs` form the same number as the n bytes of `ys` at the same index, these bytes are equal.
 same_bytes : (n at : ℕ) (xs ys : List ℕ) → AreBytesAt at n xs → AreBytesAt at n ys → big_from at n xs ≡ big_from at n ys
     → (k : ℕ) → k < n → get_or xs (at + k) 0 ≡ get_or ys (at + k) 0
 same_bytes zero at xs ys p q e k lt = absurd (omega arith)
@@ -120,7 +120,7 @@ length-spelling (p ∷ parts) v =
     let here : List ℕ = big_bytes (size_of p) (packed p.bits v) in
     omega (arith, length-append here (spelling parts v), length-bytes_high_first (size_of p) (packed p.bits v), length-spelling parts v)
 
--- If bytes hold what a writer puts into a header, they are the written header followed by the remaining bytes.
+-- If the bytes hold the values that a writer writes for the view, they begin with the bytes that the writer writes.
 pub only_spelling : {V : Type 0} (layout : Layout V) (v : V) (bytes : List ℕ) (size : ℕ) → IsLaid 0 layout → layout_size layout ≡ size
     → AreBytes bytes → size ≤ length bytes → Holds layout v bytes → bytes ≡ spelling layout v ++ drop size bytes
 only_spelling layout v bytes size laid len fits long h =

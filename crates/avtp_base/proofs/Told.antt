@@ -1,4 +1,5 @@
--- What two successive calls do to the bytes that an object shows, and to the bytes that are buffered after them.
+-- What two successive calls do to the bytes that an object shows, and to the bytes that a buffer still holds for the
+-- object.
 use Rattle.std.proofs.Common.{◌≡◌, ℕ, List, [], ◌++◌, Option, None, Some, refl, sym, ap, ◌∙◌, append_assoc, append-nil}
 use Rattle.avtp_base.specs.Told.{Keeps, Appends, append_known}
 

@@ -1,5 +1,5 @@
--- Counts of faults. An object outside the program counts the calls that failed. The count of an object stops at the
--- largest 64-bit number.
+-- Counts of faults. Each object outside the program counts those of its calls that failed. A count stops at the largest
+-- 64-bit number.
 use Rattle.std.specs.Prelude.{◌≡◌, ℕ, ◌+◌, ◌-◌, ◌^◌, ◌≤◌, ◌<◌, min, Result, OnOk, OnErr, IsErrOf}
 use Rattle.avtp_base.specs.declared.failed.Failed.{Failed}
 use Rattle.avtp_base.specs.declared.failed.OpenFault.{OpenFault}
@@ -17,15 +17,15 @@ Rose before after = min (before + 1) last_count ≤ after
 abbrev pub IsQuiet : ℕ → ℕ → Type 0
 IsQuiet before after = after < min (before + 1) last_count
 
--- How a call with this result changes the count of faults. The count never falls. At `Ok` it is unchanged; at a failure
--- it rose.
+-- How a call with this result changes the count of faults. At `Ok` the count is unchanged; at a failure it rose. The
+-- count never falls.
 pub record IsCounted {T : Type 0} (before after : ℕ) (result : Result T Failed) : Type 0 where
   pub never_falls : before ≤ after
   pub ok : OnOk result (after ≡ before)
   pub failed : OnErr result (Rose before after)
 
--- How a call that opens or makes a file changes the count of faults, if the call has this result. The count never
--- falls. At `Ok` it is unchanged; at `Failed` it rose. A missing file and missing memory are not counted.
+-- How a call that opens or makes a file changes the count of faults, if the call has this result. At `Ok` the count is
+-- unchanged; at `Failed` it rose. A missing file and missing memory are not counted. The count never falls.
 pub record IsOpenCounted {T : Type 0} (before after : ℕ) (result : Result T OpenFault) : Type 0 where
   pub never_falls : before ≤ after
   pub ok : OnOk result (after ≡ before)

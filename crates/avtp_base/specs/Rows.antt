@@ -4,7 +4,7 @@ use Rattle.avtp_base.specs.declared.field.Field.{Field}
 use Rattle.avtp_base.specs.declared.refusal.Refusal.{Refusal}
 use Rattle.avtp_base.specs.declared.refusal.Room.{Room}
 
--- a row of a table of refusals: the refusal, and whether it holds
+-- a row of a table of refusals: a refusal, and `holds`, which says whether the refusal applies
 pub record Row : Type 0 where
   pub refusal : Refusal
   pub holds : Bool
@@ -18,7 +18,7 @@ abbrev pub first_row : List Row → Option Refusal
 first_row [] = None
 first_row (r ∷ rows) = if r.holds then Some r.refusal else first_row rows
 
--- the first of two refusals, or the second if there is no first
+-- the first refusal if there is one; otherwise the second refusal, if there is one
 abbrev pub or_else : Option Refusal → Option Refusal → Option Refusal
 or_else None second = second
 or_else (Some refusal) second = Some refusal
@@ -30,8 +30,8 @@ Reads shape refusal view (Ok x) = (refusal ≡ None) × (shape x ≡ view)
 Reads shape refusal view (Err r) = refusal ≡ Some r
 
 -- A writer's result. At `Ok` the writer put the spelling at the front of the slice, left all other bytes unchanged, and
--- returned the spelling's length. At `Err` the slice is too short and is unchanged; the result has the length needed
--- and the length of the slice.
+-- returned the spelling's length. At `Err` the slice is shorter than the spelling and is unchanged; the result states
+-- both lengths.
 abbrev pub Writes : List ℕ → List ℕ → List ℕ → Result ℕ Room → Type 0
 Writes spelling old new (Ok n) =
     (n ≡ length spelling) × (length spelling ≤ length old) × (new ≡ spelling ++ drop (length spelling) old)
