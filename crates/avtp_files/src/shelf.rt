@@ -12,9 +12,9 @@ pub struct Slot(pub u32);
 /// Files by name, read and written in pieces through slots. A shelf counts faults of reading (`open_file` and `read`)
 /// and of writing (`create_file` and `write`) separately. A call raises only its own count.
 ///
-/// For each call, one relation says what the call does to every shelf. Each call also has a ghost member, from `opens`
-/// to `closes`. The member adds what the call does to one kind of shelf. If the kind does not define the member, it
-/// adds nothing.
+/// For each call, one relation says what the call does to every shelf. Each call also has a ghost member: `opens`,
+/// `makes`, `reads`, `writes` or `closes`. The ghost member says what the call does in addition on a shelf of the
+/// implementing type. By default the ghost member says nothing.
 pub trait Shelf {
     ghost use Rattle.std.specs.Prelude.{ℕ, List, Result};
     ghost use Rattle.avtp_base.specs.declared.failed.Failed.{Failed};
