@@ -3,7 +3,6 @@ use Rattle.std.proofs.lemmas.List.{drop-drop}
 use Rattle.std.proofs.Math.Seq.{take-append_seam}
 use Rattle.avtp_memory.proofs.open_file.copy_from.Goals as goal
 
--- if the first m items of `xs` were copied, `xs` is the copy followed by the other items
 copied_front : (xs copy rest : List ℕ) (m : ℕ) → copy ≡ take m xs → length copy ≡ m → xs ≡ take m (copy ++ rest) ++ drop m xs
 copied_front xs copy rest m is len =
     let front : take m (copy ++ rest) ≡ copy = subst (λ n. take n (copy ++ rest) ≡ copy) len (take-append_seam copy rest) in
