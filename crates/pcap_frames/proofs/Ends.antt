@@ -13,7 +13,8 @@ use Rattle.pcap_frames.specs.state.Reading.{ending, ending_by}
 use Rattle.pcap_frames.proofs.Fields.{file_whole, record_whole, nothing_held, record_begins}
 use Rattle.pcap_frames.proofs.Steps.{reading}
 
--- appending the bytes of a record to the bytes of a list of records appends the record to the list
+-- If `bytes` are the encodings of `records`, and `last` is the encoding of `r`, appending `last` to `bytes` appends `r`
+-- to `records`.
 spells_more : (style : Style) (records : List Record) (r : Record) (bytes last : List ℕ) → SpellsAll style records bytes → Spells style r last → SpellsAll style (records ++ r ∷ []) (bytes ++ last)
 spells_more style [] r bytes last all one = (last, [], rw all (sym (append-nil last)), one, refl)
 spells_more style (x ∷ records) r bytes last all one =

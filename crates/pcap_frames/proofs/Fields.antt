@@ -1,4 +1,4 @@
--- What is known of the bytes if a field is refused, or if none is.
+-- What is known of bytes in which a field is refused, and of bytes in which no field is refused.
 use Rattle.std.proofs.Common.{◌≡◌, ℕ, ◌+◌, ◌-◌, ◌<◌, ◌≤◌, Bool, true, false, cond, List, [], ◌++◌, length, Option, Some, None, is_some, inl, inr, refl, arith, length-append}
 use Rattle.std.proofs.lemmas.Bool.{cases_lt}
 use Rattle.pcap_frames.proofs.Append.{number_stays}
@@ -15,7 +15,7 @@ pub record_whole : (order : Order) (start : ℕ) (bytes : List ℕ) → record_r
 unfolding record_refusal
 record_whole order start bytes h = grind (arith, nat_tests)
 
--- if the captured length of a record was taken and not refused, the length is within the limit
+-- if the field of a record's captured length was taken and is not refused, the captured length is at most 262,144
 pub record_limit : (order : Order) (start : ℕ) (bytes : List ℕ) → 12 ≤ length bytes → certain (record_refusal order start bytes) ≡ None → number_at order 8 4 bytes ≤ 262144
 unfolding record_refusal
 record_limit order start bytes long h = grind (arith, nat_tests)

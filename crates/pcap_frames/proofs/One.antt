@@ -19,7 +19,6 @@ file_fits : (style : Style) (bytes : List ℕ) → length bytes ≡ 24 → style
 unfolding file_refusal style_at
 file_fits style bytes size magic version network = grind (arith, nat_tests)
 
--- if a list is split twice, with prefixes of the same length, the prefixes are equal
 same_front : (p q p' q' : List ℕ) → p ++ q ≡ p' ++ q' → length p ≡ length p' → p ≡ p'
 same_front p q p' q' e l = sym (take_at p q (length p) refl) ∙ (ap (take (length p)) e ∙ take_at p' q' (length p) (sym l))
 
@@ -31,7 +30,7 @@ pub spells_accepted : (style : Style) (r : Record) (start : ℕ) (first more : L
 spells_accepted style r start first more s =
     record_stays style.order start first more None (record_fits style.order start first (omega (arith, s.size, s.incl_len)) (omega (arith, s.limit, s.incl_len))) refl
 
--- the header of a record gives the number of its bytes
+-- the header of a record states the size of the record
 pub spells_size : (style : Style) (r : Record) (first more : List ℕ) → Spells style r first → length first ≡ record_size style (first ++ more)
 spells_size style r first more s =
     let stays : number_at style.order 8 4 (first ++ more) ≡ number_at style.order 8 4 first = number_stays style.order 8 4 first more (omega (arith, s.size)) in
@@ -77,7 +76,7 @@ one_list style (r ∷ records) (o ∷ others) b b' rest rest' start start' x y s
     let tail = one_list style records others s.1 t.1 rest rest' start start' x y s.4 t.4 (same_back s.0 (s.1 ++ rest) t.0 (t.1 ++ rest') whole long) p q in
     (cc (same, tail.0), tail.1)
 
--- The bytes are a capture of these records, and then end as `x` says.
+-- The bytes are a capture of these records, followed by `rest`, which is as `Ends` says for `x`.
 record Split (bytes : List ℕ) (records : List Record) (x : Option Refusal) : Type 0 where
   style : Style
   front : List ℕ

@@ -121,8 +121,8 @@ fn read_either(frame: &[u8]) -> Result<FrameView<'_>, Refusal>
     Ok(read_tagged(frame))
 }
 
-/// Reads an Ethernet frame with at most one tag; everything after the header is payload. The only refusal is at the
-/// first field of the header that is cut off.
+/// Reads an Ethernet frame with at most one tag; everything after the header is payload. If the header is cut off, the
+/// call refuses the first field that is cut off. Nothing else is refused.
 #[inline(always)]
 pub fn read_frame(frame: &[u8]) -> Result<FrameView<'_>, Refusal>
     ensures exact { Reads frame_shape (frame_refusal frame.now) (frame_of frame.now) result }

@@ -120,7 +120,8 @@ pub fn record_refusal(order: Order, start: u64, bytes: &[u8]) -> Option<Refusal>
     None
 }
 
-/// The size of the record at the front of the bytes, if it is complete in them and nothing in it is refused.
+/// The size of the record at the front of the bytes, if the bytes contain the whole record and nothing in the record is
+/// refused.
 #[tactic(auto, unfolding(crate::specs::Layout::record_refusal))]
 pub fn whole_size(order: Order, bytes: &[u8]) -> Option<usize>
     ensures size { IfSome result (λ size. size ≡ 16 + number_at order 8 4 bytes.now) }

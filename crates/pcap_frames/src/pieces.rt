@@ -33,7 +33,7 @@ pub struct Contents {
 }
 
 /// Reads a capture that is cut into these pieces, at most 2^62 bytes in all. The style, the records and the refusal are
-/// those of the whole capture, wherever it is cut.
+/// those of the whole capture, wherever the capture is cut.
 pub fn read_pieces(alloc: Global, pieces: &[Bytes]) -> Result<Contents, NoMemory>
     requires { length (joined pieces.now) ≤ 2 ^ 62 }
     ensures style { IfOk result (λ all. all.style ≡ style_of (joined pieces.now)) }

@@ -27,7 +27,7 @@ use std::marker::Model;
 #[derive(Debug, Drop)]
 pub struct Reader {
     style: Option<Style>,
-    /// The offset in the capture of the file header or the record that is being read.
+    /// The offset, in the capture, of the file header or record that is being read.
     start: u64,
     /// The bytes taken of the file header or of the record. The header and the captured bytes of a record share this
     /// buffer.
@@ -195,7 +195,7 @@ impl Reader {
         true
     }
 
-    /// The size of the next record, if the front of the piece has all of it and none of it was taken yet.
+    /// The size of the next record, if the piece begins with the whole record and no byte of the record was taken yet.
     ///
     /// The result is `None` before the end of the file header, or if some bytes of the record were taken, a field is
     /// refused, or the record continues after the piece. At `None` the piece must be fed.
@@ -212,7 +212,8 @@ impl Reader {
         layout::whole_size(style.order, piece)
     }
 
-    /// A view of the next record in these bytes of the piece, which include the record's header.
+    /// A view of the next record. `bytes` are the header and the captured bytes of that record, at the front of the
+    /// piece.
     pub fn lend<'a>(&self, bytes: &'a [u8]) -> RecordView<'a>
         requires { IsNext self.now bytes.now }
         ensures exact { held (with_part self.now bytes.now) ≡ Some (shown result) }
@@ -238,9 +239,9 @@ impl Reader {
 
     /// Whether the bytes so far are a whole capture: a file header and whole records.
     ///
-    /// If the capture is not whole, the call returns the earlier refusal. Without an earlier refusal, it returns the
-    /// first field with a missing byte, with `short` set. A held record counts as whole. The call changes nothing, and
-    /// more bytes may follow.
+    /// If the capture is not whole, the call returns the earlier refusal. Without an earlier refusal, the call refuses
+    /// the first field that misses a byte, with `short` set. A held record counts as whole. The call changes nothing,
+    /// and more bytes may follow.
     pub fn finish(&self) -> Result<(), Refusal>
         ensures exact { (bytes : List ℕ) (records : List Record) → HasRead self.now bytes records → Holds bytes (records ++ option_to_list (held self.now)) (result_err result) }
         ensures ends { Ends meaning (progress self.now) result }
