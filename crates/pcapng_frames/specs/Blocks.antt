@@ -17,7 +17,8 @@ use Rattle.pcapng_frames.specs.declared.interface.Interface.{Interface}
 use Rattle.pcapng_frames.specs.Interface.{microseconds}
 use Rattle.pcapng_frames.specs.Fields.{kind_of, order_of_magic, padded, Row, row, refusal_at, first_refused, section_rows, interface_rows, packet_rows, packet_arrival, other_rows, option_code, option_length, option_rows, with_option}
 
--- A place in a capture: what follows there, and what is known from the bytes before it.
+-- A place in a capture: a point at which a block, an option or a trailer begins. `stage` says which of them begins
+-- there. The other fields are what is known from the bytes before the place.
 --
 -- `order` is the byte order of the section, or `None` before the first section. `interfaces` are the interfaces
 -- described in the section so far. `start` is the offset of the block, and `total` is its total length. In an interface
@@ -71,7 +72,7 @@ kind_rows kind.Interface order interfaces bytes = interface_rows order (length i
 kind_rows kind.Packet order interfaces bytes = packet_rows order interfaces bytes
 kind_rows kind.Other order interfaces bytes = other_rows order bytes
 
--- this block is before the first section header, and is not a section header itself
+-- no section was begun yet, and a block of this kind is not a section header
 abbrev pub is_misplaced : Option Order → Kind → Bool
 is_misplaced order k = is_none order && not (is_section k)
 
@@ -103,7 +104,8 @@ refusal_by stage.Block p bytes = block_refused p.order p.interfaces p.start byte
 refusal_by stage.Option p bytes = option_refused (order_or_little p.order) (p.start + (p.total - 4 - p.left)) p.left bytes
 refusal_by stage.Trailer p bytes = trailer_refused (order_or_little p.order) (p.start + (p.total - 4)) p.total bytes
 
--- the first refused field of what follows at this place, among the fields that the bytes contain
+-- the first refused field of the block, option or trailer that begins at this place, among the fields that the bytes
+-- contain
 unfoldable pub refusal_here : Place → List ℕ → Option Refusal
 refusal_here p bytes = refusal_by p.stage p bytes
 
@@ -237,7 +239,8 @@ cut_by stage.Block p bytes = cut_block p bytes
 cut_by stage.Option p bytes = short_at BlockBody (p.start + 8)
 cut_by stage.Trailer p bytes = short_at BlockBody (p.start + 8)
 
--- a capture that ends here is whole: a section was begun, a block may follow, and no byte is left
+-- the capture may end at this place: a section was begun, a block would begin here, and no byte of that block is
+-- present
 abbrev pub ends_at : Stage → Option Order → ℕ → ℕ → Bool
 ends_at stage.Block (Some order) start zero = true
 ends_at stage.Block (Some order) start (suc n) = false
@@ -258,7 +261,8 @@ ends ending = record { records = []; ending = ending }
 abbrev pub and_then : Option Record → Contents → Contents
 and_then packet rest = record { records = option_to_list packet ++ rest.records; ending = rest.ending }
 
--- What the bytes hold if they end before the next place: no packet. The capture is refused unless it may end here.
+-- The contents of bytes that begin at this place and end before the next place: no packet, and a refusal unless the
+-- capture may end at this place.
 abbrev pub cut_short : Place → List ℕ → Contents
 cut_short p bytes = if ends_at p.stage p.order p.start (length bytes) then ends None else ends (Some (cut_by p.stage p bytes))
 
@@ -267,7 +271,7 @@ abbrev pub refused_or : Option Refusal → Contents → Contents
 refused_or (Some refusal) rest = ends (Some (record { refusal = refusal; cut = false }))
 refused_or None rest = rest
 
--- what the bytes hold if they begin at this place, within the next n places
+-- the contents of the bytes, which begin at this place; at most n places are read
 abbrev pub contents_from : ℕ → Place → List ℕ → Contents
 contents_from zero p bytes = ends None
 contents_from (suc n) p bytes =
@@ -288,8 +292,8 @@ first_place = record {
   packet = None;
 }
 
--- What a capture holds: the packets before its first refusal, and that refusal. Each place takes at least four bytes,
--- so there are at most as many places as bytes.
+-- The contents of a capture: the packets before its first refusal, and that refusal. Each place takes at least four
+-- bytes. Therefore there are at most as many places as bytes.
 unfoldable pub contents : List ℕ → Contents
 contents bytes = contents_from (suc (length bytes)) first_place bytes
 

@@ -12,9 +12,9 @@ use Rattle.pcapng_frames.specs.declared.interface.Interface.{Interface}
 use Rattle.pcapng_frames.specs.Fields.{first_refused, kind_of, number_at, packet_rows}
 use Rattle.pcapng_frames.specs.Blocks.{Place, Contents, after_block, order_or_little, contents, contents_from, whole_records, first_refusal, settled, ends, and_then, first_place, after_trailer, short_at}
 
--- The state of a reader. The reader has reached `place`, except that `skip` bytes are still to be skipped before that
--- place. `part` are the bytes taken at that place. `whole` tells whether the block's packet is whole. `refusal` is what
--- the reader refused, if anything.
+-- The state of a reader. `place` is the place in the capture that is read next. `skip` is the number of bytes that must
+-- be skipped before that place. `part` are the bytes taken after the place. `whole` tells whether the block's packet is
+-- whole. `refusal` is what the reader refused, if anything.
 pub record Reading : Type 0 where
   pub place : Place
   pub skip : ℕ
@@ -26,26 +26,26 @@ pub record Reading : Type 0 where
 abbrev pub nothing_read : Reading
 nothing_read = record { place = first_place; skip = 0; part = []; whole = false; refusal = None }
 
--- what the bytes hold if they begin at this place
+-- the contents of the bytes, which begin at this place
 abbrev pub contents_at : Place → List ℕ → Contents
 contents_at p bytes = contents_from (suc (length bytes)) p bytes
 
--- What the capture still holds if the bytes `more` follow. The first `skip` of them are skipped. The others follow
--- `part`, the bytes taken at the place.
+-- The contents of the capture from the reader's place on, if `more` are the bytes that follow those taken. The first
+-- `skip` bytes of `more` precede the place. `part` are the bytes that were taken after the place.
 abbrev pub contents_past : ℕ → Place → List ℕ → List ℕ → Contents
 contents_past skip p part more =
     if nat_lt (length more) skip then ends (Some (short_at BlockBody (p.start + 8)))
     else contents_at p (part ++ drop skip more)
 
--- What the capture still holds after a reader in this state, if the bytes `more` follow. If the reader has a refusal,
--- the capture holds only that refusal. If the reader holds a packet, the capture holds that packet and the contents
--- after the packet's block. Otherwise the capture holds the contents at the reader's place.
+-- The contents of the capture that a reader has not released yet, if `more` are the bytes that follow those taken. If
+-- the reader has a refusal, there is only that refusal. If the reader holds a packet, the contents are that packet,
+-- followed by the contents after the packet's block. Otherwise they are the contents from the reader's place on.
 abbrev pub rest_by : Option Refusal → Bool → Reading → List ℕ → Contents
 rest_by (Some refusal) whole r more = ends (Some (record { refusal = refusal; cut = false }))
 rest_by None true r more = and_then r.place.packet (contents_at (after_trailer r.place) more)
 rest_by None false r more = contents_past r.skip r.place r.part more
 
--- what the capture still holds after this reader, if the bytes `more` follow
+-- the contents of the capture that this reader has not released yet, if `more` are the bytes that follow those taken
 abbrev pub rest_of : Reading → List ℕ → Contents
 rest_of r more = rest_by r.refusal r.whole r more
 
@@ -53,8 +53,8 @@ rest_of r more = rest_by r.refusal r.whole r more
 abbrev pub after_all : List Record → Contents → Contents
 after_all records rest = record { records = records ++ rest.records; ending = rest.ending }
 
--- The reader has taken these bytes and released these packets, in order. Whatever bytes follow, the capture holds these
--- packets, and then what it still holds after the reader.
+-- The reader has taken these bytes and released these packets, in order. Whatever bytes `more` follow, the contents of
+-- the capture are these packets, followed by `rest_of r more`.
 pub record HasRead (r : Reading) (bytes : List ℕ) (records : List Record) : Type 0 where
   pub read : (more : List ℕ) → contents (bytes ++ more) ≡ after_all records (rest_of r more)
 
@@ -68,7 +68,7 @@ held_by None false packet = None
 abbrev pub held : Reading → Option Record
 held r = held_by r.refusal r.whole r.place.packet
 
--- the number of bytes of a block before this place, excluding the bytes that are still to be skipped
+-- how many bytes of the block were taken before this place; bytes that are still to be skipped do not count
 abbrev pub passed_by : Stage → ℕ → ℕ → ℕ → ℕ
 passed_by stage.Block skip left total = 0
 passed_by stage.Option skip left total = total - 4 - left - skip

@@ -53,7 +53,7 @@ pub struct Cursor {
     pub left: u32,
     /// How many bytes are to be skipped first.
     pub skip: u32,
-    /// The fixed fields of the block's packet.
+    /// The fixed fields of the packet, if the block is a packet's block.
     pub packet: Option<PacketHead>,
 }
 

@@ -157,7 +157,8 @@ impl Ng {
         true
     }
 
-    /// The size of the next packet's block, if the front of the piece has all of it and none of it was taken yet.
+    /// The size of the next packet's block, if the piece begins with the whole block and no byte of the block was taken
+    /// yet.
     ///
     /// The result is `None` if another block is first, some bytes of the block were taken, a field is refused, or the
     /// block continues after the piece. At `None` the piece must be fed.
@@ -351,7 +352,7 @@ impl Ng {
         }
     }
 
-    /// The packet that was taken last, if its block is whole and it was not released.
+    /// The packet that was taken last, if its block is whole and the packet was not released.
     pub fn held(&self) -> Option<RecordView<'_>>
         ensures { Views (held self.now) result }
     {

@@ -186,7 +186,7 @@ fn whole_section_refusal(start: u64, bytes: &[u8]) -> Option<Refusal>
     }
 }
 
-/// Whether this block is before the first section header, and is not a section header itself.
+/// Whether no section was begun yet, and a block of this kind is not a section header.
 fn misplaced(kind: Kind, order: Option<Order>) -> bool
     ensures { result ≡ is_misplaced order kind }
 {
