@@ -1,4 +1,4 @@
--- A record that is lent.
+-- A record that is lent: it is shown in the piece, and is not copied into the reader.
 use Rattle.std.proofs.Common.{◌≡◌, ℕ, ◌+◌, ◌*◌, ◌≤◌, ◌<◌, List, ◌++◌, length, take, drop, Option, Some, None, Ok, IsSome, refl, sym, ap, subst, ◌∙◌, arith, append_assoc, length-append, take-append-drop}
 use Rattle.std.specs.Prelude.{true, false, is_some, IfSome, option_to_list}
 use Rattle.std.proofs.lemmas.List.{append-nil, length-drop, length-take-le}
@@ -28,7 +28,7 @@ use Rattle.capture_io.proofs.Reader.{capture, feeds_as, format_feeds, format_rel
 
 -- ---- the reader
 
--- taking the next record from a piece at once has the effect of feeding the record's bytes
+-- taking the next record as a whole has the effect of feeding the record's bytes
 feeds_by : (format : Option Format) (r : CaptureReading) (piece : List ℕ) (size : ℕ) → r.format ≡ format → size ≤ length piece → IsNextBy format r (take size piece) → Feeds r piece (Ok size) (with_by format r (take size piece))
 feeds_by None r piece size is within next = absurd next
 feeds_by (Some Classic) r piece size is within next =
@@ -41,7 +41,7 @@ feeds_by (Some Pcapng) r piece size is within next =
 next_feeds : (r : CaptureReading) (piece : List ℕ) (size : ℕ) → size ≤ length piece → IsNext r (take size piece) → Feeds r piece (Ok size) (with_record r (take size piece))
 next_feeds r piece size within next = feeds_by r.format r piece size refl within next
 
--- after the reader takes the next record, it holds that record
+-- after the reader took the next record, it holds that record
 held_as : (format : Option Format) (r : CaptureReading) (bytes : List ℕ) → r.format ≡ format → IsNextBy format r bytes → IsSome (held (with_by format r bytes))
 held_as None r bytes is next = absurd next
 held_as (Some Classic) r bytes is next = subst (λ (f : Option Format). IsSome (held_by f (with_by (Some Classic) r bytes))) (sym is) next.whole
@@ -72,7 +72,6 @@ pub front_as : (f : Option Format) (format : Format) (front : List ℕ) (c c' : 
 front_as f format front c c' n n' is unused kept =
     subst (λ (g : Option Format). IsFront g front c' n') (sym is) (front_still format front c c' n n' (subst (λ (g : Option Format). IsFront g front c n) is unused) kept)
 
--- a view of the next record shows the record that the reader will hold after taking that record's bytes
 pub classic_lends : (f : Option Format) (front : List ℕ) (c : classic.Reading) (n : ng.Reading) (bytes : List ℕ) (view : RecordView) → f ≡ Some Classic → classic.held (classic.with_part c bytes) ≡ Some (shown view) → IsRecordTime view.arrival
     → IsView (held (with_record (capture f front c n) bytes)) view
 classic_lends f front c n bytes view is exact time =
@@ -83,7 +82,7 @@ pub ng_lends : (f : Option Format) (front : List ℕ) (c : classic.Reading) (n :
 ng_lends f front c n bytes view is exact time =
     subst (λ (g : Option Format). IsView (held (with_record (capture g front c n) bytes)) view) (sym is) (record { exact = exact; time = time })
 
--- skipping the next record has the effect of taking it and then releasing it
+-- Skipping the next record has the effect of taking the record and then releasing it.
 pub classic_passes : (f : Option Format) (front : List ℕ) (c c' : classic.Reading) (n : ng.Reading) (bytes : List ℕ) → f ≡ Some Classic → IsNext (capture f front c n) bytes → c' ≡ record c { start = c.start + length bytes }
     → Releases (with_record (capture f front c n) bytes) (capture f front c' n)
 classic_passes f front c c' n bytes is ahead new =
@@ -134,7 +133,7 @@ reads_ahead shelf source size live ahead =
       reads = reads_nothing shelf (slot_of source) live;
     }
 
--- after the held record was released, lending the next record delivers it
+-- once the held record was released, lending the next record counts as delivering that record
 lends_next : (shelf : ShelfState) (old mid : Sourcing) (size : ℕ) → IsSome (shelf.slots (slot_of old)) → GivesUp old mid → LiesAhead mid size → GivesNext shelf shelf old (holding mid size) None
 lends_next shelf old mid size live gone ahead =
     let here = subst (λ (p : Piecing). IsSome (shelf.slots p.slot)) (sym gone.pieces) live in
@@ -151,7 +150,7 @@ still_given shelf old mid gone limit bytes records given = record {
   given = sym (ap (λ (h : Option Record). records ++ option_to_list h) gone.reader.free ∙ append-nil records);
 }
 
--- releasing the held record first does not change what reading the next record does
+-- Reading the next record does the same whether or not the held record was released before.
 gives_after : (before after : ShelfState) (old mid next : Sourcing) (result : Option End) → GivesUp old mid → GivesNext before after mid next result → GivesNext before after old next result
 gives_after before after old mid next result gone gives = record {
   given = λ none limit bytes records given. gives.given none limit bytes records (still_given before old mid gone limit bytes records given);

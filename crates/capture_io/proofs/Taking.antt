@@ -65,7 +65,7 @@ no_bytes : (xs : List ℕ) → length xs ≡ 0 → xs ≡ []
 no_bytes [] e = refl
 no_bytes (x ∷ xs) e = absurd cc
 
--- `HasTaken` still holds after a read moved `count` bytes to `buf`, if the first `within` of them are now buffered
+-- `HasTaken` still holds after a read moved `count` bytes to `buf` and the first `within` bytes of `buf` were buffered.
 pub read_more : (limit : ℕ) (bytes : List ℕ) (old new : Option (List ℕ)) (p q : Piecing) (prefix buf : List ℕ) (count within : ℕ) → HasTaken limit bytes old p prefix → p.over ≡ false → p.waiting ≡ []
     → Consumes old new (take count buf) → count ≤ length buf → within ≤ count → within ≤ p.left → (within < count → within ≡ p.left) → q.waiting ≡ take within buf → q.left ≡ p.left - within
     → (q.over ≡ true → within < count) → (q.over ≡ false → count ≤ within) → HasTaken limit bytes new q prefix

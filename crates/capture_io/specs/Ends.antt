@@ -8,28 +8,28 @@ use Rattle.capture_io.specs.declared.end.End.TheVariants as end
 use Rattle.capture_io.specs.declared.end.Stop.{Stop}
 use Rattle.capture_io.specs.declared.end.Stop.TheVariants as stop
 
--- how a capture ends if its file was read to the end: whole, or at this refusal
+-- how a capture ends if its file was read to the end: at the refusal if there is one, otherwise as a whole capture
 abbrev pub at_end : Option Refusal → End
 at_end None = end.Whole
 at_end (Some refusal) = end.Refused refusal
 
--- how a capture ends if no more of it may be read: at the limit, or at this refusal before the limit
+-- how a capture ends if its file exceeds the limit: at the refusal if there is one, otherwise at the limit
 abbrev pub at_limit : Option Refusal → End
 at_limit None = end.Limit
 at_limit (Some refusal) = end.Refused refusal
 
--- How the reading of a file with these bytes ends, if at most `limit` bytes may be read and no read fails. A longer
--- file ends at the limit, unless a field that is complete before the limit is refused.
+-- How the reading of a file with these bytes ends, if at most `limit` bytes may be read and no read fails. If the file
+-- is longer than `limit`, the reading ends at the limit, unless a field that is complete before the limit is refused.
 unfoldable pub end_of : ℕ → List ℕ → End
 end_of limit bytes =
     if nat_le (length bytes) limit
     then at_end (refusal_in bytes)
     else at_limit (certain_in (take limit bytes))
 
--- How the reading of a file ends, if at most `limit` of its bytes may be read, and which bytes precede the end. The
--- first option is the file's contents. `None` means that no file has the name, which counts as a fault of reading
--- before the first byte. If the file exists, the reading ends at a fault only if `fault` holds, and only after a prefix
--- within the limit that is not certain to be refused.
+-- How the reading of a file ends if at most `limit` of its bytes may be read, and which prefix of the file precedes
+-- that end. The first option is the file's contents. `None` means that no file has the name, which counts as a fault of
+-- reading before the first byte. If the file exists, the reading ends at a fault only if `fault` holds. In that case
+-- the prefix is within the limit, and no refusal of the prefix is certain: later bytes may still change it.
 abbrev pub EndsAt : ℕ → Option (List ℕ) → Type 0 → End → List ℕ → Type 0
 EndsAt limit None fault how prefix = (how ≡ end.ReadFault) × (prefix ≡ [])
 EndsAt limit (Some bytes) fault end.ReadFault prefix =
@@ -45,9 +45,9 @@ end_at stop.Limit lack = end.Limit
 
 -- ---- the count of reading faults
 
--- How a call changes the count of reading faults. The first end is how the reading had ended before the call, if it had
--- ended. The second end is the call's result. If a fault of reading ended the reading in this call, the count rises;
--- otherwise the count is unchanged.
+-- How a call changes the count of reading faults. The first option is the end that the reading had reached before the
+-- call, if any. The second option is the call's result. If a fault of reading ended the reading in this call, the count
+-- rises; otherwise the count is unchanged.
 abbrev pub CountsFault : Option End → Option End → ℕ → ℕ → Type 0
 CountsFault None (Some end.ReadFault) before after = Rose before after
 CountsFault ended result before after = after ≡ before

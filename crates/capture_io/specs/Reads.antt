@@ -17,8 +17,8 @@ pub record OnlyReads (before after : ShelfState) (names : List (List ℕ)) : Typ
 
 -- ---- while the file of one slot is open
 
--- The file in slot k was read, and is still open there. `now` is the number of the slot after the call, which is still
--- k. No name was asked for. Only slot k and the count of reading faults may have changed.
+-- The file in slot k was read, and is still open there. `now` is the slot's number after the call, and equals k. No
+-- name was asked for. Only slot k and the count of reading faults may have changed.
 pub record ReadsSlot (before after : ShelfState) (k now : ℕ) : Type 0 where
   pub slot : now ≡ k
   pub files : KeepsFiles before.files after.files
@@ -41,9 +41,9 @@ pub record OpensSlot (before after : ShelfState) (name : List ℕ) (k : ℕ) : T
   pub writing : after.writing_faults ≡ before.writing_faults
   pub asked : Asks (name ∷ []) before after
 
--- At `Ok` the file `name` was opened in the slot whose number `slot` takes from the result. At `Err` the file was not
--- opened, and no file or slot changed. `Missing` means that the shelf shows its files and none has the name. At
--- `Failed` the count of reading faults rose.
+-- At `Ok(x)` the file `name` was opened in the slot with the number `slot x`. At `Err` the file was not opened, and no
+-- file or slot changed. `Missing` means that the shelf shows its files and none has the name. At `Failed` the count of
+-- reading faults rose.
 pub record TriesOpen {T : Type 0} (slot : T → ℕ) (before after : ShelfState) (name : List ℕ) (result : Result T OpenFault) : Type 0 where
   pub opened : IfOk result (λ file. OpensSlot before after name (slot file))
   pub refused : OnErr result (OnlyReads before after (name ∷ []))

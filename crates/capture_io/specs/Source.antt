@@ -31,24 +31,24 @@ remains_of shelf source = left_in shelf.slots (slot_of source)
 abbrev pub held_in : Sourcing → Option Record
 held_in source = held source.reader
 
--- The reader has taken a prefix of a file with these bytes, of which at most `limit` may be read. The reader has
--- refused nothing, and has released the records `records`.
+-- The reader has taken a prefix of a file with these bytes. At most `limit` bytes of the file may be read. The reader
+-- has refused nothing, and has released the records `records`.
 pub record HasFed (limit : ℕ) (bytes : List ℕ) (remains : Option (List ℕ)) (source : Sourcing) (records : List Record) : Type 0 where
   pub prefix : List ℕ
   pub taken : HasTaken limit bytes remains source.pieces prefix
   pub accepted : refusal_of source.reader ≡ None
   pub read : HasRead source.reader prefix records
 
--- The source has delivered these records from a file with these bytes, of which at most `limit` may be read. `remains`
--- is what is left to read. The source may still hold the last record. The reading has not ended.
+-- The source has delivered these records from a file with these bytes. At most `limit` bytes of the file may be read.
+-- `remains` is what is left to read. The source may still hold the last record. The reading has not ended.
 pub record HasGiven (limit : ℕ) (bytes : List ℕ) (remains : Option (List ℕ)) (source : Sourcing) (records : List Record) : Type 0 where
   pub going : source.ended ≡ None
   pub before : List Record
   pub fed : HasFed limit bytes remains source before
   pub given : records ≡ before ++ option_to_list (held_in source)
 
--- The source has delivered these records from a file with these bytes, of which at most `limit` may be read. What is
--- left to read is what the shelf shows in the source's slot. The reading has not ended.
+-- The source has delivered these records from a file with these bytes. At most `limit` bytes of the file may be read.
+-- What is left to read is what the shelf shows in the source's slot. The reading has not ended.
 abbrev pub HasGivenOf : ℕ → List ℕ → ShelfState → Sourcing → List Record → Type 0
 HasGivenOf limit bytes shelf source records = HasGiven limit bytes (remains_of shelf source) source records
 
@@ -85,7 +85,8 @@ pub record GivesNext (before after : ShelfState) (old new : Sourcing) (result : 
   pub reads : ReadsSlot before after (slot_of old) (slot_of new)
 
 -- The held record was released. If the next record is complete in the bytes that were read, that record is held now,
--- and nothing more was read. Otherwise a later `next` has the same effect as a `next` in place of this call.
+-- and nothing more was read. Otherwise calling `next` afterwards has the same effect as calling `next` instead of this
+-- call.
 pub record Advances (old new : Sourcing) (at_hand : Bool) : Type 0 where
   pub given : at_hand ≡ true → (shelf : ShelfState) → IsSome (shelf.slots (slot_of old)) → GivesNext shelf shelf old new None
   pub further : at_hand ≡ false → (before after : ShelfState) (next : Sourcing) (result : Option End) → GivesNext before after new next result → GivesNext before after old next result

@@ -126,7 +126,7 @@ impl CaptureReader {
         let _ = self.ng.release();
     }
 
-    /// The size of the next record, if the front of the piece has all of it and none of it was taken yet.
+    /// The size of the next record, if the piece begins with the whole record and no byte of the record was taken yet.
     ///
     /// At `None` there is no such record, and the piece must be fed.
     #[inline(always)]
@@ -142,7 +142,7 @@ impl CaptureReader {
         }
     }
 
-    /// Whether the piece counts as having all of the next record. In a pcapng capture one byte is enough, because
+    /// Whether the piece is assumed to contain the whole next record. In a pcapng capture one byte is enough, because
     /// programs write whole blocks.
     pub fn is_ahead(&self, piece: &[u8]) -> bool {
         match self.format {
@@ -152,7 +152,7 @@ impl CaptureReader {
         }
     }
 
-    /// A view of the next record in these bytes of the piece. The bytes are the record with its header, or the record's
+    /// A view of the next record. The bytes, at the front of the piece, are the record with its header, or the packet's
     /// whole block.
     #[inline(always)]
     pub fn lend<'a>(&self, bytes: &'a [u8]) -> RecordView<'a>
@@ -185,7 +185,7 @@ impl CaptureReader {
     }
 
     /// Whether the bytes so far are a whole capture; if not, returns their first refusal. The call changes nothing, and
-    /// more bytes may follow. If there are fewer than four bytes, the magic number of a classic capture is missing.
+    /// more bytes may follow. With fewer than four bytes, the refusal is at the magic number of a classic capture.
     pub fn finish(&self) -> Result<(), Refusal>
         ensures { (bytes : List ℕ) (records : List Record) → HasRead self.now bytes records → EndsHere self.now bytes records (result_err result) }
     {

@@ -90,8 +90,8 @@ impl CaptureWriter {
         Ok(())
     }
 
-    /// Writes the buffered bytes, and closes the file. At `Ok` the file has the whole capture, otherwise a prefix of
-    /// it.
+    /// Writes the buffered bytes, and closes the file. At `Ok` the file has the whole capture; otherwise it has a
+    /// prefix of the capture.
     pub fn finish<F: Shelf>(self, shelf: &mut F) -> Result<(), Failed>
         requires { IsMadeIn (F.state shelf.old).slots self.slot }
         ensures { FinishesCapture (F.state shelf.old) (F.state shelf.new) self result }

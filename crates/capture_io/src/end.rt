@@ -14,18 +14,18 @@ pub enum End {
     Refused(Refusal),
     /// At a fault of reading, possibly before the first byte.
     ReadFault,
-    /// After the last byte that may be read, when the file has more.
+    /// After the last byte that may be read; the file has more bytes.
     Limit,
 }
 
 /// Where the reading of a file stopped.
 #[derive(Clone, Copy, Debug, PartialEq, Eq)]
 pub enum Stop {
-    /// At its end.
+    /// At the end of the file.
     End,
     /// At a fault of reading.
     Fault,
-    /// After the last byte that may be read, when the file has more.
+    /// After the last byte that may be read; the file has more bytes.
     Limit,
 }
 

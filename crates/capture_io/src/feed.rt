@@ -104,8 +104,8 @@ impl Feed {
         }
     }
 
-    /// The size of the next record, if the front of the buffered bytes has all of it and none of it was taken yet. The
-    /// result is `None` only if there is no such record, or the reading has ended.
+    /// The size of the next record, if the buffered bytes begin with the whole record and no byte of the record was
+    /// taken yet. The result is `None` only if there is no such record, or the reading has ended.
     #[inline(always)]
     pub fn whole_ahead(&self) -> Option<usize>
         ensures { FindsAhead self.now result }
@@ -116,8 +116,8 @@ impl Feed {
         self.reader.whole_ahead(self.pieces.waiting())
     }
 
-    /// Whether the file must be read for the next record. The file need not be read if the buffered bytes after the
-    /// first `taken` count as all of the record.
+    /// Whether the file must be read to get the next record. No read is needed if the buffered bytes after the first
+    /// `taken` bytes are assumed to contain the whole record.
     pub fn must_read(&self, taken: usize) -> bool
         requires { taken ≤ length self.now.pieces.waiting }
     {

@@ -99,8 +99,8 @@ impl FileWriter {
         Ok(())
     }
 
-    /// Writes the buffered bytes, and closes the file. At `Ok` the file has all bytes that were added, otherwise a
-    /// prefix of them.
+    /// Writes the buffered bytes, and closes the file. At `Ok` the file has all bytes that were added; otherwise it has
+    /// a prefix of the bytes that were added.
     pub fn finish<F: Shelf>(self, shelf: &mut F) -> Result<(), Failed>
         requires { IsMadeIn (F.state shelf.old).slots self.slot }
         ensures { FinishesFile (F.state shelf.old) (F.state shelf.new) self result }

@@ -24,7 +24,7 @@ use std::marker::Model;
 #[derive(Drop)]
 pub struct Source {
     feed: Feed,
-    /// If the held record is lent, its size. The bytes of a lent record are the first buffered bytes.
+    /// The size of the held record, if that record is lent. The bytes of a lent record are the first buffered bytes.
     lent: Option<usize>,
 }
 
@@ -127,7 +127,7 @@ impl Source {
     }
 }
 
-/// Releases the lent record, or else the held one, if any.
+/// Releases the lent record if there is one, or else the record that the reader holds, if any.
 #[inline(always)]
 fn give_up(feed: &mut Feed, lent: Option<usize>)
     requires { IsLending lent feed.old }

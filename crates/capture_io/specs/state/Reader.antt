@@ -34,7 +34,7 @@ IsFront None front c n = (length front < 4) × (c ≡ classic.nothing_read) × (
 IsFront (Some Classic) front c n = n ≡ ng.nothing_read
 IsFront (Some Pcapng) front c n = c ≡ classic.nothing_read
 
--- the reader of the other layout was not changed
+-- the reader of the layout other than this one is unchanged
 abbrev pub KeepsOther : Format → classic.Reading → classic.Reading → ng.Reading → ng.Reading → Type 0
 KeepsOther Classic c c' n n' = n' ≡ n
 KeepsOther Pcapng c c' n n' = c' ≡ c
@@ -62,8 +62,8 @@ pub record Feeds (old : CaptureReading) (piece : List ℕ) (result : Result ℕ 
 abbrev pub Releases : CaptureReading → CaptureReading → Type 0
 Releases old new = readers.Releases (progress old) (progress new)
 
--- If the capture ends after these bytes, its records are `records` and then the held one, and its first refusal is
--- `refusal`.
+-- If the capture ends after these bytes, its records are `records` and then the held record, if any. The first refusal
+-- of the capture is `refusal`.
 pub record EndsHere (r : CaptureReading) (bytes : List ℕ) (records : List Record) (refusal : Option Refusal) : Type 0 where
   pub all : records_in bytes ≡ records ++ option_to_list (held r)
   pub first : refusal ≡ refusal_in bytes
@@ -79,7 +79,8 @@ with_by (Some Pcapng) r bytes = record r { ng = ng.with_block r.ng bytes }
 abbrev pub with_record : CaptureReading → List ℕ → CaptureReading
 with_record r bytes = with_by r.format r bytes
 
--- these bytes are the next whole record or its whole block, and none of them was taken yet
+-- In a classic capture, these bytes are the next record. In a pcapng capture, they are the block of the next packet.
+-- None of the bytes was taken yet.
 abbrev pub IsNextBy : Option Format → CaptureReading → List ℕ → Type 0
 IsNextBy None r bytes = ⊥
 IsNextBy (Some Classic) r bytes = classic.IsNext r.classic bytes
@@ -88,7 +89,7 @@ IsNextBy (Some Pcapng) r bytes = ng.IsNext r.ng bytes
 abbrev pub IsNext : CaptureReading → List ℕ → Type 0
 IsNext r bytes = IsNextBy r.format r bytes
 
--- The result is the size of the next record if the front of the piece has all of it, and `None` otherwise.
+-- The result is the size of the next record if the piece begins with that whole record, and `None` otherwise.
 pub record FindsNext (r : CaptureReading) (piece : List ℕ) (result : Option ℕ) : Type 0 where
   pub within : IfSome result (λ size. size ≤ length piece)
   pub next : IfSome result (λ size. IsNext r (take size piece))

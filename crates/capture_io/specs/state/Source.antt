@@ -47,7 +47,7 @@ pub record LiesAhead (source : Sourcing) (size : ℕ) : Type 0 where
   pub within : size ≤ length source.pieces.waiting
   pub next : IsNext source.reader (take size source.pieces.waiting)
 
--- The result is the size of the next record if the front of the buffered bytes has all of it, and `None` otherwise.
+-- The result is the size of the next record if the buffered bytes begin with that whole record, and `None` otherwise.
 pub record FindsAhead (source : Sourcing) (result : Option ℕ) : Type 0 where
   pub ahead : IfSome result (λ size. LiesAhead source size)
   pub none : result ≡ None → (size : ℕ) → LiesAhead source size → ⊥
