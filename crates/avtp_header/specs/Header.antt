@@ -8,8 +8,8 @@ use Rattle.avtp_base.specs.Layout.{Bits, Layout, part, holds, reserved, Spells, 
 use Rattle.avtp_header.specs.declared.header.StreamHeader.{StreamHeader}
 use Rattle.avtp_header.specs.declared.header.Peeked.{Peeked}
 
--- The table of the stream header, for a view that contains a header. Each format defines the meaning of two bits of
--- byte 1, of bytes 16 to 19, and of bytes 22 and 23.
+-- The table of the stream header, for a view that contains a header. Each format defines the meaning of three parts:
+-- two bits of byte 1; bytes 16 to 19; and bytes 22 and 23.
 abbrev pub stream_layout : {V : Type 0} → (V → StreamHeader) → List (Bits V) → Layout V → Layout V → Layout V
 stream_layout header format_bits format_data format_flags =
     part Subtype 0 (holds 8 (λ v. (header v).subtype) ∷ []) ∷
@@ -48,8 +48,8 @@ abbrev pub header_refusal : List ℕ → Option Refusal
 header_refusal bytes =
     or_else (first_short header_layout (length bytes)) (first_row (version_row bytes ∷ []))
 
--- Why bytes are refused as a stream header of this subtype. A field is cut off, the subtype is another one, or the
--- version is not 0.
+-- Why bytes are refused as a stream header of this subtype: a field is cut off, the subtype differs, or the version is
+-- not 0.
 abbrev pub kind_refusal : ℕ → List ℕ → Option Refusal
 kind_refusal subtype bytes =
     or_else (first_short header_layout (length bytes))
