@@ -42,7 +42,7 @@ reading_count shelf = shelf.reading_faults
 abbrev pub writing_count : MemoryShelf → ℕ
 writing_count shelf = shelf.writing_faults
 
--- the number of the next call is among the failing ones
+-- the number of the next call is one of `failing_calls`
 abbrev pub IsToFail : MemoryShelf → Type 0
 IsToFail shelf = Contains (failing_calls shelf) (next_number (calls shelf))
 
@@ -54,22 +54,22 @@ pub record CountsCall (old new : MemoryShelf) : Type 0 where
 
 -- ---- what a call adds to what it does on every shelf
 
--- A call to open or make a file. The call returned `Failed` exactly if its number is among the failing ones. The call
+-- A call to open or make a file. The call returned `Failed` exactly if its number is one of `failing_calls`. The call
 -- was counted.
 pub record OpensByNumber (old new : MemoryShelf) (result : Result Slot OpenFault) : Type 0 where
   pub failed : IsErrOf result open_fault.Failed ↔ IsToFail old
   pub call : CountsCall old new
 
--- A read of slot k into a buffer of `room` bytes. The read failed exactly if its number is among the failing ones.
--- Otherwise the read moved the least of three numbers of bytes: those left to read, `room`, and the greatest number
--- that a call moves. The call was counted.
+-- A read of slot k into a buffer of `room` bytes. The read failed exactly if its number is one of `failing_calls`.
+-- Otherwise the number of bytes moved is the least of three: the number of bytes left to read, `room`, and the greatest
+-- number of bytes that a call moves. The call was counted.
 pub record ReadsByNumber (old new : MemoryShelf) (k room : ℕ) (result : Result ℕ Failed) : Type 0 where
   pub whole : IfOk result (λ n. IfSome (left_in (slots_of old) k) (λ left. n ≡ min (length left) (min room (most old))))
   pub failed : IsErr result ↔ IsToFail old
   pub call : CountsCall old new
 
--- A write of `piece`. At `Ok` the write took the whole piece, or as much of the piece as a call may move. If the number
--- of the write is among the failing ones, the write failed. The call was counted.
+-- A write of `piece`. If the number of the write is one of `failing_calls`, the write failed. At `Ok` the write took
+-- the whole piece, or as much of the piece as a call may move. The call was counted.
 pub record WritesByNumber (old new : MemoryShelf) (piece : List ℕ) (result : Result ℕ Failed) : Type 0 where
   pub whole : IfOk result (λ n. n ≡ min (length piece) (most old))
   pub failed : IsToFail old → IsErr result

@@ -115,7 +115,7 @@ impl Shelf for MemoryShelf {
 
     ghost told = { λ shelf k told live. told_of_live shelf.held k live };
 
-    /// Returns `Failed` exactly if the number of the call is among the failing ones.
+    /// Returns `Failed` exactly if this call was chosen to fail.
     fn open_file(&mut self, name: &str) -> Result<Slot, OpenFault> {
         self.asked.note(name);
         if self.calls.next_fails() {
@@ -125,7 +125,7 @@ impl Shelf for MemoryShelf {
         self.held.open(name)
     }
 
-    /// Returns `Failed` exactly if the number of the call is among the failing ones.
+    /// Returns `Failed` exactly if this call was chosen to fail.
     fn create_file(&mut self, name: &str) -> Result<Slot, OpenFault> {
         self.asked.note(name);
         if self.calls.next_fails() {
@@ -138,8 +138,8 @@ impl Shelf for MemoryShelf {
         Ok(slot)
     }
 
-    /// Fails exactly if the number of the call is among the failing ones. Otherwise moves as many bytes as are left and
-    /// fit, but at most the limit of a call.
+    /// Fails exactly if this call was chosen to fail. Otherwise moves as many bytes as are left to read and fit the
+    /// buffer, but at most the limit of a call.
     fn read(&mut self, slot: Slot, buf: &mut [u8]) -> Result<usize, Failed> {
         if self.calls.next_fails() {
             self.reading_faults = self.reading_faults.saturating_add(1);
@@ -148,8 +148,8 @@ impl Shelf for MemoryShelf {
         Ok(self.held.read(slot, self.most, buf))
     }
 
-    /// Fails if the number of the call is among the failing ones, or if there is no memory to keep the piece. Otherwise
-    /// takes the whole piece, or as much of the piece as the limit of a call allows.
+    /// Fails if this call was chosen to fail, or if there is no memory to keep the piece. Otherwise takes the whole
+    /// piece, or as much of the piece as the limit of a call allows.
     fn write(&mut self, slot: Slot, piece: &[u8]) -> Result<usize, Failed> {
         if self.calls.next_fails() {
             self.writing_faults = self.writing_faults.saturating_add(1);

@@ -77,7 +77,7 @@ impl Sink for MemorySink {
 
     ghost writes = { λ old new piece result. TakesByNumber old new piece result };
 
-    /// Fails if the number of the call is among the failing ones, or if there is no memory to keep the piece.
+    /// Fails if this call was chosen to fail, or if there is no memory to keep the piece.
     fn write(&mut self, piece: &[u8]) -> Result<usize, Failed> {
         if self.calls.next_fails() {
             self.faults = self.faults.saturating_add(1);

@@ -84,7 +84,7 @@ impl Shelf for QuietShelf {
         }
     }
 
-    /// Never fails. Moves as many bytes as are left and fit.
+    /// Never fails. Moves as many bytes as are left to read and fit the buffer.
     fn read(&mut self, slot: Slot, buf: &mut [u8]) -> Result<usize, Failed> {
         Ok(self.held.read(slot, usize::MAX, buf))
     }
