@@ -51,9 +51,9 @@ row field offset end refuses = record { field = field; offset = offset; end = en
 abbrev pub refusal_at : Field → ℕ → Refusal
 refusal_at field at = record { field = field; at = at; short = false }
 
--- The refusal of the first row of a table that refuses, among the rows whose bytes are within the first `len`. A
--- table's rows are ordered by `end`. Therefore no row is checked after a row whose bytes are missing. The bytes begin
--- at offset `start` of the capture.
+-- The first refusal of a table's rows. A row is checked only if its `end` is at most `len`. The rows of each table are
+-- ordered by `end`. Therefore no row is checked after a row whose bytes are missing. The bytes begin at offset `start`
+-- of the capture.
 abbrev pub first_refused : ℕ → ℕ → List Row → Option Refusal
 first_refused start len [] = None
 first_refused start len (r ∷ rows) =

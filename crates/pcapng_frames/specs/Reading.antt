@@ -12,9 +12,9 @@ use Rattle.pcapng_frames.specs.declared.interface.Interface.{Interface}
 use Rattle.pcapng_frames.specs.Fields.{first_refused, kind_of, number_at, packet_rows}
 use Rattle.pcapng_frames.specs.Blocks.{Place, Contents, after_block, order_or_little, contents, contents_from, whole_records, first_refusal, settled, ends, and_then, first_place, after_trailer, short_at}
 
--- The state of a reader. `place` is the place in the capture that is read next. `skip` is the number of bytes that must
--- be skipped before that place. `part` are the bytes taken after the place. `whole` tells whether the block's packet is
--- whole. `refusal` is what the reader refused, if anything.
+-- The state of a reader. `place` is the place at which the reader reads, once it has skipped `skip` further bytes.
+-- `part` are the bytes taken from that place on. `whole` tells whether the block's packet is whole. `refusal` is what
+-- the reader refused, if anything.
 pub record Reading : Type 0 where
   pub place : Place
   pub skip : ℕ
@@ -31,7 +31,7 @@ abbrev pub contents_at : Place → List ℕ → Contents
 contents_at p bytes = contents_from (suc (length bytes)) p bytes
 
 -- The contents of the capture from the reader's place on, if `more` are the bytes that follow those taken. The first
--- `skip` bytes of `more` precede the place. `part` are the bytes that were taken after the place.
+-- `skip` bytes of `more` precede the place. `part` are the bytes that were taken from the place on.
 abbrev pub contents_past : ℕ → Place → List ℕ → List ℕ → Contents
 contents_past skip p part more =
     if nat_lt (length more) skip then ends (Some (short_at BlockBody (p.start + 8)))
