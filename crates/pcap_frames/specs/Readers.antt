@@ -56,8 +56,8 @@ pub record Releases (old new : Progress) : Type 0 where
   pub counted : new.taken ≡ old.taken
   pub refusal : new.refusal ≡ old.refusal
 
--- The result if the capture ends with the bytes so far. The released records and the held one are all records of the
--- capture, and the result is the capture's first refusal.
+-- The result if the capture ends with the bytes so far. The released records and the held record are all records of the
+-- capture. The result is the capture's first refusal, or `Ok` if there is none.
 pub record Ends (meaning : Meaning) (reader : Progress) (result : Result Unit Refusal) : Type 0 where
   pub records : (bytes : List ℕ) (records : List Record) → reader.has_read bytes records → records ++ option_to_list reader.held ≡ meaning.records bytes
   pub refusal : (bytes : List ℕ) (records : List Record) → reader.has_read bytes records → result_err result ≡ meaning.refusal bytes

@@ -197,8 +197,8 @@ impl Reader {
 
     /// The size of the next record, if the piece begins with the whole record and no byte of the record was taken yet.
     ///
-    /// The result is `None` before the end of the file header, or if some bytes of the record were taken, a field is
-    /// refused, or the record continues after the piece. At `None` the piece must be fed.
+    /// The result is `None` before the end of the file header. It is also `None` if some bytes of the record were
+    /// taken, a field is refused, or the record continues after the piece. At `None` the piece must be fed.
     pub fn whole_ahead(&self, piece: &[u8]) -> Option<usize>
         ensures within { IfSome result (λ size. size ≤ length piece.now) }
         ensures limit { IfSome result (λ size. size ≤ 262160) }
@@ -268,8 +268,7 @@ impl Reader {
     }
 }
 
-/// Adds bytes from the front of the piece to the part of a record, up to the end of the record, and returns how many
-/// bytes it added.
+/// Moves bytes from the front of the piece to `part`, up to the end of the record, and returns how many bytes it moved.
 fn fill_record(order: Order, start: u64, part: &mut Vec<u8>, piece: &[u8]) -> Result<usize, Refusal>
     requires part { IsPart order start part.old.items }
     requires room { 262160 ≤ vec_capacity part.old }
