@@ -195,7 +195,7 @@ after_trailer p = record {
   packet = None;
 }
 
--- the place after the block's head, the option or the trailer at this place
+-- The place after what begins at this place: the head of a block, an option or a trailer.
 abbrev pub next_by : Stage → Place → List ℕ → Place
 next_by stage.Block p bytes = after_any p bytes
 next_by stage.Option p bytes =
@@ -203,7 +203,7 @@ next_by stage.Option p bytes =
     in_block p p.order p.interfaces (described order (option_code order bytes) p.interface bytes) p.total (p.left - size_by stage.Option p bytes) None
 next_by stage.Trailer p bytes = after_trailer p
 
--- the next place: after the block's head, the option or the trailer at this place
+-- The place after what begins at this place: the head of a block, an option or a trailer.
 unfoldable pub next_place : Place → List ℕ → Place
 next_place p bytes = next_by p.stage p bytes
 

@@ -205,8 +205,8 @@ impl Ng {
 
     /// Whether the bytes so far are a whole capture: whole blocks, the first of which is a section header.
     ///
-    /// If the capture is not whole, the call returns the earlier refusal. Without an earlier refusal, it returns what
-    /// the bytes lack, usually with `short` set. The call changes nothing, and more bytes may follow.
+    /// If the capture is not whole, the call returns the earlier refusal. Without an earlier refusal, the call refuses
+    /// the field that the bytes lack, usually with `short` set. The call changes nothing, and more bytes may follow.
     pub fn finish(&self) -> Result<(), Refusal>
         ensures { Ends meaning (progress self.now) result }
     {
@@ -220,7 +220,7 @@ impl Ng {
         }
     }
 
-    /// What the bytes so far lack to be a whole capture.
+    /// What the bytes so far lack to be a whole capture, if anything.
     fn missing(&self) -> Option<Refusal>
         requires accepted { self.now.refusal ≡ None }
         ensures { result ≡ lacks self.now }
