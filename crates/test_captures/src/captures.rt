@@ -8,7 +8,7 @@ use std::alloc::Global;
 use std::test::Fail;
 use vectors_avtp::{bytes_of, row_of};
 
-/// No call fails, and the limit is never reached.
+/// A way of reading in which no call fails and the limit is never reached.
 const FREE: Way = Way {
     most: 65_536,
     limit: u32::MAX,
@@ -97,12 +97,12 @@ fn a_capture_is_read_up_to_what_refuses_it(rt: HostRuntime) -> Result<(), Fail> 
     Ok(())
 }
 
-/// Captures that are cut off: each length at which the answer changes, and the new answer.
+/// Captures that are cut off: each length at which the result of reading changes, and the new result.
 const CUT: &str = "\
 pcap => 0: magic at 0 short; 4: version_major at 4 short; 6: version_minor at 6 short; 8: thiszone at 8 short; 12: sigfigs at 12 short; 16: snaplen at 16 short; 20: network at 20 short; 24: Some(Whole); 25: ts_sec at 24 short; 28: ts_fraction at 28 short; 32: incl_len at 32 short; 36: orig_len at 36 short; 40: packet_bytes at 40 short; 106: 1000000000 66 66, Some(Whole);
 pcapng => 0: magic at 0 short; 4: block_length at 4 short; 8: block_body at 8 short; 28: Some(Whole); 29: block_type at 28 short; 32: block_length at 32 short; 36: block_body at 36 short; 60: Some(Whole); 61: block_type at 60 short; 64: block_length at 64 short; 68: block_body at 68 short; 160: 1000000000 66 66, Some(Whole);";
 
-/// The answers to a capture that is cut off: each length at which the answer changes, and the new answer.
+/// The results of reading a capture that is cut off: each length at which the result changes, and the new result.
 fn answers_when_cut(alloc: Global, capture: &[u8]) -> Result<String, Fail> {
     let mut all = String::new(alloc);
     let mut last = String::new(alloc);
@@ -152,7 +152,7 @@ fn reading_ends_at_a_limit_or_at_a_call_that_fails(rt: HostRuntime) -> Result<()
     Ok(())
 }
 
-/// A section describes at most 256 interfaces.
+/// The reader accepts at most 256 interfaces in a section.
 #[test]
 fn one_interface_too_many_is_refused(rt: HostRuntime) -> Result<(), Fail> {
     let mut capture = bytes_of(rt.alloc(), "pcapng len=28")?;
@@ -168,7 +168,7 @@ fn one_interface_too_many_is_refused(rt: HostRuntime) -> Result<(), Fail> {
     Ok(())
 }
 
-/// If the first block is not a section header, the pcapng reader refuses it.
+/// If the first block is not a section header, the pcapng reader refuses the type of that block.
 #[test]
 fn a_reader_of_pcapng_wants_a_section_first(rt: HostRuntime) -> Result<(), Fail> {
     let mut reader = Ng::new(rt.alloc())?;

@@ -100,7 +100,7 @@ fn a_sink_in_memory_keeps_what_its_calls_took(rt: HostRuntime) -> Result<(), Fai
     Ok(())
 }
 
-/// After a write that did not fit, the shelf returns `Memory`, not `Missing`, for a name it does not hold.
+/// After a write that did not fit, the shelf returns `Memory`, not `Missing`, for the name of a missing file.
 #[test]
 fn a_quiet_end_takes_all_and_keeps_what_fits(rt: HostRuntime) -> Result<(), Fail> {
     let mut sink = QuietSink::over(rt.alloc(), 5)?;

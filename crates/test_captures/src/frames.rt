@@ -39,12 +39,12 @@ fn each_field_of_a_frame_is_read_from_its_bits(rt: HostRuntime) -> Result<(), Fa
     Ok(())
 }
 
-/// Frames that are cut off: each length at which the answer changes, and the new answer.
+/// Frames that are cut off: each length at which the result of reading changes, and the new result.
 const CUT: &str = "\
 frame len=18 => 0: destination at 0 short, 6: source at 6 short, 12: ethertype at 12 short, 14: tag_control at 14 short, 16: ethertype at 16 short, 18: read,
 frame len=12 22f0 => 0: destination at 0 short, 6: source at 6 short, 12: ethertype at 12 short, 14: read,";
 
-/// The answers to a frame that is cut off: each length at which the answer changes, and the new answer.
+/// The results of reading a frame that is cut off: each length at which the result changes, and the new result.
 fn answers_when_cut(alloc: Global, frame: &[u8]) -> Result<String, Fail> {
     let mut all = String::new(alloc);
     let mut last = String::new(alloc);

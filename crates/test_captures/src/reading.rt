@@ -1,4 +1,4 @@
-//! Reads a capture, and tells what was read as text.
+//! Reads a capture, and describes as text what was read.
 
 use avtp_memory::MemoryShelf;
 use capture_io::{End, Source};
@@ -7,8 +7,8 @@ use std::alloc::{AllocError, Global};
 use std::test::Fail;
 use vectors_avtp::refusal_text;
 
-/// How a capture is read: at most `most` bytes per call, and at most `limit` bytes in all. Call number `fails` fails,
-/// counted from 1; at 0 no call fails.
+/// How a capture is read: at most `most` bytes per call, and at most `limit` bytes in all. Calls are numbered from 1,
+/// and call number `fails` fails. If `fails` is 0, no call fails.
 #[derive(Clone, Copy, Debug)]
 pub struct Way {
     pub most: usize,
