@@ -114,7 +114,7 @@ impl Buffer {
     }
 }
 
-/// Moves all bytes after the first `count` to the front.
+/// Moves all bytes after the first `count` bytes to the front.
 fn move_to_front(bytes: &mut [u8], count: usize)
     requires { count ≤ length bytes.old }
     ensures { bytes.new ≡ drop count bytes.old ++ take count bytes.old }
