@@ -88,8 +88,8 @@ record_header =
 abbrev pub packet_bytes : ℕ → List Row
 packet_bytes n = row PacketBytes 16 n never ∷ []
 
--- The refusal at the first field of a table that is cut off or whose number is refused. The bytes begin at offset
--- `start` of the capture.
+-- The refusal according to a table: at the first field that is cut off or whose number is refused. The bytes begin at
+-- offset `start` of the capture.
 abbrev pub first_refused : Order → ℕ → List Row → List ℕ → Option Refusal
 first_refused order start [] bytes = None
 first_refused order start (r ∷ rows) bytes =
@@ -97,12 +97,12 @@ first_refused order start (r ∷ rows) bytes =
     else if r.refuses (number_at order r.offset r.size bytes) then Some (record { field = r.field; at = start + r.offset; short = false })
     else first_refused order start rows bytes
 
--- the refusal at the first field of a file header that is cut off or whose number is refused
+-- The refusal of a file header: at the first field that is cut off or whose number is refused.
 unfoldable pub file_refusal : List ℕ → Option Refusal
 file_refusal bytes =
     option_or (first_refused Little 0 magic_number bytes) (first_refused (order_of (style_at bytes)) 0 file_header bytes)
 
--- The refusal at the first field of a record that is cut off or whose number is refused. The record begins at offset
+-- The refusal of a record: at the first field that is cut off or whose number is refused. The record begins at offset
 -- `start` of the capture.
 unfoldable pub record_refusal : Order → ℕ → List ℕ → Option Refusal
 record_refusal order start bytes =

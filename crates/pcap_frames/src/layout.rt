@@ -49,7 +49,7 @@ pub fn style_at(header: &[u8]) -> Option<Style>
     Some(Style { order, unit })
 }
 
-/// The first field of the file header that is cut off at the end of these bytes, or whose value is refused.
+/// The first refused field of the file header. A field is refused if these bytes cut it off, or because of its value.
 #[tactic(auto, unfolding(crate::specs::Layout::file_refusal, crate::specs::Layout::style_at))]
 pub fn file_refusal(header: &[u8]) -> Option<Refusal>
     ensures { result ≡ refusal_of_file header.now }
@@ -63,8 +63,8 @@ pub fn file_refusal(header: &[u8]) -> Option<Refusal>
     }
 }
 
-/// The first field of the file header after the magic number that is cut off at the end of these bytes, or whose value
-/// is refused.
+/// The first refused field of the file header after the magic number. A field is refused if these bytes cut it off, or
+/// because of its value.
 fn rest_refusal(order: Order, header: &[u8]) -> Option<Refusal>
     ensures { result ≡ first_refused order 0 file_header header.now }
 {
@@ -90,8 +90,8 @@ fn rest_refusal(order: Order, header: &[u8]) -> Option<Refusal>
     }
 }
 
-/// The first field of a record that is cut off at the end of these bytes, or whose value is refused. The record begins
-/// at offset `start` of the capture.
+/// The first refused field of a record. A field is refused if these bytes cut it off, or because of its value. The
+/// record begins at offset `start` of the capture.
 #[tactic(auto, unfolding(crate::specs::Layout::record_refusal))]
 pub fn record_refusal(order: Order, start: u64, bytes: &[u8]) -> Option<Refusal>
     requires { start < 2 ^ 63 }
