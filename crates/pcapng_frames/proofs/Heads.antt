@@ -38,7 +38,7 @@ opened_by : (k : Kind) (order : Option Order) (interfaces : List Interface) (sta
 opened_by k (Some order) interfaces start bytes is long h = refl
 opened_by k None interfaces start bytes is long h = absurd (misplaced_by interfaces start bytes long (subst (λ (x : Kind). first_refused start (length bytes) (block_rows x None interfaces bytes) ≡ None) is h))
 
--- if a packet's block is not refused, it is in a section
+-- if a packet's block is not refused, the block is in a section
 pub packet_opened : (order : Option Order) (interfaces : List Interface) (start : ℕ) (bytes : List ℕ) → kind_at order bytes ≡ kind.Packet → 4 ≤ length bytes → block_refused order interfaces start bytes ≡ None → is_some order ≡ true
 unfolding block_refused
 packet_opened order interfaces start bytes is long h = opened_by (kind_at order bytes) order interfaces start bytes is long h
