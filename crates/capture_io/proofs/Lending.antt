@@ -101,7 +101,7 @@ ng_passes f front c n n' bytes is ahead new =
 
 -- ---- the source
 
--- if the reader takes the bytes of the next record, `HasFed` still holds
+-- `HasFed` still holds after the reader took the bytes of the next record.
 fed_more : (limit : ℕ) (bytes : List ℕ) (remains : Option (List ℕ)) (source : Sourcing) (size : ℕ) (records : List Record) → LiesAhead source size → HasFed limit bytes remains source records → HasFed limit bytes remains (holding source size) records
 fed_more limit bytes remains source size records ahead fed =
     let waiting = source.pieces.waiting in
