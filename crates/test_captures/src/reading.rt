@@ -37,7 +37,7 @@ fn end_text(alloc: Global, end: Option<End>) -> Result<String, AllocError> {
     }
 }
 
-/// The records of a capture, at most two, and how the reading ends.
+/// The records of a capture that has at most two records, and how the reading ends, as text.
 pub fn told(alloc: Global, capture: &[u8], way: Way) -> Result<String, Fail> {
     let mut shelf = shelf_over(alloc, capture, way)?;
     let Ok(mut source) = Source::open(alloc, u64::from(way.limit), &mut shelf, "a") else {
