@@ -1,4 +1,4 @@
--- What follows if no row of a table holds.
+-- What follows if `holds` is false in every row of a table.
 use Rattle.std.proofs.Common.{◌≡◌, ◌≢◌, ℕ, Bool, true, false, cond, not, eqb, List, [], ◌∷◌, length, take, drop, Option, Some, None, Result, Ok, Err, refl, sym, ap, eq-eqb, inl, inr, subst, ◌∙◌}
 use Rattle.std.specs.Prelude.{IfOk, IsOkAnd}
 use Rattle.std.proofs.lemmas.Bool.{eqb-true, not-false}
@@ -16,7 +16,7 @@ chosen-none : (holds : Bool) (r : Refusal) (rest : Option Refusal) → cond hold
 chosen-none true r rest e = absurd cc
 chosen-none false r rest e = (refl, e)
 
--- no row of a table holds
+-- `holds` is false in every row of the table
 abbrev pub NoneHolds : List Row → Type 0
 NoneHolds [] = Unit {0}
 NoneHolds (r ∷ rows) = (r.holds ≡ false) × NoneHolds rows

@@ -87,7 +87,7 @@ abbrev pub short_row : {V : Type 0} → ℕ → Part V → Row
 short_row n p =
     record { refusal = record { field = p.field; at = p.at; short = true }; holds = nat_lt n (p.at + size_of p) }
 
--- the refusal of a packet of n bytes at the first part of the header that is cut off, if any
+-- the refusal of a packet of n bytes: at the first of the header's parts that is cut off, if any
 abbrev pub first_short : {V : Type 0} → Layout V → ℕ → Option Refusal
 first_short layout n = first_row (map (short_row n) layout)
 

@@ -1,4 +1,4 @@
--- How a format refuses bytes: the first row of its table that holds gives the refusal.
+-- How a format refuses bytes. Each format has a table of rows. The first row whose `holds` is true gives the refusal.
 use Rattle.std.specs.Prelude.{◌≡◌, ℕ, ◌<◌, ◌≤◌, Bool, false, if◌then◌else◌, List, [], ◌∷◌, ◌++◌, length, drop, Option, Some, None, Result, Ok, Err}
 use Rattle.avtp_base.specs.declared.field.Field.{Field}
 use Rattle.avtp_base.specs.declared.refusal.Refusal.{Refusal}

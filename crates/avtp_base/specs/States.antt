@@ -32,8 +32,8 @@ abbrev pub AreNames : Bool → List (List ℕ) → List (List ℕ) → Type 0
 AreNames true kept names = names ≡ kept
 AreNames false kept names = (rest : List (List ℕ)) × (names ≡ kept ++ rest)
 
--- According to its account, the shelf may have been asked for these names so far, in this order. A shelf without an
--- account may have been asked for any names.
+-- According to the shelf's account, the shelf may have been asked for these names so far, in this order. A shelf
+-- without an account may have been asked for any names.
 abbrev pub WasAsked : Option Account → List (List ℕ) → Type 0
 WasAsked None names = ⊤
 WasAsked (Some account) names = AreNames account.all account.kept names
