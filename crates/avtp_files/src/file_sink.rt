@@ -29,8 +29,8 @@ pub struct FileSink<R: Files> {
 }
 
 impl<R: Files + Eprint + Alloc> FileSink<R> {
-    /// A sink over the file at the path `name`, which must not be a file at one of the paths in `apart`. The file is
-    /// not made yet: the first `write` makes or empties it.
+    /// A sink over the file at the path `name`. The sink never writes to a file at one of the paths in `apart`. The
+    /// file is not made yet: the first `write` makes or empties it.
     pub fn named(rt: R, name: String, apart: Vec<String>) -> Self
         ensures { result.faults ≡ 0 }
     {
