@@ -49,7 +49,7 @@ impl MemoryShelf {
         }
     }
 
-    /// Sets the greatest number of bytes that a read or a write moves, which must be at least 1.
+    /// Sets the greatest number of bytes that a read or a write moves. The number must be at least 1.
     pub fn at_most(self, n: usize) -> Self
         requires { 0 < n }
         ensures files { files_of result ≡ files_of self }
