@@ -76,7 +76,7 @@ one_list style (r ∷ records) (o ∷ others) b b' rest rest' start start' x y s
     let tail = one_list style records others s.1 t.1 rest rest' start start' x y s.4 t.4 (same_back s.0 (s.1 ++ rest) t.0 (t.1 ++ rest') whole long) p q in
     (cc (same, tail.0), tail.1)
 
--- The bytes are a capture of these records, followed by `rest`, which is as `Ends` says for `x`.
+-- The bytes are a capture of these records, followed by `rest`. `Ends` says what `rest` is, depending on `x`.
 record Split (bytes : List ℕ) (records : List Record) (x : Option Refusal) : Type 0 where
   style : Style
   front : List ℕ

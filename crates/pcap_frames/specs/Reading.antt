@@ -60,7 +60,7 @@ IsReading (Some refusal) style start part = refusal.short ≡ false
 IsReading None None start part = IsHeaderPart start part
 IsReading None (Some style) start part = IsPart style.order start part
 
--- The bytes are a capture of these records, followed by this part, which begins at offset `start`.
+-- The bytes are a capture of these records, followed by `part`, which begins at offset `start`.
 pub record Follows (style : Style) (start : ℕ) (part bytes : List ℕ) (records : List Record) : Type 0 where
   pub front : List ℕ
   pub whole : bytes ≡ front ++ part
