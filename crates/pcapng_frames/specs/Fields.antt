@@ -43,7 +43,7 @@ pub record Row : Type 0 where
   pub end : ℕ
   pub refuses : Bool
 
--- the row of a field at this offset, which is checked once the bytes up to `end` are present
+-- The row of a field at this offset. The field is checked once the bytes up to `end` are present.
 abbrev pub row : Field → ℕ → ℕ → Bool → Row
 row field offset end refuses = record { field = field; offset = offset; end = end; refuses = refuses }
 

@@ -23,7 +23,7 @@ pub enum Stage {
     Block,
     /// An option of an interface description.
     Option,
-    /// The trailer of a block, which repeats its total length.
+    /// The trailer of a block, which repeats the block's total length.
     Trailer,
 }
 

@@ -186,8 +186,8 @@ fn accepts_packet(order: Order, interfaces: &[Interface], bytes: &[u8]) -> bool
         && packet_arrival(order, interfaces, bytes).is_some()
 }
 
-/// The size of the enhanced packet's block that the bytes begin with, if the bytes contain all of it and nothing in it
-/// is refused.
+/// The size of the enhanced packet's block that the bytes begin with, if the bytes contain the whole block and nothing
+/// in the block is refused.
 #[inline(always)]
 pub fn packet_size(order: Order, interfaces: &[Interface], bytes: &[u8]) -> Option<usize>
     requires { AllResolved interfaces.now }

@@ -139,7 +139,7 @@ pub record HasEntered (c : Cursor) (front : List ℕ) (count : ℕ) : Type 0 whe
   pub unpacked : IsUnpacked c.stage c.packet
   pub passed : passed_by c.stage c.skip c.left c.total ≡ count
 
--- A reader can take the bytes of a piece, which is not empty: the reader has no refusal and holds no packet.
+-- A reader can take bytes of a piece: the piece is not empty, and the reader has no refusal and holds no packet.
 pub record IsGoing (r : Reading) (piece : List ℕ) : Type 0 where
   pub accepted : r.refusal ≡ None
   pub partial : r.whole ≡ false
