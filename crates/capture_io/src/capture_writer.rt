@@ -25,9 +25,9 @@ const RECORD_HEADER: usize = 16;
 
 /// A classic capture, little-endian with nanoseconds (draft-ietf-opsawg-pcap), that is written to a file of a shelf.
 ///
-/// The bytes of the file and then the buffered bytes are the file header and a record of each frame that was added. If
-/// the shelf fails, the file has a prefix of these bytes. Nothing is lost or written twice, so a failed call may be
-/// repeated. Between the calls, other files of the shelf may be read.
+/// The bytes of the file, followed by the buffered bytes, are the file header and one record for each added frame. If
+/// the shelf fails, the file has a prefix of these bytes. Nothing is lost or written twice. Therefore a failed call may
+/// be repeated. Between the calls, other files of the shelf may be read.
 #[derive(Drop)]
 pub struct CaptureWriter {
     file: FileWriter,
@@ -53,11 +53,10 @@ fn file_header() -> [u8; FILE_HEADER]
 }
 
 impl CaptureWriter {
-    /// Makes or empties a file for a capture that has no record so far. The buffer's memory was reserved before, so if
-    /// memory runs out the file is unchanged.
+    /// Makes or empties a file for a capture that has no record so far.
     ///
-    /// At `Failed` the writing count rose. `Memory` means that the shelf had no memory. After `Failed` or `Memory` the
-    /// file is unchanged. Never returns `Missing`.
+    /// At `Failed` the writing count rose. `Memory` means that the shelf had no memory; the buffer's memory was
+    /// reserved before. After `Failed` or `Memory` the file is unchanged. Never returns `Missing`.
     pub fn create<F: Shelf>(buffer: Buffer, shelf: &mut F, name: &str) -> Result<Self, OpenFault>
         requires { buffer ≡ [] }
         ensures { BeginsCapture (F.state shelf.old) (F.state shelf.new) name.now result }
@@ -67,8 +66,9 @@ impl CaptureWriter {
         Ok(CaptureWriter { file })
     }
 
-    /// Adds the record of a frame of at most 65,520 bytes, which is captured whole and encoded in place. If the shelf
-    /// fails, it adds nothing. `arrival` is in nanoseconds, from 0 up to but excluding 2^32 seconds.
+    /// Adds the record of a frame of at most 65,520 bytes. The frame is captured whole, and the record is encoded in
+    /// place. If the shelf fails, the call adds nothing. `arrival` is in nanoseconds, from 0 up to but excluding 2^32
+    /// seconds.
     #[inline(always)]
     pub fn add<F: Shelf, W: Spelled>(
         &mut self,

@@ -11,8 +11,8 @@ use std::marker::Model;
 
 /// A file of a shelf that is made and written through a buffer.
 ///
-/// Each byte that was added is in the file, or in the buffer to be written next. If the shelf fails, the file has a
-/// prefix of the bytes added. Nothing is lost or written twice, so a failed call may be repeated.
+/// Each added byte is in the file, or in the buffer to be written next. If the shelf fails, the file has a prefix of
+/// the added bytes. Nothing is lost or written twice. Therefore a failed call may be repeated.
 #[derive(Drop)]
 pub struct FileWriter {
     slot: Slot,
@@ -29,11 +29,10 @@ impl Model for FileWriter {
 }
 
 impl FileWriter {
-    /// Makes or empties a file that is to be written through this buffer. The buffer must be empty. The buffer's memory
-    /// was reserved before, so if memory runs out the file is unchanged.
+    /// Makes or empties a file that is to be written through this buffer. The buffer must be empty.
     ///
-    /// At `Failed` the writing count rose. `Memory` means that the shelf had no memory. After `Failed` or `Memory` the
-    /// file is unchanged. Never returns `Missing`.
+    /// At `Failed` the writing count rose. `Memory` means that the shelf had no memory; the buffer's memory was
+    /// reserved before. After `Failed` or `Memory` the file is unchanged. Never returns `Missing`.
     pub fn create<F: Shelf>(buffer: Buffer, shelf: &mut F, name: &str) -> Result<Self, OpenFault>
         requires { buffer ≡ [] }
         ensures { CreatesFile (F.state shelf.old) (F.state shelf.new) name.now result }
