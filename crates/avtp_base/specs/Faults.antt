@@ -1,5 +1,5 @@
--- Counts of faults. Each object outside the program counts those of its calls that failed. A count stops at the largest
--- 64-bit number.
+-- Counts of faults. Each object outside the program counts its failed calls. A count stops at the largest 64-bit
+-- number.
 use Rattle.std.specs.Prelude.{◌≡◌, ℕ, ◌+◌, ◌-◌, ◌^◌, ◌≤◌, ◌<◌, min, Result, OnOk, OnErr, IsErrOf}
 use Rattle.avtp_base.specs.declared.failed.Failed.{Failed}
 use Rattle.avtp_base.specs.declared.failed.OpenFault.{OpenFault}
