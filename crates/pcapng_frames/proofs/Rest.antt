@@ -93,7 +93,7 @@ settled_by None false p skip part none h =
     settled_past (nat_lt 0 skip) _ (contents_at p (part ++ drop skip [])) refl
     (ap (λ (x : Contents). settled x.ending) (none_follow p skip part ∙ cut_at p part h.accepted (lacks_some p skip part h)) ∙ settled_cut p part)
 
--- if a reader has no refusal, the ending of the bytes taken is not settled: later bytes may still change it
+-- if a reader has no refusal, later bytes may still change the ending of the bytes taken
 uncertain : (r : Reading) (bytes : List ℕ) (records : List Record) → r.refusal ≡ None → IsReading r.refusal r.whole r.place r.skip r.part → HasRead r bytes records → settled (contents bytes).ending ≡ None
 uncertain r bytes records none keeps h =
     ap (λ (b : List ℕ). settled (contents b).ending) (sym (append-nil bytes))
