@@ -50,8 +50,8 @@ StandsFor None r bytes records = (bytes ≡ r.front) × (length bytes < 4) × (r
 StandsFor (Some format) r bytes records =
     (progress_by format r.classic r.ng).has_read bytes records × (4 ≤ length bytes) × (format_in bytes ≡ format)
 
--- The reader has taken these bytes and released these records, in order. If the reader has no refusal, no refusal of
--- these bytes is certain: later bytes may still change it.
+-- The reader has taken these bytes and released these records, in order. If the reader has no refusal, later bytes may
+-- still change the first refusal of these bytes, if there is one.
 pub record HasRead (r : CaptureReading) (bytes : List ℕ) (records : List Record) : Type 0 where
   pub stands : StandsFor r.format r bytes records
   pub uncertain : refusal_of r ≡ None → certain_in bytes ≡ None
