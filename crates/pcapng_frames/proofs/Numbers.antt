@@ -19,7 +19,7 @@ use Rattle.pcapng_frames.specs.state.Fields.{AllResolved}
 pub power_some : (a k : ℕ) → 1 ≤ a → 1 ≤ a ^ k
 power_some a k h = one-le-pow k a h
 
--- if a unit is at least a nanosecond, the nanoseconds are the timestamp times a power of 10
+-- if a unit is at least a nanosecond, the instant in nanoseconds is the timestamp times a power of 10
 pub long_units : (x k : ℕ) → k ≤ 9 → x * 10 ^ (9 - k) ≡ x * 1000000000 / 10 ^ k
 long_units x k h =
     let nine : (9 - k) + k ≡ 9 = omega arith in
@@ -27,7 +27,7 @@ long_units x k h =
     let all : x * 1000000000 ≡ x * 10 ^ (9 - k) * 10 ^ k = ap (λ (n : ℕ). x * n) (sym whole) ∙ sym (mul_assoc x (10 ^ (9 - k)) (10 ^ k)) in
     sym (div-eq_of_eq-mul_left (power_some 10 k (omega arith)) all)
 
--- if a unit is at most a nanosecond, the nanoseconds are the timestamp divided by a power of 10, rounded down
+-- if a unit is at most a nanosecond, the instant in nanoseconds is the timestamp divided by a power of 10, rounded down
 pub short_units : (x k : ℕ) → 9 ≤ k → x / 10 ^ (k - 9) ≡ x * 1000000000 / 10 ^ k
 short_units x k h =
     let more : k ≡ (k - 9) + 9 = omega arith in
@@ -68,7 +68,7 @@ microsecond_arrival interface x epoch unit early = in_time (instant interface x)
 pub microsecond_late : (interface : Interface) (x : ℕ) → interface.offset ≡ pos 0 → interface.resolution ≡ 6 → 4294967296000000 ≤ x → arrival_of interface x ≡ None
 microsecond_late interface x epoch unit late = out_of_time (instant interface x) (x * 1000) (microsecond_instant interface x epoch unit) (omega arith)
 
--- the nanoseconds of a timestamp of 64 bits are below 2^94
+-- the instant of a 64-bit timestamp, in nanoseconds, is below 2^94
 pub time_limit : (x units : ℕ) → x < 2 ^ 64 → x * 1000000000 / units < 2 ^ 94
 time_limit x units h = omega (arith, div-le_self (x * 1000000000) units)
 

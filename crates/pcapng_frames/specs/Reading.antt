@@ -38,8 +38,9 @@ contents_past skip p part more =
     else contents_at p (part ++ drop skip more)
 
 -- The contents of the capture that a reader has not released yet, if `more` are the bytes that follow those taken. If
--- the reader has a refusal, there is only that refusal. If the reader holds a packet, the contents are that packet,
--- followed by the contents after the packet's block. Otherwise they are the contents from the reader's place on.
+-- the reader has a refusal, the contents are only that refusal. If the reader holds a packet, the contents are that
+-- packet, followed by the contents after the packet's block. Otherwise they are the contents from the reader's place
+-- on.
 abbrev pub rest_by : Option Refusal → Bool → Reading → List ℕ → Contents
 rest_by (Some refusal) whole r more = ends (Some (record { refusal = refusal; cut = false }))
 rest_by None true r more = and_then r.place.packet (contents_at (after_trailer r.place) more)
