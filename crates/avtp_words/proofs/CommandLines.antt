@@ -262,7 +262,7 @@ same_signed option y z gs small p q = go (value_in option.name gs) p q where
   go None p q = p ∙ sym q
   go (Some word) p q = same_spelled word y z (omega (arith, p.size, small)) (omega (arith, q.size, small)) p.spelled q.spelled
 
--- the sample format whose name has this fourth letter; no two formats share it
+-- the sample format whose name has this fourth letter; no two formats have the same fourth letter
 by_fourth : ℕ → AafFormat
 by_fourth letter = if letter == 49 then Int16 else if letter == 50 then Int24 else if letter == 51 then Int32 else Float32
 

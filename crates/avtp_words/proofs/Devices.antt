@@ -1,4 +1,4 @@
--- The files that words of `listen` ask to write.
+-- The files that the words of a `listen` command line ask to write.
 use Rattle.std.proofs.Common.{◌≡◌, ◌≢◌, ℕ, zero, suc, ◌+◌, inl, inr, true, false, List, [], ◌∷◌, ◌++◌, flat_map, get_or, Option, Some, None, slice_get, IfSome, codes, arith, sym, subst, ap, ◌∙◌, refl, All, AllPairs, Contains, Bool, option_to_list, string_bytes, String}
 use Rattle.std.specs.List.{position, position_from}
 use Rattle.std.specs.Str.{bytes_eq}

@@ -77,8 +77,8 @@ words_before rows words place o = sym (take-map string_bytes place words) ∙ ap
 pub here : (rows : List Row) (words : List (List ℕ)) (place : ℕ) (o : AreOptionsTo rows words place) (word : List ℕ) → slice_get words place ≡ Some word → (more : List (List ℕ)) × (o.rest ≡ word ∷ more)
 here rows words place o word e = at (flat_map words_of o.settings) o.rest word (sym (ap (λ ws. slice_get ws (length (flat_map words_of o.settings))) o.split) ∙ sym (ap (slice_get words) o.here) ∙ e)
 
--- The option `setting` can follow the options `gs`. Its name is `word`, which is the name of no option of `gs`. If it
--- has a value, `after` begins with that value.
+-- The option `setting` can follow the options `gs`. The name of `setting` is `word`, and no option of `gs` has this
+-- name. If `setting` has a value, `after` begins with that value.
 pub record Follows (rows : List Row) (gs : List Setting) (word : List ℕ) (after : List (List ℕ)) : Type 0 where
   pub setting : Setting
   pub tail : List (List ℕ)
@@ -115,7 +115,7 @@ stops_here rows words place o word e dash none =
           none f.setting f.is f.new f.name;
     }
 
--- a value that an option of this type takes, or no value if it takes none
+-- a value that an option of this type takes, or no value if the option takes none
 sample : (takes : Takes) → is_sound takes ≡ true → (value : Option (List ℕ)) × IsTaken takes value
 unfolding decode_pairs
 sample (Number low high) sound = (Some (decimal low), (low, record { least = omega arith; most = leb-true low high (and_parts _ _ sound).0; spelled = refl }))

@@ -53,7 +53,7 @@ pub record Listening : Type 0 where
   pub annexb : Option NamedFile
   pub files : List (List ℕ)
 
--- what `talk` is asked for: the file to make a capture of, and how its packets are sent
+-- what `talk` is asked for: the input that is made into a capture, and how the packets are sent
 pub record Talking : Type 0 where
   pub kind : Kind
   pub rate : ℕ
@@ -280,20 +280,20 @@ pub record IsOf (form : Form) (words : List (List ℕ)) (settings : List Setting
 
 -- ---- what the words say
 
--- `words` are a `show` command line for this limit and this file
+-- `words` are a `show` command line that reads at most `limit` bytes of the capture `file`
 pub record IsShow (words : List (List ℕ)) (limit : ℕ) (file : List ℕ) : Type 0 where
   pub settings : List Setting
   pub line : IsOf show_form words settings (file ∷ [])
   pub limit_given : IsGiven limits.limit settings limit
 
--- `words` are a `check` command line for this limit and these files
+-- `words` are a `check` command line that reads at most `limit` bytes of each capture of `files`
 pub record IsCheck (words : List (List ℕ)) (limit : ℕ) (files : List (List ℕ)) : Type 0 where
   pub settings : List Setting
   pub line : IsOf check_form words settings files
   pub limit_given : IsGiven limits.limit settings limit
 
--- The option named `option` gives this file. The file's name directly follows the option, at index `file.place` of
--- `words`.
+-- The option named `option` gives `file`. The name of `file` directly follows the option's name in `words`, at index
+-- `file.place`.
 pub record NamesFile (words : List (List ℕ)) (settings : List Setting) (option : List ℕ) (file : NamedFile) : Type 0 where
   pub value : value_in option settings ≡ Some file.name
   pub before : ℕ
@@ -301,22 +301,22 @@ pub record NamesFile (words : List (List ℕ)) (settings : List Setting) (option
   pub option_at : slice_get words before ≡ Some option
   pub name_at : slice_get words file.place ≡ Some file.name
 
--- If there is a file, the option named `option` gives this file. If there is none, the option is not given.
+-- If there is a file, the option of the given name gives this file. If there is no file, that option is not given.
 abbrev pub IsGivenFile : List (List ℕ) → List Setting → List ℕ → Option NamedFile → Type 0
 IsGivenFile words settings option None = value_in option settings ≡ None
 IsGivenFile words settings option (Some file) = NamesFile words settings option file
 
--- `words` ask for raw audio in this file, with this kind of silence.
+-- `words` ask for raw audio in the file `raw.file`, with silence that is made of `raw.silence`.
 pub record SaysRaw (words : List (List ℕ)) (settings : List Setting) (raw : NamedRaw) : Type 0 where
   pub file : NamesFile words settings (codes "--raw") raw.file
   pub silence : IsGivenSilence settings raw.silence
 
--- If there is a file, `words` ask for raw audio in this file. If there is none, `--raw` is not given.
+-- If there is a file of raw audio, the words ask for this file. If there is none, `--raw` is not given.
 abbrev pub IsGivenRaw : List (List ℕ) → List Setting → Option NamedRaw → Type 0
 IsGivenRaw words settings None = value_in (codes "--raw") settings ≡ None
 IsGivenRaw words settings (Some raw) = SaysRaw words settings raw
 
--- The options ask for this listener, and the word `id` spells the listener's stream ID.
+-- The options ask for the listener `asked`. The word `id` spells the stream ID of `asked`.
 pub record SaysListener (settings : List Setting) (id : List ℕ) (asked : ListenerOptions) : Type 0 where
   pub stream : IsId id asked.stream
   pub limit : IsGiven limits.limit settings asked.limit
@@ -337,7 +337,7 @@ pub record SaysListen (words : List (List ℕ)) (asked : Listening) : Type 0 whe
   pub raw : IsGivenRaw words settings asked.raw
   pub annexb : IsGivenFile words settings (codes "--annexb") asked.annexb
 
--- `words` are a `soak` command line for this number of packets
+-- `words` are a `soak` command line for `packets` packets
 pub record IsSoak (words : List (List ℕ)) (packets : ℕ) : Type 0 where
   pub settings : List Setting
   pub number : List ℕ
@@ -360,7 +360,7 @@ pub record SaysGateway (words : List (List ℕ)) (asked : Turning) : Type 0 wher
   pub to_given : value_in (codes "--to") settings ≡ Some (gateway_format_name asked.to)
   pub id_given : IsGivenId (codes "--id") asked.listener.stream settings asked.id
 
--- `words` ask for an AAF stream in this sample format. The stream is sparse exactly if `sparse` is true.
+-- `words` ask for an AAF stream in the sample format `format`. The stream is sparse exactly if `sparse` is true.
 pub record SaysAaf (words : List (List ℕ)) (settings : List Setting) (format : AafFormat) (sparse : Bool) : Type 0 where
   pub kind : IfSome (value_in (codes "--kind") settings) (λ word. word ≡ codes "aaf")
   pub format_given : IsGivenFormat (codes "--format") Int16 settings format
@@ -378,8 +378,8 @@ SaysKind words settings (Aaf format sparse) = SaysAaf words settings format spar
 SaysKind words settings Am824 = value_in (codes "--kind") settings ≡ Some (codes "am824")
 SaysKind words settings (H264 last_stamp) = SaysVideo words settings last_stamp
 
--- The options ask for this media clock, with a stream of `rate` sample frames a second. Without `--crf-rate`, the
--- clock's base frequency is `rate`.
+-- The options ask for the media clock `crf`, for a stream of `rate` sample frames a second. If `--crf-rate` is not
+-- given, the clock's base frequency is `rate`.
 pub record SaysCrf (settings : List Setting) (rate : ℕ) (crf : Crf) : Type 0 where
   pub id : IsGivenIdIf (codes "--crf") settings (Some crf.id)
   pub base : IsGiven (with_default limits.crf_rate rate) settings crf.rate
@@ -387,7 +387,7 @@ pub record SaysCrf (settings : List Setting) (rate : ℕ) (crf : Crf) : Type 0 w
   pub interval : IsGiven limits.crf_interval settings crf.interval
   pub points : IsGiven limits.crf_points settings crf.points
 
--- If there is a clock, the options ask for this media clock. If there is none, `--crf` is not given.
+-- If there is a media clock, the options ask for this clock. If there is none, `--crf` is not given.
 abbrev pub SaysClock : List Setting → ℕ → Option Crf → Type 0
 SaysClock settings rate None = IsGivenIdIf (codes "--crf") settings None
 SaysClock settings rate (Some crf) = SaysCrf settings rate crf
@@ -429,21 +429,21 @@ FitsKind (Aaf format sparse) asked = FitsSamples format asked
 FitsKind Am824 asked = FitsBlocks asked
 FitsKind (H264 last_stamp) asked = asked.rate ≤ limits.access_units
 
--- The number of sample frames from one CRF timestamp to the next, in a stream of `rate` sample frames a second. They
--- take as long as `interval` events at the clock's frequency, which is the base frequency times the pull factor (IEEE
--- 1722-2016, 10).
+-- The number of sample frames from one CRF timestamp to the next, in a stream of `rate` sample frames a second. These
+-- sample frames take as long as `interval` events at the clock's frequency, which is the base frequency times the pull
+-- factor (IEEE 1722-2016, 10).
 abbrev pub spacing_of : Crf → ℕ → ℕ
 spacing_of crf rate = crf.interval * rate * pull_down crf.pull / (crf.rate * pull_up crf.pull)
 
--- Between two restarts there are `packets * count` sample frames. They span whole clock packets, and the number of
--- these packets is a multiple of 8. Without restarts there is no condition.
+-- Between two restarts there are `packets * count` sample frames. These sample frames span a whole number of clock
+-- packets, which is a multiple of 8. If there are no restarts, there is no condition.
 abbrev pub HasWholeRuns : Crf → ℕ → ℕ → Option ℕ → Type 0
 HasWholeRuns crf rate count None = ⊤
 HasWholeRuns crf rate count (Some packets) = packets * count % (8 * spacing_of crf rate * crf.points) ≡ 0
 
 -- The clock fits a stream with `rate` sample frames a second and `count` sample frames in a packet. The clock's
--- timestamps are at whole sample frames. Whole clock packets fit between two restarts, and the number of these packets
--- is a multiple of 8.
+-- timestamps are at whole sample frames. Between two restarts there is a whole number of clock packets, which is a
+-- multiple of 8.
 pub record FitsStream (crf : Crf) (rate count : ℕ) (restart : Option ℕ) : Type 0 where
   pub whole : crf.interval * rate * pull_down crf.pull % (crf.rate * pull_up crf.pull) ≡ 0
   pub runs : HasWholeRuns crf rate count restart
@@ -537,19 +537,19 @@ pub record IsLine (words : List (List ℕ)) : Type 0 where
   pub names : List (List ℕ)
   pub line : IsOf form words settings names
 
--- `words` begin a line of `L`: followed by further words, possibly none, they are a line of `L`
+-- `words` begin a line of `L`: `words` followed by `more`, which may be empty, are a line of `L`
 pub record Begins (L : List (List ℕ) → Type 0) (words : List (List ℕ)) : Type 0 where
   pub more : List (List ℕ)
   pub whole : L (words ++ more)
 
--- If there is a next word, `before` and that word begin no line of `L`. If there is none, `before` is not a line of
+-- `before` followed by the next word does not begin a line of `L`. If there is no next word, `before` is not a line of
 -- `L`.
 abbrev pub Stops : (List (List ℕ) → Type 0) → List (List ℕ) → List (List ℕ) → Type 0
 Stops L before [] = L before → ⊥
 Stops L before (next ∷ _) = Begins L (before ++ next ∷ []) → ⊥
 
--- The first `place` words begin a line of `L`, but the first `place + 1` words do not. If there are only `place` words,
--- they are not a whole line of `L`.
+-- The first wrong word is at index `place`: the words before it begin a line of `L`, but the words up to and including
+-- it do not. If there are only `place` words, a word is missing: `words` begin a line of `L`, but are not a whole line.
 pub record StopsAt (L : List (List ℕ) → Type 0) (words : List (List ℕ)) (place : ℕ) : Type 0 where
   pub before : List (List ℕ)
   pub rest : List (List ℕ)

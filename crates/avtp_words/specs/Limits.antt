@@ -1,4 +1,4 @@
--- The limits of the words in one table.
+-- The limits on the words of a command line, in one table.
 use Rattle.std.specs.Prelude.{ℕ, ℤ, pos, ◌*◌, ◌^◌, List, Option, Some, None, codes}
 use Rattle.avtp_words.specs.declared.option.Takes.TheVariants.{Number, Signed}
 use Rattle.avtp_words.specs.declared.talk.Kind.{Kind}

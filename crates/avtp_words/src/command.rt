@@ -18,8 +18,8 @@ use crate::value::number_after;
 pub enum Command<'a> {
     /// Print what each packet of the capture `file` holds. At most `limit` bytes of the capture are read.
     Show { limit: u64, file: &'a str },
-    /// Print what breaks the rules of a stream in each capture of `files`, which has at least one name. At most `limit`
-    /// bytes of each capture are read.
+    /// For each capture of `files`, print what breaks the rules of a stream. `files` has at least one name. At most
+    /// `limit` bytes of each capture are read.
     Check { limit: u64, files: &'a [String] },
     /// Print the presentation time of each sample of a stream.
     Listen(Listen<'a>),
@@ -28,7 +28,7 @@ pub enum Command<'a> {
     /// Listen to a stream of `packets` packets, 0 to 1,000,000, some of which are late, lost or repeated. Print what
     /// became of the packets.
     Soak { packets: u32 },
-    /// Print where two captures present different samples of a stream.
+    /// Listen to a stream in each of two captures. Print where the presented samples differ.
     Agree(Agree<'a>),
     /// Write a capture of a stream in the other audio format, with the same samples at the same times.
     Gateway(Gateway<'a>),
@@ -37,8 +37,8 @@ pub enum Command<'a> {
 /// What is wrong with words that are not a command line.
 #[derive(Clone, Copy, Debug, PartialEq, Eq)]
 pub struct Offence {
-    /// The position, from 1, of the first wrong word. If a word is missing, one past the last word. If each word is
-    /// valid but the words contradict one another, 1.
+    /// The position, counted from 1, of the first wrong word. If a word is missing, the position is one past the last
+    /// word. If each word is valid but the words contradict one another, the position is 1.
     pub position: usize,
 }
 

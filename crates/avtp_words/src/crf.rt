@@ -14,8 +14,8 @@ use crate::value::{byte_after, id_if, short_number_after, small_number_after};
 use clock_track::{pull_down, pull_up};
 
 /// A media clock that is sent with a stream (IEEE 1722-2016, 10). Its timestamps are at whole sample frames of the
-/// stream. If the stream restarts, whole clock packets fit between two restarts, and the number of these packets is a
-/// multiple of 8.
+/// stream. If the stream restarts, there is a whole number of clock packets between two restarts, which is a multiple
+/// of 8.
 #[derive(Clone, Copy, Debug, PartialEq, Eq)]
 pub struct Crf {
     /// The stream ID of the clock.
@@ -30,7 +30,8 @@ pub struct Crf {
     pub points: u8,
 }
 
-/// The media clock that the options ask for, if any, with a stream of `rate` sample frames a second.
+/// The media clock that the options ask for, for a stream of `rate` sample frames a second. `None` if the options ask
+/// for no media clock.
 pub fn crf_after(options: &[String], rate: u32) -> Option<Crf>
     ensures { IsReadClock (texts options.now) rate result }
 {
@@ -44,8 +45,8 @@ pub fn crf_after(options: &[String], rate: u32) -> Option<Crf>
     })
 }
 
-/// Whether the clock fits a stream of `rate` sample frames a second, with `count` of them in a packet. True if there is
-/// no clock.
+/// Whether the clock fits a stream with `rate` sample frames a second and `count` sample frames in a packet. True if
+/// there is no clock.
 pub fn fits_clock(crf: Option<Crf>, rate: u32, count: u32, restart: Option<u32>) -> bool
     requires { ClockIsWithin crf rate }
     ensures { IsTrue result ↔ FitsClock crf rate count restart }
@@ -87,8 +88,8 @@ impl Crf {
         u64::from(self.interval) * u64::from(rate) * pull_down(self.pull)
     }
 
-    /// Whether whole clock packets fit from one restart to the next, and the number of these packets is a multiple of
-    /// 8. True if there are no restarts.
+    /// Whether the number of clock packets between two restarts is whole and a multiple of 8. True if there are no
+    /// restarts.
     fn has_whole_runs(self, spacing: u64, rate: u32, count: u32, restart: Option<u32>) -> bool
         requires spacing { spacing ≡ spacing_of self rate }
         requires some { 1 ≤ spacing }

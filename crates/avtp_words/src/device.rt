@@ -47,7 +47,7 @@ pub fn file_after<'a>(options: &'a [String], name: &str) -> Option<DeviceFile<'a
     })
 }
 
-/// Silence is made of what `--silence` names, or of zeros if it is not given.
+/// Silence is made of what `--silence` names, or of zeros if `--silence` is not given.
 fn silence_after(options: &[String]) -> Silence
     ensures { IsReadSilence (value_after (codes "--silence") (texts options.now)) result }
 {

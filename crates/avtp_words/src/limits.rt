@@ -33,7 +33,7 @@ pub const LISTEN_OPTIONS: [OptionRow; 11] = [
     ANNEXB,
 ];
 
-/// The options of a listener. `agree` has no other options.
+/// The options of `agree`. They are the options of a listener.
 pub const AGREE_OPTIONS: [OptionRow; 7] = [
     LIMIT,
     BUFFER,
@@ -138,8 +138,8 @@ pub const ANNEXB: OptionRow = OptionRow {
     takes: Takes::Name,
 };
 
-/// The max transit time in nanoseconds. For a listener, 0 is allowed. For a talker it is not, because a talker sends
-/// each packet before its presentation time.
+/// The max transit time in nanoseconds. For a listener, 0 is allowed. For a talker, 0 is not allowed, because a talker
+/// sends each packet before its presentation time.
 pub const LISTEN_LEAD: OptionRow = OptionRow {
     name: "--lead",
     takes: Takes::Number {

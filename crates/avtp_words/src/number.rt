@@ -28,8 +28,8 @@ pub fn is_number(word: &str, low: u64, high: u64) -> bool
     }
 }
 
-/// The number that `word` spells in decimal digits without a leading zero. If it is below 0, a `-` precedes the digits.
-/// `None` if `word` spells no number from -(2^63 - 1) to 2^63 - 1.
+/// The number that `word` spells in decimal digits without a leading zero. If the number is below 0, a `-` precedes the
+/// digits. `None` if `word` spells no number from -(2^63 - 1) to 2^63 - 1.
 pub fn signed_number_of(word: &str) -> Option<i64>
     ensures spelled { IfSome result (λ z. word.now ≡ signed_decimal z) }
     ensures size { IfSome result (λ z. unsigned_abs z < 2 ^ 63) }
@@ -67,7 +67,7 @@ fn negative_of(digits: &str) -> Option<i64>
     }
 }
 
-/// The part of `word` after a leading `-`, if it has one.
+/// The part of `word` after a leading `-`. `None` if `word` does not begin with `-`.
 fn after_minus(word: &str) -> Option<&str>
     ensures { MatchOption result ((rest : List ℕ) → word.now ≢ 45 ∷ rest) (λ rest. word.now ≡ 45 ∷ rest.now) }
 {

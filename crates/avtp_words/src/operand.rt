@@ -120,7 +120,7 @@ fn first_unnamed(words: &[String]) -> Option<usize>
     None
 }
 
-/// The index of the first word that is wrong: not valid as the operand at its index, missing, or left over.
+/// The index of the first word that is not valid as the operand at its index, is missing, or is left over.
 fn first_wrong(operands: &[Operand], words: &[String]) -> Option<usize>
     ensures wrong { IfSome result (StopsAt (AreOperands operands.now) (texts words.now)) }
     ensures within { IfSome result (λ place. place ≤ length words.now) }

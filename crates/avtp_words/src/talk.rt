@@ -40,18 +40,20 @@ pub enum Kind {
     H264 { last_stamp: bool },
 }
 
-/// What to make a capture of, and how its packets are sent.
+/// The input that is made into a capture, and how the packets are sent.
 #[derive(Clone, Copy, Debug, PartialEq, Eq)]
 pub struct Talk<'a> {
     /// The kind of the stream.
     pub kind: Kind,
-    /// The sample rate in Hz, which the format must have a code for. For H.264 the access units per second, 1 to 240.
+    /// The sample rate in Hz, for which the format must have a code. For H.264, the number of access units per second,
+    /// 1 to 240.
     pub rate: u32,
     /// The number of channels of each sample frame: 1 to 1023, for AM824 at most 256. H.264 does not use `channels` and
     /// `count`.
     pub channels: u16,
-    /// The number of sample frames in a packet, at least 1. Together they take at most 1,476 bytes. For AM824, the
-    /// number of data blocks in a packet: at least an eighth of SYT_INTERVAL, and together at most 1,468 bytes.
+    /// The number of sample frames in a packet, at least 1. The sample frames of a packet take at most 1,476 bytes. For
+    /// AM824, the number of data blocks in a packet, at least an eighth of SYT_INTERVAL. The data blocks of a packet
+    /// take at most 1,468 bytes.
     pub count: u32,
     /// The stream ID.
     pub id: u64,
@@ -246,15 +248,15 @@ fn has_rate(codes: &[u8], rate: u32) -> bool
 /// The codes FDF that name a sample rate (IEC 61883-6).
 const FDF_CODES: [u8; 7] = [0, 1, 2, 3, 4, 5, 6];
 
-/// Whether IEC 61883-6 has a code for the sample rate, and `count` data blocks are at least an eighth of that rate's
-/// SYT_INTERVAL. Any eight packets in a row then contain a timestamped block.
+/// Whether IEC 61883-6 has a code for the sample rate, and `count` is at least an eighth of that rate's SYT_INTERVAL.
+/// Any eight packets in a row, each with `count` data blocks, then contain a timestamped block.
 fn suits_blocks(rate: u32, count: u32) -> bool
     ensures { IsTrue result ↔ ((fdf : ℕ) × (rate_of_fdf_code fdf ≡ Some rate) × IsSomeAnd (interval_of_code fdf) (λ interval. interval ≤ 8 * count)) }
 {
     has_suiting(&FDF_CODES, rate, count)
 }
 
-/// Whether one of `codes` names the sample rate, with an SYT_INTERVAL of at most 8 times `count`.
+/// Whether one of `codes` names the sample rate and has an SYT_INTERVAL of at most 8 times `count`.
 fn has_suiting(codes: &[u8], rate: u32, count: u32) -> bool
     ensures { result ≡ list_any (λ fdf. suits_of rate count fdf) codes.now }
 {

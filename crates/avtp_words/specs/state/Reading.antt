@@ -47,7 +47,7 @@ is_sound Silence = true
 is_sound OutFormat = true
 is_sound Nothing = true
 
--- the word begins with `--`, as each option does and no value of an option does
+-- the word begins with `--`, as the name of each option does; no value of an option begins with `--`
 abbrev pub begins_with_dashes : List ℕ → Bool
 begins_with_dashes [] = false
 begins_with_dashes (first ∷ []) = false
@@ -95,8 +95,8 @@ pub record IsReadFormat (default : AafFormat) (word : Option (List ℕ)) (format
 abbrev pub IsReadOf : ℕ → NumberOption → List (List ℕ) → ℕ → Type 0
 IsReadOf bound option options n = IsSomeAnd option.default (λ default. IsRead bound default (value_after option.name options) n)
 
--- The file is named by the word after the option `name`. Its `place` is that word's position on the whole command line,
--- with the command as word 0.
+-- The word after the option `name` is the name of `file`. The position of this word on the whole command line is
+-- `file.place`, with the command as word 0.
 pub record ReadsFile (name : List ℕ) (options : List (List ℕ)) (file : NamedFile) : Type 0 where
   pub value : value_after name options ≡ Some file.name
   pub before : ℕ
@@ -156,7 +156,7 @@ IsReadKind options tells_sparse tells_last (Aaf format sparse) = IsReadAaf optio
 IsReadKind options tells_sparse tells_last Am824 = value_after (codes "--kind") options ≡ Some (codes "am824")
 IsReadKind options tells_sparse tells_last (H264 last_stamp) = IsReadVideo options tells_last last_stamp
 
--- What is read from the options as a media clock, for a stream of this rate.
+-- `crf` is the media clock that is read from the options, for a stream of `rate` sample frames a second.
 pub record IsReadCrf (options : List (List ℕ)) (rate : ℕ) (crf : Crf) : Type 0 where
   pub id : IsReadIdIf (value_after (codes "--crf") options) (Some crf.id)
   pub base : IsReadOf (2 ^ 32) (with_default limits.crf_rate rate) options crf.rate
@@ -192,7 +192,7 @@ pub record AreRead (options : List (List ℕ)) (asked : Talking) : Type 0 where
   pub jump : IsReadOf (2 ^ 32) limits.jump options asked.jump
   pub crf : IsReadClock options asked.rate asked.crf
 
--- The words from index `place` on begin with a value that the option takes. The value is `len` words long. If the
+-- If the option takes a value, the word at index `place` is a value that the option takes, and `len` is 1. If the
 -- option takes no value, `len` is 0.
 pub record IsTakenAt (takes : Takes) (words : List (List ℕ)) (place len : ℕ) : Type 0 where
   pub value : Option (List ℕ)
@@ -240,13 +240,14 @@ pub record AreOptionsTo (rows : List Row) (words : List (List ℕ)) (place : ℕ
   pub here : place ≡ length (flat_map words_of settings)
   pub options : AreSettings rows settings
 
--- the words before index `place` are options, and no option begins there
+-- the words before index `place` are options, and no option begins at index `place`
 pub record EndsOptions (rows : List Row) (words : List (List ℕ)) (place : ℕ) : Type 0 where
   pub options : AreOptionsTo rows words place
   pub ends : IfSome (slice_get words place) (λ word. BeginsWithDash word → ⊥)
 
--- The first `place` words begin a list of options. The first `place + 1` words do not begin a list of options and
--- names. If there are only `place` words, they are not a list of options and names.
+-- The first wrong word among the options is at index `place`. The words before it begin a list of options. The words up
+-- to and including it do not begin a list of options followed by names. If there are only `place` words, they are not a
+-- list of options followed by names.
 pub record StopsOptions (rows : List Row) (words : List (List ℕ)) (place : ℕ) : Type 0 where
   pub before : List (List ℕ)
   pub rest : List (List ℕ)
@@ -255,8 +256,8 @@ pub record StopsOptions (rows : List Row) (words : List (List ℕ)) (place : ℕ
   pub begins : Begins (AreOptions rows) before
   pub stops : Stops (IsTail rows) before rest
 
--- `words` are the words after a command. The first word that is wrong for a line of `L` is at `position` on the whole
--- command line, counted from 1.
+-- The first word of `words` that is wrong for a line of `L` is at index `place`. On the whole command line, this word
+-- is at `position`, with the command at position 1.
 pub record StopsAfter (L : List (List ℕ) → Type 0) (words : List (List ℕ)) (position : ℕ) : Type 0 where
   pub place : ℕ
   pub here : position ≡ place + 2
@@ -268,12 +269,11 @@ pub record IsFirstUnnamed (words : List (List ℕ)) (place : ℕ) : Type 0 where
   pub named : All IsName (take place words)
   pub here : IsName (get_or words place []) → ⊥
 
--- there is an interval, and `count` blocks are at least an eighth of the interval
+-- there is an SYT interval, and `count` is at least an eighth of the interval
 abbrev pub is_long_enough : Option ℕ → ℕ → Bool
 is_long_enough None count = false
 is_long_enough (Some interval) count = nat_le interval (8 * count)
 
--- The code `fdf` of IEC 61883-6 names the sample rate, and `count` blocks are at least an eighth of that rate's SYT
--- interval.
+-- The code `fdf` of IEC 61883-6 names the sample rate, and `count` is at least an eighth of the code's SYT interval.
 abbrev pub suits : ℕ → ℕ → ℕ → Bool
 suits rate count fdf = option_eq nat_eq (rate_of_fdf fdf) (Some rate) && is_long_enough (syt_interval fdf) count
