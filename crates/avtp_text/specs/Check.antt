@@ -16,7 +16,7 @@ malformed_line number r = finding_start number ++ codes "malformed " ++ refusal_
 unfoldable pub packet_start : ℕ → ℕ → List ℕ
 packet_start number id = finding_start number ++ codes "id " ++ id_text id ++ codes " "
 
--- the line of a finding in a packet
+-- the line of a finding in a packet, given the number of the packet's frame, the stream ID, and the text of the finding
 abbrev pub packet_line : ℕ → ℕ → List ℕ → List ℕ
 packet_line number id finding = packet_start number id ++ finding ++ newline
 

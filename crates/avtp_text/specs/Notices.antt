@@ -15,7 +15,7 @@ read_fault_line = codes "read fault" ++ newline
 unfoldable pub device_fault_line : List ℕ
 device_fault_line = codes "device fault" ++ newline
 
--- the line of a capture that has more bytes than this limit
+-- the line of a capture that has more bytes than the limit; the line shows the limit in bytes
 unfoldable pub limit_line : ℕ → List ℕ
 limit_line bytes = codes "limit " ++ decimal bytes ++ newline
 

@@ -115,8 +115,8 @@ fn prepend_start(line: &mut Line, id: &IdText, view: &AafView<'_>)
     line.prepend("aaf ");
 }
 
-/// The line of an AAF packet. Its end is kept for the next packet: if that packet has the same end, only the part
-/// before the end is written. If that packet has the same stream ID, the digits of the ID are copied.
+/// The line of an AAF packet. The end of the line is kept for the next packet. If the next packet has the same end,
+/// only the part before the end is written. If the next packet has the same stream ID, the digits of the ID are copied.
 #[derive(Drop)]
 pub struct AafLine {
     line: Line,
@@ -130,7 +130,7 @@ pub struct AafLine {
 }
 
 impl AafLine {
-    /// A line that consists only of its end so far.
+    /// A line that so far consists only of its end.
     pub fn new() -> Self {
         let end = AafEnd {
             tv: false,

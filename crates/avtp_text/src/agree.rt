@@ -86,8 +86,8 @@ impl Text {
         self.print(out, line.as_slice())
     }
 
-    /// Prints four numbers of packets: those that both listeners present, those that only the first presents, those
-    /// that only the second presents, and those that both present differently.
+    /// Prints how many packets both listeners present, how many only the first presents, how many only the second
+    /// presents, and how many both listeners present, but differently.
     #[tactic(auto, unfolding(crate::specs::Agree::end_agree_line))]
     pub fn end_agree<S: Sink>(
         &mut self,

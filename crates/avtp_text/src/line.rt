@@ -102,7 +102,7 @@ impl Line {
         self.start = start;
     }
 
-    /// Prepends a text to the line. This is fastest for a text that the compiler knows, such as a label.
+    /// Prepends a text to the line. The call is fastest for a text that the compiler knows, such as a label.
     #[inline(always)]
     pub fn prepend(&mut self, piece: &str)
         requires { length piece.now + length self.old ≤ LONGEST }

@@ -76,7 +76,7 @@ fn print_sample<S: Sink>(
     Ok(())
 }
 
-/// Appends the line of a sample of a batch to a buffer. `line` is for the batch's packet.
+/// Appends the line of a sample of a batch to a buffer. The kept line in `line` is for the batch's packet.
 #[inline(always)]
 fn short_sample<S: Sink>(
     buffer: &mut Buffer,

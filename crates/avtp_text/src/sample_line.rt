@@ -44,7 +44,8 @@ struct Numbers {
 impl Numbers {
     const NONE: Self = Numbers { least: 0, limit: 0 };
 
-    /// A range of numbers that have as many digits as `number`. It is empty if `number` has more than three digits.
+    /// A range of numbers that have as many digits as `number`. The range is empty if `number` has more than three
+    /// digits.
     #[tactic(auto, using(crate::proofs::Digits::as_long_one, crate::proofs::Digits::as_long_two, crate::proofs::Digits::as_long_three))]
     fn as_long_as(number: u32) -> Self
         ensures { (n : ℕ) → result.least ≤ n → n < result.limit → length (decimal n) ≡ length (decimal number) }
@@ -141,8 +142,8 @@ struct KeptLine {
 }
 
 impl KeptLine {
-    /// Overwrites the number of the frame and the sequence number in the line. Returns whether each has as many digits
-    /// as the number that it replaces.
+    /// Overwrites the number of the frame and the sequence number in the line. Returns whether each new number has as
+    /// many digits as the number that it replaces.
     #[tactic(auto, using(crate::proofs::Digits::digits_of_u64))]
     fn turn_to(&mut self, frame: u64, seq: u8) -> bool
         ensures { IsTrue result → (packet : SamplePacket) → KnowsGaps self.old packet → KnowsGaps self.new (seen_as frame seq packet.size) }
@@ -158,10 +159,10 @@ impl KeptLine {
     }
 }
 
-/// The line of a sample, which is kept for the next sample. Contracts see it as the packet whose samples it is for.
-/// Usually the next line differs only in the last eight digits of the instant, the sample's number, and the sample's
-/// bytes. Then only these parts are written, over a copy of the kept line. The line is built anew when the sample's
-/// number gains a digit or other digits of the instant change.
+/// The line of a sample, which is kept for the next sample. Contracts see it as the packet whose samples the line
+/// shows. Usually the next line differs only in the last eight digits of the instant, the sample's number, and the
+/// sample's bytes. Then only these parts are written, over a copy of the kept line. The line is built anew when the
+/// sample's number gains a digit or other digits of the instant change.
 #[derive(Drop)]
 pub struct SampleLine {
     line: KeptLine,

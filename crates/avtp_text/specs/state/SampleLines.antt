@@ -30,12 +30,12 @@ behind_frame seq number hex = codes " seq " ++ decimal seq ++ behind_seq number 
 unfoldable pub behind_instant : ℕ → ℕ → List ℕ → List ℕ → List ℕ
 behind_instant frame seq number hex = codes " frame " ++ decimal frame ++ behind_frame seq number hex
 
--- a line whose instant has the digits of `high` and then the digits `low`
+-- the line of a sample, with an instant whose digits are those of `high`, followed by `low`
 abbrev pub gapped : ℕ → List ℕ → ℕ → ℕ → List ℕ → List ℕ → List ℕ
 gapped high low frame seq number hex = codes "at " ++ decimal high ++ low ++ behind_instant frame seq number hex
 
--- The kept line is the line of a sample of this packet. Its text is known except for the last eight digits of the
--- instant, the sample's number, and the sample's bytes.
+-- The kept line is the line of a sample of `packet`. The text of the line is known except for the last eight digits of
+-- the instant, the sample's number, and the sample's bytes.
 pub record HasGaps (line : KeptLine) (packet : SamplePacket) : Type 0 where
   pub high : ℕ
   pub low : List ℕ
@@ -53,7 +53,7 @@ pub record HasGaps (line : KeptLine) (packet : SamplePacket) : Type 0 where
   pub frame : line.behind.frame ≡ length (behind_frame packet.seq number hex)
   pub seq : line.behind.seq ≡ length (behind_seq number hex)
 
--- if a line is kept, it is a line of this packet, and its gaps are known
+-- if a line is kept, it is the line of a sample of the given packet, and the positions of its gaps are known
 abbrev pub KnowsGaps : KeptLine → SamplePacket → Type 0
 KnowsGaps line packet = line.numbers.least < line.numbers.limit → HasGaps line packet
 
