@@ -131,8 +131,8 @@ impl Report {
         }
     }
 
-    /// The stream with this key. If there is no such stream yet, it is added. `None` if it would be added, but 1,024
-    /// streams are tracked already.
+    /// The stream with this key. If there is no such stream yet, it is added. `None` if there is no such stream and
+    /// 1,024 streams are tracked already.
     fn stream(
         &mut self,
         key: StreamKey,
@@ -147,7 +147,8 @@ impl Report {
         Ok(self.streams.get_mut(place))
     }
 
-    /// The index of the stream with this key, if it is the stream of the last packet or that stream's follower.
+    /// The index of the stream with this key, if this stream is the stream of the last packet or that stream's
+    /// follower.
     fn expected(&self, key: StreamKey) -> Option<usize> {
         if self.is_at(self.last, key) {
             return Some(self.last);

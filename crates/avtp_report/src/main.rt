@@ -216,7 +216,7 @@ fn print_table(rt: &HostRuntime, told: &Told<'_>) -> io::Result<()> {
     out.flush()
 }
 
-/// Writes the page to a file that is not one of the captures. If it cannot be written, standard error says why.
+/// Writes the page to a file that is not one of the captures. If the page cannot be written, standard error says why.
 fn make_page(rt: &HostRuntime, name: &str, told: &Told<'_>) -> io::Result<()> {
     let alloc = rt.alloc();
     let mut captures = Vec::new(alloc);

@@ -62,7 +62,8 @@ fn write_row<W: Write>(out: &mut W, widths: &[usize], row: &[String]) -> io::Res
     writeln!(out, "")
 }
 
-/// Writes a cell. Words are in the first four columns and the last, and begin at the left. Numbers end at the right.
+/// Writes a cell. The first four columns and the last column hold words, which begin at the left. The other columns
+/// hold numbers, which end at the right.
 fn write_cell<W: Write>(out: &mut W, place: usize, text: &str, width: usize) -> io::Result<()> {
     if place > 0 {
         write!(out, "  ")?;

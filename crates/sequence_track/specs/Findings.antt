@@ -62,7 +62,7 @@ least_hold = 8
 abbrev pub early : ℕ → ℕ → Option ℕ
 early packets all = if nat_lt packets all && nat_lt packets least_hold then Some packets else None
 
--- for how many packets the media clock restart bit kept its previous value, if it changes too early
+-- for how many packets the media clock restart bit kept its previous value, if the bit changes too early
 abbrev pub hold_after : List Seen → Seen → Option ℕ
 hold_after [] seen = None
 hold_after (previous ∷ older) seen =

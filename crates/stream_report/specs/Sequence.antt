@@ -36,12 +36,13 @@ abbrev pub missing_among : ℕ → List ℕ → ℕ → ℕ
 missing_among first later zero = 0
 missing_among first later (suc count) = missing_among first later count + (if has_come first later (first + count) then 0 else 1)
 
--- the number of lost packets: how many numbers from the first packet's to the greatest have not arrived
+-- the number of lost packets: how many of the numbers from the first packet's number to the greatest number have not
+-- arrived
 abbrev pub lost : ℕ → List ℕ → ℕ
 lost first later = missing_among first later (greatest first later - first)
 
--- The number of lost packets after a packet with this place: the previous number plus the number of packets that are
--- skipped. If the packet is late, it is the previous number minus one.
+-- The number of lost packets after a packet with this place. If the packet is ahead, the number grows by the packets
+-- that are skipped. If the packet is late, the number falls by one. Otherwise the number does not change.
 abbrev pub lost_with : ℕ → Place → ℕ
 lost_with before (Ahead missing) = before + missing
 lost_with before Late = before - 1
@@ -64,18 +65,18 @@ abbrev pub most_passed : ℕ → List ℕ → ℕ
 most_passed first [] = 0
 most_passed first (number ∷ later) = max (most_passed first later) (number - greatest first later - 1)
 
--- The number is at most 192 after the greatest number, or one of the 64 numbers up to the greatest. The packet's
--- sequence number therefore determines its number.
+-- `number` is at most 192 after the greatest number, or is one of the 64 numbers up to the greatest. The packet's
+-- sequence number therefore determines `number`.
 pub record Follows (first : ℕ) (later : List ℕ) (number : ℕ) : Type 0 where
   pub most : number ≤ greatest first later + 192
   pub least : greatest first later < number + 64
 
--- the number is ahead of all others, and at most 256 after the greatest
+-- `number` is ahead of all others, and at most 256 after the greatest
 pub record Passes (first : ℕ) (later : List ℕ) (number : ℕ) : Type 0 where
   pub ahead : greatest first later < number
   pub most : number ≤ greatest first later + 256
 
--- the number is `behind` before the greatest, and one of the 64 numbers up to the greatest
+-- `number` is `behind` below the greatest number, and is one of the 64 numbers up to the greatest
 pub record Returns (first : ℕ) (later : List ℕ) (number behind : ℕ) : Type 0 where
   pub place : number + behind ≡ greatest first later
   pub near : behind < 64
@@ -92,8 +93,8 @@ pub record Few (first : ℕ) (later : List ℕ) : Type 0 where
   pub numbers : greatest first later < 2 ^ 64
   pub packets : length later < 2 ^ 64
 
--- The counts of a stream's packets are right: how many are lost, repeated and late, and the maximum number that a
--- single packet skipped.
+-- The counts of a stream's packets are right: how many packets are lost, repeated and late, and the maximum number of
+-- packets that a single packet skipped.
 pub record CountsOf (order : Order) (first : ℕ) (later : List ℕ) : Type 0 where
   pub window : StandsFor order.window first later
   pub lost : order.lost.count ≡ lost first later

@@ -19,8 +19,8 @@ number_up_to limit (value ∷ values) = number_up_to limit values + (if int_le v
 abbrev pub rank : ℕ → ℕ → ℕ
 rank count hundredths = max 1 (div_ceil (count * hundredths) 100)
 
--- The nearest-rank percentile: the value with this rank in order of size. Fewer values than the rank are less than the
--- percentile. At least as many values as the rank are at most the percentile.
+-- `value` is the nearest-rank percentile `hundredths` of `values`. Its rank is the rank of this percentile: fewer
+-- values than the rank are less than `value`, and at least as many values as the rank are at most `value`.
 pub record NearestRank (values : List ℤ) (hundredths : ℕ) (value : ℤ) : Type 0 where
   pub less : number_below value values < rank (length values) hundredths
   pub enough : rank (length values) hundredths ≤ number_up_to value values
@@ -37,8 +37,8 @@ pub record RoundedUp (values : List ℤ) (hundredths : ℕ) (told : ℤ) : Type 
 abbrev pub side : ℕ
 side = 3712
 
--- The least magnitude in a bucket. Each magnitude below 128 has its own bucket. From any higher power of two to the
--- next, there are 64 buckets of equal width.
+-- The least magnitude in a bucket. Each magnitude below 128 has its own bucket. From each power of two that is at least
+-- 128 to the next power of two, there are 64 buckets of equal width.
 unfoldable pub first_in : ℕ → ℕ
 first_in bucket = (bucket - 64 * (bucket / 64 - 1)) * 2 ^ (bucket / 64 - 1)
 
@@ -61,8 +61,8 @@ abbrev pub greatest_of : List ℤ → ℤ
 greatest_of [] = negsuc (2 ^ 63 - 1)
 greatest_of (value ∷ values) = int_max (greatest_of values) value
 
--- A spread describes these values. It has their number, the least and the greatest. For each edge, the buckets below
--- the edge hold as many values as are less than the edge.
+-- `spread` describes `values`. It has the number of values, the least value and the greatest value. For each edge, the
+-- buckets below the edge hold as many values as are less than the edge.
 pub record TellsOf (spread : Spread) (values : List ℤ) : Type 0 where
   pub count : spread.count ≡ length values
   pub few : length values ≤ most_values

@@ -1,7 +1,7 @@
 //! The limits that decide whether a verdict is given.
 
 /// A stream's timestamps can be read in several ways, for example with swapped bytes. A reading explains the stream if
-/// at most one in this many timestamps does not fit it.
+/// at most one in `FEW` timestamps does not fit the reading.
 pub const FEW: u64 = 100;
 
 /// If presentation times are more than a quarter of a second after the arrivals, the clocks differ. The longest max
@@ -30,12 +30,12 @@ pub const LEAST_DRIFT_TIME: u64 = 500_000_000;
 /// leads. A smaller drift may be jitter.
 pub const DRIFT_PART: u64 = 4;
 
-/// An arrival is uneven if the time since the previous arrival is far from the previous packet's duration: by more than
-/// half of the duration and by more than 50 microseconds. Capture timestamps that are not made by hardware may
+/// An arrival is uneven if the time since the previous arrival differs from the previous packet's duration by more than
+/// half of that duration, and by more than 50 microseconds. Capture timestamps that are not made by hardware may
 /// themselves be wrong by 50 microseconds.
 pub const LEAST_UNEVEN: u64 = 50_000;
 
-/// If more than one arrival in this many is uneven, the stream has jitter.
+/// If more than one in `UNEVEN_PART` arrivals is uneven, the stream has jitter.
 pub const UNEVEN_PART: u64 = 100;
 
 /// If a lead changes by more than 100 ms from one packet to the next, the timestamps step. Such a step is not drift.

@@ -14,7 +14,7 @@ pub struct Order {
     /// Packets that are missing. `most_lost` is the greatest number of packets that are missing in a row.
     pub lost: Tally,
     pub most_lost: u64,
-    /// Packets with a number that had arrived before.
+    /// Packets whose sequence number had arrived before.
     pub repeated: Tally,
     /// Packets that arrived after later packets.
     pub late: Tally,
@@ -62,7 +62,7 @@ impl Order {
     }
 
     /// Counts the next packet as one that is ahead of the newest by at most 256. Returns how many packets are missing
-    /// before it.
+    /// between the newest packet and the next.
     pub fn resume(&mut self, seq: u8, at: At) -> u64
         ensures counts { (first : ℕ) → (later : List ℕ) → (number : ℕ) → CountsOf self.old first later → Passes first later number → number % 256 ≡ seq
             → Few first (number ∷ later) → CountsOf self.new first (number ∷ later) }

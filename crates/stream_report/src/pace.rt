@@ -43,8 +43,8 @@ impl Stamp {
         }
     }
 
-    /// The difference of two leads. For AVTP streams it is known only modulo 2^32, and the result is the number nearest
-    /// to 0.
+    /// The given difference of two leads. For AVTP streams, the difference is known only modulo 2^32, and the possible
+    /// value nearest to 0 is returned.
     pub fn wrapped(self, difference: i64) -> i64 {
         match self {
             Stamp::Short(_) => {
@@ -96,7 +96,7 @@ pub struct Misses {
     pub count: u64,
     pub first: Option<Miss>,
     pub second: Option<Miss>,
-    /// Whether the first comparison was a miss: the first timestamp does not fit the timestamps that follow.
+    /// Whether the first comparison was a miss. Then the first timestamp does not fit the timestamps that follow.
     pub at_begin: bool,
 }
 
@@ -125,17 +125,17 @@ pub struct Pace {
     last: Option<Stamped>,
     /// The number of timestamps that were compared with the previous one.
     pub compared: u64,
-    /// The total advance of all timestamps that advanced as they should. `nominal` is the advance by the nominal rate,
-    /// and `told` is the advance by the timestamps.
+    /// The total advance of all timestamps that advanced as they should. `nominal` is this total by the nominal rate,
+    /// and `told` is this total by the timestamps.
     pub nominal: u64,
     pub told: u64,
-    /// The misses if each timestamp belongs to the event that the standard names.
+    /// The misses, on the assumption that each timestamp belongs to the event that the standard names.
     pub by_anchor: Misses,
-    /// The misses if each timestamp belongs to the packet's first event, as some talkers stamp.
+    /// The misses, on the assumption that each timestamp belongs to the packet's first event. Some talkers stamp this
+    /// way.
     pub by_first: Misses,
-    /// The misses with swapped bytes, if each timestamp belongs to the event that the standard names.
-    /// `swapped_by_first` has the misses with swapped bytes if each timestamp belongs to the packet's first event. Only
-    /// timestamps that miss with unchanged bytes are compared.
+    /// The misses of timestamps with swapped bytes, on the assumption of `by_anchor`. `swapped_by_first` holds such
+    /// misses on the assumption of `by_first`. Bytes are swapped only in timestamps that miss with unchanged bytes.
     pub swapped_by_anchor: Misses,
     pub swapped_by_first: Misses,
 }
@@ -179,8 +179,8 @@ impl Pace {
         better(&self.swapped_by_anchor, &self.swapped_by_first)
     }
 
-    /// The first miss with unchanged bytes. It is from `by_first` if `swapped_by_first` has fewer misses than
-    /// `swapped_by_anchor`, otherwise from `by_anchor`.
+    /// The first miss of `by_first` if `swapped_by_first` has fewer misses than `swapped_by_anchor`. Otherwise the
+    /// first miss of `by_anchor`.
     pub fn first_miss(&self) -> Option<Miss> {
         if self.swapped_by_first.count < self.swapped_by_anchor.count {
             self.by_first.first

@@ -17,7 +17,7 @@ const KNOWN: u64 = 64;
 #[derive(Clone, Copy)]
 pub struct Window {
     newest: u8,
-    /// Bit `i` is set if the number `i` before the newest has arrived.
+    /// Bit `i` is set if the sequence number that is `i` before the newest has arrived.
     came: u64,
     /// How far the number of the first packet is before the newest, but at most 64.
     begin: u64,
@@ -28,11 +28,11 @@ pub struct Window {
 pub enum Place {
     /// The packet is ahead of the newest packet, and `missing` packets are missing between them.
     Ahead { missing: u8 },
-    /// The number is between the first packet's and the newest, and had not arrived. The packet is late, and was
-    /// counted as missing.
+    /// The number is between the first packet's number and the newest number, and had not arrived before. The packet is
+    /// late, and was counted as missing.
     Late,
-    /// The number is before the first packet's, and had not arrived. The packet is late, but was not counted as
-    /// missing.
+    /// The number is before the first packet's number, and had not arrived before. The packet is late, but was not
+    /// counted as missing.
     Early,
     /// The number has arrived already.
     Repeat,
@@ -112,7 +112,7 @@ impl Window {
     }
 }
 
-/// A law: if a count is updated with the place of each packet that arrives, it is always the number of lost packets.
+/// A law: a count that is updated with the place of each arriving packet always equals the number of lost packets.
 /// Packets that arrived late or twice do not count as lost.
 pub fn places_tell_what_is_lost()
     ensures { (first : ℕ) → (later : List ℕ) → (number : ℕ)

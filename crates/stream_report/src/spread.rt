@@ -20,7 +20,7 @@ const NARROW: u64 = 128;
 pub struct Spread {
     counts: Vec<u32>,
     /// The index of the lowest bucket in use, among all buckets. The buckets of negative values precede the other
-    /// buckets, and the lowest bucket has index 0.
+    /// buckets, and the first of all buckets has index 0.
     first: usize,
     pub count: u64,
     pub least: i64,

@@ -77,15 +77,15 @@ pub struct Stream {
     pub packet_time: u64,
     /// The number of packets that were not refused.
     pub packets: u64,
-    /// When the first packet that was not refused arrived. `last_arrival` is when the last packet that was not refused
-    /// arrived.
+    /// The arrival of the first packet that was not refused. `last_arrival` is the arrival of the last packet that was
+    /// not refused.
     pub first_arrival: i64,
     pub last_arrival: i64,
     last: Option<Last>,
     /// The number of events in the packets that arrived in order, without the newest packet.
     events: u64,
     last_lead: Option<i64>,
-    /// The number of arrivals that were compared with the duration of the packet directly before.
+    /// How often the time between two arrivals was compared with the duration of the earlier packet.
     pub compared: u64,
     /// The times between the arrivals of successive packets in the capture, in nanoseconds.
     pub distances: Spread,
@@ -134,7 +134,7 @@ enum Step {
     After(u64),
     /// The packet arrived after later packets, and was counted as missing.
     Late,
-    /// The packet is from before the first packet.
+    /// The packet's number is before the first packet's number.
     Early,
     Repeat,
 }

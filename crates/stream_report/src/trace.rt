@@ -102,7 +102,7 @@ impl Trace {
         self.add(added)
     }
 
-    /// Takes back one missing packet, which arrived late, in the newest column that has a missing packet.
+    /// Subtracts one missing packet, which arrived late, from the newest column that has missing packets.
     pub fn take_back(&mut self) {
         for column in self.columns.iter_mut().rev() {
             if column.lost > 0 {
@@ -125,7 +125,7 @@ impl Trace {
         Ok(())
     }
 
-    /// Appends a column. If it is not later than the last column, joins it to that column.
+    /// Appends `column`. If `column` is not later than the last column, the two columns are joined.
     fn add(&mut self, column: Column) -> Result<(), NoMemory> {
         if let Some(last) = self.columns.last_mut() {
             if last.slot >= column.slot {

@@ -129,7 +129,7 @@ fn near_zero(number: i64) -> i64 {
     i64::from(u32::try_from(low).unwrap_or(0).cast_signed())
 }
 
-/// The verdict that packets arrived after their presentation time. It is given if these packets outnumber the
+/// The verdict that packets arrived after their presentation time. The verdict is given if these packets outnumber the
 /// timestamps that do not advance as they should.
 fn late_verdict(stream: &Stream) -> Option<Verdict> {
     let explained = stream.pace.misses().count;
