@@ -131,8 +131,8 @@ impl Report {
         }
     }
 
-    /// The stream with this key. If there is no such stream yet, it is added. `None` if there is no such stream and
-    /// 1,024 streams are tracked already.
+    /// The stream with this key. If there is no stream with this key yet, one is added. `None` if no stream has this
+    /// key and 1,024 streams are tracked already.
     fn stream(
         &mut self,
         key: StreamKey,
@@ -166,7 +166,7 @@ impl Report {
     }
 
     /// Finds the index of the stream with this key, and keeps it as the follower of the last packet's stream. If there
-    /// is no such stream yet, it is added.
+    /// is no stream with this key yet, one is added.
     #[inline(never)]
     fn find(&mut self, key: StreamKey, sender: &Sender, at: At) -> Result<usize, NoMemory> {
         let place = match self.places.get(&key).copied() {

@@ -64,7 +64,7 @@ fn is_also_read(words: &[String], html: Option<usize>) -> bool {
     false
 }
 
-/// Whether the word at index `place` names a capture. The page's name and the `--html` directly before it do not.
+/// Whether the word at index `place` names a capture. `--html` and the page's name directly after it name no captures.
 pub fn is_capture(html: Option<usize>, place: usize) -> bool {
     match html {
         Some(page) => place != page && place.saturating_add(1) != page,

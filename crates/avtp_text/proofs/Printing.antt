@@ -39,7 +39,6 @@ prefix_whole before now a appends = record { prefix = a; rest = []; split = sym 
 
 -- ---- what is printed
 
--- if a call prints a text whole or not at all, it prints the text whole or in part
 pub part_of : {s t : SinkState} {w w' : List ℕ} {result : Result Unit Failed} {text : List ℕ} → Prints s t w w' result text → PrintsPart s t w w' result text
 part_of {result = Ok ok} prints = record { written = prints.written; grows = prints.grows; counted = prints.counted }
 part_of {result = Err e} prints = record { written = prefix_none _ _ _ prints.written; grows = prints.grows; counted = prints.counted }

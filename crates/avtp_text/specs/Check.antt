@@ -8,7 +8,7 @@ use Rattle.avtp_text.specs.Pieces.{newline, id_text, refusal_text}
 unfoldable pub finding_start : ℕ → List ℕ
 finding_start number = codes "finding frame " ++ decimal number ++ codes " "
 
--- the line of a malformed frame or packet; the offset is counted from the start of the frame
+-- the line of a malformed frame or packet, with the refused field and the field's offset from the start of the frame
 unfoldable pub malformed_line : ℕ → Refusal → List ℕ
 malformed_line number r = finding_start number ++ codes "malformed " ++ refusal_text r ++ newline
 

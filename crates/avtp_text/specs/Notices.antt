@@ -3,7 +3,8 @@ use Rattle.std.specs.Prelude.{List, ℕ, ◌++◌, codes, decimal}
 use Rattle.avtp_base.specs.declared.refusal.Refusal.{Refusal}
 use Rattle.avtp_text.specs.Pieces.{newline, refusal_text}
 
--- the line of a capture that is refused at a field of its file format; the offset is counted from the start of the file
+-- the line of a capture that is refused at a field of its file format, with the field's offset from the start of the
+-- file
 unfoldable pub capture_refused_line : Refusal → List ℕ
 capture_refused_line r = codes "capture refused: " ++ refusal_text r ++ newline
 

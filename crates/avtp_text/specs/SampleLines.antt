@@ -1,4 +1,4 @@
--- The line of a sample. It is reused for the next samples.
+-- The line of a sample, which is reused for the next samples.
 use Rattle.std.specs.Prelude.{ℕ}
 
 -- the packet whose samples a line shows: the number of its frame, its sequence number, and the size of a sample in

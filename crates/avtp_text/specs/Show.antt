@@ -26,7 +26,8 @@ frame_line number arrival content = frame_start number arrival ++ content ++ new
 unfoldable pub end_frames_line : ℕ → List ℕ
 end_frames_line frames = codes "end frames " ++ decimal frames ++ newline
 
--- the text of a frame or packet that is refused; the offset is counted from the start of the frame
+-- the text of a frame or packet that is refused, with the refused field and the field's offset from the start of the
+-- frame
 unfoldable pub refused_content : Refusal → List ℕ
 refused_content r = codes "refused " ++ refusal_text r
 
@@ -55,7 +56,7 @@ header_text h =
     ++ codes " tu " ++ flag_text h.tu
     ++ codes " mr " ++ flag_text h.mr
 
--- the text of an AAF packet; the rate is 0 if it is user-specified
+-- the text of an AAF packet; a user-specified rate is shown as 0
 unfoldable pub aaf_content : Aaf → List ℕ
 aaf_content v =
     codes "aaf " ++ header_text v.header

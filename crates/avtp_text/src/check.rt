@@ -98,7 +98,8 @@ impl Text {
         Ok(())
     }
 
-    /// Prints at which field a frame or its packet is malformed. The offset is counted from the start of the frame.
+    /// Prints the field at which a frame or its packet is malformed, and the field's offset from the start of the
+    /// frame.
     #[tactic(auto, unfolding(crate::specs::Check::malformed_line))]
     pub fn finding_malformed<S: Sink>(
         &mut self,

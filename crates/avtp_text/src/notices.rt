@@ -9,7 +9,7 @@ use avtp_base::{Failed, Refusal};
 use avtp_files::Sink;
 
 impl Text {
-    /// Prints at which field a capture was refused. The offset is counted from the start of the file.
+    /// Prints the field at which a capture was refused, and the field's offset from the start of the file.
     #[tactic(auto, unfolding(crate::specs::Notices::capture_refused_line))]
     pub fn capture_refused<S: Sink>(&mut self, out: &mut S, refusal: Refusal) -> Result<(), Failed>
         ensures { Prints (S.state out.old) (S.state out.new) self.old self.new result (capture_refused_line refusal) }

@@ -1,4 +1,4 @@
-//! The line of a sample. It is reused for the next samples.
+//! The line of a sample, which is reused for the next samples.
 
 ghost use Rattle.std.specs.Prelude.{◌≡◌, ◌+◌, ◌^◌, ◌<◌, ◌≤◌, ℕ, ◌++◌, length, decimal, IfSome, IsTrue};
 ghost use Rattle.hex.specs.Hex.{encode_lower};
@@ -218,7 +218,8 @@ impl SampleLine {
         self.size = size;
     }
 
-    /// Appends the line of a sample to a buffer, which has room for a line. Keeps the line if it is short enough.
+    /// Appends the line of a sample to a buffer, which has room for a line. Keeps the line for later samples if the
+    /// line is short enough.
     #[inline(never)]
     fn add_anew(&mut self, buffer: &mut Buffer, instant: i64, j: u32, bytes: &[u8])
         requires short { length bytes.now ≤ SHORT }

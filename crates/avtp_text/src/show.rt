@@ -146,7 +146,7 @@ fn prepend_crf(line: &mut Line, view: &CrfView<'_>)
 }
 
 impl Text {
-    /// Prints at which field a frame or its packet was refused. The offset is counted from the start of the frame.
+    /// Prints the field at which a frame or its packet was refused, and the field's offset from the start of the frame.
     #[tactic(auto, unfolding(crate::specs::Show::refused_content))]
     pub fn frame_refused<S: Sink>(
         &mut self,
@@ -199,7 +199,7 @@ impl Text {
         self.print(out, line.as_slice())
     }
 
-    /// Prints the fields of an AAF packet. The rate is in Hz, and 0 if it is user-specified.
+    /// Prints the fields of an AAF packet. The rate is in Hz. A user-specified rate is printed as 0.
     pub fn frame_aaf<S: Sink>(
         &mut self,
         out: &mut S,

@@ -123,7 +123,8 @@ none_from (w ∷ ws) name i e = elim (cases_Bool (bytes_eq (string_bytes w) name
 pub not_named : (words : List (String Global)) (name : List ℕ) → position (is_named name) words ≡ None → value_after name (texts words) ≡ None
 not_named words name e = none_from words name 0 (sym (position_from-zero (is_named name) words) ∙ e)
 
--- The first `name` in `words` is at index `far`, and `place` is `i + far`. The code reads the word at index `far + 1`.
+-- The first `name` in `words` is at index `far`, and `place` is `i + far`. `value_after` returns the word at index `far
+-- + 1`.
 record FirstNamed (words : List (List ℕ)) (name : List ℕ) (i place : ℕ) : Type 0 where
   far : ℕ
   here : place ≡ i + far

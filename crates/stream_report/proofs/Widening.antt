@@ -105,7 +105,7 @@ higher first place more old new le inside enough is = record {
     size : length new ≡ length old + more
     size = ap (λ (l : List ℕ). length l) appended ∙ length-append old (replicate more 0) ∙ ap (λ (n : ℕ). length old + n) (length-replicate {A = ℕ} more 0)
 
--- if `old` already includes the bucket at index `place`, it needs no change
+-- if `old` already includes the bucket at index `place`, `old` needs no change
 pub kept : (first place : ℕ) (old : List ℕ) → first ≤ place → place - first + 1 ≤ length old → Widens first old place old first
 kept first place old le reached = record {
   same = λ to. refl;

@@ -19,8 +19,8 @@ number_up_to limit (value ∷ values) = number_up_to limit values + (if int_le v
 abbrev pub rank : ℕ → ℕ → ℕ
 rank count hundredths = max 1 (div_ceil (count * hundredths) 100)
 
--- `value` is the nearest-rank percentile `hundredths` of `values`. Its rank is the rank of this percentile: fewer
--- values than the rank are less than `value`, and at least as many values as the rank are at most `value`.
+-- `value` is the nearest-rank percentile `hundredths` of `values`. Fewer values than the percentile's rank are less
+-- than `value`. At least as many values as this rank are at most `value`.
 pub record NearestRank (values : List ℤ) (hundredths : ℕ) (value : ℤ) : Type 0 where
   pub less : number_below value values < rank (length values) hundredths
   pub enough : rank (length values) hundredths ≤ number_up_to value values

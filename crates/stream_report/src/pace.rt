@@ -261,8 +261,8 @@ impl Pace {
         Advance::Missed
     }
 
-    /// Notes a timestamp of a stream without a rate. It may equal the previous timestamp or advance by a limited
-    /// amount.
+    /// Notes a timestamp of a stream without a rate. The timestamp may equal the previous timestamp or advance by a
+    /// limited amount.
     fn note_unpaced(&mut self, last: &Stamped, stamped: &Stamped, is_first: bool) -> Advance {
         let plain = stamped.stamp.since(last.stamp);
         if is_advance(plain) {
@@ -298,7 +298,7 @@ fn better<'a>(one: &'a Misses, other: &'a Misses) -> &'a Misses {
 }
 
 impl Misses {
-    /// Whether a timestamp advanced as it should. If it did not, the miss is noted.
+    /// Whether a timestamp advanced as it should. If not, notes the miss.
     fn compare(&mut self, at: At, wanted: u64, found: i64, slack: u64, is_first: bool) -> bool {
         let slack = slack.saturating_add(wanted / PART_OF_ADVANCE);
         let wanted_signed = i64::try_from(wanted).unwrap_or(i64::MAX);

@@ -27,7 +27,7 @@ pub struct Trend {
 }
 
 impl Trend {
-    /// No packet yet. Times and leads are counted from those of the first packet.
+    /// The trend of no packets. Times and leads are measured relative to the time and the lead of the first packet.
     pub const NONE: Trend = Trend {
         count: 0,
         lead: 0,

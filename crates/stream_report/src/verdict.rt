@@ -6,9 +6,9 @@ use crate::tally::Tally;
 /// A guess at how the clocks of the capture and the talker differ.
 #[derive(Clone, Copy)]
 pub enum ClockGuess {
-    /// Presentation times are 37 s after their arrivals: the capture's clock is on UTC, and the talker's on TAI.
+    /// Presentation times are 37 s after the packets' arrivals: the capture's clock is on UTC, and the talker's on TAI.
     CaptureBehind,
-    /// Presentation times are 37 s before their arrivals.
+    /// Presentation times are 37 s before the packets' arrivals.
     CaptureAhead,
     /// The clocks differ by some other time.
     Apart,
@@ -25,8 +25,8 @@ pub enum Verdict {
         first: Miss,
         swapped: bool,
     },
-    /// Presentation times are far from their arrivals. `lead` is the median distance. It is exact if `exact` is true,
-    /// and otherwise known modulo 2^32.
+    /// Presentation times are far from the packets' arrivals. `lead` is the median distance. It is exact if `exact` is
+    /// true, and otherwise known modulo 2^32.
     Clocks {
         lead: i64,
         guess: ClockGuess,

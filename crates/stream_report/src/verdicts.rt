@@ -20,7 +20,7 @@ pub enum Class {
     B,
     /// The max transit time is longer than 50 ms.
     Longer,
-    /// Most presentation times are before their arrivals or far after them, so the lead is no transit time.
+    /// Most presentation times are before the packets' arrivals or far after them, so the lead is no transit time.
     Unknown,
 }
 

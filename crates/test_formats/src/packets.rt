@@ -114,8 +114,8 @@ h264 => 1=06 3=fe 18=ff 19=ff 22=c0 23=ff
 h264 28=7c85 => 1=06 3=fe 18=ff 19=ff 22=c0 23=ff 29=20
 crf => 1=04";
 
-/// The reserved bits of the byte at offset `at`. A bit is reserved if the packet is still read after this bit is
-/// inverted, and `reserved` is then true of the packet.
+/// The reserved bits of the byte at offset `at`. A bit is reserved if, after the bit is inverted, the packet is still
+/// read and `reserved` is true of the packet.
 fn reserved_bits(packet: &mut [u8], at: usize) -> u8 {
     let mut bits = 0u8;
     for bit in [0x80u8, 0x40, 0x20, 0x10, 8, 4, 2, 1] {
