@@ -39,8 +39,8 @@ pub struct Reading {
 /// At most this many bytes of a file are read.
 const LIMIT: u64 = 1 << 62;
 
-/// Reads the captures that the words name. If `html` is given, the word at this index names the page instead. After a
-/// capture that cannot be read to its end, no other capture is read, and standard error says why.
+/// Reads the captures that the words name. If `html` is given, the word at index `html` names the page, not a capture.
+/// After a capture that cannot be read to its end, no other capture is read, and standard error says why.
 pub fn read_files(
     rt: &HostRuntime,
     alloc: Global,

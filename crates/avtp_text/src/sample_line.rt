@@ -15,7 +15,7 @@ use std::marker::Model;
 /// If a sample has at most this many bytes, its line fits a [`Line`].
 pub const SHORT: usize = 64;
 
-/// The number of instants that differ only in their last eight digits. They span a tenth of a second.
+/// The number of instants that differ only in their last eight digits. These instants span a tenth of a second.
 const INSTANTS: i64 = 100_000_000;
 
 /// The longest line that is kept, in bytes. A longer line is built anew for each sample.

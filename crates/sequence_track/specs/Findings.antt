@@ -43,7 +43,7 @@ recent stream notes = reverse (filter (λ note. same_stream stream (stream_of no
 abbrev pub step_from : ℕ → ℕ → ℕ
 step_from previous seq = (seq + 256 - previous) % 256
 
--- the step from the previous packet's sequence number to this packet's, if it is not 1
+-- the step from the previous packet's sequence number to this packet's sequence number, if the step is not 1
 abbrev pub step_after : List Seen → Seen → Option ℕ
 step_after [] seen = None
 step_after (previous ∷ older) seen =
@@ -58,7 +58,8 @@ abbrev pub least_hold : ℕ
 least_hold = 8
 
 -- Of the stream's `all` packets, the newest `packets` have the same media clock restart bit. The answer is `packets` if
--- that number is less than 8. If it equals `all`, the answer is `None`, because the value did not begin with a change.
+-- `packets` is less than 8 and less than `all`. Otherwise it is `None`. If `packets` equals `all`, the value of the bit
+-- did not begin with a change.
 abbrev pub early : ℕ → ℕ → Option ℕ
 early packets all = if nat_lt packets all && nat_lt packets least_hold then Some packets else None
 

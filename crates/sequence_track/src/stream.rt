@@ -70,7 +70,7 @@ impl StreamState {
         }
     }
 
-    /// The step from the last sequence number to the next packet's, if it is not 1.
+    /// The step from the last sequence number to the next packet's sequence number, if the step is not 1.
     fn step(&self, seen: &Seen) -> Option<u8>
         ensures { (recent : List SeenValue) → state_of recent ≡ Some self.now → result ≡ step_after recent seen.now }
     {

@@ -1,6 +1,6 @@
 -- The numbers of a stream's packets. A talker gives its packets successive numbers without an upper limit. A packet's
--- sequence number is its number modulo 256. A stream is described by the number of the packet that arrives first, and a
--- list of the numbers of all later packets. The list begins with the packet that arrived last.
+-- sequence number is its number modulo 256. A stream is described by the number of the packet that arrives first, and
+-- by a list of the numbers of all later packets. The list begins with the packet that arrived last.
 use Rattle.std.specs.Prelude.{◌≡◌, ℕ, zero, suc, ◌+◌, ◌-◌, ◌%◌, ◌≤◌, ◌<◌, ◌==◌, ◌||◌, max, min, nat_lt, Bool, if◌then◌else◌, List, [], ◌∷◌, length, ◌^◌}
 use Rattle.std.specs.Int.{bit_at}
 use Rattle.std.specs.List.{list_any}

@@ -19,7 +19,7 @@ pub struct Window {
     newest: u8,
     /// Bit `i` is set if the sequence number that is `i` before the newest has arrived.
     came: u64,
-    /// How far the number of the first packet is before the newest, but at most 64.
+    /// How far the first packet's number is before the newest number, but at most 64.
     begin: u64,
 }
 

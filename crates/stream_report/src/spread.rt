@@ -60,7 +60,7 @@ fn place_of(value: i64) -> usize
 }
 
 /// Makes `counts`, whose first bucket is at index `first`, include the bucket at index `place`. Returns the new index
-/// of their first bucket.
+/// of the first bucket of `counts`.
 fn reach(counts: &mut Vec<u32>, first: usize, place: usize) -> Result<usize, NoMemory>
     requires { place < 2 * side }
     ensures { IfOk result (Widens first counts.old.items place counts.new.items) }
@@ -71,8 +71,8 @@ fn reach(counts: &mut Vec<u32>, first: usize, place: usize) -> Result<usize, NoM
     widen(counts, first, place)
 }
 
-/// Widens `counts`, whose first bucket is at index `first`, until they include the bucket at index `place`. Returns the
-/// new index of their first bucket.
+/// Widens `counts`, whose first bucket is at index `first`, until `counts` includes the bucket at index `place`.
+/// Returns the new index of the first bucket of `counts`.
 #[inline(never)]
 fn widen(counts: &mut Vec<u32>, first: usize, place: usize) -> Result<usize, NoMemory>
     requires { place < 2 * side }

@@ -89,8 +89,8 @@ pub struct Stream {
     pub compared: u64,
     /// The times between the arrivals of successive packets in the capture, in nanoseconds.
     pub distances: Spread,
-    /// Timestamp minus arrival, in nanoseconds. For a media clock it is exact. Otherwise it is known modulo 2^32, and
-    /// is at least -2^31 and below 2^31.
+    /// The leads: timestamp minus arrival, in nanoseconds. The leads of a media clock are exact. Other leads are known
+    /// modulo 2^32, and are at least -2^31 and below 2^31.
     pub leads: Spread,
     /// `None` if no pictures are wanted.
     pub trace: Option<Trace>,

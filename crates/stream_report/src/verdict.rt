@@ -74,7 +74,7 @@ pub enum Verdict {
     Reordered {
         packets: Tally,
     },
-    /// Restarts of the media clock that follow the previous restart within fewer than 8 packets.
+    /// Restarts of the media clock that follow the previous restart after fewer than 8 packets.
     Flapping {
         restarts: Tally,
     },

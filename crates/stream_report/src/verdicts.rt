@@ -89,8 +89,9 @@ fn order_verdict(stream: &Stream) -> Option<Verdict> {
     })
 }
 
-/// The verdict that presentation times are far from arrivals. `None` if they are not. The timestamps of a media clock
-/// may be in the past, because they are the times of the clock's events.
+/// The verdict that presentation times are far from the packets' arrivals: the median lead is negative or more than a
+/// quarter of a second. For a media clock, the median lead may also be as low as minus a quarter of a second, because
+/// its timestamps are the times of the clock's events.
 fn clocks_verdict(stream: &Stream) -> Option<Verdict> {
     let lead = stream.leads.percentile(50)?;
     let exact = stream.key.subtype == subtype::CRF;
