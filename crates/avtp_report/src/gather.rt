@@ -23,8 +23,8 @@ pub struct Report {
     places: HashMap<StreamKey, usize>,
     /// The index of the last packet's stream.
     last: usize,
-    /// For each stream, the index of its follower: the other stream that last had a packet directly after a packet of
-    /// this stream. Streams mostly take turns, so the follower is likely to have the next packet.
+    /// For each stream, the index of its follower: the other stream whose packet most recently followed a packet of
+    /// this stream directly. Streams mostly take turns, so the follower is likely to have the next packet.
     followers: Vec<usize>,
     /// The streams, in the order in which they were first seen.
     pub streams: Vec<Stream>,
@@ -180,7 +180,7 @@ impl Report {
     }
 
     /// Adds a stream, and returns its index. If 1,024 streams are tracked already, no stream is added, and the index is
-    /// past the end.
+    /// past the end of the streams.
     fn begin(&mut self, key: StreamKey, sender: &Sender, at: At) -> Result<usize, NoMemory> {
         let place = self.streams.len();
         if place < MOST_STREAMS {

@@ -1,4 +1,4 @@
--- The media clock that words of `talk` ask for.
+-- The media clock that the words of a `talk` command line ask for.
 use Rattle.std.proofs.Common.{◌≡◌, ℕ, ◌≤◌, List, Option, Some, None, codes, arith, refl, ap}
 use Rattle.avtp_words.specs.declared.crf.Crf.{Crf}
 use Rattle.avtp_words.specs.Grammar.{SaysClock, SaysCrf}

@@ -1,4 +1,4 @@
--- If words of `talk` lack an option, they do not ask for what the option gives.
+-- If the words of a `talk` command line lack an option, the words do not ask for what the option gives.
 use Rattle.std.proofs.Common.{◌≡◌, ℕ, inl, inr, List, [], ◌∷◌, drop, flat_map, Option, Some, None, MatchOption, Contains, codes, arith, ap, subst, sym, refl, Bool}
 use Rattle.std.specs.Str.{bytes_eq}
 use Rattle.std.proofs.lemmas.Bool.{cases_Bool}

@@ -128,7 +128,6 @@ sample Silence sound = (Some (codes "zero"), inl refl)
 sample OutFormat sound = (Some (codes "aaf"), (Aaf, refl))
 sample Nothing sound = (None, refl)
 
--- an option with this name and this value
 abbrev setting : List ℕ → Option (List ℕ) → Setting
 setting name value = record { name = name; value = value }
 
@@ -144,7 +143,7 @@ value_of rows name row s e same is =
     let found : row_named rows s.name ≡ Some row = ap (row_named rows) (sym same) ∙ e in
     subst (λ o. IsSomeAnd o (λ row. IsTaken row.takes s.value)) found is.value
 
--- if an option's name is not followed by a value that the option takes, the words are wrong directly after the name
+-- if an option's name is not followed by a value that the option takes, the first wrong word is directly after the name
 stops_after : (rows : List Row) (gs : List Setting) (word : List ℕ) (row : Row) (more : List (List ℕ)) → AreSettings rows gs → BeginsWithDash word → row_named rows word ≡ Some row → stands_alone row.takes ≡ false → IfSome (slice_get more 0) (λ value. IsValue row.takes value → ⊥) → Stops (IsTail rows) (flat_map words_of gs ++ word ∷ []) more
 stops_after rows gs word row more options dash e wanted bad = go more bad where
   none_follows : (after : List (List ℕ)) → IfSome (slice_get after 0) (λ value. IsValue row.takes value → ⊥) → IsTail rows (flat_map words_of gs ++ word ∷ after) → ⊥

@@ -35,7 +35,8 @@ pub struct RawFile<'a> {
     pub silence: Silence,
 }
 
-/// The file that the option `name` gives, if that option is given. The file's `place` counts the command as word 0.
+/// The file that the option `name` gives, if that option is given. The file's `place` is an index on the whole command
+/// line, with the command as word 0.
 pub fn file_after<'a>(options: &'a [String], name: &str) -> Option<DeviceFile<'a>>
     ensures { IsReadFile name.now (texts options.now) (option_map named_file result) }
 {

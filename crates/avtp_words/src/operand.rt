@@ -144,8 +144,8 @@ fn first_wrong(operands: &[Operand], words: &[String]) -> Option<usize>
     }
 }
 
-/// The index of the first operand in `words`, the words after a command. The position of an offence counts the command
-/// as 1.
+/// The index of the first operand in `words`, the words after a command. The position of an offence is counted on the
+/// whole command line, with the command at position 1.
 pub fn operands_at(
     rows: &[OptionRow],
     operands: &[Operand],

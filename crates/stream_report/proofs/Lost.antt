@@ -9,7 +9,7 @@ use Rattle.stream_report.proofs.Numbers.{first-least, none-above, come-same, com
 one : Bool → ℕ
 one come = if come then 0 else 1
 
--- if the same numbers have arrived, equally many are missing
+-- if the same numbers have arrived, equally many numbers are missing
 among-same : (first : ℕ) (old new : List ℕ) (count : ℕ) → ((i : ℕ) → i < count → has_come first new (first + i) ≡ has_come first old (first + i))
     → missing_among first new count ≡ missing_among first old count
 among-same first old new zero same = refl

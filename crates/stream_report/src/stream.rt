@@ -454,9 +454,9 @@ impl Stream {
         self.note_trend(came.arrival, &stamped, advance);
     }
 
-    /// Adds the lead of a packet's first event to the trend, computed from the packet's timestamp. If the timestamps
-    /// step, the lead counts as unchanged. A timestamp that advances by the packets' durations is not a step, however
-    /// late its packet arrives.
+    /// Adds to the trend the lead of a packet's first event, which is computed from the packet's timestamp. If the
+    /// timestamps step, the lead counts as unchanged. A timestamp that advances by the packets' durations is not a
+    /// step, however late its packet arrives.
     fn note_trend(&mut self, arrival: i64, stamped: &Stamped, advance: Advance) {
         let before_anchor = match self.beat {
             Some(beat) => beat.time_of(u64::from(stamped.anchor)),
@@ -481,7 +481,7 @@ impl Stream {
         self.trend.note(since.cast_unsigned(), change);
     }
 
-    /// Counts the lead of a packet, and returns it. `None` if the packet's timestamp is missing or uncertain.
+    /// Counts and returns the lead of a packet. `None` if the packet's timestamp is missing or uncertain.
     fn note_lead(&mut self, came: &Came, facts: &Facts) -> Result<Option<i64>, NoMemory> {
         let Some(stamp) = facts.stamp else {
             return Ok(None);

@@ -89,9 +89,10 @@ fn order_verdict(stream: &Stream) -> Option<Verdict> {
     })
 }
 
-/// The verdict that presentation times are far from the packets' arrivals: the median lead is negative or more than a
-/// quarter of a second. For a media clock, the median lead may also be as low as minus a quarter of a second, because
-/// its timestamps are the times of the clock's events.
+/// The verdict that presentation times are far from the packets' arrivals. The verdict is given if the median lead is
+/// negative or above a quarter of a second. For a media clock, the verdict is given if the median lead is more than a
+/// quarter of a second away from 0. A media clock's timestamps may be in the past, because they are the times of the
+/// clock's events.
 fn clocks_verdict(stream: &Stream) -> Option<Verdict> {
     let lead = stream.leads.percentile(50)?;
     let exact = stream.key.subtype == subtype::CRF;

@@ -42,8 +42,8 @@ fn given_up(alloc: Global, assembler: &Assembler, lost: u32) -> Result<String, F
     Ok(text)
 }
 
-/// What becomes of a packet: the frames that are given up because of it, then its piece, then the bytes of the unit if
-/// the unit is complete.
+/// What becomes of a packet: the frames that are given up because of it, then the packet's piece, then the bytes of the
+/// unit if the unit is complete.
 fn outcome(
     alloc: Global,
     assembler: &mut Assembler,
