@@ -25,7 +25,7 @@ pub fn class_name(class: Option<Class>) -> &'static str {
     }
 }
 
-/// A stream's format and the number of events in its first packet, in words.
+/// The format of a stream and the number of events in a packet, in words.
 #[derive(Clone, Copy)]
 pub struct InWords(pub Format, pub u32);
 

@@ -54,7 +54,7 @@ struct Last {
     count: u32,
     dbc: Option<u8>,
     mr: bool,
-    /// The number of packets since `mr` last changed. `None` if it has not changed.
+    /// The number of packets, including missing packets, since `mr` last changed. `None` if `mr` has not changed.
     held: Option<u64>,
 }
 
@@ -99,7 +99,7 @@ pub struct Stream {
     pub trend: Trend,
     pub pace: Pace,
     pub first: At,
-    /// The number of events of the first packet that has any.
+    /// The number of events in the first packet that has any events.
     pub count: u32,
     /// The leads below 0.
     pub late: Tally,
