@@ -73,7 +73,7 @@ impl Stamp {
 pub struct Stamped {
     pub at: At,
     pub stamp: Stamp,
-    /// The index of the packet's first event in the stream. Events of missing packets are not counted.
+    /// The index, among the stream's events, of the packet's first event. Events of missing packets are not counted.
     pub first: u64,
     /// The index, among the packet's events, of the event that the timestamp belongs to by the standard.
     pub anchor: u32,
@@ -96,7 +96,7 @@ pub struct Misses {
     pub count: u64,
     pub first: Option<Miss>,
     pub second: Option<Miss>,
-    /// Whether the first comparison was a miss. Then the first timestamp does not fit the timestamps that follow.
+    /// Whether the first comparison was a miss. If it was, the first timestamp does not fit the timestamps that follow.
     pub at_begin: bool,
 }
 

@@ -111,7 +111,7 @@ pub struct Stream {
     pub missing: Tally,
     pub unwanted: Tally,
     pub reserved: Tally,
-    /// Block counts (DBC) that do not continue the block count of the packet before.
+    /// Block counts (DBC) that do not continue the block count of the previous packet.
     pub blocks: Tally,
     /// Quadlets with a label other than 0x40. `reserved_labels` are those with a reserved label.
     pub labels: Tally,

@@ -17,8 +17,8 @@ pub enum ClockGuess {
 /// A verdict. The kinds are in order, the worst first. Times are in nanoseconds.
 #[derive(Clone, Copy)]
 pub enum Verdict {
-    /// Most timestamps do not advance by their packets' durations. If `swapped` is true, they would do so with swapped
-    /// bytes.
+    /// Most timestamps do not advance by their packets' durations. If `swapped` is true, most timestamps would do so if
+    /// their bytes were swapped.
     NotInOrder {
         off: u64,
         compared: u64,
@@ -62,7 +62,7 @@ pub enum Verdict {
         compared: u64,
         first: Miss,
     },
-    /// Block counts (DBC) that do not continue the block count of the packet before.
+    /// Block counts (DBC) that do not continue the block count of the previous packet.
     Blocks {
         packets: Tally,
     },
@@ -90,7 +90,7 @@ pub enum Verdict {
     Drift {
         parts: i64,
     },
-    /// Uneven arrivals. If `bursts` is true, most packets arrive directly after the packet before.
+    /// Uneven arrivals. If `bursts` is true, most packets arrive directly after the previous packet.
     Jitter {
         packets: Tally,
         compared: u64,

@@ -246,8 +246,8 @@ pub record EndsOptions (rows : List Row) (words : List (List ℕ)) (place : ℕ)
   pub ends : IfSome (slice_get words place) (λ word. BeginsWithDash word → ⊥)
 
 -- The first wrong word among the options is at index `place`. The words before it begin a list of options. The words up
--- to and including it do not begin a list of options followed by names. If there are only `place` words, they are not a
--- list of options followed by names.
+-- to and including it do not begin a list of options followed by names. If there are only `place` words, the words are
+-- not a list of options followed by names.
 pub record StopsOptions (rows : List Row) (words : List (List ℕ)) (place : ℕ) : Type 0 where
   pub before : List (List ℕ)
   pub rest : List (List ℕ)
