@@ -199,7 +199,8 @@ first-of P [] n k b d e l p = absurd (omega arith)
 first-of P (c ∷ cs) zero k b d e l p = (all-left P (k ∷ b) (all_keys cs) (subst (λ (x : List Key). AllByRecursion P (x ++ all_keys cs)) (sym e) p)).0
 first-of P (c ∷ cs) (suc n) k b d e l p = first-of P cs n k b d e (omega arith) (all-right P c (all_keys cs) p)
 
--- no key in the blocks before a block is later than the first key of that block
+-- if the keys `c` and the keys of the blocks `bs` are sorted together, each key in `c` is at or before `k`, the first
+-- key of block `n`
 before-first : (c : List Key) (bs : List (List Key)) (n : ℕ) (k : Key) (b d : List Key) → k ∷ b ≡ get_or bs n d → n < length bs → KeysAreInOrder (c ++ all_keys bs) → AllByRecursion (λ o. o.instant ≤ℤ k.instant) c
 before-first [] bs n k b d e l s = tt
 before-first (x ∷ c) bs n k b d e l s =
@@ -493,7 +494,7 @@ any-block p bs n b is =
 pub block-passed : (p : Key → Bool) (bs : List (List Key)) (n : ℕ) (b : List Key) → IsBehind bs n b → list_any p b ≡ false → list_any p (all_keys (take (n - 1) bs)) ≡ list_any p (all_keys (take n bs))
 block-passed p bs n b is h = sym (any-block p bs n b is ∙ ap (λ (x : Bool). list_any p (all_keys (take (n - 1) bs)) || x) h ∙ or-false (list_any p (all_keys (take (n - 1) bs))))
 
--- if the first key of a block is earlier than an instant, no block before it has a key with that instant
+-- if the first key of block `b` is earlier than `t`, no block before `b` has a key at `t`
 pub no-block-earlier : (t : ℤ) (seq : ℕ) (bs : List (List Key)) (n : ℕ) (b : List Key) → IsBehind bs n b → KeysAreInOrder (all_keys bs) → starts_before t b ≡ true → list_any (is_key t seq) (all_keys (take (n - 1) bs)) ≡ false
 no-block-earlier t seq bs n [] is s h = absurd (let e : false ≡ true = h in cc)
 no-block-earlier t seq bs n (k ∷ b) is s h = let some = is.some in let within = is.within in at bs (n - 1) s (omega arith) is.read

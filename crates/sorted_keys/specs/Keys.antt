@@ -11,7 +11,7 @@ pub record KeyList : Type 0 where
   pub list : List Key
   pub room : ℕ
 
--- puts a key into a sorted list, after all keys that are not later
+-- puts a key into a sorted list, after all keys with earlier or equal instants
 abbrev pub put_key : List Key → Key → List Key
 put_key [] key = key ∷ []
 put_key (other ∷ rest) key = if int_lt key.instant other.instant then key ∷ other ∷ rest else other ∷ put_key rest key

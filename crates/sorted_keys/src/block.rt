@@ -19,7 +19,7 @@ pub const FULL: usize = 512;
 
 pub const HALF: usize = FULL / 2;
 
-/// How many of the sorted keys are not later than the instant. Usually no key is later.
+/// How many of the sorted keys are at or before the instant. Usually all of them are.
 #[inline(always)]
 fn place_behind(keys: &VecDeque<Key>, instant: i64) -> usize
     requires { KeysAreInOrder keys.now.items }
@@ -124,7 +124,7 @@ impl Block {
         self.keys.front().copied()
     }
 
-    /// Whether the first key is not later than the instant, or there is no key.
+    /// Whether the first key is at or before the instant, or there is no key.
     pub fn starts_by(&self, instant: i64) -> bool
         ensures { result ≡ starts_by_of instant self.now }
     {
@@ -155,7 +155,7 @@ impl Block {
         }
     }
 
-    /// Puts a key into the block, after all keys that are not later.
+    /// Puts a key into the block, after all keys with earlier or equal instants.
     pub fn put(&mut self, key: Key)
         requires { length self.old < 512 }
         ensures { self.new ≡ put_key self.old key }

@@ -66,7 +66,7 @@ impl SortedKeys {
         false
     }
 
-    /// Puts a key into the list, after all keys that are not later. Allocates nothing.
+    /// Puts a key into the list, after all keys with earlier or equal instants. Allocates nothing.
     pub fn put(&mut self, key: Key)
         requires { length self.old.list < self.old.room }
         ensures list { self.new.list ≡ put_key self.old.list key }

@@ -51,9 +51,9 @@ fn packets_are_judged_once_the_look_ahead_is_known(rt: HostRuntime) -> Result<()
     check_rows(&rt, rt.alloc(), &ROWS)
 }
 
-/// Changes to a clock packet that leave it no valid timestamp, and whether the changed packet still belongs to the
-/// clock. The changed fields are, in order: the version, the uncertain bit, the type, the interval, the bit for a valid
-/// ID, and the ID.
+/// Changes that leave a clock packet without a valid timestamp, and whether the changed packet still belongs to the
+/// clock. Each row changes one field: the version, the uncertain bit, the type, the interval, the bit for a valid ID,
+/// or the ID.
 const POINTLESS: [(&[(usize, u8)], bool); 6] = [
     (&[(1, 0x90)], true),
     (&[(1, 0x81)], true),
@@ -63,8 +63,8 @@ const POINTLESS: [(&[(usize, u8)], bool); 6] = [
     (&[(11, 0x03)], false),
 ];
 
-/// A clock packet without a valid timestamp counts for the look-ahead. The timestamps before and after it still make a
-/// line.
+/// A clock packet without a valid timestamp counts for the look-ahead. The timestamps of the clock packets before and
+/// after it still make a line.
 #[test]
 fn a_clock_packet_without_points_is_waited_for(rt: HostRuntime) -> Result<(), Fail> {
     for row in &POINTLESS {

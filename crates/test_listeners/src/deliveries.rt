@@ -3,7 +3,7 @@
 use soak_run::{Noise, soak_deliveries};
 use std::test::Fail;
 
-/// Seeds, and the first numbers that are drawn from each. A seed is taken modulo 2^31.
+/// Seeds, and the first numbers that are drawn from each seed. A seed is taken modulo 2^31.
 const DRAWS: [(u64, &[u32]); 3] = [
     (1, &[16_838, 5_758]),
     (2_147_483_649, &[16_838, 5_758]),
@@ -20,8 +20,8 @@ fn numbers_are_drawn_from_a_seed(rt: HostRuntime) {
     }
 }
 
-/// How many packets are sent, and how many copies are delivered. Then an index among these copies, and the arrivals and
-/// packet numbers from that index on.
+/// How many packets are sent, and how many copies of them are delivered. Then an index among the copies. Then some
+/// copies from that index on, each with its arrival and its packet's number.
 const ROWS: [(u32, usize, usize, &[(i64, u64)]); 6] = [
     (0, 0, 0, &[]),
     (1, 1, 0, &[(1_002_480_000, 0)]),

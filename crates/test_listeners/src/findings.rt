@@ -24,15 +24,15 @@ const NOTHING: Findings = Findings {
 /// The maximum number of streams that are tracked.
 const MOST: u64 = 1024;
 
-/// A packet and its findings. The packet: its sequence number, its restart bit, and whether it has both a reserved bit
-/// and a wrong timestamp. The findings: the step of the sequence number if it is not 1; and for how many packets the
-/// restart bit kept its last value, if that is fewer than 8.
+/// A packet and its findings. The first three values are the packet's sequence number, its restart bit, and whether it
+/// has both a reserved bit and a wrong timestamp. The fourth value is the step of the sequence number, unless that step
+/// is 1. The fifth value is for how many packets the restart bit kept its last value, if these are fewer than 8.
 type Noted = (u8, bool, bool, Option<u8>, Option<u32>);
 
 /// Separate streams, each with its packets in order.
 const STREAMS: [&[Noted]; 4] = [
-    // Each finding by itself, and all findings together. The first value of the restart bit is no finding, because it
-    // began with the stream. The next value is kept for four packets, and the value after that for one packet.
+    // Each finding by itself, and all findings together. The first value of the restart bit is no finding, because that
+    // value began with the stream. The next value is kept for four packets, and the value after that for one packet.
     &[
         (0, false, false, None, None),
         (1, true, false, None, None),

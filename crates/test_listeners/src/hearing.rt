@@ -61,8 +61,8 @@ pub fn heard(alloc: Global, plan: &ListenPlan, bytes: &[u8]) -> Result<Heard, Fa
     Ok(whole(alloc, plan, bytes)?)
 }
 
-/// The line of an item: its frame number and its sequence number. Then its first instant if it is presented, or
-/// otherwise the reason.
+/// An item as text: its frame number and its sequence number. If the item is presented, its first instant follows;
+/// otherwise the reason follows.
 pub fn line_of(alloc: Global, shown: &Shown) -> Result<String, NoMemory> {
     match shown {
         Shown::Present(batch) => {
@@ -73,7 +73,7 @@ pub fn line_of(alloc: Global, shown: &Shown) -> Result<String, NoMemory> {
     }
 }
 
-/// The lines of all that is shown of these packets.
+/// All items that are shown of these packets, as text.
 pub fn seen_of(alloc: Global, plan: &ListenPlan, captured: &[Captured]) -> Result<String, Fail>
     requires { IsPlan (schedule_plan plan.now) }
 {

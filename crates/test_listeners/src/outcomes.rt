@@ -3,13 +3,13 @@
 use soak_run::soak;
 use std::test::Fail;
 
-/// How many packets are sent; then six counts. The first is the number of deliveries. The others count the deliveries
-/// that are presented, that are late, that are repeats, that have no known timestamp, and that find no room in the
-/// buffer.
+/// How many packets are sent; then six counts. The first count is the number of deliveries. The others count the
+/// deliveries that are presented, that are late, that are repeats, that have no known timestamp, and that find no room
+/// in the buffer.
 type Row = (u32, [u64; 6]);
 
-/// The counts for at most ten packets were worked out by hand. The others come from another program, which follows the
-/// rules of the noise, of the deliveries and of the listener.
+/// The counts for at most ten packets were worked out by hand. The other counts come from another program, which has
+/// the same rules for the noise, the deliveries and the listener.
 const ROWS: [Row; 7] = [
     (0, [0, 0, 0, 0, 0, 0]),
     // one copy, which arrives 0.48 ms after its presentation time

@@ -7,8 +7,8 @@ use std::alloc::Global;
 use std::test::Fail;
 use vectors_avtp::{changed, vector};
 
-/// The capture of the first vector: some bytes are changed, it is cut after `len` bytes, and zero bytes follow. Then
-/// how many packets of the stream it has, and its first refusal.
+/// The capture of the first vector, with some bytes changed, cut after `len` bytes, and followed by `zeros` zero bytes.
+/// `packets` is the number of packets of the stream in that capture, and `refused` is the capture's first refusal.
 struct Row {
     name: &'static str,
     changes: &'static [(usize, u8)],
@@ -83,8 +83,8 @@ fn a_record_is_counted_whatever_it_holds(rt: HostRuntime) -> Result<(), Fail> {
     Ok(())
 }
 
-/// What a listener shows of a capture that is fed in two pieces, cut at `cut`: the first item that is shown, and the
-/// counts. Then the faults that `feed` and `end` return after the first record.
+/// Feeds a capture in two pieces, cut at `cut`. Returns the first item that is shown, the counts, and the faults that
+/// `feed` and `end` return after the first record.
 fn heard_in_pieces(
     alloc: Global,
     bytes: &[u8],

@@ -26,7 +26,7 @@ const FIRST_UNSTAMPED: Captured = captured!(FIRST, stamp: None);
 
 const MIDDLE_UNSTAMPED: Captured = captured!(MIDDLE, stamp: None);
 
-/// If the middle fragment comes twice, all four fragments are flagged.
+/// If the middle fragment is captured twice, all four fragments are flagged.
 const ALL_BROKEN: &str = "1/0 Broken, 2/1 Broken, 3/1 Broken, 4/2 Broken";
 
 const ROWS: [Row; 17] = [
@@ -151,7 +151,7 @@ fn fragments_beside_each_other_make_a_unit(rt: HostRuntime) -> Result<(), Fail> 
     Ok(())
 }
 
-/// If there is only one item and it is presented, its bytes.
+/// The bytes of the item, if there is only one item and it is presented.
 fn bytes_of(heard: &Heard) -> Option<&[u8]> {
     match heard.shown.as_slice() {
         [Shown::Present(batch)] => Some(batch.bytes.as_slice()),
@@ -159,8 +159,8 @@ fn bytes_of(heard: &Heard) -> Option<&[u8]> {
     }
 }
 
-/// Long fragments. The first fragment and the middle ones each have 65,529 zero bytes of a unit. `LONG_LAST` has 447
-/// zero bytes, and `LONGER_LAST` has 448.
+/// Long fragments of a unit. `LONG_FIRST` and `LONG_MIDDLE` have 65,529 zero bytes each, `LONG_LAST` has 447, and
+/// `LONGER_LAST` has 448.
 const LONG_FIRST: Captured =
     captured!(SINGLE, changes: &[(20, 0xff), (21, 0xff), (28, 0x7c), (29, 0x85)], len: 48, zeros: 65_529);
 
@@ -173,8 +173,9 @@ const LONG_LAST: Captured =
 const LONGER_LAST: Captured =
     captured!(LONG_LAST, changes: &[(20, 0x01), (21, 0xc6), (28, 0x7c), (29, 0x45)], zeros: 448);
 
-/// The first, the middle and the last fragment of a unit, and how many times the middle fragment is sent. Then how many
-/// bytes are presented, if the unit is presented, and how many fragments are flagged because the unit is too long.
+/// The first, the middle and the last fragment of a unit, and how many times the middle fragment is sent. The third
+/// value is the number of bytes that are presented, or `None` if the unit is not presented. The last value is the
+/// number of fragments that are flagged because the unit is too long.
 type Long = ([Captured; 3], u16, Option<usize>, usize);
 
 const LONG: [Long; 3] = [

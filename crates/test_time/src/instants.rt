@@ -9,8 +9,8 @@ struct Unfolded {
     instant: i64,
 }
 
-/// Four timestamps: the last one that is read as later than the arrival; the next one, which is read as earlier; one
-/// after a wrap; and one that means an instant before the epoch.
+/// Four timestamps. The first is the greatest one that is read as later than the arrival. The second is one greater,
+/// and is read as earlier. The third is after a wrap of the 32 bits. The fourth means an instant before the epoch.
 const UNFOLDED: [Unfolded; 4] = [
     Unfolded {
         timestamp: 3_557_549_055,

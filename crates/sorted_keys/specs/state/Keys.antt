@@ -6,20 +6,20 @@ use Rattle.sorted_keys.specs.declared.key.Key.{Key}
 
 -- ---- a sorted list
 
--- the keys are sorted: no key is later than a key after it
+-- the keys are sorted by instant, the earliest first
 abbrev pub KeysAreInOrder : List Key → Type 0
 KeysAreInOrder [] = ⊤
 KeysAreInOrder (key ∷ rest) = AllByRecursion (λ other. key.instant ≤ℤ other.instant) rest × KeysAreInOrder rest
 
 -- ---- a block
 
--- The first `place` keys are not later than the instant, and the keys after them are later.
+-- The first `place` keys are at or before `instant`, and the other keys are after `instant`.
 pub record IsPlace (instant : ℤ) (keys : List Key) (place : ℕ) : Type 0 where
   pub within : place ≤ length keys
   pub not_later : AllByRecursion (λ key. key.instant ≤ℤ instant) (take place keys)
   pub later : AllByRecursion (λ key. instant <ℤ key.instant) (drop place keys)
 
--- the first key is not later than the instant, or there is no key
+-- the first key is at or before the instant, or there is no key
 abbrev pub starts_by : ℤ → List Key → Bool
 starts_by instant [] = true
 starts_by instant (key ∷ rest) = int_le key.instant instant
@@ -65,8 +65,8 @@ pub record AreTaken (blocks : List (List Key)) : Type 0 where
   pub filled : AllByRecursion (λ block. 256 ≤ length block) (drop 1 blocks)
   pub short : AllByRecursion (λ block. length block < 512) blocks
 
--- A key with this instant goes into the block at this index. No key in the earlier blocks is later than the instant,
--- and all keys in the later blocks are later than the instant.
+-- A key with this instant goes into the block at this index: all keys in the earlier blocks are at or before the
+-- instant, and all keys in the later blocks are after the instant.
 abbrev pub IsBlockFor : ℤ → List (List Key) → ℕ → Type 0
 IsBlockFor instant [] place = ⊥
 IsBlockFor instant (block ∷ rest) zero = AllByRecursion (λ key. instant <ℤ key.instant) (all_keys rest)
@@ -77,7 +77,7 @@ IsBlockFor instant (block ∷ rest) (suc place) = AllByRecursion (λ key. key.in
 abbrev pub room_of : ℕ → ℕ
 room_of blocks = 256 * (blocks - 1)
 
--- `places` is at least the number of blocks with keys and of spare blocks together; the spare blocks have no keys
+-- `blocks` holds sorted keys, and the blocks in `spare` have no keys. Together these are at most `places` blocks.
 pub record HaveRoom (blocks spare : List (List Key)) (places : ℕ) : Type 0 where
   pub kept : AreBlocks blocks
   pub empty : AllByRecursion (λ block. block ≡ []) spare

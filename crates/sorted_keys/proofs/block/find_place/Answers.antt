@@ -1,4 +1,4 @@
--- A binary search finds how many keys are not later than the instant.
+-- A binary search finds how many keys are at or before the instant.
 use Rattle.std.proofs.Common.{◌≤◌, length, rules}
 use Rattle.std.specs.Prelude.{int_le}
 use Rattle.std.proofs.lemmas.Int.{ints}

@@ -1,4 +1,4 @@
--- A binary search finds the last block whose first key is not later than the instant.
+-- A binary search finds the last block whose first key is at or before the instant.
 use Rattle.std.proofs.Common.{◌≤◌, length, rules, sym, subst, ℕ}
 use Rattle.std.proofs.lemmas.Int.{ints}
 use Rattle.std.proofs.lemmas.List.Sorted.{IsPartitionPoint-from_clause}
