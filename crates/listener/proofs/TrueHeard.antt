@@ -137,7 +137,7 @@ at_clock SparseAaf j n k instant heard at = at
 at_clock (Am824 interval dbc) j n k instant heard at = at
 at_clock (H264 part) j n k instant heard at = absurd heard
 
--- Samples that are counted from `spot` are at their instants in the journal.
+-- If packet `n` begins at `spot`, each of its samples is at that sample's instant in the journal.
 abbrev IsTrueSpot : Bool → Journal → ℕ → Spot → Type 0
 IsTrueSpot by j n spot = (k : ℕ) → IsAt by j n k (instant_at spot.line (spot.from +ℤ pos k))
 
@@ -145,20 +145,20 @@ by_line : (j : Journal) (n : ℕ) (h : Head) (o : Option Spot) → IsAudioKind j
 by_line j n h None heard t at = tt
 by_line j n h (Some spot) heard t at = λ k. at_clock j.kind j n k _ heard (spot_sample j n k h spot t at)
 
--- The listener's plan names the journal's stream and, if it names a clock, the journal's clock.
+-- The journal is of audio, and its clock keeps the rules. If the plan uses a clock, the shift of the plan is `shift`.
 pub record IsFollowed (shift : ℤ) (j : Journal) (plan : SchedulePlan) : Type 0 where
   pub audio : IsAudio j
   pub kind : IsAudioKind j.kind
   pub clock : IsClock j.clock
   pub shifted : plan.clock ≡ true → plan.shift ≡ shift
 
--- The entries that the listener has read are copies of the journal's packets.
+-- The stamps and the clock rows of the entries in `prefix` are those of the journal's packets.
 pub record IsTruePrefix (shift : ℤ) (j : Journal) (prefix : List Entry) : Type 0 where
   pub stamps : All (IsTrue j) (heads.stamps_of prefix)
   pub rows : All (IsTrueRow j.clock shift) (filter_map row_of prefix)
 
--- Samples that are counted from a packet's true head are at the journal's instants: on the nominal line of the head, or
--- on the clock's line. It does not matter which copies of the clock's packets the listener has.
+-- If packet `n` is counted from its true head, its samples are at the journal's instants, by the nominal rate or by the
+-- clock. It does not matter which copies of the clock's packets the listener has.
 spot_true : (shift : ℤ) (j : Journal) (plan : SchedulePlan) (n : ℕ) (prefix : List Entry) (h : Head) (by : Bool) → plan.clock ≡ by → IsFollowed shift j plan → IsTruePrefix shift j prefix → IsTrueHead j n h
     → IfSome (if by then option_map (moved h.first) (clock_spot (filter_map row_of prefix) plan.shift h.instant j.rate) else Some (nominal_spot j.rate h)) (IsTrueSpot by j n)
 spot_true shift j plan n prefix h true on is known t =

@@ -379,7 +379,7 @@ unit_instant p part lead n d is copy c ends =
 
 -- ---- a whole unit
 
--- The events end with `run`, which is a stretch and a whole unit.
+-- The last events are the fragments `run`, which make a whole unit.
 record IsWholeRun (es : List Event) (run : List Fragment) : Type 0 where
   ends : EndsWith es run
   some : 1 ≤ length run

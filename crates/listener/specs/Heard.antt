@@ -28,7 +28,7 @@ schedule_plan plan = record {
 abbrev pub deliveries_of : ListenPlan → List Record → List Delivery
 deliveries_of plan records = deliveries plan.stream plan.clock records
 
--- the items that are made of a list of records, with the deliveries that each was made of
+-- the items that are made of a list of records, each with the deliveries that it was made of
 abbrev pub items_in : ListenPlan → List Record → List MadeItem
 items_in plan records = items_of (deliveries_of plan records)
 

@@ -49,8 +49,8 @@ block_rule dbc None = Own
 block_rule dbc (Some interval) = Blocks dbc interval
 
 -- The item of an IEC 61883-6 packet. Each data block is a sample. The timestamp is used if it is valid, and belongs to
--- the block whose block count is a multiple of the interval. If a packet has no such block, it is counted from the last
--- such block in an earlier packet. A no-data packet has no samples.
+-- the block whose block count is a multiple of the interval. If a packet has no such block, the packet is counted from
+-- the last such block in an earlier packet. A no-data packet has no samples.
 abbrev pub blocks_of : Delivery → Iec → Item
 blocks_of d v = OfPacket (record {
   frame = d.frame;
@@ -150,7 +150,7 @@ flagged reason d = record {
   last = d;
 }
 
--- the reason with which fragments are flagged, by the cause for which they were given up
+-- the reason for flagging fragments that were given up for this cause
 abbrev pub lost_for : LostFor → Reason
 lost_for Broken = BrokenUnit
 lost_for Long = LongUnit

@@ -59,8 +59,9 @@ sample_count (Am824 interval dbc) count = count
 sample_count (H264 part) count = 1
 
 -- The batch is packet n of the journal: it has the packet's sequence number, number of samples and bytes. Each sample
--- is at its instant in the journal; if `by` is true, at its instant by the talker's clock. For H.264, the batch is the
--- unit that ends with packet n: it has the bytes of all packets of the unit, and presents them at one instant.
+-- is at its instant in the journal or, if `by` is true, at the instant that the talker's clock gives. For H.264, the
+-- batch is the unit that ends with packet n: it has the bytes of all packets of the unit, and presents them at one
+-- instant.
 pub record IsOfPacket (by : Bool) (p : PacketJournal) (n : ℕ) (batch : Presented) : Type 0 where
   pub known : n < p.times.packets
   pub seq : batch.seq ≡ n % 256
@@ -119,8 +120,8 @@ pub record IsMadeOf (p : PacketJournal) (lead n : ℕ) (made : MadeItem) : Type 
   pub earlier : AreCopiesFrom p lead from made.earlier
   pub last : IsCopyOf p lead n made.last
 
--- The unit of an item is the journal's unit that ends with packet n. The item was made of one copy of each packet of
--- that unit, in their order. It has the bytes and the instant of that unit.
+-- The unit of an item is the journal's unit that ends with packet n, and has that unit's bytes and instant. The item
+-- was made of one copy of each packet of that unit, in their order.
 pub record IsUnitFrom (p : PacketJournal) (part : ℕ → Part) (lead n : ℕ) (made : MadeItem) (unit : WholeUnit) : Type 0 where
   pub copies : IsMadeOf p lead n made
   pub packets : AreUnit part copies.from n
@@ -144,7 +145,8 @@ pub record AreOfUnit (p : PacketJournal) (part : ℕ → Part) (lead from n : �
 abbrev pub accepted_before : ListenPlan → List Record → ℕ → List Accepted
 accepted_before plan records i = accepted clock_spot (schedule_plan plan) (entries_in plan records) i
 
--- the time at which the item at index `place` is judged: the greatest arrival of the items up to and including it
+-- the time at which the item at index `place` is judged: the greatest arrival of the items up to and including that
+-- item
 abbrev pub time_of : ListenPlan → List Record → ℕ → ℤ
 time_of plan records i = now_at (entries_in plan records) i
 

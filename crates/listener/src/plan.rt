@@ -16,7 +16,7 @@ pub struct ListenPlan {
     pub buffer: u32,
     /// The maximum number of bytes of these batches together, from 1 to 1,073,741,824.
     pub room: u32,
-    /// How many items after an item are read before it is judged, from 0 to 64.
+    /// How many later items are read before an item is judged, from 0 to 64.
     pub look: u32,
     /// How long before its presentation time a packet is expected (the max transit time), at most 1,000,000,000 ns.
     pub lead: u32,

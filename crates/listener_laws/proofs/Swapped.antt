@@ -1,5 +1,5 @@
--- In the example, the first copy of a packet must be presented at its instants by the clock, and the second copy is a
--- further copy.
+-- In the example, the first copy of a packet must be presented at the instants that the clock gives, and the second
+-- copy is a further copy.
 use Rattle.std.proofs.Common.{◌≡◌, ◌≢◌, inl, inr, ℕ, zero, suc, ◌+◌, ◌*◌, ◌^◌, ◌<◌, ◌≤◌, true, pos, ◌≤ℤ◌, List, [], ◌∷◌, length, take, Some, refl, sym, ap, subst, append-nil, arith}
 use Rattle.std.specs.Prelude.{slice_get}
 use Rattle.std.proofs.lemmas.Int.{ints}
@@ -135,7 +135,7 @@ arrives_by (suc (suc (suc (suc (suc k))))) e at = absurd (none_at k e at)
     none_at : (k : ℕ) (e : Delivery) → slice_get {X = Delivery} [] k ≡ Some e → ⊥
     none_at k e at = cc
 
--- the copies of packet 33, at indices 3 and 4, come in time
+-- the copies of packet 33, at indices 3 and 4, arrive in time
 comes_at : AreRead clocked_packets 2000000 → (place : ℕ) (d : Delivery) → 3 ≤ place → place ≤ 4 → slice_get ds place ≡ Some d → IsCopyOf clocked_packets 2000000 33 d → ComesInTime clocked_packets clocked_listener swapped_records place 33 d
 comes_at are place d low high at copy =
     let same = all_delivered clocked_packets (Some 0x0200000000010002) 2000000 swapped swapped_records are (refl, (refl, (tt, (tt, (tt, tt))))) all_carried in

@@ -1,4 +1,4 @@
--- If a capture carries audio, a listener accepts only packets that came.
+-- If a capture carries audio, a listener accepts only packets that arrived.
 use Rattle.std.proofs.Common.{◌≡◌, ◌≢◌, ◌⊎◌, ℕ, zero, suc, ◌+◌, ◌*◌, ◌<◌, ◌≤◌, Bool, true, false, ℤ, ◌≤ℤ◌, List, [], ◌∷◌, ◌++◌, All, length, filter, take, Some, Ok, refl, sym, ap, ◌∙◌, subst, inl, inr, arith, append-nil, length-append}
 use Rattle.std.specs.Prelude.{Any, Err, IfOk, Result, int_le, slice_get}
 use Rattle.std.specs.List.{AllByRecursion}
@@ -127,13 +127,13 @@ numbers_more [] rest = refl
 numbers_more (OfStream n ∷ os) rest = ap (λ (l : List ℕ). n ∷ l) (numbers_more os rest)
 numbers_more (OfClock m ∷ os) rest = numbers_more os rest
 
--- The accepted item is a packet for which Q holds.
+-- The accepted item is a packet that has property `Q`.
 pub record IsSomeOf (Q : ℕ → Type 0) (by : Bool) (p : PacketJournal) (a : Accepted) : Type 0 where
   pub k : ℕ
   pub holds : Q k
   pub is : IsPacketAt by p k a
 
--- One more packet, for which Q holds, was accepted. If its first instant is at `t` or later, the count grew.
+-- One more packet that has property `Q` was accepted. If its first instant is at `t` or later, the count grew.
 pub record IsMore (Q : ℕ → Type 0) (by : Bool) (p : PacketJournal) (t : ℤ) (count next : ℕ) (xs ys : List Accepted) : Type 0 where
   pub a : Accepted
   pub more : ys ≡ xs ++ a ∷ []
@@ -141,12 +141,13 @@ pub record IsMore (Q : ℕ → Type 0) (by : Bool) (p : PacketJournal) (t : ℤ)
   pub counts : t ≤ℤ a.instant → count < next
 
 -- One delivery changes the accepted items from `xs` to `ys`, and the count from `count` to `next`. The delivery adds
--- nothing, or one packet for which Q holds.
+-- nothing, or one packet that has property `Q`.
 pub record IsStep (Q : ℕ → Type 0) (by : Bool) (p : PacketJournal) (t : ℤ) (count next : ℕ) (xs ys : List Accepted) : Type 0 where
   pub grows : count ≤ next
   pub is : (ys ≡ xs) ⊎ IsMore Q by p t count next xs ys
 
--- Each accepted item in `xs` is a packet for which Q holds, and at most `count` of these items still wait at `t`.
+-- Each accepted item in `xs` is a packet that has property `Q`. At most `count` of these items have a first instant at
+-- `t` or later.
 pub record AreTaken (Q : ℕ → Type 0) (by : Bool) (p : PacketJournal) (t : ℤ) (count : ℕ) (xs : List Accepted) : Type 0 where
   pub all : AllByRecursion (IsSomeOf Q by p) xs
   pub few : length (standing t xs) ≤ count
@@ -179,19 +180,20 @@ none_first plan records = refl
 
 -- ---- a delivery of audio
 
--- if the origin is a packet of the stream, Q holds for that packet
+-- if the origin is a packet of the stream, that packet has property `Q`
 abbrev pub HoldsOf : (ℕ → Type 0) → Origin → Type 0
 HoldsOf Q (OfStream k) = Q k
 HoldsOf Q (OfClock m) = Unit {0}
 
--- Delivery `j` is a copy of the packet that its origin names, and Q holds for that packet if it is of the stream.
+-- Delivery `j` has an origin, and adds nothing to the accepted items except the packet that the origin names. If that
+-- packet is of the stream, it has property `Q`.
 pub record IsAtPlace (p : PacketJournal) (plan : ListenPlan) (records : List Record) (Q : ℕ → Type 0) (os : List Origin) (j : ℕ) : Type 0 where
   pub o : Origin
   pub at : slice_get os j ≡ Some o
   pub holds : HoldsOf Q o
   pub taken : IsTakenAt p plan records j o
 
--- among the first `j` origins, the number of packets of the stream that pass the test `waits`
+-- the number of stream packets among the first `j` origins for which the test `waits` is true
 abbrev pub passing : (ℕ → Bool) → List Origin → ℕ → ℕ
 passing waits os j = length (filter waits (stream_numbers (take j os)))
 

@@ -48,7 +48,7 @@ verdict-so plan now earlier place (Ok batch) = by_lt_z (first_instant batch) now
     cases false true e f h = tt
     cases false false e f h = record { place = refl; stands = h; fresh = e; room = f }
 
--- if `P` holds for every result that a verdict can have, it holds for the verdict on entry `n`
+-- if `P` holds for every result that a verdict can have, `P` holds for the verdict on entry `n`
 by-verdict : (clock : Clock) (plan : SchedulePlan) (entries : List Entry) (n : ℕ) (earlier : List Accepted) (P : Option (Result Accepted Reason) → Type 0)
     → P None → ((reason : Reason) → P (Some (Err reason))) → ((a : Accepted) → AcceptedSo plan (now_at entries n) earlier n a → P (Some (Ok a))) → P (verdict_at clock plan entries n earlier)
 unfolding verdict_at

@@ -17,8 +17,8 @@ use Rattle.sample_schedule.specs.declared.plan.SchedulePlan.{SchedulePlan}
 
 -- ---- the stamp of a packet
 
--- The timestamp of a packet, if samples can be counted from it. It must be valid and certain, the rate must be known,
--- and the packet must have the sample that the timestamp belongs to.
+-- The timestamp of a packet, if samples can be counted from it. The timestamp must be valid and certain, the rate must
+-- be known, and the packet must have the sample that the timestamp belongs to.
 abbrev pub usable_stamp : Packet → Option ℕ
 usable_stamp p =
     if p.tu then None else
@@ -43,8 +43,8 @@ stamps_of entries = filter_map stamp_of entries
 
 -- ---- the head of a packet without a usable stamp
 
--- If a packet has no usable timestamp, its samples are counted from the stamp of another packet. This is the distance
--- back to that stamp, or `None` if the packet's format has no rule for it.
+-- If a packet has no usable timestamp, its samples are counted from the stamp of another packet. The result is the
+-- distance back to that stamp, or `None` if the packet's format has no rule for the distance.
 abbrev pub distance_back : Packet → Option Distance
 distance_back p = distance p.rule p.seq p.count
 
@@ -79,7 +79,7 @@ head_back plan prefix p =
     option_map (λ (stamp : Stamp). record { instant = stamp.instant; first = pos far.samples })
     (found (plan.look + 16) (want_of plan p far) (stamps_of prefix))) (distance_back p)
 
--- the head of a packet: the one that its own timestamp gives, if this is usable; otherwise the one that another
--- packet's timestamp gives
+-- the head of a packet: the one that its own timestamp gives, if that timestamp is usable; otherwise the one that
+-- another packet's timestamp gives
 abbrev pub head_of : SchedulePlan → List Entry → Packet → Option Head
 head_of plan prefix p = option_or (own_head p) (head_back plan prefix p)

@@ -9,7 +9,8 @@ pub record IsRestOf (batch : Presented) (j : ℕ) (instant : ℤ) (rest : ℕ) :
   pub steps : (batch.from +ℤ pos j) *ℤ pos batch.line.num ≡ (instant -ℤ batch.line.base) *ℤ pos batch.line.den +ℤ pos rest
   pub below : rest < batch.line.den
 
--- the instant of sample j, the fraction that rounding drops from it, and the step from one sample to the next
+-- `i` holds the instant of sample j, the fraction that rounding drops from that instant, and the step from one sample
+-- to the next
 pub record IsInstantOf (i : Instant) (batch : Presented) : Type 0 where
   pub at : i.nanoseconds ≡ sample_instant batch i.j
   pub is_rest : IsRestOf batch i.j i.nanoseconds i.rest

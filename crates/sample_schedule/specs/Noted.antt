@@ -15,7 +15,8 @@ pub record HasNotedClock (plan : SchedulePlan) (entries : List Entry) (clock : C
   pub shift : clock.shift ≡ plan.shift
   pub rows : StandsForRows clock (filter_map row_of entries)
 
--- if the plan has a clock, there is a clock, and it has noted the clock packets of the list; otherwise there is none
+-- if the plan has a clock, there is a clock state, and it has noted the clock packets of the list; if the plan has no
+-- clock, there is no clock state
 abbrev pub HasClock : SchedulePlan → List Entry → Option ClockState → Type 0
 HasClock plan entries None = plan.clock ≡ false
 HasClock plan entries (Some clock) = HasNotedClock plan entries clock

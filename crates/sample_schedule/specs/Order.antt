@@ -10,7 +10,7 @@ standing now accepted = filter (λ a. int_le now a.instant) accepted
 abbrev pub between : ℤ → ℤ → List Accepted → List Accepted
 between from to accepted = filter (λ a. if int_le from a.instant then int_lt a.instant to else false) accepted
 
--- puts an item into a list that is sorted by first instant, after all items whose instants are not later
+-- puts an item into a list that is sorted by first instant, after all items with earlier or equal first instants
 abbrev pub put_behind : List Accepted → Accepted → List Accepted
 put_behind [] a = a ∷ []
 put_behind (b ∷ bs) a = if int_lt a.instant b.instant then a ∷ b ∷ bs else b ∷ put_behind bs a

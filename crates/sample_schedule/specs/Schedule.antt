@@ -58,8 +58,8 @@ judged clock plan entries i earlier (OfItem item) =
     Some (verdict plan (now_at entries i) earlier i (timed clock plan (prefix_of plan entries i) item))
 judged clock plan entries i earlier (OfClock arrival row) = None
 
--- The verdict on entry i, given the items accepted before it. There is none if entry i is a packet of the clock, or if
--- the list has no entry i.
+-- The verdict on entry i, given the items accepted before it. There is no verdict if entry i is a packet of the clock,
+-- or if the list has no entry i.
 unfoldable pub verdict_at : Clock → SchedulePlan → List Entry → ℕ → List Accepted → Option (Result Accepted Reason)
 verdict_at clock plan entries i earlier =
     option_and_then (judged clock plan entries i earlier) (slice_get entries i)

@@ -23,8 +23,9 @@ pub use Rattle.sorted_keys.specs.Keys.{same_instant}
 
 -- ---- where the samples of an item are
 
--- The answer of a media clock: where on its lines an instant is. It depends on the clock's packets so far, the shift of
--- their timestamps, the instant, and the rate of the stream. It is `None` if no line covers the instant.
+-- The answer of a media clock: where on the clock's lines an instant is. The answer depends on the clock's packets so
+-- far, the shift of their timestamps, the instant, and the rate of the stream. The answer is `None` if no line covers
+-- the instant.
 abbrev pub Clock : Type 0
 Clock = List ClockRow → ℤ → ℤ → ℕ → Option Spot
 
@@ -38,7 +39,7 @@ abbrev pub row_of : Entry → Option ClockRow
 row_of (OfItem item) = None
 row_of (OfClock arrival row) = Some row
 
--- the spot `n` samples after `spot`
+-- `spot`, moved by `n` samples along its line
 abbrev pub moved : ℤ → Spot → Spot
 moved n spot = record spot { from = spot.from +ℤ n }
 
@@ -48,15 +49,15 @@ abbrev pub nominal_spot : ℕ → Head → Spot
 nominal_spot rate head = record { line = nominal_line head.instant rate; from = head.first }
 
 -- The spot of the first sample that is counted from a head. If the plan has no clock, the spot is on the head's nominal
--- line. If the plan has a clock, the spot is on the clock's line that covers the head; if no line covers it, the result
--- is `None`.
+-- line. If the plan has a clock, the spot is on the clock's line that covers the head's instant; if no line covers that
+-- instant, the result is `None`.
 abbrev pub spot_of : Clock → SchedulePlan → List Entry → ℕ → Head → Option Spot
 spot_of clock plan prefix rate head =
     if plan.clock
     then option_map (moved head.first) (clock (filter_map row_of prefix) plan.shift head.instant rate)
     else Some (nominal_spot rate head)
 
--- the samples of a packet as a batch that begins at a spot
+-- the samples of a packet as a batch whose first sample is at `spot`
 abbrev pub samples_at : Packet → Spot → Presented
 samples_at p spot =
     record { frame = p.frame; seq = p.seq; line = spot.line; from = spot.from; count = p.count; bytes = p.bytes }
@@ -72,14 +73,14 @@ ok_or_reason reason None = Err reason
 ok_or_reason reason (Some batch) = Ok batch
 
 -- The samples of a packet, counted from its head. The result is `Untimed` if the packet has no head, and `NoClock` if
--- the clock does not cover the head.
+-- no line of the clock covers the head's instant.
 abbrev pub counted_from : Clock → SchedulePlan → List Entry → Packet → Option Head → Result Presented Reason
 counted_from clock plan prefix p None = Err Untimed
 counted_from clock plan prefix p (Some head) =
     ok_or_reason NoClock (option_map (samples_at p) (spot_of clock plan prefix p.rate head))
 
--- What can be presented of an item, or the first reason why nothing can, apart from `Late`, `Repeat` and `Full`.
--- `prefix` holds the entries that are known when the item is judged.
+-- The batch that can be made of an item, or the first reason why none can be made. The reasons `Late`, `Repeat` and
+-- `Full` are not checked here. `prefix` holds the entries that are known when the item is judged.
 unfoldable pub timed : Clock → SchedulePlan → List Entry → Item → Result Presented Reason
 timed clock plan prefix (OfPacket p) =
     if p.tu then Err Uncertain else

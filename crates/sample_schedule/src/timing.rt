@@ -144,8 +144,8 @@ fn timed_unit(unit: Unit) -> Batch
     }
 }
 
-/// What can be presented of an item, or the first reason why nothing can, apart from `Late`, `Repeat` and `Full`.
-/// `noted` was noted from the entries that are known when the item is judged.
+/// The batch that can be made of an item, or the first reason why none can be made. The reasons `Late`, `Repeat` and
+/// `Full` are not checked here. `noted` was noted from the entries that are known when the item is judged.
 #[tactic(auto, unfolding(crate::specs::Verdicts::timed))]
 #[inline(always)]
 pub fn timed(plan: &SchedulePlan, noted: &Noted, item: Item) -> Result<Batch, Reason>

@@ -100,7 +100,7 @@ impl Waiting {
             || self.bytes().saturating_add(size as u64) > u64::from(plan.room)
     }
 
-    /// Puts a batch after all batches whose instants are not later. Allocates nothing.
+    /// Puts a batch after all batches with earlier or equal first instants. Allocates nothing.
     #[inline(always)]
     pub fn put_behind(&mut self, accepted: Accepted)
         requires room { length self.old.list < self.old.room }

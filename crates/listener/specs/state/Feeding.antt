@@ -21,9 +21,9 @@ pub record HasHeard (bytes : List ℕ) (given : ℕ) (reader : Reading) (listene
   pub read : HasRead reader bytes records
   pub stands : RecordsStandFor records given listener
 
--- The invariant of every listener. There are bytes that lead to its state. Unless these bytes were refused, it has
--- counted at most as many records as bytes. If nothing is due, it has returned all that is shown of them so far. Once
--- memory has run out, nothing is due.
+-- The invariant of every listener. There is a list of bytes that leads to the listener's state. Unless these bytes were
+-- refused, the number of counted records is at most the number of bytes. If nothing is due, the listener has returned
+-- all items that are shown of the bytes so far. Once memory has run out, nothing is due.
 pub record IsSound (fed : Feeding) : Type 0 where
   pub bytes : List ℕ
   pub given : ℕ

@@ -67,7 +67,7 @@ abbrev pub IsTimelyEvent : Event → Type 0
 IsTimelyEvent cut = ⊤
 IsTimelyEvent (packet f) = IsArrival f.mark.arrival
 
--- The invariant of the units: there are events that lead to this state, and every item in it can be judged.
+-- The invariant of the units: a list of events leads to this state, and every item in the state can be judged.
 pub record IsSound (u : Gathered) : Type 0 where
   pub events : List Event
   pub stands : StandsFor u.assembly events

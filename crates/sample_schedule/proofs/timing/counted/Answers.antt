@@ -1,4 +1,4 @@
--- The clock answers by all clock packets that were noted.
+-- The answer of the code's clock is the one that follows from all noted clock packets.
 use Rattle.std.proofs.Common.{◌≡◌, ℤ, List, Ok, ap, ◌∙◌, arith, w64, to_z, of_z}
 use Rattle.std.proofs.lemmas.Int.{ints}
 use Rattle.clock_track.specs.declared.clock_row.ClockRow.{ClockRow}

@@ -1,4 +1,4 @@
--- The key is put after all keys whose instants are not later.
+-- The key is put after all keys with earlier or equal instants.
 use Rattle.std.proofs.Common.{◌+◌, ℕ, ap, rules, sym, ◌∙◌, subst, length, w64, to_z, of_z, arith}
 use Rattle.std.proofs.lemmas.Int.{ints}
 use Rattle.sorted_keys.specs.declared.key.Key.{Key}
