@@ -27,8 +27,8 @@ pub record KeepsHeadline (shift : ℤ) (p : PacketJournal) (plan : ListenPlan) (
   -- an item is presented if its timestamp or clock reference is known, it came in time, the buffer had room for it, and
   -- no copy of its packet was accepted before
   pub known : (place n : ℕ) (made : MadeItem) → IsWelcome p plan records place n made → Any (IsPresentedOf (by_clock plan) p n made) (presented_of shown)
-  -- if a copy of a packet was accepted, a further copy is flagged as a repeat; its timestamp or clock reference must be
-  -- known, and it must have come in time
+  -- If a copy of a packet was accepted, a further copy is flagged as a repeat. The further copy must have come in time,
+  -- and its timestamp or clock reference must be known.
   pub repeats : (place n : ℕ) (made : MadeItem) → IsFurther p plan records place n made → shown_of_frame made.last.frame shown ≡ Flag made.last.frame made.last.seq Repeat ∷ []
   -- each delivery of the stream and of its clock is in one item
   pub each_made : All (IsInOneItem (items_in plan records)) (deliveries_of plan records)
@@ -37,8 +37,8 @@ pub record KeepsHeadline (shift : ℤ) (p : PacketJournal) (plan : ListenPlan) (
       → shown_of_frame made.last.frame shown ≡ shown_by made.last (verdict_of plan records place item) ∷ []
   -- nothing else is shown
   pub no_other : All (IsShownItem plan records) shown
-  -- If another listener hears the talker, and both or neither use the talker's clock, the two listeners agree: for each
-  -- packet that both present, they present the same bytes, and each sample at the same nanosecond.
+  -- If another listener hears the talker, and both or neither use the talker's clock, the two listeners agree. If both
+  -- present a packet, its bytes are the same in both, and each of its samples is at the same nanosecond in both.
   pub agrees : (other : ListenPlan) (others : List Record) → HearsTalker shift p other others → by_clock other ≡ by_clock plan → All (λ a. All (Agree (by_clock plan) p a) (presented_of (shown_of other others))) (presented_of shown)
   -- whenever an item is judged, at most `buffer` batches wait, and they have at most `room` bytes together
   pub buffer : (place : ℕ) → length (waiting_at clock_spot (schedule_plan plan) (entries_in plan records) place) ≤ plan.buffer

@@ -25,9 +25,9 @@ use Rattle.packet_journal.specs.Deliveries.{Delivery}
 use Rattle.listener.specs.Units.{event_of, events, flaw_of, in_stream, last_ones, waiting}
 use Rattle.packet_journal.specs.Packets.{audio_sample_type}
 
--- The item of an AAF packet (IEEE 1722-2016, 7). Its timestamp is used if it is valid. In sparse mode, a packet without
--- a timestamp is counted from the last earlier packet whose sequence number is a multiple of 8. If the rate is
--- user-specified, the item has no rate.
+-- The item of an AAF packet (IEEE 1722-2016, 7). The packet's timestamp is used if it is valid. In sparse mode, a
+-- packet without a timestamp is counted from the last earlier packet whose sequence number is a multiple of 8. If the
+-- rate is user-specified, the item has no rate.
 abbrev pub samples_of : Delivery → Aaf → Item
 samples_of d v = OfPacket (record {
   frame = d.frame;
@@ -110,7 +110,7 @@ points_of v = record {
 abbrev pub no_points : ClockRow
 no_points = record { usable = false; seq = 0; mr = false; base_frequency = 0; pull = 0; interval = 0; payload = [] }
 
--- the timestamps of a packet of the media clock, or none if its reader refuses it
+-- the timestamps of a packet of the media clock, or none if the packet is refused
 abbrev pub points_or_none : Option Refusal → Crf → ClockRow
 points_or_none None v = points_of v
 points_or_none (Some refusal) v = no_points
@@ -121,8 +121,8 @@ clock_row d = points_or_none (crf_refusal d.packet) (crf_of d.packet)
 
 -- ---- items
 
--- The entry of a delivery. A packet of the clock gives its timestamps, and is never shown, whether these are valid or
--- not. A packet of audio gives an item.
+-- The entry of a delivery. A packet of the clock gives its timestamps, whether they are valid or not, and is never
+-- shown. A packet of audio gives an item.
 abbrev pub entry_of : Delivery → Entry
 entry_of d = if d.subtype == crf_subtype then OfClock d.arrival (clock_row d) else OfItem (item_of d)
 
@@ -198,7 +198,8 @@ abbrev pub own_by : List Delivery → Delivery → List MadeItem
 own_by before d = if d.subtype == cvf_subtype then video_by before d (flaw_of d) else made_of_one d ∷ []
 
 -- The items that a delivery yields after the deliveries `before`. A delivery of the clock yields its timestamps. A
--- delivery of the stream yields the fragments that are given up because of it, in order, and then its own item.
+-- delivery of the stream yields the fragments that are given up because of that delivery, in order, and then its own
+-- item.
 abbrev pub given_by : List Delivery → Delivery → List MadeItem
 given_by before d = if d.subtype == crf_subtype then made_of_one d ∷ [] else given_up_by before d ++ own_by before d
 

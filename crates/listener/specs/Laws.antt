@@ -204,13 +204,13 @@ shown_of_frame frame list = filter (λ s. frame_of s == frame) list
 abbrev pub verdict_of : ListenPlan → List Record → ℕ → Item → Result Accepted Reason
 verdict_of plan records place item = verdict_in clock_spot (schedule_plan plan) (entries_in plan records) place item
 
--- What is shown of an item with this last delivery and this verdict: if it is accepted, it is presented; otherwise it
+-- What is shown of an item with this last delivery and this verdict: an accepted item is presented, and any other item
 -- is flagged with the reason.
 abbrev pub shown_by : Delivery → Result Accepted Reason → Shown
 shown_by d (Ok a) = Present a.batch
 shown_by d (Err reason) = Flag d.frame d.seq reason
 
--- `s` is what is shown of one of the items, by its verdict.
+-- `s` is what is shown of some item, as the verdict on that item says.
 pub record IsShownItem (plan : ListenPlan) (records : List Record) (s : Shown) : Type 0 where
   pub place : ℕ
   pub made : MadeItem

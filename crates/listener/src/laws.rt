@@ -33,7 +33,7 @@ pub fn each_packet_is_shown_once()
 {}
 
 /// Each packet of the stream and of its clock is in one item: it is an item by itself, or a fragment of one whole unit.
-/// Such a unit has the frame number of its last fragment. Each item of the stream is shown once, as its verdict says:
+/// A whole unit has the frame number of its last fragment. Each item of the stream is shown once, as its verdict says:
 /// it is presented, or flagged with the first reason that applies. Nothing else is shown. Hence, if a frame of the
 /// stream is not presented, the list says why.
 pub fn each_delivery_is_shown()
@@ -50,8 +50,8 @@ pub fn what_is_due_stays()
     ensures first { (plan : ListenPlan) (records : List Record) → IsPrefix (due_of plan records) (shown_of plan records) }
 {}
 
-/// Records may carry any selection of the packets of a talker that keeps the rules and of its clock, in any order. Such
-/// records meet the whole premise of the laws below, for listeners with the clock and without it. H.264 has one
+/// Records may carry any packets of a talker that keeps the rules, and any packets of the talker's clock, in any order.
+/// Such records meet the whole premise of the laws below, for listeners with the clock and without it. H.264 has one
 /// condition: if two fragments are adjacent and at least one of them has no timestamp, their packets are at most 254
 /// apart.
 pub fn carried_packets_are_heard()
@@ -69,9 +69,10 @@ pub fn clocks_are_followed()
 {}
 
 /// A capture may lose, repeat or reorder the H.264 packets of a talker that keeps the rules. Each whole unit still
-/// consists of the packets of one unit of the talker: one copy of each packet, in order. It has the bytes and the
-/// instant of that unit. Sequence numbers alone do not distinguish packets that are 256 apart, but timestamps do.
-/// Fragments without a timestamp are distinguished by the condition that their packets are at most 254 apart.
+/// consists of the packets of one unit of the talker: one copy of each packet, in order. The whole unit has the bytes
+/// and the instant of the talker's unit. Sequence numbers alone do not distinguish packets that are 256 apart, but
+/// timestamps do. Fragments without a timestamp are distinguished by the condition that their packets are at most 254
+/// apart.
 pub fn units_are_true()
     ensures { (shift : ℤ) (p : PacketJournal) (plan : ListenPlan) (records : List Record) (place : ℕ) (made : MadeItem) (unit : Unit) (part : ℕ → Part) → HearsTalker shift p plan records → p.times.kind ≡ H264 part → slice_get (items_in plan records) place ≡ Some made → made.entry ≡ Entry.Item (Item.Unit unit)
         → (n : ℕ) × IsUnitFrom p part plan.lead n made unit }
@@ -122,8 +123,9 @@ pub fn listeners_agree()
 {}
 
 /// A copy of a packet is presented if it came in time, it found room, and no copy of the packet was accepted before.
-/// Its timestamp must be known and, with a clock, also two CRF timestamps that cover it. It does not matter how many
-/// other packets are late, lost or untimed. What is presented has the frame number of that copy.
+/// The packet's timestamp must be known. With a clock, two CRF timestamps that cover the packet's timestamp must also
+/// be known. It does not matter how many other packets are late, lost or untimed. What is presented has the frame
+/// number of that copy.
 pub fn known_and_in_time_is_presented()
     ensures { (shift : ℤ) (p : PacketJournal) (plan : ListenPlan) (records : List Record) (place n : ℕ) (made : MadeItem) → HearsTalker shift p plan records → IsWelcome p plan records place n made → Any (IsPresentedOf (by_clock plan) p n made) (presented_of (shown_of plan records)) }
 {}

@@ -40,9 +40,9 @@ pub fn shorter_captures_are_heard()
     ensures { (shift : ℤ) (p : PacketJournal) (plan : ListenPlan) (records others : List Record) → HearsTalker shift p plan (records ++ others) → HearsTalker shift p plan records }
 {}
 
-/// What a listener returns from a talker's records is as the headline says. Before the records have ended, it returns
-/// what is due, as `fronts_are_true` says. Once they have ended, it returns everything that is shown of them.
-/// `RecordListener::next_out` returns exactly these items, one by one.
+/// What a listener returns from a talker's records is as the headline says. Before the records have ended, the listener
+/// returns what is due, as `fronts_are_true` says. Once the records have ended, the listener returns everything that is
+/// shown of these records. `RecordListener::next_out` returns exactly these items, one by one.
 pub fn records_are_given_truly()
     ensures ended { (shift : ℤ) (p : PacketJournal) (listener : ListenState) (records : List Record) → is_closed listener ≡ true → HearsTalker shift p listener.plan records → KeepsHeadline shift p listener.plan records (out listener records) }
     ensures due { (shift : ℤ) (p : PacketJournal) (listener : ListenState) (records others : List Record) → is_closed listener ≡ false → HearsTalker shift p listener.plan records → (out listener records ≡ due_of listener.plan records) × IsTrueFront p listener.plan records others }
@@ -52,8 +52,9 @@ pub fn records_are_given_truly()
 }
 
 /// What a listener returns from the bytes of a talker's capture, in pieces of any length, is as the headline says.
-/// Before the capture has ended, it returns what is due, as `fronts_are_true` says. Once the capture has ended, it
-/// returns everything that is shown of it. `Listener::next_out` returns exactly these items, one by one.
+/// Before the capture has ended, the listener returns what is due, as `fronts_are_true` says. Once the capture has
+/// ended, the listener returns everything that is shown of the capture. `Listener::next_out` returns exactly these
+/// items, one by one.
 pub fn bytes_are_given_truly()
     ensures ended { (shift : ℤ) (p : PacketJournal) (fed : Feeding) (bytes : List ℕ) → is_ended fed ≡ true → HearsTalker shift p fed.listener.plan (whole_records bytes) → KeepsHeadline shift p fed.listener.plan (whole_records bytes) (out_of fed bytes) }
     ensures due { (shift : ℤ) (p : PacketJournal) (fed : Feeding) (bytes : List ℕ) (others : List Record) → is_ended fed ≡ false → HearsTalker shift p fed.listener.plan (whole_records bytes) → (out_of fed bytes ≡ due_of fed.listener.plan (whole_records bytes)) × IsTrueFront p fed.listener.plan (whole_records bytes) others }
@@ -69,9 +70,9 @@ pub fn copies_anywhere_are_welcome()
     ensures { (shift : ℤ) (p : PacketJournal) (plan : ListenPlan) (records : List Record) (place n : ℕ) (d : Delivery) → HearsTalker shift p plan records → IsAudioKind p.times.kind → MustBePresented p plan records place n d → IsWelcome p plan records place n (made_of_one d) }
 {}
 
-/// If one copy of an audio packet must be presented, any later copy in time must be flagged as a repeat. The later copy
-/// must be one that can be timed by the packets that came. It is in time if all deliveries up to and including it were
-/// captured no later than the packet's first instant.
+/// If one copy of an audio packet must be presented, any later copy that is in time must be flagged as a repeat. The
+/// later copy must be one that can be timed by the packets that came. The later copy is in time if all deliveries up to
+/// and including it were captured no later than the packet's first instant.
 pub fn copies_anywhere_are_further()
     ensures { (shift : ℤ) (p : PacketJournal) (plan : ListenPlan) (records : List Record) (earlier place n : ℕ) (made : MadeItem) (d : Delivery) → HearsTalker shift p plan records → IsAudioKind p.times.kind → IsWelcome p plan records earlier n made → earlier < place
         → ComesInTime p plan records place n d → IsFurther p plan records place n (made_of_one d) }
@@ -87,9 +88,9 @@ pub fn units_anywhere_are_welcome()
         → UnitMustBePresented p plan records part from n before last → IsWelcome p plan records (unit_place before last) n (unit_by before last) }
 {}
 
-/// If a unit must be presented and arrives whole again later, the later one must be flagged as a repeat if it is in
-/// time. It is in time if all deliveries up to and including its last packet were captured no later than the instant at
-/// which the unit is due.
+/// If a unit must be presented and arrives whole again later, the later copy of the unit must be flagged as a repeat if
+/// it is in time. The later copy is in time if all deliveries up to and including its last packet were captured no
+/// later than the instant at which the unit is due.
 pub fn units_anywhere_are_further()
     ensures { (shift : ℤ) (p : PacketJournal) (plan : ListenPlan) (records : List Record) (part : ℕ → Part) (earlier from n : ℕ) (made : MadeItem) (before : List Delivery) (last : Delivery) → HearsTalker shift p plan records → p.times.kind ≡ H264 part → IsWelcome p plan records earlier n made
         → earlier < unit_place before last → UnitComesInTime p plan records part from n before last → IsFurther p plan records (unit_place before last) n (unit_by before last) }

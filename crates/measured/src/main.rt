@@ -6,11 +6,11 @@
 //!
 //! `measured judge ORDER WAITING LOOK CLOCK ITEMS` judges packets with a look-ahead, and with a clock or without. The
 //! order of the packets' instants is rising, falling, random, middle or equal. `measured listener STREAMS PACKETS`
-//! feeds a listener a capture of this many streams and packets. The listener hears one of the streams. Both commands
-//! print how many packets are presented, and in how many nanoseconds.
+//! feeds a listener a capture of this many streams and packets. The listener hears one of the streams. `judge` and
+//! `listener` print how many packets are presented, and in how many nanoseconds.
 //!
 //! `measured samples BATCHES TIMES` prints the samples of this many batches several times, to a sink that keeps
-//! nothing. It prints how many bytes of text that is, and in how many nanoseconds.
+//! nothing. It prints the number of bytes of text, and how many nanoseconds the printing took.
 #![tactic(auto)]
 
 mod capture;
@@ -53,7 +53,8 @@ fn words_of(rt: &HostRuntime) -> Option<Vec<String>> {
     env::args(rt).ok()?.skip(1).collect(rt.alloc()).ok()
 }
 
-/// Runs the measurement that the arguments name. `None` if they name no measurement, or if there is not enough memory.
+/// Runs the measurement that the arguments name. Returns `None` if the arguments name no measurement, or if there is
+/// not enough memory.
 fn measured<T: Threads + Sync + Clock>(rt: &T, alloc: Global, words: &[String]) -> Option<String> {
     match words.get(0)?.as_str() {
         "judge" => judged(rt, alloc, words)?.text(alloc),

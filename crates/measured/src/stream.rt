@@ -70,7 +70,7 @@ impl Stream {
     }
 
     /// The instant of packet n. The packets are in groups of `waiting` packets. While the packets of one group arrive,
-    /// those of the group before are due.
+    /// the packets of the previous group are due.
     fn instant(&self, n: u32) -> u64
         requires some { 1 ≤ self.now.waiting }
         requires most { self.now.waiting ≤ 65536 }

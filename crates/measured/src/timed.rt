@@ -10,7 +10,7 @@ pub struct Timed {
 }
 
 impl Timed {
-    /// Both numbers, with a space between them.
+    /// The count and the nanoseconds as text, with a space between them.
     pub fn text(&self, alloc: Global) -> Option<String> {
         format!(in alloc; "{} {}", self.count, self.nanoseconds).ok()
     }

@@ -79,7 +79,7 @@ head_back plan prefix p =
     option_map (λ (stamp : Stamp). record { instant = stamp.instant; first = pos far.samples })
     (found (plan.look + 16) (want_of plan p far) (stamps_of prefix))) (distance_back p)
 
--- the head of a packet: the one that its own timestamp gives, if that timestamp is usable; otherwise the one that
--- another packet's timestamp gives
+-- the head of a packet: its own head if its timestamp is usable, otherwise the head that another packet's timestamp
+-- gives
 abbrev pub head_of : SchedulePlan → List Entry → Packet → Option Head
 head_of plan prefix p = option_or (own_head p) (head_back plan prefix p)

@@ -3,7 +3,7 @@ use Rattle.std.specs.Prelude.{◌≡◌, ℕ, ◌+◌, ◌*◌, ◌^◌, ◌<◌
 use Rattle.sample_schedule.specs.Batches.{Presented, sample_instant}
 use Rattle.sample_schedule.specs.declared.instants.Instant.{Instant}
 
--- `rest` is the fraction that rounding drops from the instant of sample j. Its unit is 1 / `den` of a nanosecond, for
+-- `rest` is the fraction that rounding drops from the instant of sample j, in units of 1 / `den` of a nanosecond, for
 -- the line's `den`.
 pub record IsRestOf (batch : Presented) (j : ℕ) (instant : ℤ) (rest : ℕ) : Type 0 where
   pub steps : (batch.from +ℤ pos j) *ℤ pos batch.line.num ≡ (instant -ℤ batch.line.base) *ℤ pos batch.line.den +ℤ pos rest

@@ -24,10 +24,10 @@ pending_of (OfClock arrival row) = PendingClock arrival
 
 -- ---- the judge
 
--- A judge. `place` is the number of judged entries. `time` is the greatest arrival up to and including that of the
--- current entry. `noted` is what was noted from all entries. `waiting` holds the accepted batches that wait for their
--- instants. `current` is the current entry, and `ahead` holds the entries after it. `closed` tells whether the list of
--- entries has ended.
+-- A judge. `place` is the number of judged entries. `time` is the greatest arrival of the judged entries and of the
+-- current entry. `noted` holds the stamps and the clock packets of all entries so far. `waiting` holds the accepted
+-- batches that wait for their instants. `current` is the current entry, and `ahead` holds the entries after it.
+-- `closed` tells whether the list of entries has ended.
 pub record JudgeState : Type 0 where
   pub plan : SchedulePlan
   pub place : ℕ
@@ -68,8 +68,8 @@ none_left (Some p) ahead = false
 abbrev pub is_over : JudgeState → Bool
 is_over judge = if judge.closed then none_left judge.current judge.ahead else false
 
--- The judge has taken `entries`, and has returned the first `given` items of what it shows of them. Samples are timed
--- by the clock of the judge's plan.
+-- The judge has taken `entries`, and has returned the first `given` items that it shows of these entries. Samples are
+-- timed by the clock of the judge's plan.
 pub record StandsFor (clock : Clock) (entries : List Entry) (given : ℕ) (judge : JudgeState) : Type 0 where
   pub asks : IsClockOf judge.plan clock
   -- the judge holds the entries that are not judged, and has noted the stamps and clock packets of all entries

@@ -34,7 +34,7 @@ Clock = List ClockRow → ℤ → ℤ → ℕ → Option Spot
 abbrev pub IsClockOf : SchedulePlan → Clock → Type 0
 IsClockOf plan clock = plan.clock ≡ true → clock ≡ clock_spot
 
--- the row of a clock packet; `None` for an item, of which the clock keeps nothing
+-- the row of a clock packet, or `None` for an item, because the clock keeps nothing of an item
 abbrev pub row_of : Entry → Option ClockRow
 row_of (OfItem item) = None
 row_of (OfClock arrival row) = Some row

@@ -14,7 +14,7 @@ pub struct Instant {
     pub j: u32,
     pub nanoseconds: i64,
     rest: u64,
-    /// The step from one sample to the next: the whole nanoseconds, and in `step_rest` the remainder.
+    /// The step from one sample to the next: `step` has the whole nanoseconds, and `step_rest` has the remainder.
     step: u64,
     step_rest: u64,
 }

@@ -45,7 +45,7 @@ pub struct Judge {
     noted: Noted,
     /// The accepted batches, which wait for their instants.
     waiting: Waiting,
-    /// The current entry. It is judged after everything that its arrival makes due was returned.
+    /// The current entry. First, everything that its arrival makes due is returned. Then the entry is judged.
     current: Option<Pending>,
     /// The entries after the current one: the delay line.
     ahead: HeapCircularBuffer<Pending>,
@@ -90,8 +90,8 @@ impl Judge {
         })
     }
 
-    /// The entry, which has left the delay line, becomes the current one. If it arrived later than all entries before
-    /// it, the time moves on to its arrival.
+    /// The entry, which has left the delay line, becomes the current one. If the entry arrived later than all entries
+    /// before it, the judge's time becomes the entry's arrival.
     #[inline(always)]
     fn judge_next(&mut self, next: Pending)
         requires idle { IsIdle self.old }
@@ -246,7 +246,8 @@ impl Judge {
         }
     }
 
-    /// If the list has ended, makes the next entry the current one. Returns whether there is one.
+    /// If the list has ended and the delay line has an entry, makes the line's first entry the current one, and returns
+    /// true. Otherwise returns false.
     #[inline(always)]
     fn take_ahead(&mut self) -> bool
         requires { IsIdle self.old }

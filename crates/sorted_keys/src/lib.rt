@@ -1,5 +1,5 @@
-//! Keys of the batches that wait for their instants. They are sorted and kept in blocks, so that few keys are moved if
-//! a batch arrives out of order.
+//! Keys of the batches that wait for their instants. The keys are sorted and kept in blocks, so that few keys are moved
+//! if a batch arrives out of order.
 #![tactic(auto)]
 
 mod block;

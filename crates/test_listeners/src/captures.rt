@@ -13,8 +13,8 @@ pub enum Format {
     Clock,
 }
 
-/// A packet as it is captured, in a frame of its own. It is made from the packet of a test vector by changing some
-/// bytes.
+/// A packet as it is captured, in a frame of its own. The packet is made from the packet of a test vector by changing
+/// some bytes.
 #[derive(Clone, Copy)]
 pub struct Captured {
     pub format: Format,

@@ -6,8 +6,8 @@ use avtp_base::NoMemory;
 use std::alloc::Global;
 use vectors_avtp::Draws;
 
-/// Unit `n`. It is captured 10 ns after unit `n` - 1, and is due up to 20,000 ns after its arrival. No two units have
-/// both the same instant and the same sequence number.
+/// Unit `n` is captured 10 ns after unit `n` - 1, and is due up to 20,000 ns after its arrival. No two units have both
+/// the same instant and the same sequence number.
 fn drawn(draws: &mut Draws, n: u16) -> (u32, Captured) {
     let arrival = 10 * u32::from(n);
     let instant = arrival + 100 * draws.below(200) + u32::from(n / 256);

@@ -74,8 +74,9 @@ const SEARCHES: [Search; 6] = [
     },
 ];
 
-/// Two results, which must be equal, for the second packet of a sparse 48 kHz stream. One is the stamp that is found
-/// among two kept stamps. The other is the stamp that is found among the last two in the list of all stamps.
+/// Two results, which must be equal, for the second packet of a sparse 48 kHz stream. The first result is the stamp
+/// that is found among two kept stamps. The second result is the stamp that is found among the last two in the list of
+/// all stamps.
 fn found(alloc: Global, arrival: u32) -> Result<[Option<Stamp>; 2], NoMemory> {
     let want = Want {
         seq: 0,

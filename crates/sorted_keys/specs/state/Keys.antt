@@ -65,8 +65,8 @@ pub record AreTaken (blocks : List (List Key)) : Type 0 where
   pub filled : AllByRecursion (λ block. 256 ≤ length block) (drop 1 blocks)
   pub short : AllByRecursion (λ block. length block < 512) blocks
 
--- A key with this instant goes into the block at this index: all keys in the earlier blocks are at or before the
--- instant, and all keys in the later blocks are after the instant.
+-- A key with this instant goes into the block at this index. All keys in the earlier blocks are at or before the
+-- instant. All keys in the later blocks are after the instant.
 abbrev pub IsBlockFor : ℤ → List (List Key) → ℕ → Type 0
 IsBlockFor instant [] place = ⊥
 IsBlockFor instant (block ∷ rest) zero = AllByRecursion (λ key. instant <ℤ key.instant) (all_keys rest)
