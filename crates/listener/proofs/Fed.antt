@@ -116,7 +116,7 @@ lent_nothing size piece next some within quiet = (
   none_due None none due = absurd cc
   none_due (Some x) none due = absurd cc
 
--- the listener's state after a record was read and given to it
+-- the listener's state after a record was read and given to the listener
 pub stands_fed : (bytes : List ℕ) (given : ℕ) (reader : Reading) (mid new : ListenState) (x : Option Shown) (b : Bool) → HasHeard bytes given reader mid → held reader ≡ None
     → ((records : List Record) (given : ℕ) → RecordsStandFor records given mid → x ≡ slice_get (out_of mid records) given)
     → ((records : List Record) (given : ℕ) → RecordsStandFor records given mid → RecordsStandFor records (given + length (option_to_list x)) new)

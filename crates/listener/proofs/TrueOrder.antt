@@ -30,7 +30,7 @@ use Rattle.listener.specs.Laws.{HearsTalker, ComesBefore, presented_of}
 use Rattle.listener.proofs.Shown.{IsPlaced, Rising, all_placed, deliveries_rise, is_presentable}
 use Rattle.listener.proofs.TrueList.{batches_are, given_true}
 
--- The accepted batch's instant is the batch's first instant, and the batch is made of the item at its index.
+-- The accepted batch's instant is the batch's first instant, and the batch is made of the item at index `a.place`.
 record IsPut (ms : List MadeItem) (a : Accepted) : Type 0 where
   instant : a.instant ≡ first_instant a.batch
   placed : IsPlaced ms (Presents a)

@@ -166,8 +166,8 @@ abbrev pub given_up_by : List Delivery → Delivery → List MadeItem
 given_up_by before d =
     map (flagged (lost_for (reason (events_to before d)))) (last_ones (length (given_up (events_to before d))) (in_stream before))
 
--- The unit that a delivery completes. Its frame number, arrival, sequence number and presentation time are those of
--- that delivery. The unit's earlier deliveries are the stream's last ones before that delivery.
+-- The unit that a delivery completes. The unit has the frame number, arrival, sequence number and presentation time of
+-- that delivery. The unit's earlier deliveries are the stream's last deliveries before that delivery.
 abbrev pub unit_by : List Delivery → Delivery → MadeItem
 unit_by before d = record {
   entry = OfItem (OfUnit (record {

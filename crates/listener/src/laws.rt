@@ -148,7 +148,7 @@ pub fn further_copies_are_repeats()
 /// All that is promised of a talker that keeps the rules, whatever packets a capture loses, repeats or reorders, and
 /// wherever the talker's clock restarts. Each sample is presented at the talker's own nanosecond if its packet came in
 /// time, found room and has a known timestamp or clock reference. Hence any two listeners agree. Every other packet
-/// that came is flagged with its one reason. Samples are presented in order, once, within fixed buffers.
+/// that came is flagged with one reason. Samples are presented in order, once, within fixed buffers.
 pub fn headline_holds()
     ensures { (shift : ℤ) (p : PacketJournal) (plan : ListenPlan) (records : List Record) → HearsTalker shift p plan records → KeepsHeadline shift p plan records (shown_of plan records) }
 {}

@@ -78,11 +78,11 @@ pub fn copies_anywhere_are_further()
         → ComesInTime p plan records place n d → IsFurther p plan records place n (made_of_one d) }
 {}
 
-/// A unit of H.264 must be presented on four conditions. One copy of each of its packets came, in order, with no other
-/// packet of the stream between them. All deliveries up to and including the last copy were captured no later than the
-/// instant at which the unit is due. No copy of the unit's last packet came before. The buffer has room for the unit.
-/// The unit is then made of exactly these copies. This holds anywhere in a capture, whatever the capture loses, repeats
-/// or reorders.
+/// A unit of H.264 must be presented on four conditions. One copy of each of the unit's packets came, in order, with no
+/// other packet of the stream between them. All deliveries up to and including the last copy were captured no later
+/// than the instant at which the unit is due. No copy of the unit's last packet came before. The buffer has room for
+/// the unit. The unit is then made of exactly these copies. This holds anywhere in a capture, whatever the capture
+/// loses, repeats or reorders.
 pub fn units_anywhere_are_welcome()
     ensures { (shift : ℤ) (p : PacketJournal) (plan : ListenPlan) (records : List Record) (part : ℕ → Part) (from n : ℕ) (before : List Delivery) (last : Delivery) → HearsTalker shift p plan records → p.times.kind ≡ H264 part
         → UnitMustBePresented p plan records part from n before last → IsWelcome p plan records (unit_place before last) n (unit_by before last) }
@@ -97,7 +97,7 @@ pub fn units_anywhere_are_further()
 {}
 
 /// The headline by itself implies two things, anywhere in a capture, with a clock or without. A copy or a unit that
-/// must be presented is presented. A further copy of it that comes in time is flagged as a repeat.
+/// must be presented is presented. A further copy that comes in time is flagged as a repeat.
 pub fn headline_demands()
     ensures presented { (shift : ℤ) (p : PacketJournal) (plan : ListenPlan) (records : List Record) (shown : List Shown) (place n : ℕ) (d : Delivery) → KeepsHeadline shift p plan records shown → HearsTalker shift p plan records → IsAudioKind p.times.kind → MustBePresented p plan records place n d
         → Any (IsPresentedOf (by_clock plan) p n (made_of_one d)) (presented_of shown) }

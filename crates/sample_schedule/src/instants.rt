@@ -59,7 +59,8 @@ impl Instant {
         }
     }
 
-    /// Moves on to the instant of the next sample. (After the batch's last sample, that is the sample after the batch.)
+    /// Moves on to the instant of the next sample. After the batch's last sample, the next sample is the first one
+    /// after the batch.
     #[inline(always)]
     pub fn next(&mut self, batch: &Batch)
         requires inside { self.old.j < batch.now.count }

@@ -325,7 +325,8 @@ impl Judge {
     }
 
     /// How many batches wait: at most the plan's `buffer`. Together they have at most `room` bytes. If nothing is due,
-    /// these are all batches that were accepted and not yet returned. If nothing is due after `close`, there are none.
+    /// the waiting batches are all batches that were accepted and not yet returned. If nothing is due after `close`, no
+    /// batch waits.
     pub fn held(&self) -> u32
         ensures held { result ≡ length self.now.waiting }
         ensures batches { result ≤ self.now.plan.buffer }

@@ -52,8 +52,8 @@ pub record JudgesNext (ended did : Bool) (units_old units_new : Gathered) (old n
   pub less : did ≡ true → length (left units_new) + cond new.closed 0 1 < length (left units_old) + cond old.closed 0 1
   pub none : did ≡ false → ((left units_old ≡ []) × (left units_new ≡ [])) × ((new ≡ old) × (ended ≡ true → new.closed ≡ true))
 
--- The invariant of every listener. There is a list of records that leads to its state. The items that it has returned
--- are a prefix of what is shown of these records.
+-- The invariant of every listener. There is a list of records that leads to the listener's state. The items that were
+-- returned are a prefix of what is shown of these records.
 pub record IsSound (listener : ListenState) : Type 0 where
   pub records : List Record
   pub given : ℕ
