@@ -147,8 +147,8 @@ waiting_more before d e =
     ap (λ (es : List Event). last_ones (length (held es)) (in_stream (before ++ d ∷ []))) (events_more before d e)
     ∙ ap (last_ones (length (held (events_to before d)))) (stream_more before d e)
 
--- After delivery `d`, each delivery that waited, and `d` itself, is in an item or still waits. This is counted for the
--- deliveries that pass the test `p`.
+-- After delivery `d`, each delivery that waited, and `d` itself, is in an item or still waits. Only deliveries that
+-- pass the test `p` are counted.
 Keeps : (Delivery → Bool) → List Delivery → Delivery → List MadeItem → Type 0
 Keeps p before d own = tally p (given_up_by before d ++ own) + count_by p (last_ones (length (held (events_to before d))) (in_stream before ++ d ∷ [])) ≡ count_by p (waiting before) + count_by p (d ∷ [])
 

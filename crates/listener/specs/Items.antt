@@ -74,7 +74,7 @@ malformed d refusal = OfBad (record {
   reason = Malformed refusal.field;
 })
 
--- the item of a delivery: if the packet's reader refuses it, the malformed item; otherwise `item`
+-- the item of a delivery: the malformed item if the packet is refused, otherwise `item`
 abbrev pub refused_or : Delivery → Option Refusal → Item → Item
 refused_or d None item = item
 refused_or d (Some refusal) item = malformed d refusal
@@ -93,8 +93,8 @@ item_of d = if d.subtype == aaf_subtype then aaf_item d else iec_item d
 
 -- ---- the media clock
 
--- The timestamps of a packet of the media clock (IEEE 1722-2016, 10). They are used if the packet is of the type for
--- audio samples and does not have the timestamp-uncertain bit.
+-- The timestamps of a packet of the media clock (IEEE 1722-2016, 10). The timestamps are used if the packet is of the
+-- type for audio samples and does not have the timestamp-uncertain bit.
 abbrev pub points_of : Crf → ClockRow
 points_of v = record {
   usable = (v.kind == audio_sample_type) && not v.tu;
@@ -106,7 +106,7 @@ points_of v = record {
   payload = v.payload;
 }
 
--- the row of a clock packet that its reader refuses: it has no timestamps
+-- the row of a refused clock packet: the row has no timestamps
 abbrev pub no_points : ClockRow
 no_points = record { usable = false; seq = 0; mr = false; base_frequency = 0; pull = 0; interval = 0; payload = [] }
 

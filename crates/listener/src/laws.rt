@@ -138,14 +138,14 @@ pub fn first_fragments_are_welcome()
         → AreOfUnit p part plan.lead from n earlier last → last.arrival ≤ℤ pos (p.times.due n) → 1 ≤ plan.buffer → length (unit_bytes p from n) ≤ plan.room → IsWelcome p plan records 0 n (unit_by earlier last) }
 {}
 
-/// If a packet was accepted before, a further copy of it is flagged as a repeat, whether the buffer has room for it or
-/// not. The copy's timestamp must be known, and the copy must have come in time. Nothing else is shown of the copy's
-/// frame.
+/// If a packet was accepted before, a further copy of the packet is flagged as a repeat, whether the buffer has room
+/// for the copy or not. The copy's timestamp must be known, and the copy must have come in time. Nothing else is shown
+/// of the copy's frame.
 pub fn further_copies_are_repeats()
     ensures { (shift : ℤ) (p : PacketJournal) (plan : ListenPlan) (records : List Record) (place n : ℕ) (made : MadeItem) → HearsTalker shift p plan records → IsFurther p plan records place n made → shown_of_frame made.last.frame (shown_of plan records) ≡ Flag made.last.frame made.last.seq Repeat ∷ [] }
 {}
 
-/// All that is promised of a talker that keeps the rules, whatever packets a capture loses, repeats or reorders, and
+/// All that is promised for a talker that keeps the rules, whatever packets a capture loses, repeats or reorders, and
 /// wherever the talker's clock restarts. Each sample is presented at the talker's own nanosecond if its packet came in
 /// time, found room and has a known timestamp or clock reference. Hence any two listeners agree. Every other packet
 /// that came is flagged with one reason. Samples are presented in order, once, within fixed buffers.

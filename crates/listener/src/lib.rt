@@ -1,5 +1,5 @@
-//! A listener of one stream. From the bytes of a capture it finds which packets of the stream are presented, at which
-//! nanosecond, and why the others are not.
+//! A listener of one stream. From the bytes of a capture, the listener finds which packets of the stream are presented,
+//! at which nanosecond, and why the others are not.
 #![tactic(auto)]
 
 mod blocks;

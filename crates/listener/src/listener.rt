@@ -162,9 +162,9 @@ impl Listener {
         Some(shown)
     }
 
-    /// Takes back the memory of samples that were shown. The samples of later packets are copied into it before more
-    /// memory is allocated. At most 64 such buffers are kept; the memory of others is freed. May be called at any time.
-    /// Allocates nothing.
+    /// Takes back the memory of samples that were shown. The samples of later packets are copied into this memory
+    /// before more is allocated. At most 64 such buffers are kept; the memory of others is freed. May be called at any
+    /// time. Allocates nothing.
     pub fn give_back(&mut self, samples: Bytes)
         ensures { self.new ≡ self.old }
     {

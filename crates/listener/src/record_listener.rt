@@ -176,9 +176,9 @@ impl RecordListener {
         }
     }
 
-    /// Takes back the memory of samples that were shown. The samples of later packets are copied into it before more
-    /// memory is allocated. At most 64 such buffers are kept; the memory of others is freed. May be called at any time.
-    /// Allocates nothing.
+    /// Takes back the memory of samples that were shown. The samples of later packets are copied into this memory
+    /// before more is allocated. At most 64 such buffers are kept; the memory of others is freed. May be called at any
+    /// time. Allocates nothing.
     #[inline(always)]
     pub fn give_back(&mut self, samples: Bytes)
         ensures { self.new ≡ self.old }

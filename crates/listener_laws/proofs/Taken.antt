@@ -44,7 +44,7 @@ pub record IsPacketAt (by : Bool) (p : PacketJournal) (k : ℕ) (a : Accepted) :
   pub at : IsAt by p.times k 0 a.instant
   pub is : IsOfPacket by p k a.batch
 
--- The accepted batch has property `P`, and is accepted at its first instant.
+-- The batch of the accepted item has property `P`, and the item's instant is the batch's first instant.
 pub record IsAcceptedOf (P : Presented → Type 0) (a : Accepted) : Type 0 where
   pub is : P a.batch
   pub instant : a.instant ≡ first_instant a.batch

@@ -34,7 +34,7 @@ pub fn fronts_are_true()
 {}
 
 /// If a listener hears a talker in a whole capture, it hears the talker in the first records of the capture, too.
-/// Hence, if reading stops at a fault or a limit, what is due of the records before it is as the headline says
+/// Hence, if reading stops at a fault or a limit, what is due of the records before that stop is as the headline says
 /// (`fronts_are_true`).
 pub fn shorter_captures_are_heard()
     ensures { (shift : ℤ) (p : PacketJournal) (plan : ListenPlan) (records others : List Record) → HearsTalker shift p plan (records ++ others) → HearsTalker shift p plan records }
@@ -114,8 +114,9 @@ pub fn headline_demands()
     units_anywhere_are_further();
 }
 
-/// If a packet of H.264 completes a unit (`Assembler::push` returns `Whole`), the unit is one of the talker's units. It
-/// was made of one copy of each packet of that unit, in order, and has the bytes and the instant of that unit.
+/// If a packet of H.264 completes a unit (`Assembler::push` returns `Whole`), the unit is one of the talker's units.
+/// The completed unit was made of one copy of each packet of the talker's unit, in order, and has that unit's bytes and
+/// instant.
 pub fn assembled_units_are_true()
     ensures { (shift : ℤ) (p : PacketJournal) (plan : ListenPlan) (records : List Record) (part : ℕ → Part) (before : List Delivery) (d : Delivery) (rest : List Delivery) → HearsTalker shift p plan records → p.times.kind ≡ H264 part → deliveries_of plan records ≡ before ++ d ∷ rest
         → d.subtype ≡ cvf_subtype → flaw_of d ≡ None → piece (events_to before d) ≡ Whole → (n : ℕ) × IsUnitFrom p part plan.lead n (unit_by before d) (completed before d) }

@@ -149,8 +149,9 @@ impl Judge {
         self.put(Pending::Item(item));
     }
 
-    /// Takes a packet of the stream's clock, given its arrival and its timestamps. It is an entry that is never shown.
-    /// The preconditions are those of `step`. If the plan has no clock, only the arrival counts. Allocates nothing.
+    /// Takes a packet of the stream's clock, given its arrival and its timestamps. The packet is an entry that is never
+    /// shown. The preconditions are those of `step`. If the plan has no clock, only the arrival counts. Allocates
+    /// nothing.
     pub fn step_clock(&mut self, arrival: i64, points: &Points<'_>)
         requires open { self.old.closed ≡ false }
         requires idle { IsIdle self.old }
