@@ -14,8 +14,8 @@ use Rattle.packet_journal.specs.Deliveries.{Delivery}
 use Rattle.listener.specs.Items.{lost_for}
 use Rattle.listener.specs.Units.{events}
 
--- The state of a stream's units. It holds the fragments of the current unit, why the last fragments were given up, how
--- many of those were taken, and the last delivery's own item.
+-- The state of a stream's units. The state holds the fragments of the current unit, why the last fragments were given
+-- up, how many of these lost fragments were taken, and the last delivery's own item.
 pub record Gathered : Type 0 where
   pub assembly : Assembly
   pub why : LostFor

@@ -30,8 +30,8 @@ impl BufferPool {
     }
 
     /// An empty buffer with room for `size` bytes: the pool's last buffer if that fits, otherwise a new one. If the
-    /// pool's last buffer is too small, it is freed. If it has room for more than about 2 * `size` bytes, it is freed,
-    /// too: small packets must not hold the memory of large ones.
+    /// pool's last buffer is too small, it is freed. If that buffer has room for more than about 2 * `size` bytes, it
+    /// is freed, too: small packets must not hold the memory of large ones.
     #[inline(always)]
     pub fn take(&mut self, alloc: Global, size: usize) -> Result<Vec<u8>, NoMemory>
         ensures empty { IfOk result (λ buffer. buffer.items ≡ []) }

@@ -80,8 +80,8 @@ fn iec_item(
     }
 }
 
-/// The item of a delivery of audio. If its packet is refused, the item names the refused field; otherwise it holds the
-/// samples.
+/// The item of a delivery of audio. If the delivery's packet is refused, the item names the refused field; otherwise
+/// the item holds the samples.
 pub fn item_of(
     alloc: Global,
     pool: &mut BufferPool,

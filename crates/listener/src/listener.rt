@@ -36,8 +36,8 @@ pub enum ListenFault {
     Memory,
 }
 
-/// A listener that takes a capture's bytes in pieces of any length. It shows what a `RecordListener` shows of the
-/// capture's records.
+/// A listener that takes a capture's bytes in pieces of any length. The listener shows what a `RecordListener` shows of
+/// the capture's records.
 ///
 /// After each call the caller takes all items that are due with `next_out` before it feeds more bytes. Memory for the
 /// listener's state is reserved when the listener is made. Later each packet's samples are copied once, into the batch
@@ -243,8 +243,7 @@ fn take_lent(
     Ok(())
 }
 
-/// Gives the record that the reader holds to the listener, if there is one. If there is no memory, the listener is
-/// unchanged.
+/// If the reader holds a record, gives that record to the listener. If there is no memory, the listener is unchanged.
 fn take_held(
     alloc: Global,
     reader: &mut Reader,

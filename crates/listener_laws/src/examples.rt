@@ -12,8 +12,8 @@ use packet_journal::examples::clocked_packets_conform;
 use packet_journal::laws::{carried_clock_packet_is_delivered, carried_packet_is_delivered};
 
 /// A listener with the talker's clock adds a microsecond to the clock's timestamps. The listener gets two packets of
-/// the clock, then packet 34, and then packet 33 twice. The first copy of packet 33 must be presented, at its instants
-/// by the clock. The second copy comes in time, too, so it is a repeat.
+/// the clock, then packet 34, and then packet 33 twice. The first copy of packet 33 must be presented at the instants
+/// that the clock gives. The second copy comes in time, too, so it is a repeat.
 pub fn clocked_copies_are_so()
     ensures heard { HearsTalker (pos 1000) clocked_packets clocked_listener swapped_records }
     ensures first { (d : Delivery) × MustBePresented clocked_packets clocked_listener swapped_records 3 33 d }

@@ -78,8 +78,8 @@ fn on_clock_line(packet: Packet, head: &Head, line: Line, number: u64) -> Batch
     samples_on(packet, line, number as i64 + head.first)
 }
 
-/// The samples of a packet, counted from its head. If there is a clock, they are on the clock's line that covers the
-/// head; otherwise they are on the nominal line.
+/// The samples of a packet, counted from its head. If there is a clock, the samples are on the clock's line that covers
+/// the head's instant; otherwise they are on the nominal line.
 #[inline(always)]
 fn counted(noted: &Noted, packet: Packet, head: &Head) -> Result<Batch, Reason>
     requires packet { IsPacket packet }
