@@ -120,8 +120,6 @@ all-merged-is list other n k over_a over_b =
     ap (λ (l : List Presented). known over_a over_b (merged l (presented_of (take k other) ++ presented_of (drop k other)))) (presented-split n list)
     ∙ ap (λ (l : List Presented). known over_a over_b (merged (presented_of list) l)) (presented-split k other)
 
--- difference number `given` of the batches that the matching was given is also difference number `given` of all batches
--- that the sides present
 pub some-next : (list other : List Shown) (n k given : ℕ) (over_a over_b : Bool) (old new : MatchingState) (d : Option Difference) → IsHeard list → IsHeard other → Matches list other n k (given + 1) new → (new.ended_a ≡ true → over_a ≡ true) → (new.ended_b ≡ true → over_b ≡ true)
     → new.ended_a ≡ old.ended_a → new.ended_b ≡ old.ended_b → d ≡ slice_get (differences (known_of old (presented_of (take n list)) (presented_of (take k other)))) given
     → d ≡ slice_get (differences (known over_a over_b (merged (presented_of list) (presented_of other)))) given
@@ -133,7 +131,6 @@ some-next list other n k given over_a over_b old new d hl ho h oa ob ea eb e =
     ∙ some-all xs ys (presented_of (drop n list)) (presented_of (drop k other)) given over_a over_b new h.matched g
     ∙ ap (λ (l : List Sided). slice_get (differences l) given) (all-merged-is list other n k over_a over_b)
 
--- if the sides are settled, the matching was given all that the wanted side presents
 pub asked : (ShowsA ShowsB : List Shown → ℕ → Type 0) (QuietA QuietB : Type 0) (list other : List Shown) (given : ℕ) (over_a over_b : Bool) (m : MatchingState) (p : Pairs ShowsA ShowsB list other given m) → IsSettled over_a over_b QuietA QuietB m
     → IsAsked (presented_of (drop p.shown_a list)) (presented_of (drop p.shown_b other)) over_a over_b m
 asked ShowsA ShowsB QuietA QuietB list other given over_a over_b m p s = record {
@@ -150,14 +147,14 @@ idle-all ShowsA ShowsB QuietA QuietB list other given over_a over_b m hl ho p s 
     ∙ known-idle (presented_of (take p.shown_a list)) (presented_of (take p.shown_b other)) (presented_of (drop p.shown_a list)) (presented_of (drop p.shown_b other)) given over_a over_b m p.matches.matched
     (goes-on list other p.shown_a p.shown_b given over_a over_b m hl ho p.matches s.over_a s.over_b) (asked ShowsA ShowsB QuietA QuietB list other given over_a over_b m p s) idle
 
--- if the matching is idle, the known part has no further difference
+-- if the matching is idle, the known part of the merged list has no further difference
 pub none-next : (ShowsA ShowsB : List Shown → ℕ → Type 0) (QuietA QuietB : Type 0) (list other : List Shown) (given : ℕ) (over_a over_b : Bool) (m : MatchingState) → IsHeard list → IsHeard other → Pairs ShowsA ShowsB list other given m → IsSettled over_a over_b QuietA QuietB m → IsIdle m
     → None ≡ slice_get (differences (known over_a over_b (merged (presented_of list) (presented_of other)))) given
 none-next ShowsA ShowsB QuietA QuietB list other given over_a over_b m hl ho p s idle =
     sym (ap (λ (l : List Sided). slice_get (differences l) given) (idle-all ShowsA ShowsB QuietA QuietB list other given over_a over_b m hl ho p s idle)
     ∙ slice_get_past (differences p.matches.matched.done) given (let e = p.matches.matched.shown in omega arith))
 
--- if the matching is idle, its counts are those of the known part
+-- if the matching is idle, its counts are those of the known part of the merged list
 pub counts-all : (ShowsA ShowsB : List Shown → ℕ → Type 0) (QuietA QuietB : Type 0) (list other : List Shown) (given : ℕ) (over_a over_b : Bool) (m : MatchingState) → IsHeard list → IsHeard other → Pairs ShowsA ShowsB list other given m → IsSettled over_a over_b QuietA QuietB m → IsIdle m
     → m.counts ≡ counts_of (known over_a over_b (merged (presented_of list) (presented_of other)))
 counts-all ShowsA ShowsB QuietA QuietB list other given over_a over_b m hl ho p s idle =

@@ -234,7 +234,8 @@ given-open : (which : Which) (batch : Presented) (m : MatchingState) → open_si
 given-open A batch m = refl
 given-open B batch m = refl
 
--- giving an item to the matching does not raise the sum of work and open sides
+-- When an item is given to the matching, this sum does not rise: the number of items that the listener can still show,
+-- plus the number of sides that have not ended.
 pub handed-less : (which : Which) (next : Option Shown) (ended : Bool) (m : MatchingState) (was is : ℕ) → wanted m ≡ Some which → is + length (option_to_list next) ≤ was → is + open_sides (handed which next ended m) ≤ was + open_sides m
 handed-less which (Some (Present batch)) ended m was is w le = let e = given-open which batch m in omega arith
 handed-less which (Some (Flag frame seq reason)) ended m was is w le = omega arith
@@ -247,7 +248,8 @@ handed-fewer which (Some (Flag frame seq reason)) ended m was is w le = inr (ome
 handed-fewer which None true m was is w le = inr (let h = ended-less which m w in omega arith)
 handed-fewer which None false m was is w le = inl w
 
--- giving an item to the matching does not raise the sum of work and next batches
+-- When an item is given to the matching, this sum does not rise: the number of items that the listener can still show,
+-- plus the number of sides that have a next batch.
 pub handed-nexts : (which : Which) (next : Option Shown) (ended : Bool) (m : MatchingState) (was is : ℕ)
     → is + length (option_to_list next) ≤ was → is + nexts_left (handed which next ended m) ≤ was + nexts_left m
 handed-nexts A (Some (Present batch)) ended m was is le = omega arith

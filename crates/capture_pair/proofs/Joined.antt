@@ -1,4 +1,5 @@
--- The known part of what two sides present, if a matching was given the first batches of each side.
+-- If a matching was given the first batches of each side and is idle, the known part of the merged list is the part
+-- that the matching has worked through.
 use Rattle.std.proofs.Common.{◌≡◌, ℕ, zero, suc, ℤ, ◌+◌, ◌<◌, Bool, true, false, cond, ◌&&◌, ◌||◌, ◌⊎◌, inl, inr, ◌≤ℤ◌, ◌<ℤ◌, List, [], ◌∷◌, ◌++◌, length, Option, Some, None, refl, sym, ap, ◌∙◌, subst, append_assoc, append-nil, arith}
 use Rattle.std.specs.Prelude.{int_lt, slice_get}
 use Rattle.std.specs.List.{AllByRecursion, list_any}
@@ -187,7 +188,7 @@ same-side : (s : Which) (z b : Presented) → first_instant z ≤ℤ first_insta
 same-side A z b le = record { instants = le; sides = λ p q. absurd (cc) }
 same-side B z b le = record { instants = le; sides = λ p q. absurd (cc) }
 
--- each batch of `done` may precede each batch of `rest` of side `s`
+-- If the batches in `rest` are of side `s`, each batch in `done` may precede each of them in merged order.
 abbrev pub Crosses : Which → List Presented → List Sided → Type 0
 Crosses s rest done = AllByRecursion (λ d. AllByRecursion (λ r. MayPrecede d (of_side s r)) rest) done
 
@@ -248,7 +249,7 @@ any-end s (x ∷ front) z rest = at (is_side s x.side) (any-end s front z rest)
     at true h = refl
     at false h = h
 
--- side `s` is settled by `rest`, or `done` ends with a batch of that side
+-- `is_settled` is true for side `s` and the list `rest`, or `done` ends with a batch of side `s`
 abbrev pub Covered : Bool → Which → List Sided → List Sided → Type 0
 Covered e s done rest = (is_settled e s rest ≡ true) ⊎ EndsOn s done
 
@@ -311,8 +312,8 @@ unsettled-b ea eb (x ∷ l) h =
 
 -- ---- what a matching was given, and what its sides present
 
--- A presents `xs` and then `more_a`, and B presents `ys` and then `more_b`, each in order. If a side has ended in the
--- matching, its listener has ended, too, and the side presents no more batches.
+-- A presents `xs` and then `more_a`, and B presents `ys` and then `more_b`. The batches of each side are in order. If a
+-- side has ended in the matching, that side's listener has ended, too, and the side presents no more batches.
 pub record GoesOn (xs ys more_a more_b : List Presented) (over_a over_b : Bool) (m : MatchingState) : Type 0 where
   pub order_a : IsInOrder (xs ++ more_a)
   pub order_b : IsInOrder (ys ++ more_b)
@@ -321,7 +322,7 @@ pub record GoesOn (xs ys more_a more_b : List Presented) (over_a over_b : Bool) 
   pub is_over_a : m.ended_a ≡ true → over_a ≡ true
   pub is_over_b : m.ended_b ≡ true → over_b ≡ true
 
--- the batches of a side that are not done yet: its next batch and the batches after that one
+-- the side's batches that the matching has not worked through: the next batch, if there is one, and then `more`
 abbrev pub rest_of : Option Presented → List Presented → List Presented
 rest_of next more = option_to_list next ++ more
 
@@ -361,11 +362,11 @@ cross-nexts-b done na nb sorted = all-weaker (λ d. AllByRecursion (MayPrecede d
         by true p = (p.0, tt)
         by false p = p.1
 
--- all batches of a side are those in `done`, and then those that are not done yet
+-- a side's batches are those in `done`, then the next batch, if there is one, and then `more`
 pub given-back : (xs done more : List Presented) (next : Option Presented) → done ++ option_to_list next ≡ xs → xs ++ more ≡ done ++ rest_of next more
 given-back xs done more next e = ap (λ (l : List Presented). l ++ more) (sym e) ∙ append_assoc done (option_to_list next) more
 
--- the merged list of all batches is `done`, and then the merged list of the batches that are not done yet
+-- the merged list of all batches is `done`, and then the merged list of the batches that are not in `done`
 pub merged-all : (xs ys more_a more_b : List Presented) (given : ℕ) (over_a over_b : Bool) (m : MatchingState) (s : StandsFor xs ys given m) → GoesOn xs ys more_a more_b over_a over_b m
     → merged (xs ++ more_a) (ys ++ more_b) ≡ s.done ++ merged (rest_of m.next_a more_a) (rest_of m.next_b more_b)
 merged-all xs ys more_a more_b given over_a over_b m s g =
@@ -379,7 +380,6 @@ merged-all xs ys more_a more_b given over_a over_b m s g =
     ap (λ (l : List Presented). merged l (ys ++ more_b)) a ∙ ap (merged (batches_of A s.done ++ rest_of m.next_a more_a)) b
     ∙ merged-after s.done (rest_of m.next_a more_a) (rest_of m.next_b more_b) sorted (order-back (batches_of A s.done) (rest_of m.next_a more_a) oa) (order-back (batches_of B s.done) (rest_of m.next_b more_b) ob) ca cb
 
--- side `s` is settled by the batches that are not done yet, or `done` ends with a batch of side `s`
 covers-at : (s : Which) (done rest : List Sided) (ended over : Bool) (next : Option Presented) (more : List Presented) (lack : Bool) → lacks ended next ≡ lack → (ended ≡ true → over ≡ true) → (lacks ended next ≡ true → EndsOn s done) → batches_of s rest ≡ rest_of next more → Covered over s done rest
 covers-at s done rest true over next more lack l is ends e = inl (ap (λ v. v || list_any (λ y. is_side s y.side) rest) (is refl))
 covers-at s done rest false over None more lack l is ends e = inr (ends refl)
@@ -405,7 +405,7 @@ pub record IsAsked (more_a more_b : List Presented) (over_a over_b : Bool) (m : 
   pub open_a : wanted m ≡ Some A → over_a ≡ false
   pub open_b : wanted m ≡ Some B → over_b ≡ false
 
--- if no side is wanted and nothing more is known, both sides have ended and have no next batch
+-- if no side is wanted and no next batch is known, both sides have ended and have no next batch
 through-at : (ea eb : Bool) (na nb : Option Presented) → lacks ea na ≡ false → lacks eb nb ≡ false → known ea eb (nexts na nb) ≡ [] → (na ≡ None) × (nb ≡ None) × (ea ≡ true) × (eb ≡ true)
 through-at true true None None a b k = (refl, refl, refl, refl)
 through-at false eb None nb a b k = absurd (cc)
@@ -424,7 +424,7 @@ wanted-at true v = inl refl
 wanted-at false true = inr (inl refl)
 wanted-at false false = inr (inr (refl, refl))
 
--- if no side is wanted and nothing more is known, both sides have ended
+-- if no side is wanted and the matching is idle, both sides have ended
 pub idle-ended : (m : MatchingState) → wanted m ≡ None → IsIdle m → (m.ended_a ≡ true) × (m.ended_b ≡ true)
 idle-ended m none idle = at (wanted-at (lacks m.ended_a m.next_a) (lacks m.ended_b m.next_b))
   where
@@ -433,7 +433,7 @@ idle-ended m none idle = at (wanted-at (lacks m.ended_a m.next_a) (lacks m.ended
     at (inr (inl w)) = let e : Some B ≡ None = sym w ∙ none in absurd (cc)
     at (inr (inr (la, lb))) = let t = through-at m.ended_a m.ended_b m.next_a m.next_b la lb idle in (t.2, t.3)
 
--- if the matching is idle, none of the batches that are not done yet is known
+-- if the matching is idle, only the batches in `done` are known
 rest-idle : (ra rb : List Presented) (more_a more_b : List Presented) (over_a over_b : Bool) (m : MatchingState) → ra ≡ rest_of m.next_a more_a → rb ≡ rest_of m.next_b more_b → IsInOrder ra → IsInOrder rb → IsIdle m
     → (m.ended_a ≡ true → more_a ≡ []) → (m.ended_b ≡ true → more_b ≡ []) → IsAsked more_a more_b over_a over_b m
     → (wanted m ≡ Some A) ⊎ ((wanted m ≡ Some B) ⊎ ((lacks m.ended_a m.next_a ≡ false) × (lacks m.ended_b m.next_b ≡ false))) → known over_a over_b (merged ra rb) ≡ []

@@ -1,4 +1,4 @@
--- The differences that a pair has returned stay the first ones, whatever its sides present later.
+-- The differences that a pair has returned stay the first known differences, whatever its sides present later.
 use Rattle.std.proofs.Common.{◌≡◌, ℕ, zero, suc, ◌+◌, ◌≤◌, Bool, true, false, List, [], ◌∷◌, ◌++◌, length, take, drop}
 use Rattle.std.proofs.Common.{◌||◌, Option, Some, None, refl, sym, ap, ◌∙◌, subst, append_assoc, append-nil, length-append, arith}
 use Rattle.std.specs.Prelude.{slice_get}
@@ -50,7 +50,7 @@ longer-open xs ys ended opened first = record {
   none = λ t. never-both ended opened t;
 }
 
--- what is due of `records` is a prefix of what is shown of `records ++ more`
+-- the items that are due after `records` are a prefix of the items that are shown of `records ++ more`
 due-shown : (plan : ListenPlan) (records more : List Record) → IsPrefix (due_of plan records) (shown_of plan (records ++ more))
 due-shown plan records more =
     prefix_twice (due_of plan records) (due_of plan (records ++ more)) (shown_of plan (records ++ more))
@@ -107,7 +107,7 @@ pub record Further (list other : List Shown) (xs ys : List Presented) (ended_a e
   pub over_a : m.ended_a ≡ true → ended_a ≡ true
   pub over_b : m.ended_b ≡ true → ended_b ≡ true
 
--- the batches that a side presents after the first n items of its list: those of the later items, and then `more`
+-- the batches in a list after its first n items, and then `more`
 abbrev left-of : List Shown → ℕ → List Presented → List Presented
 left-of list n more = presented_of (drop n list) ++ more
 
@@ -130,7 +130,7 @@ further-goes list other n k given xs ys ended_a ended_b m h f = record {
   is_over_b = f.over_b;
 }
 
--- the known part is what the matching has done, and then the known part of the batches that are not done yet
+-- the known part is `done`, and then the known part of the merged list of the batches that are not in `done`
 pub further-known : (list other : List Shown) (n k given : ℕ) (xs ys : List Presented) (ended_a ended_b : Bool) (m : MatchingState)
     → (h : Matches list other n k given m) → (f : Further list other xs ys ended_a ended_b m)
     → known ended_a ended_b (merged xs ys)
@@ -214,14 +214,14 @@ further-then records others more more_others old new ends c =
       over_b = λ t. (c.closed_b (ends.b t)).0;
     }
 
--- `given` is at most the number of known differences
+-- at least `given` differences are known
 pub given-within : (records others : List Record) (given : ℕ) (pair : PairState) → StandsFor records others given pair → EndsAreClosed pair
     → given ≤ length (differences (known_by pair records others))
 given-within records others given pair s ends =
     further-within (out pair.a records) (out pair.b others) s.shown_a s.shown_b given (presented_by pair.a records) (presented_by pair.b others)
     (is_closed pair.a) (is_closed pair.b) pair.matching s.matches (further-now records others pair ends)
 
--- the first `given` known differences stay the same, whatever the pair is given later
+-- the first `given` known differences stay the same, whatever records the pair takes later
 pub given-stays : (records others more more_others : List Record) (given : ℕ) (old new : PairState)
     → StandsFor records others given old → EndsAreClosed old → Continues more more_others old new
     → take given (differences (known_by new (records ++ more) (others ++ more_others))) ≡ take given (differences (known_by old records others))
@@ -232,7 +232,7 @@ given-stays records others more more_others given old new s ends c =
     ∙ sym (further-take (out old.a records) (out old.b others) s.shown_a s.shown_b given (presented_by old.a records) (presented_by old.b others)
     (is_closed old.a) (is_closed old.b) old.matching s.matches (further-now records others old ends))
 
--- `given` is at most the number of known differences after the pair is given more
+-- after the pair takes more records, at least `given` differences are known
 pub given-within-more : (records others more more_others : List Record) (given : ℕ) (old new : PairState)
     → StandsFor records others given old → EndsAreClosed old → Continues more more_others old new
     → given ≤ length (differences (known_by new (records ++ more) (others ++ more_others)))
@@ -319,7 +319,7 @@ given-all (x ∷ list) (suc n) e = ap (λ (z : List Difference). x ∷ z) (given
 
 -- ---- a capture whose later records cannot be read
 
--- a side that is open and has no batch in `l` is not settled by `l`
+-- if a side has not ended and has no batch in `l`, `is_settled` is false for this side and `l`
 open-none : (ended : Bool) (l : List Sided) (s : Which) → ended ≡ false → batches_of s l ≡ [] → is_settled ended s l ≡ false
 open-none ended l s opened none = ap (λ v. v || list_any (λ (y : Sided). is_side s y.side) l) opened ∙ none-batch s l none
 
@@ -352,8 +352,8 @@ order-rest-b list other n k given xs ys ended_a ended_b m h f =
 none-rest : (next : Option Presented) (us vs : List Presented) → next ≡ None → us ≡ [] → vs ≡ [] → rest_of next (us ++ vs) ≡ []
 none-rest next us vs e f g = ap (λ (o : Option Presented). rest_of o (us ++ vs)) e ∙ both-none us vs f g
 
--- If A is wanted and open, and all of its list was given, the known part is what the matching has done, whatever B
--- presents later.
+-- Let A be wanted, not have ended, and have shown no batch that the matching was not given. Then the known part is
+-- `done`, whatever B presents later.
 known-done-a : (list other : List Shown) (n k given : ℕ) (xs ys : List Presented) (ended_a ended_b : Bool) (m : MatchingState)
     → (h : Matches list other n k given m) → (f : Further list other xs ys ended_a ended_b m)
     → wanted m ≡ Some A → n ≡ length list → f.more_a ≡ [] → ended_a ≡ false
@@ -390,8 +390,8 @@ shown-is : (plan : ListenPlan) (records : List Record) (l : ListenState) → l.p
     → presented_by l records ≡ presented_of (shown_of plan records)
 shown-is plan records l is closed = ap presented_of (out_ended l records closed) ∙ ap (λ (p : ListenPlan). presented_of (shown_of p records)) is
 
--- If A is wanted, further records of B add nothing to the known part. The known part then depends on two lists: what is
--- due of A, which is still open, and all that is shown of B, which has ended.
+-- If A is wanted, further records of B add nothing to the known part. The known part is then that of two lists, as if
+-- only B had ended: the batches that are due of A, and all batches that are shown of B.
 pub fault-a : (plan : ListenPlan) (records others more : List Record) (given : ℕ) (pair : PairState)
     → StandsFor records others given pair → HavePlan plan pair → EndsAreClosed pair → wanted_by pair ≡ Some A
     → is_closed pair.a ≡ false → (is_closed pair.b ≡ true → more ≡ [])
@@ -419,8 +419,8 @@ fault-a plan records others more given pair s plans ends w opened none =
     (is_closed pair.a) (is_closed pair.b) m s.matches (further-now records others pair ends) w (s.filled_a w) refl opened
     ∙ sym (known-done-a list other s.shown_a s.shown_b given xs ys false true m s.matches f w (s.filled_a w) refl refl)
 
--- If B is wanted, further records of A add nothing to the known part. The known part then depends on two lists: all
--- that is shown of A, which has ended, and what is due of B, which is still open.
+-- If B is wanted, further records of A add nothing to the known part. The known part is then that of two lists, as if
+-- only A had ended: all batches that are shown of A, and the batches that are due of B.
 pub fault-b : (plan : ListenPlan) (records others more : List Record) (given : ℕ) (pair : PairState)
     → StandsFor records others given pair → HavePlan plan pair → EndsAreClosed pair → wanted_by pair ≡ Some B
     → is_closed pair.b ≡ false → (is_closed pair.a ≡ true → more ≡ [])

@@ -23,7 +23,7 @@ abbrev pub listener_of : Which → PairState → ListenState
 listener_of A pair = pair.a
 listener_of B pair = pair.b
 
--- the other side
+-- B for A, and A for B
 abbrev pub other_of : Which → Which
 other_of A = B
 other_of B = A
@@ -38,12 +38,13 @@ pub record HavePlan (plan : ListenPlan) (pair : PairState) : Type 0 where
   pub a : pair.a.plan ≡ plan
   pub b : pair.b.plan ≡ plan
 
--- The batches that a listener presents of `records`. While the listener is open, these are the batches that are due.
--- After it is closed, these are all batches.
+-- The batches that a listener presents of `records`. While the listener is open, these are the batches that are due,
+-- which means that they are certain to be presented whatever records follow. After it is closed, these are all batches.
 abbrev pub presented_by : ListenState → List Record → List Presented
 presented_by listener records = presented_of (out listener records)
 
--- the known part of the merged list of what both listeners present, given `records` of A and `others` of B
+-- The known part of the merged list of both listeners' batches, after `records` of A and `others` of B were given. It
+-- is the prefix of the merged list that no later records can change.
 abbrev pub known_by : PairState → List Record → List Record → List Sided
 known_by pair records others = known (is_closed pair.a) (is_closed pair.b) (merged (presented_by pair.a records) (presented_by pair.b others))
 

@@ -102,7 +102,7 @@ impl Pair {
     /// Ends the capture that is wanted: no more bytes of it follow. Allocates nothing.
     ///
     /// If a field of the capture is cut off or refused, returns `Refused` for the first such field; the records before
-    /// it are compared. If `feed` has returned `Memory` for this side, returns `Memory`.
+    /// this field are compared. If `feed` has returned `Memory` for this side, returns `Memory`.
     pub fn end(&mut self, which: Which) -> Result<(), ListenFault>
         requires wanted { wanted_by self.old ≡ Some which }
         ensures stands { (bytes others : List ℕ) (given : ℕ) → AreShort bytes others → StandsFor bytes others given self.old → StandsFor bytes others given self.new }
@@ -117,8 +117,8 @@ impl Pair {
     }
 
     /// Returns the next difference in the known part of the merged list of what both listeners present; `None` exactly
-    /// if that part has no further difference. Until more is fed, only finitely many differences are returned.
-    /// Allocates nothing.
+    /// if that part has no further difference. The known part is a prefix that no later bytes can change. Until more
+    /// is fed, only finitely many differences are returned. Allocates nothing.
     pub fn next_difference(&mut self) -> Option<Difference>
         ensures given { (bytes others : List ℕ) (given : ℕ) → AreShort bytes others → StandsFor bytes others given self.old → result ≡ slice_get (differences (known_by self.old bytes others)) given }
         ensures stands { (bytes others : List ℕ) (given : ℕ) → AreShort bytes others → StandsFor bytes others given self.old → StandsFor bytes others (given + length (option_to_list result)) self.new }

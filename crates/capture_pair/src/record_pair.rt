@@ -25,8 +25,8 @@ use std::marker::Model;
 /// they present. The records of each capture are given in their order, and only when `wants` asks for them.
 ///
 /// A difference is returned as soon as all earlier batches of the merged list are known. Items that a listener flags
-/// are dropped, and do not end a side. Memory is reserved when the pair is made. Later, the samples of each packet and
-/// each whole unit are copied once.
+/// are dropped, and do not end a side. Memory is reserved when the pair is made. After that, the samples of each packet
+/// and each whole unit are copied once.
 #[derive(Drop)]
 pub struct RecordPair {
     a: RecordSource,
@@ -109,8 +109,8 @@ impl RecordPair {
     }
 
     /// Returns the next difference in the known part of the merged list of what both listeners present; `None` exactly
-    /// if that part has no further difference. Until more is taken, only finitely many differences are returned.
-    /// Allocates nothing.
+    /// if that part has no further difference. The known part is a prefix that no later records can change. Until
+    /// more is taken, only finitely many differences are returned. Allocates nothing.
     pub fn next_difference(&mut self) -> Option<Difference>
         ensures given { (records others : List Record) (given : ℕ) → StandsFor records others given self.old → result ≡ slice_get (differences (known_by self.old records others)) given }
         ensures stands { (records others : List Record) (given : ℕ) → StandsFor records others given self.old → StandsFor records others (given + length (option_to_list result)) self.new }

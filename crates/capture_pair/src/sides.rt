@@ -87,8 +87,8 @@ pub fn fill_both<S: Source>(a: &mut S, b: &mut S, matching: &mut Matching)
     fill(b, matching, Which::B);
 }
 
-/// Returns the next difference in the known part of what both listeners present; `None` exactly if that part has no
-/// further difference.
+/// Returns the next difference in the known part of the merged list of what both listeners present; `None` exactly if
+/// that part has no further difference. The known part is a prefix that no later input can change.
 pub fn next_difference<S: Source>(
     a: &mut S,
     b: &mut S,

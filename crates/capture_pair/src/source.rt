@@ -27,8 +27,8 @@ pub trait Source {
     /// The maximum number of items that the listener can still show.
     ghost work: { Self → ℕ };
 
-    /// Returns the next item that the listener shows of what it took so far; `None` exactly if it has shown all of
-    /// these items. The listener uses the memory of `spent` again.
+    /// Returns the next item that the listener shows of what it took so far; `None` exactly if the listener has shown
+    /// all of these items. The listener uses the memory of `spent` again.
     fn next_out(&mut self, spent: Option<Bytes>) -> Option<Shown>
         ensures given { (taken : Taken) (list : List ShownValue) (n : ℕ) → shows self.old taken list n → result ≡ slice_get list n }
         ensures shows { (taken : Taken) (list : List ShownValue) (n : ℕ) → shows self.old taken list n → shows self.new taken list (n + length (option_to_list result)) }
@@ -36,7 +36,7 @@ pub trait Source {
         ensures kept { kept self.new ≡ kept self.old }
         ensures less { work self.new + length (option_to_list result) ≤ work self.old };
 
-    /// Whether the listener takes no more input. It then shows all items that are left.
+    /// Whether the listener takes no more input. If so, it shows all items that are left.
     fn has_ended(&self) -> bool
         ensures { result ≡ (kept self.now).ended };
 }

@@ -40,8 +40,8 @@ pub record IsHeard (list : List Shown) : Type 0 where
   pub few : length list ≤ 2 ^ 61
   pub order : IsInOrder (presented_of list)
 
--- The matching after it was given the next item of the wanted side. If there is no item and the side's listener has
--- ended, the side ends.
+-- The matching wants a batch of side `which`. This is the matching after it was given the side's next item. If there is
+-- no item and the side's listener has ended, the side ends.
 abbrev pub handed : Which → Option Shown → Bool → MatchingState → MatchingState
 handed which (Some (Present batch)) ended m = given_to which batch m
 handed which (Some (Flag frame seq reason)) ended m = m
@@ -81,8 +81,8 @@ pub record Holds (ShowsA ShowsB : List Shown → ℕ → Type 0) (list other : L
   pub shows_b : ShowsB other shown_b
   pub matches : Matches list other shown_a shown_b given m
 
--- If a side has ended in the matching, its listener has ended. The listener of the wanted side has not ended, and is
--- quiet.
+-- If a side has ended in the matching, that side's listener has ended. If a side is wanted, that side's listener has
+-- not ended, and is quiet: it has shown all items that are known so far.
 pub record IsSettled (ended_a ended_b : Bool) (QuietA QuietB : Type 0) (m : MatchingState) : Type 0 where
   pub over_a : m.ended_a ≡ true → ended_a ≡ true
   pub over_b : m.ended_b ≡ true → ended_b ≡ true
@@ -91,7 +91,7 @@ pub record IsSettled (ended_a ended_b : Bool) (QuietA QuietB : Type 0) (m : Matc
   pub quiet_a : wanted m ≡ Some A → QuietA
   pub quiet_b : wanted m ≡ Some B → QuietB
 
--- If a side has ended in the matching, its listener has ended.
+-- If a side has ended in the matching, that side's listener has ended.
 pub record IsBounded (ended_a ended_b : Bool) (m : MatchingState) : Type 0 where
   pub over_a : m.ended_a ≡ true → ended_a ≡ true
   pub over_b : m.ended_b ≡ true → ended_b ≡ true
@@ -123,9 +123,10 @@ wants_side A (Some B) = false
 wants_side B (Some A) = false
 wants_side which None = false
 
--- How the matching changes when side `which` is filled. If the side is not wanted, nothing changes. If it is still
--- wanted afterwards, the matching is unchanged, and the side's listener is quiet and has not ended. The other side is
--- unchanged. The side ends only if its listener has ended.
+-- How a matching changes when it is given the next batch of side `which`, if it wants that side. If it does not want
+-- the side, nothing changes. If it still wants the side afterwards, it is unchanged, and the side's listener has not
+-- ended and has shown all items that are known so far. The other side is unchanged. Side `which` ends only if its
+-- listener has ended.
 pub record Fills (which : Which) (ended : Bool) (Quiet : Type 0) (old new : MatchingState) : Type 0 where
   pub idle : wants_side which (wanted old) ≡ false → new ≡ old
   pub same : wanted new ≡ Some which → new ≡ old

@@ -8,7 +8,6 @@ use Rattle.capture_pair.specs.state.Sides.{Kept}
 use Rattle.capture_pair.proofs.Filling.{asked-on, idle-of, none-given, none-of, pairs-none, some-given, waits-idle, wants-none}
 use Rattle.capture_pair.proofs.sides.next_difference.Goals as goal
 
--- if a side is wanted from the start, nothing more is known
 pub returns-then-is_some-clause-given : goal.returns-then-is_some-clause-given
 returns-then-is_some-clause-given g c ta tb list other given hl ho p =
     none-given (g.S.Source.shows c.args.a.now ta) (g.S.Source.shows c.args.b.now tb) (g.S.Source.is_quiet c.args.a.now) (g.S.Source.is_quiet c.args.b.now) list other given
