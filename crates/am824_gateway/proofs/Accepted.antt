@@ -1,4 +1,4 @@
--- If P holds for each item that may be presented, it holds for all that a listener presents.
+-- If P holds for each batch that may be presented, P holds for each batch that a listener presents.
 use Rattle.std.proofs.Common.{◌≡◌, ℕ, zero, suc, Bool, true, false, ℤ, ◌≤ℤ◌, List, [], ◌∷◌, ◌++◌, length, map, Option, Some, None, Result, Ok, Err, refl, sym, subst, arith}
 use Rattle.std.specs.Prelude.{fold, int_lt, option_and_then, slice_get}
 use Rattle.std.specs.List.{AllByRecursion}
@@ -26,7 +26,7 @@ use Rattle.listener.specs.Laws.{presented_of}
 use Rattle.listener.proofs.Due.{due_first}
 use Rattle.listener.proofs.TrueList.{batches_are}
 
--- if an item is in time, P holds for what can be presented of it
+-- If item i is timed as `batch` and is not late, P holds for `batch`.
 abbrev pub HoldsOfItems : SchedulePlan → List Entry → (Presented → Type 0) → Type 0
 HoldsOfItems plan es P = (i : ℕ) (item : Item) (batch : Presented) → slice_get es i ≡ Some (OfItem item) → timed clock_spot plan (prefix_of plan es i) item ≡ Ok batch → now_at es i ≤ℤ first_instant batch → P batch
 
@@ -86,7 +86,7 @@ front_all P [] ys all = tt
 front_all P (Present batch ∷ xs) ys all = (all.0, front_all P xs ys all.1)
 front_all P (Flag frame seq reason ∷ xs) ys all = front_all P xs ys all
 
--- if P holds for all that is presented, it holds for all that is due
+-- if P holds for all batches that are presented, P holds for all batches that are due
 pub due_all : (P : Presented → Type 0) (plan : ListenPlan) (records : List Record) → AllByRecursion P (presented_of (shown_of plan records)) → AllByRecursion P (presented_of (due_of plan records))
 due_all P plan records all =
     let first = due_first plan records in

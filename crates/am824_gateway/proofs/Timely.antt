@@ -274,13 +274,13 @@ unit_time plan prefix (OfPacket p) batch rate e =
     let some = is.some in
     record { some = rw same some; rise = λ j h. slow_rises batch (rw same (is.slow)) j }
 
--- if an item is in time, what can be presented of it has rising instants
+-- if an item is not late, the instants of its batch rise
 pub rises : (plan : ListenPlan) (records : List Record) → HoldsOfItems (schedule_plan plan) (entries_in plan records) HasRisingInstants
 rises plan records i item batch there e early =
     let rate = rate_at (items_in plan records) i (OfItem item) (all_rated (deliveries_of plan records)) there in
     unit_time (schedule_plan plan) (prefix_of (schedule_plan plan) (entries_in plan records) i) item batch rate e
 
--- if an item is in time, what can be presented of it begins at 0 or later
+-- if an item is not late, its batch begins at 0 or later
 pub begins : (plan : ListenPlan) (records : List Record) → HoldsOfItems (schedule_plan plan) (entries_in plan records) (λ (batch : Presented). pos 0 ≤ℤ first_instant batch)
 begins plan records i item batch there e early =
     let now = never_before (entries_in plan records) i in

@@ -58,7 +58,7 @@ pub record Row : Type 0 where
 abbrev pub row : ScanFault → Bool → Row
 row fault holds = record { fault = fault; holds = holds }
 
--- the fault of the first row that says that the packet has it
+-- the first fault that the packet has, in the order of the rows
 abbrev pub first_of : List Row → Option ScanFault
 first_of [] = None
 first_of (r ∷ rows) = if r.holds then Some r.fault else first_of rows

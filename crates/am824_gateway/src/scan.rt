@@ -41,7 +41,7 @@ pub struct Shape {
     pub channels: u16,
 }
 
-/// Looks for records of a capture that cannot be converted. It allocates nothing.
+/// A scan reads the records of a capture, and looks for records that cannot be converted. It allocates nothing.
 #[derive(Debug, Drop)]
 pub struct Scan {
     to: To,

@@ -44,7 +44,7 @@ abbrev pub presented_by : ListenState → List Record → List Presented
 presented_by listener records = presented_of (out listener records)
 
 -- The known part of the merged list of both listeners' batches, after `records` of A and `others` of B were given. It
--- is the prefix of the merged list that no later records can change.
+-- is a prefix of the merged list that no later records can change.
 abbrev pub known_by : PairState → List Record → List Record → List Sided
 known_by pair records others = known (is_closed pair.a) (is_closed pair.b) (merged (presented_by pair.a records) (presented_by pair.b others))
 

@@ -1,4 +1,4 @@
--- Each piece ends before the next begins.
+-- Each piece ends before the next piece begins.
 use Rattle.std.proofs.Common.{◌≡◌, ℕ, zero, suc, ◌+◌, ◌-◌, ◌≤◌, Bool, true, false, ℤ, pos, ◌+ℤ◌, ◌≤ℤ◌, ◌<ℤ◌, List, [], ◌∷◌, ◌++◌, map, Option, Some, None, refl, sym, subst, arith}
 use Rattle.std.specs.Prelude.{if◌then◌else◌, min, nat_lt, ⊤}
 use Rattle.std.specs.List.{AllByRecursion}
@@ -74,7 +74,7 @@ pieces_counted to shape batch (suc most) first block =
 
 -- ---- all batches
 
--- a piece ends no later than its batch
+-- a piece ends at or before the end of its batch
 ends_within : (to : To) (shape : Shape) (n : ℕ) (batch : Presented) (p : Piece) → HasRisingInstants batch → IsWithin to shape batch p → IsCounted to shape batch p → end_of shape (record { number = n; batch = batch; piece = p }) ≤ℤ sample_instant batch (batch.count - 1)
 ends_within to shape n batch p is within count =
     let inside = within.inside in
@@ -84,7 +84,7 @@ ends_within to shape n batch p is within count =
     let same = rw (← count) at same in
     subst (λ (x : ℤ). x ≤ℤ sample_instant batch (batch.count - 1)) (sym same) last
 
--- piece c ends before all of the pieces `ys` begin
+-- piece c ends before each of the pieces `ys` begins
 abbrev EndBefore : Shape → List Cut → Cut → Type 0
 EndBefore shape ys c = AllByRecursion (λ y. end_of shape c <ℤ y) (map cut_instant ys)
 

@@ -1,4 +1,4 @@
--- The packets that a listener reads of a gateway's frames carry the pieces.
+-- The packets that a listener reads from a gateway's frames carry the pieces.
 use Rattle.std.proofs.Common.{◌≡◌, ℕ, zero, suc, ◌+◌, ◌-◌, ◌*◌, ◌%◌, ◌^◌, ◌<◌, ◌≤◌, Bool, true, false, ℤ, pos, ◌≤ℤ◌, List, [], ◌∷◌, ◌++◌, Option, Some, None, inl, inr, refl, sym, arith}
 use Rattle.std.specs.Prelude.{if◌then◌else◌, min, nat_lt, unsigned_abs}
 use Rattle.std.specs.Int.{div_ceil, int_rem_euclid}

@@ -52,7 +52,7 @@ use Rattle.gateway_laws.proofs.Stamped.{at_place, counted_length, now_early, sta
 
 -- ---- how many wait
 
--- each batch begins at least 500 * (n + 1) ns before x, if n batches follow it
+-- if n batches follow a batch, that batch begins at least 500 * (n + 1) ns before x
 abbrev SpreadTo : ℤ → List Presented → Type 0
 SpreadTo x [] = ⊤
 SpreadTo x (b ∷ bs) = ((first_instant b +ℤ pos (500 * suc (length bs))) ≤ℤ x) × SpreadTo x bs

@@ -1,4 +1,4 @@
--- Packets that carry the pieces of a gateway, and the samples that listeners present of them.
+-- Packets that carry the pieces of a gateway, and the samples that listeners present from them.
 use Rattle.std.specs.Prelude.{◌≡◌, ℕ, zero, suc, ◌*◌, List, [], ◌∷◌, ⊤}
 use Rattle.sample_schedule.specs.declared.item.Packet.{Packet}
 use Rattle.sample_schedule.specs.Batches.{Presented, sample_instant}
@@ -10,8 +10,8 @@ use Rattle.am824_gateway.specs.Packets.{samples_of}
 use Rattle.am824_gateway.specs.Samples.{Sample, part, values_out}
 use Rattle.gateway_laws.specs.Stamped.{IsStamped}
 
--- The packet carries a piece. Its timestamp is that of the piece's first sample, and it has the piece's samples at the
--- stream's rate.
+-- The packet carries piece c: the packet has the piece's samples at the stream's rate, and its timestamp is that of the
+-- piece's first sample.
 pub record CarriesCut (to : To) (shape : Shape) (p : Packet) (c : Cut) : Type 0 where
   pub stamped : IsStamped p (cut_instant c)
   pub rate : p.rate ≡ shape.rate
@@ -25,13 +25,13 @@ CarryCuts to shape [] (c ∷ cs) = ⊥
 CarryCuts to shape (p ∷ ps) [] = ⊥
 CarryCuts to shape (p ∷ ps) (c ∷ cs) = CarriesCut to shape p c × CarryCuts to shape ps cs
 
--- n samples of a batch that a listener presents of a gateway's packets, from sample j on
+-- n samples, from sample j on, of a batch that a listener presents from a gateway's packets
 abbrev pub heard_from : To → Shape → Presented → ℕ → ℕ → List Sample
 heard_from to shape batch j zero = []
 heard_from to shape batch j (suc n) =
     record { instant = sample_instant batch j; values = values_out to shape.channels (part (value_out to * shape.channels) j batch.bytes) }
     ∷ heard_from to shape batch (suc j) n
 
--- the samples of a batch that a listener presents of a gateway's packets
+-- the samples of a batch that a listener presents from a gateway's packets
 abbrev pub samples_heard : To → Shape → Presented → List Sample
 samples_heard to shape batch = heard_from to shape batch 0 batch.count

@@ -1,4 +1,4 @@
--- The packets that a listener reads of a gateway's frames.
+-- The packets that a listener reads from a gateway's frames.
 use Rattle.std.specs.Prelude.{ℕ, suc, ◌%◌, ◌≤ℤ◌, false, pos, List, [], ◌∷◌, Some}
 use Rattle.time_unfold.specs.declared.head_rule.HeadRule.{HeadRule}
 use Rattle.time_unfold.specs.declared.head_rule.HeadRule.TheVariants.{Own, Blocks}

@@ -55,7 +55,7 @@ pub record IsNotedAs (bytes : List ℕ) (seen : Seen) : Type 0 where
   pub reserved : has_reserved (packet_of (packet_in bytes)) ≡ seen.reserved
   pub stamp : stamp_is_off (packet_of (packet_in bytes)) ≡ seen.stamp_wrong
 
--- `check` has made `notes` before. It makes a note of each of these records, and finds nothing.
+-- After `check` has made `notes`, it makes a note of each of these records, and finds nothing in them.
 abbrev pub FindsNothingAfter : List Seen → List Record → Type 0
 FindsNothingAfter notes [] = ⊤
 FindsNothingAfter notes (r ∷ records) =

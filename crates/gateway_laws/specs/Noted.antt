@@ -13,8 +13,8 @@ abbrev pub subtype_to : To → ℕ
 subtype_to Am824 = iec_subtype
 subtype_to Aaf = aaf_subtype
 
--- what `check` notes about the frame that carries piece c: no reserved bit is set, and the timestamp is where the
--- format has it
+-- What `check` notes about the frame that carries piece c. No reserved bit is set, there is no media clock restart, and
+-- the timestamp obeys the rule of the format.
 abbrev pub cut_seen : To → ℕ → Cut → Seen
 cut_seen to id c = record { id = id; subtype = subtype_to to; seq = c.number % 256; mr = false; reserved = false; stamp_wrong = false }
 

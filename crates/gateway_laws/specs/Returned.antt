@@ -1,4 +1,4 @@
--- What a gateway makes of a capture, which another gateway may have made.
+-- What a gateway makes of a capture. Another gateway may have made that capture.
 use Rattle.std.specs.Prelude.{ℕ, List, map, Option}
 use Rattle.sample_schedule.specs.Batches.{Presented}
 use Rattle.talker.specs.Frames.{SentFrame, record_of}
@@ -12,7 +12,7 @@ use Rattle.am824_gateway.specs.declared.scan.To.TheVariants.{Aaf, Am824}
 use Rattle.am824_gateway.specs.Packets.{gateway_frames}
 use Rattle.am824_gateway.specs.Scan.{shape_in}
 
--- the other format
+-- AAF for AM824, and AM824 for AAF
 abbrev pub other : To → To
 other Am824 = Aaf
 other Aaf = Am824

@@ -42,7 +42,7 @@ pub fn items_in_order_are_presented()
     ensures { (clock : Clock) (plan : SchedulePlan) (entries : List Entry) (batches : List Presented) → AreInOrder clock plan entries batches → map (λ (a : Accepted). a.batch) (presented (given clock plan entries)) ≡ batches }
 {}
 
-/// Let the timestamp of each packet belong to its first sample, and let the packets arrive in time and in the order of
+/// Let each packet's timestamp belong to the packet's first sample. Let the packets arrive in time and in the order of
 /// their timestamps. A listener that has no clock, and whose buffer is never full, presents each packet once, in order.
 /// Each sample is counted at the nominal rate from the timestamp of its own packet.
 pub fn stamped_packets_in_order_are_presented()
@@ -92,7 +92,7 @@ pub fn default_buffers_are_never_full()
 {}
 
 /// Each batch that a listener presents begins at 0 or later, and its instants rise. This holds for any records, with or
-/// without a clock. It also holds for the batches that are due while more records may follow.
+/// without a clock. It also holds for the batches that are certain to be presented while more records may follow.
 pub fn presented_batches_begin_in_time()
     ensures shown { (plan : ListenPlan) (records : List Record) → AllByRecursion BeginsInTime (presented_of (shown_of plan records)) }
     ensures due { (plan : ListenPlan) (records : List Record) → AllByRecursion BeginsInTime (presented_of (due_of plan records)) }

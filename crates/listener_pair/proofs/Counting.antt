@@ -151,7 +151,6 @@ counted-at n B b ps u (Some y) few ps-few asc e =
     (differ-more (filter_map difference_of ps) (difference_of (paired_with p y)) (let k = some-few difference_of ps in omega arith)
     ∙ ap length (sym (differences-append ps (paired_with p y ∷ []) ∙ ap (λ (l : List Difference). filter_map difference_of ps ++ l) (one-difference (difference_of (paired_with p y))))))
 
--- the counts after one more batch
 pub counted-next : (done : List Sided) (s : Which) (b : Presented) → length done < 2 ^ 63
     → counted s (option_map (paired_with (at_place (length done) (of_side s b))) (partner_of (at_place (length done) (of_side s b)) (unpaired done))) (counts_of done) ≡ counts_of (done ++ of_side s b ∷ [])
 counted-next done s b few =
@@ -160,7 +159,6 @@ counted-next done s b few =
     ∙ ap (λ (ps : List Paired). counts-with ps (unpaired_with p (unpaired done))) (sym (pairs-more done (of_side s b)))
     ∙ ap (λ (u : List Placed). counts-with (pairs (done ++ of_side s b ∷ [])) u) (sym (unpaired-next done (of_side s b)))
 
--- the differences after one more batch
 pub differences-next : (done : List Sided) (x : Sided) → differences (done ++ x ∷ []) ≡ differences done ++ option_to_list (difference_by_pair (option_map (paired_with (at_place (length done) x)) (partner_of (at_place (length done) x) (unpaired done))))
 differences-next done x =
     let p = at_place (length done) x in

@@ -15,7 +15,7 @@ pub record Sided : Type 0 where
 abbrev pub all_of : Which → List Presented → List Sided
 all_of side batches = map (λ b. record { side = side; batch = b }) batches
 
--- a list ordered by first instant, with x inserted before the first batch that is not earlier than x
+-- a list ordered by first instant, with x inserted directly after all batches that begin before x
 abbrev pub put_before : Sided → List Sided → List Sided
 put_before x [] = x ∷ []
 put_before x (y ∷ ys) = if int_lt (first_instant y.batch) (first_instant x.batch) then y ∷ put_before x ys else x ∷ y ∷ ys

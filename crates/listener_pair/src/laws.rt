@@ -11,8 +11,8 @@ ghost use Rattle.listener_pair.specs.Matching.{IsSorted, MatchingState, StandsFo
 ghost use Rattle.listener_pair.specs.Merged.{Sided, known, merged};
 ghost use Rattle.listener_pair.specs.Pairs.{pairs};
 
-/// If batches are appended to a merged list, its pairs are the first pairs of the longer list, and its differences are
-/// the first differences of the longer list.
+/// If batches are appended to a merged list, the pairs and differences that the list had before are the first pairs and
+/// differences of the longer list.
 pub fn pairs_stay()
     ensures pairs { (list more : List Sided) → IsPrefix (pairs list) (pairs (list ++ more)) }
     ensures differences { (list more : List Sided) → IsPrefix (differences list) (differences (list ++ more)) }

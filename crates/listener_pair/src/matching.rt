@@ -102,7 +102,8 @@ impl Matching {
     }
 
     /// Returns the next difference in the known part of the merged list; `None` exactly if that part has no further
-    /// difference. A call that returns a difference consumes at least one of the two next batches. Allocates nothing.
+    /// difference. The known part is a prefix that no later batch can change. A call that returns a difference consumes
+    /// at least one of the two next batches. Allocates nothing.
     pub fn next_difference(&mut self) -> Option<Difference>
         ensures given { (xs ys : List Presented) (given : ℕ) → StandsFor xs ys given self.old → result ≡ slice_get (differences (known_of self.old xs ys)) given }
         ensures stands { (xs ys : List Presented) (given : ℕ) → StandsFor xs ys given self.old → StandsFor xs ys (given + length (option_to_list result)) self.new }

@@ -6,10 +6,10 @@ ghost use Rattle.listener_pair.specs.Pairs.{are_near as are_near_of, fits as fit
 use crate::difference::Which;
 use crate::timed::Timed;
 
-/// Two batches of one packet may be apart by at most this many times the duration of A's batch.
+/// The first instants of two batches of one packet may differ by at most this many times the duration of A's batch.
 const REACH: u64 = 64;
 
-/// Whether a batch of A and a batch of B are apart by at most 64 times the duration of A's batch.
+/// Whether the first instants of a batch of A and a batch of B differ by at most 64 times the duration of A's batch.
 #[tactic(auto, using(crate::proofs::Numbers::products))]
 fn are_near(a: &Timed, b: &Timed) -> bool
     ensures { result ≡ are_near_of a.now b.now }

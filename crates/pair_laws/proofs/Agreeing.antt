@@ -84,7 +84,7 @@ paced u den count num rate some near pace =
 instant-is : (x y : ℤ) → same_instant x y ≡ true → x ≡ y
 instant-is x y e = grind (arith, ints)
 
--- if two batches are within reach, they have the same first instant, or neither is a unit and they are near
+-- if two batches are within reach, they have the same first instant, or they are near each other and neither is a unit
 reach-cases : (a b : Presented) → within_reach a b ≡ true → (first_instant a ≡ first_instant b) ⊎ ((is_unit a ≡ false) × (are_near a b ≡ true))
 unfolding within_reach
 reach-cases a b h = at (is_unit a) (is_unit b) refl h
@@ -216,7 +216,8 @@ list-one by p list is h = pairs-one by p (pairs list) is (pairs-are list) (pairs
 pub list-none : (by : Bool) (p : PacketJournal) (list : List Sided) → Conforms p.times → AllByRecursion (λ (x : Sided). IsPresentedOfTalker by p x.batch) list → differences list ≡ []
 list-none by p list is h = pairs-none by p (pairs list) is (list-one by p list is h)
 
--- if both listeners use the clock or neither does, all that they present of one talker are batches of the talker
+-- Let two listeners hear one talker, both with the clock or both without it. Then all batches that they present are
+-- batches of the talker.
 both-presented : (shift : ℤ) (p : PacketJournal) (plan other : ListenPlan) (records others : List Record) → HearsTalker shift p plan records → HearsTalker shift p other others → by_clock other ≡ by_clock plan
     → AllByRecursion (λ (x : Sided). IsPresentedOfTalker (by_clock plan) p x.batch) (merged (presented_of (shown_of plan records)) (presented_of (shown_of other others)))
 both-presented shift p plan other records others h k e =

@@ -97,7 +97,7 @@ AllElse by p n us = AllByRecursion (λ u. IsElse by p n u.batch) us
 may-fits : (x u : Placed) → may_pair x u ≡ true → fits x.side x.batch u.batch ≡ true
 may-fits x u h = both-right (nat_le x.place (u.place + 512) && not (is_side x.side u.side)) (fits x.side x.batch u.batch) h
 
--- a batch of packet n and a batch that is not packet n may not be paired
+-- a batch of packet n cannot be paired with a batch that is not packet n
 no-pair : (by : Bool) (p : PacketJournal) (n : ℕ) (x u : Placed) → Conforms p.times → IsPresentedOfTalker by p x.batch → IsOfPacket by p n x.batch → IsElse by p n u.batch → may_pair x u ≡ true → ⊥
 no-pair by p n x u is tx ox e h =
     let same = one-that-fits x.side by p n e.talker.is.number x.batch u.batch tx.pace e.talker.pace is ox e.talker.is.is (may-fits x u h) in

@@ -53,8 +53,8 @@ pub fn batches_of_one_talker_never_differ()
     ensures presented { (shift : ℤ) (p : PacketJournal) (plan : ListenPlan) (records : List Record) → HearsTalker shift p plan records → AllByRecursion (IsPresentedOfTalker (by_clock plan) p) (presented_of (shown_of plan records)) }
 {}
 
-/// The differences that a pair has returned are the first known differences. They stay the first ones, however the two
-/// captures continue or end.
+/// The differences that a pair has returned are the first known differences: those that no later record can change.
+/// They stay the first ones, however the two captures continue or end.
 pub fn what_was_given_stays()
     ensures within { (records others : List Record) (given : ℕ) (pair : PairState) → StandsFor records others given pair → EndsAreClosed pair → given ≤ length (differences (known_by pair records others)) }
     ensures stays { (records others more more_others : List Record) (given : ℕ) (old new : PairState) → StandsFor records others given old → EndsAreClosed old → Continues more more_others old new
@@ -62,9 +62,9 @@ pub fn what_was_given_stays()
 {}
 
 /// A pair may want more of one capture, for example because that capture cannot be read any further. Then the known
-/// part depends on two lists: the batches that are due by that capture's records so far, and all batches of the other
-/// capture. Reading more of the other capture does not change the known part. After both captures are closed, all that
-/// both listeners show is known.
+/// part of the merged list depends on two lists: the batches of that capture that are certain to be presented whatever
+/// follows, and all batches of the other capture. Reading more of the other capture does not change the known part.
+/// After both captures are closed, all that both listeners show is known.
 pub fn what_a_fault_leaves_is_known()
     ensures a { (plan : ListenPlan) (records others more : List Record) (given : ℕ) (pair : PairState) → StandsFor records others given pair → HavePlan plan pair → EndsAreClosed pair → wanted_by pair ≡ Some A → is_closed pair.a ≡ false → (is_closed pair.b ≡ true → more ≡ [])
         → known_by pair records others ≡ known false true (merged (presented_of (due_of plan records)) (presented_of (shown_of plan (others ++ more)))) }
@@ -74,8 +74,9 @@ pub fn what_a_fault_leaves_is_known()
         → known_by pair records others ≡ merged (presented_of (shown_of plan records)) (presented_of (shown_of plan others)) }
 {}
 
-/// The known part of two captures of one talker has no differences, however far each capture was read. This is true
-/// whether the batches of a capture are only those that are due so far or all that are shown.
+/// The known part of the merged list of two captures of one talker has no differences, however far each capture was
+/// read. The batches of each capture may be all that are shown, or only those that are certain to be presented whatever
+/// follows.
 pub fn what_is_known_of_one_talker_never_differs()
     ensures pair { (shift : ℤ) (p : PacketJournal) (plan : ListenPlan) (records others : List Record) (pair : PairState) → HearsTalker shift p plan records → HearsTalker shift p plan others → HavePlan plan pair → differences (known_by pair records others) ≡ [] }
     ensures due_a { (shift : ℤ) (p : PacketJournal) (plan : ListenPlan) (records others : List Record) (ended_a ended_b : Bool) → HearsTalker shift p plan records → HearsTalker shift p plan others

@@ -167,7 +167,7 @@ not_over stage giving over = let e : false ≡ true = ap closed_at (sym giving) 
 pub not_ended : (stage : Stage) → stage ≡ Giving → stage ≡ Ended → ⊥
 not_ended stage giving over = let e : Giving ≡ Ended = sym giving ∙ over in cc
 
--- as long as a delivery is left, the hearing goes on, and giving that delivery leaves fewer steps
+-- if a delivery is left at stage `Giving`, the hearing has not ended, and giving the delivery leaves fewer steps
 pub steps_on : (stage : Stage) (deliveries : List (ℤ × ℕ)) (given : ℕ) → stage ≡ Giving → given < length deliveries → (pull_at stage ≡ None) × (steps_left stage deliveries (given + 1) < steps_left stage deliveries given)
 steps_on Giving deliveries given giving more = (refl, omega (arith, more))
 steps_on Showing deliveries given giving more = absurd cc

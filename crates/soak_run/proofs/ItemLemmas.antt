@@ -58,7 +58,7 @@ entry_of_one (d ∷ ds) (suc i) e there = entry_of_one ds i e there
 entry_at : (ds : List Delivery) (i : ℕ) (e : Entry) → All IsOther ds → slice_get (entries ds) i ≡ Some e → (d : Delivery) × (slice_get ds i ≡ Some d) × (entry_of d ≡ e)
 entry_at ds i e others there = entry_of_one ds i e (subst (λ (ms : List MadeItem). slice_get (map made_entry ms) i ≡ Some e) (items_other ds others) there)
 
--- items that are made of one delivery each have no fragments
+-- if each item is made of a single delivery, no item has an earlier fragment
 none_before : (ds : List Delivery) → fragments_in (map made_of_one ds) ≡ 0
 none_before [] = refl
 none_before (d ∷ ds) = omega (arith, sum_by-cons (λ (made : MadeItem). length made.earlier) (made_of_one d) (map made_of_one ds), none_before ds)
@@ -75,7 +75,7 @@ from_stream : (p : PacketJournal) (lead : ℕ) (d : Delivery) (o : Origin) → p
 from_stream p lead d (FromStream n) none copy = (n, copy)
 from_stream p lead d (FromClock m) none copy = absurd (let known = copy.known in omega arith)
 
--- if each packet of an audio stream without a clock has samples at a known rate, its entries are sound
+-- if each packet of an audio stream without a clock has samples at a known rate, the entries of its schedule are sound
 pub entries_sound : (shift : ℤ) (p : PacketJournal) (lead : ℕ) (ds : List Delivery) → IsConforming shift p → IsAudioKind p.times.kind → p.times.clock.packets ≡ 0 → (p.times.count == 0) ≡ false → (p.times.rate == 0) ≡ false
     → All IsOther ds → All (IsCopied p lead) ds → (i : ℕ) (e : Entry) → slice_get (entries ds) i ≡ Some e → IsSoundEntry e
 entries_sound shift p lead ds conforming audio none some rate others all i e there =

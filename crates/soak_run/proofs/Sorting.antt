@@ -7,7 +7,7 @@ use Rattle.std.proofs.lemmas.Bool.{and_parts, and_from, not-true, not_from_false
 use Rattle.std.proofs.lemmas.List.Sorted.{sorted_far}
 
 module _ {X : Type 0} (lt : X → X → Bool) where
-  -- a list after x is inserted, after the leading elements that are less than x
+  -- a list with x inserted directly after the leading elements that are less than x
   abbrev pub put : X → List X → List X
   put x [] = x ∷ []
   put x (y ∷ ys) = cond (lt y x) (y ∷ put x ys) (x ∷ y ∷ ys)

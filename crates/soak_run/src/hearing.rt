@@ -27,7 +27,7 @@ const SOAK_LISTENER: ListenPlan = ListenPlan {
 /// How far a hearing has come.
 #[derive(Clone, Copy, Debug, PartialEq, Eq)]
 pub enum Stage {
-    /// Deliveries are still being given to the listener, and what is due is shown.
+    /// Deliveries are still being given to the listener, and the items that are due so far are shown.
     Giving,
     /// All deliveries were given, and the items that are left are being shown.
     Showing,

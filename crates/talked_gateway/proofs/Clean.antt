@@ -71,7 +71,7 @@ named : (o : Option ℕ) → IsSome o → is_none o ≡ false
 named None some = absurd cc
 named (Some code) some = refl
 
--- PCM of the plan has no fault, whether it is the stream's first packet or follows other packets of the plan.
+-- A PCM packet of the plan has no fault, whether it is the stream's first packet or follows other packets of the plan.
 module _ (plan : TalkPlan) (rate : IsSome (fdf_of plan.rate)) (most : plan.channels ≤ 256) (count : 1 ≤ plan.count) where
   shape : Shape
   shape = record { rate = plan.rate; channels = plan.channels }

@@ -20,13 +20,13 @@ ghost use Rattle.talked_headline.specs.Premises.{ListensTo, captured};
 use talked_headline::laws::talked_keeps_headline;
 use talker::laws::{journal_conforms, losses_are_delivered};
 
-/// Let a listener without a clock hear a capture of an audio plan. The capture may lose, repeat or reorder packets, but
-/// a scan must find no fault in it. Then a gateway skips nothing that the listener presents: each packet begins after
-/// the end of the earlier packets, and arrives before 2^32 seconds. This is also true of what is due while more records
-/// may follow.
+/// Let a listener without a clock hear a capture of an audio plan, and let a scan find no fault in this capture. The
+/// capture may lose, repeat or reorder packets. Then a gateway skips nothing that the listener presents, because each
+/// packet begins after the end of all earlier packets, and arrives before 2^32 seconds. The same is true of the batches
+/// that are certain to be presented while more records may follow.
 ///
 /// Some packets may have no timestamp, as in sparse PCM and in AM824 whose packets have fewer blocks than SYT_INTERVAL.
-/// Then the listener's lead must be within 127 packets' time of the plan's lead.
+/// Then the max transit times of the listener and of the plan must differ by less than the duration of 127 packets.
 pub fn nothing_talked_is_skipped()
     ensures shown { (to : ToValue) (plan : TalkPlan) (input places : List ℕ) (listen : ListenPlan) → ListensTo plan input listen → listen.clock ≡ None → first_fault to listen.stream (captured plan input places) ≡ None
         → SkipsNone to (shape_in listen.stream (captured plan input places)) (presented_of (shown_of listen (captured plan input places))) }
@@ -37,10 +37,10 @@ pub fn nothing_talked_is_skipped()
     talked_keeps_headline();
 }
 
-/// Let a scan find no fault in a capture of an audio plan. Let a gateway convert, under any stream ID, what a listener
-/// without a clock presents of this capture. A second listener that has no clock, and at least the default buffer, then
-/// has room for all packets of the gateway. So the gateway's promises about what listeners present hold for the second
-/// listener.
+/// Let a listener without a clock hear a capture of an audio plan, and let a scan find no fault in this capture. A
+/// gateway converts what the listener presents, under any stream ID. A second listener, without a clock and with at
+/// least the default buffer, hears the gateway's packets. Then the buffer of the second listener is never full. So the
+/// gateway's promises about what listeners present hold for the second listener.
 pub fn default_listeners_hear_turned_captures()
     ensures { (to : ToValue) (plan : TalkPlan) (input places : List ℕ) (listen : ListenPlan) (id : ℕ) (hearing : ListenPlan) → ListensTo plan input listen → listen.clock ≡ None → first_fault to listen.stream (captured plan input places) ≡ None
         → id < 2 ^ 64 → HasDefaultRoom id hearing → Hears id hearing (map record_of (frames_made to listen id (captured plan input places))) }
@@ -49,9 +49,9 @@ pub fn default_listeners_hear_turned_captures()
     talked_keeps_headline();
 }
 
-/// Let a plan without a media clock send PCM of 24 bits, at a rate that AM824 has and with at most 256 channels. Then a
-/// scan finds no fault in a capture of this plan, whatever packets the capture loses, repeats or reorders. So a gateway
-/// converts all that is presented.
+/// Let a plan without a media clock send PCM of 24 bits. Let the plan's rate be one that AM824 has, and let the plan
+/// have at most 256 channels. Then a scan finds no fault in a capture of this plan, whatever packets the capture loses,
+/// repeats or reorders. So a gateway converts all that is presented.
 pub fn talked_pcm_can_be_turned()
     ensures { (plan : TalkPlan) (input places : List ℕ) (listen : ListenPlan) (sparse : Bool) → ListensTo plan input listen → plan.kind ≡ Aaf Int24 sparse → plan.crf ≡ None → IsSome (fdf_of plan.rate) → plan.channels ≤ 256
         → first_fault Am824 listen.stream (captured plan input places) ≡ None }

@@ -151,7 +151,7 @@ fn codes_of(rate: u64) -> (u8, u8) {
     }
 }
 
-/// When a packet's first sample is presented; the packet's timestamp, if it has one; and its restart bit.
+/// When a packet's first sample is presented; the packet's timestamp, if it has one; and the packet's restart bit.
 #[derive(Clone, Copy)]
 struct Times {
     first: u64,
@@ -269,7 +269,8 @@ fn is_lost(words: &str, n: u64) -> bool {
     false
 }
 
-/// The captured frames of a row's streams, one after another: `am824 rate=96000 count=6 packets=3, start=1002000000 ..`.
+/// The captured frames of a row's streams, one after another. A row is, for example, `am824 rate=96000 count=6
+/// packets=3, start=1002000000 ..`.
 pub fn records_of(alloc: Global, row: &str) -> Result<Vec<Recorded>, NoMemory> {
     let mut records = Vec::new(alloc);
     for words in row.split(',') {

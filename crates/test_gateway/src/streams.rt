@@ -1,6 +1,6 @@
-//! Streams that are converted and converted back: streams of all rates and of several numbers of channels, with packets
-//! about as long as the longest piece, sparse PCM, AM824 that is stamped in a later block, and streams with restarts
-//! and losses.
+//! Streams that are converted, and then converted back. Among them are streams of all rates, streams of several numbers
+//! of channels, streams with packets about as long as the longest piece, sparse PCM, AM824 whose timestamps belong to a
+//! later block, and streams with restarts and losses.
 
 use crate::captures::{Recorded, records_of};
 use crate::checking::is_clean;
@@ -86,7 +86,7 @@ am824 rate=44100 start=0 packets=9 => 9 19
 am824 rate=48000 count=8 packets=34 => 34 34
 ";
 
-/// Whether a listener presents the same values at the same instants of both lists of records.
+/// Whether a listener presents the same values at the same instants from both lists of records.
 fn sound_alike(
     alloc: Global,
     to: To,

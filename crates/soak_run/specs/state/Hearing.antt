@@ -53,7 +53,7 @@ pub record IsReady (listener : ListenState) : Type 0 where
   pub idle : IsIdle listener
   pub few : listener.counts.frames < 2 ^ 62
 
--- The listener was given record `taken`, or there was no memory for it.
+-- The listener was given the record `taken`, or there was no memory for this record.
 pub record Takes (taken : Record) (old new : ListenState) (result : Result Unit WantOfMemory) : Type 0 where
   pub stands : OnOk result ((records : List Record) (given : ℕ) → StandsFor records given old → StandsFor (records ++ taken ∷ []) given new)
   pub same : OnErr result (new ≡ old)

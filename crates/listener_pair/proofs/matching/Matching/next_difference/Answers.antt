@@ -20,7 +20,7 @@ at-most-one : {T : Type 0} (o : Option T) → length (option_to_list o) ≤ 1
 at-most-one None = omega arith
 at-most-one (Some x) = omega arith
 
--- a difference uses up the next batch of a side
+-- a call that returns a difference uses up the next batch of a side
 pub returns-then-is_some-clause-less : goal.returns-then-is_some-clause-less
 returns-then-is_some-clause-less c =
     let one = at-most-one c.step-difference.result in
