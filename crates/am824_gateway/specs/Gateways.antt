@@ -19,7 +19,8 @@ pub record Gating : Type 0 where
   pub given : Given
   pub frames : List SentFrame
 
--- the gateway after a batch that is not skipped; without a shape all batches are skipped
+-- The gateway after a batch that is not skipped. If there is no shape, each batch is skipped, and the gateway stays the
+-- same.
 abbrev pub given_out : Option Shape → Gating → Presented → Gating
 given_out None g batch = g
 given_out (Some shape) g batch = record g {

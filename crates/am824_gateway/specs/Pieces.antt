@@ -48,9 +48,10 @@ piece_count to shape batch first =
 
 -- ---- block counts
 
--- The block count of the first data block of an AM824 packet. It is the sum of the block count and the number of blocks
--- of the previous packet, raised to a multiple of SYT_INTERVAL, modulo 256. So the timestamp always belongs to the
--- packet's first block (IEC 61883-6). If the previous packet does not end at a multiple, the block count has a gap.
+-- The block count of the first data block of an AM824 packet: add the previous packet's number of blocks to that
+-- packet's block count, raise the sum to a multiple of SYT_INTERVAL, and take it modulo 256. So the timestamp always
+-- belongs to the packet's first block (IEC 61883-6). If the previous packet does not end at a multiple, the block count
+-- has a gap.
 abbrev pub next_block : ℕ → ℕ → ℕ → ℕ
 next_block interval block count = div_ceil (block + count) interval * interval % 256
 

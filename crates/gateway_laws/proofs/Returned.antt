@@ -1,4 +1,4 @@
--- AM824 of a gateway that is converted to PCM and back has the same frames.
+-- If AM824 that a gateway made is converted to PCM and back, the frames are the same.
 use Rattle.std.proofs.Common.{◌≡◌, ℕ, zero, suc, ◌+◌, ◌-◌, ◌*◌, ◌/◌, ◌^◌, ◌<◌, ◌≤◌, Bool, true, false, inl, inr, ℤ, pos, ◌<ℤ◌, List, [], ◌∷◌, ◌++◌, length, drop, map, take, Option, Some, None, refl, sym, ap, subst, ◌∙◌, eq-eqb, arith}
 use Rattle.std.specs.Prelude.{◌==◌, IfSome, if◌then◌else◌, int_le, nat_lt, not, ⊤}
 use Rattle.std.specs.List.{AllByRecursion, list_any}
@@ -160,7 +160,7 @@ heard_start to shape i c is = starts_at (packet_heard to shape i c) (cut_instant
 heard_pieces : (to : To) (shape : Shape) (i : ℕ) (c : Cut) (block : ℕ) → IsShape shape → IsCarried to shape c → HasRoom (other to) shape c → pieces_of (other to) shape (heard_of to shape i c) block ≡ piece_of c block ∷ []
 heard_pieces to shape i c block is fine room = one_piece (other to) shape (heard_of to shape i c) block (record { begun = refl; num = refl; den = refl; fits = room }) (some_rate shape is) fine.within.some
 
--- all instants of the list are after the instant `last`, if there is one
+-- if `last` states an instant, all instants of the list are after `last`
 abbrev IsOver : Option ℤ → List ℤ → Type 0
 IsOver None xs = ⊤
 IsOver (Some last) xs = AllByRecursion (λ y. last <ℤ y) xs

@@ -30,7 +30,8 @@ pub fn a_capture_beside_itself_never_differs()
 ///
 /// The captures never differ. Each pair is of one packet or unit of the talker, and no pair differs. If both captures
 /// present the same packet or unit, the two batches are a pair. So the pairs are exactly the packets and units that
-/// both captures present. Both listeners use the clock, or neither does. Their buffers, look-ahead and lead may differ.
+/// both captures present. Both listeners use the clock, or neither does. The two listeners may have different buffers,
+/// look-ahead and max transit times.
 pub fn captures_of_one_talker_never_differ()
     ensures differ { (shift : ℤ) (p : PacketJournal) (plan other : ListenPlan) (records others : List Record) → HearsTalker shift p plan records → HearsTalker shift p other others → by_clock other ≡ by_clock plan
         → differences (merged (presented_of (shown_of plan records)) (presented_of (shown_of other others))) ≡ [] }

@@ -1,4 +1,4 @@
--- The deliveries are copies of packets that are sent, each with a delay.
+-- Each delivery is a copy of a packet that is sent, and has a delay.
 use Rattle.std.proofs.Common.{◌≡◌, ℕ, ℤ, pos, zero, suc, ◌+◌, ◌*◌, ◌<◌, ◌≤◌, Bool, true, false, List, [], ◌∷◌, ◌++◌, length, map, refl, sym, ap, subst, ◌∙◌, arith, length-append}
 use Rattle.std.specs.Prelude.{◌%◌, ◌==◌, int_lt, if◌then◌else◌}
 use Rattle.std.specs.List.{AllByRecursion, range_with_len}

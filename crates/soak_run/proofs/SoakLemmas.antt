@@ -62,7 +62,7 @@ sent_soon n few = omega arith
 
 -- ---- packet by packet
 
--- `n + 1` numbers, counted from `from`, are n numbers and then the next number
+-- the `n + 1` numbers from `from` on are the n numbers from `from` on, and then the next number
 pub range-more : (from n next : ℕ) → from + n ≡ next → range_with_len from (suc n) ≡ range_with_len from n ++ next ∷ []
 range-more from zero next e = let same : from ≡ next = omega arith in ap (λ (x : ℕ). x ∷ []) same
 range-more from (suc n) next e = ap (λ (l : List ℕ). from ∷ l) (range-more (from + 1) n next (omega arith))
@@ -72,7 +72,7 @@ pub none-drawn : (seed noise : ℕ) → noise ≡ first_state seed → noise ≡
 unfolding state_after draws_before
 none-drawn seed noise e = e
 
--- the copies of `n + 1` packets are those of n packets, and then those of packet n
+-- the copies of the first `n + 1` packets are those of the first n packets, and then those of packet n
 pub copies-more : (seed n : ℕ) → all_copies seed (suc n) ≡ all_copies seed n ++ copies seed n
 copies-more seed n =
     ap (λ (l : List ℕ). flat_map (copies seed) l) (range-more 0 n n (omega arith))

@@ -69,7 +69,7 @@ none_late to shape batch (suc most) first block is =
     by false e rest = refl
     by true e rest = both _ _ (not_late batch first is (let within : first < batch.count = grind (arith, nat_tests) in within)) rest
 
--- the batch begins after the instant `last`, if there is one
+-- if `last` states an instant, the batch begins after `last`
 abbrev IsAfter : Option ℤ → Presented → Type 0
 IsAfter None batch = ⊤
 IsAfter (Some last) batch = last <ℤ sample_instant batch 0

@@ -89,7 +89,7 @@ fn record_of(alloc: Global, gateway: &Gateway, i: u32) -> Result<Recorded, Fail>
     })
 }
 
-/// Checks that the frame of piece `i` is the same when it is lent as when it is written.
+/// Checks that `piece` lends the same frame of piece `i` that `write` writes.
 fn check_lent(alloc: Global, gateway: &mut Gateway, i: u32) -> Result<(), Fail>
     requires { i < length gateway.old.frames }
     ensures { gateway.new ≡ gateway.old }
@@ -161,7 +161,7 @@ fn turn_all(
     Ok(())
 }
 
-/// Converts what a listener presents of these records, by a gateway for streams of this shape.
+/// Lets a gateway for streams of this shape convert what a listener presents of these records.
 pub fn turn_as(
     alloc: Global,
     to: To,

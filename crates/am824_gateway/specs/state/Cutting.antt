@@ -11,14 +11,16 @@ use Rattle.am824_gateway.specs.declared.scan.Shape.{Shape}
 use Rattle.am824_gateway.specs.declared.scan.To.{To}
 use Rattle.am824_gateway.specs.Pieces.{block_after, going_on, is_late, is_nominal, most_frames, pieces_of}
 
--- A piece begins at this sample of a batch. The nominal rate is `rate`, and a packet has at most `most` sample frames.
+-- A piece begins at the instant `i` of a sample of the batch. The nominal rate is `rate`, and a packet has at most
+-- `most` sample frames.
 pub record BeginsPiece (rate most : ℕ) (batch : Presented) (i : Instant) : Type 0 where
   pub is : IsInstantOf i batch
   pub inside : i.j < batch.count
   pub some_rate : 1 ≤ rate
   pub some : 1 ≤ most
 
--- The piece that begins at the old instant has `count` samples, and the new instant is that of the first sample after it.
+-- The piece that begins at the instant `old` has `count` samples. The first sample after the piece is at the instant
+-- `new`.
 pub record CountsPiece (rate most : ℕ) (batch : Presented) (old new : Instant) (count : ℕ) : Type 0 where
   pub value : count ≡ going_on (is_nominal rate batch old.j) 1 (min most (batch.count - old.j) - 1)
   pub some : 1 ≤ count

@@ -62,7 +62,7 @@ abbrev pub EntersSide : Which → Placed → ℕ → MatchingState → MatchingS
 EntersSide A x next old new pair = Enters x next old.waiting_a old.waiting_b new.waiting_a new.waiting_b pair
 EntersSide B x next old new pair = Enters x next old.waiting_b old.waiting_a new.waiting_b new.waiting_a pair
 
--- a count plus one, or the greatest count of its type
+-- a count plus one, but at most the greatest count of its type
 abbrev pub risen : ℕ → ℕ
 risen n = min (n + 1) (2 ^ 64 - 1)
 
@@ -99,7 +99,7 @@ pub record Tells (pair : Option Paired) (entered : Entered) : Type 0 where
 
 -- ---- the next batch
 
--- of the two next batches, the side of the one that is first in merged order
+-- the side whose next batch is first in merged order; none if neither side has a next batch
 abbrev pub first_side : Option Presented → Option Presented → Option Which
 first_side None None = None
 first_side (Some a) None = Some A

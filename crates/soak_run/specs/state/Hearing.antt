@@ -17,7 +17,7 @@ use Rattle.soak_run.specs.Captured.{captured}
 
 -- ---- stages
 
--- whether no delivery follows at this stage
+-- whether the listener gets no further delivery at this stage
 abbrev pub closed_at : Stage → Bool
 closed_at Giving = false
 closed_at Showing = true
