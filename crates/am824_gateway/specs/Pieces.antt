@@ -138,8 +138,8 @@ skip_by to shape given batch =
     else None
 
 -- Why a batch is skipped; `None` if it is not skipped. `ShapeOff`: the stream has no shape, or the batch has another
--- shape. `Overlap`: the batch does not begin after the last sample of the batches that were not skipped. `Range`: one
--- of its pieces would arrive too late for a capture.
+-- shape. `Overlap`: the batch begins at or before the last sample of the batches that were not skipped. `Range`: a
+-- packet of the batch would arrive too late for a capture.
 abbrev pub skip_of : To → Option Shape → Given → Presented → Option Skip
 skip_of to None given batch = Some ShapeOff
 skip_of to (Some shape) given batch = skip_by to shape given batch

@@ -184,7 +184,7 @@ impl Gateway {
     ///
     /// A batch is skipped for the first of these reasons that holds: `ShapeOff`: there is no shape, the batch is a unit
     /// of H.264, it does not have one value of 24 bits for each channel of each sample, or a value has a label other
-    /// than 0x40. `Overlap`: the batch does not begin after the last sample of the batches that were not skipped.
+    /// than 0x40. `Overlap`: the batch begins at or before the last sample of the batches that were not skipped.
     /// `Range`: a packet would arrive at 2^32 seconds or later.
     pub fn put(&mut self, batch: Batch) -> Result<u32, Skip>
         requires few { self.old.given.batches < 2 ^ 44 }

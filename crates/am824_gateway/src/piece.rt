@@ -121,8 +121,8 @@ fn is_one_piece(to: To, shape: Shape, batch: &Batch) -> bool
         && batch.count <= most_frames(to, shape.channels)
 }
 
-/// Cuts a batch into pieces, the first of which has the block count `block`. Returns the block count of the next packet, and
-/// whether a piece would arrive at a time that a capture cannot state.
+/// Cuts a batch into pieces, the first of which has the block count `block`. Returns the block count of the next
+/// packet, and whether the packet of a piece would arrive at a time that a capture cannot state.
 pub(crate) fn cut(
     pieces: &mut Vec<Piece>,
     to: To,

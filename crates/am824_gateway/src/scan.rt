@@ -102,7 +102,7 @@ impl Samples {
 }
 
 impl Scan {
-    /// A scan for what cannot be converted to the format `to` in the stream with this id.
+    /// A scan of the stream with this id, for what cannot be converted to the format `to`.
     pub fn new(to: To, stream: u64) -> Self
         ensures { HasScanned to stream [] result }
     {

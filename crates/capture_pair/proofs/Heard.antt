@@ -1,5 +1,5 @@
--- The number of items that a listener shows is at most the number of records that it was given. The batches that it
--- presents are in order.
+-- The number of items that a listener shows is at most the number of records that it was given. The batches that a
+-- listener presents are in order.
 use Rattle.std.proofs.Common.{◌≡◌, ℕ, zero, suc, ◌^◌, ◌≤◌, Bool, true, false, inl, inr, ℤ, ◌≤ℤ◌, ◌<ℤ◌, List, [], ◌∷◌, ◌++◌, length, map, fold, Some, None, Result, Ok, Err, refl, sym, ap, ◌∙◌, subst, arith}
 use Rattle.std.specs.Prelude.{if◌then◌else◌, int_lt, slice_get, option_and_then}
 use Rattle.std.specs.List.{AllByRecursion, list_any}

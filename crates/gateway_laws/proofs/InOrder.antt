@@ -19,7 +19,7 @@ use Rattle.sample_schedule.proofs.LawLemmas.{accepted-presented}
 use Rattle.sample_schedule.proofs.StageLemmas.{accepted-next}
 use Rattle.gateway_laws.specs.InOrder.{AreInOrder, IsNotFull, IsTimedAt}
 
--- these batches as accepted items; the first one is entry n
+-- these batches as accepted items; the first batch is entry n
 abbrev pub placed : ℕ → List Presented → List Accepted
 placed n [] = []
 placed n (b ∷ bs) = record { place = n; instant = first_instant b; batch = b } ∷ placed (suc n) bs

@@ -135,7 +135,7 @@ same_size Aaf = refl
 abbrev turn_body : To → Shape → Body → Body
 turn_body on shape b = record { instant = b.instant; count = b.count; bytes = turned on (b.count * shape.channels) b.bytes }
 
--- the batch that is presented of the packet that carries piece c
+-- the batch that is presented from the packet that carries piece c
 abbrev heard_of : To → Shape → ℕ → Cut → Presented
 heard_of to shape i c = counted_from_first (packet_heard to shape i c) (cut_instant c)
 

@@ -19,7 +19,6 @@ use Rattle.listener.proofs.Places.{presented-or-flagged}
 
 -- ---- how many items were shown
 
--- a listener that has shown `given` items has presented or flagged `given` items
 shown_count : (listener : ListenState) (records : List Record) (given : ℕ) → StandsFor records given listener → shown_by listener ≡ given
 shown_count listener records given stands =
     let all = out listener records in

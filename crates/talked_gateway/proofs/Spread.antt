@@ -62,7 +62,7 @@ cuts_hold P to shape given (b ∷ bs) holds =
     (cuts_begin P given.packets b 0 (pieces_of to shape b given.block) (λ j low high. holds.0 j high) (begin_from to shape b b.count 0 given.block))
     (cuts_hold P to shape (given_with to shape given b) bs holds.1) (cuts_hold P to shape given bs holds.1)
 
--- each sample of the batches after batch a is at least 500 ns after sample k of a
+-- each sample of the batches after batch a is at least 500 ns after sample k of batch a
 later_hold : (a : Presented) (k : ℕ) (bs : List Presented) → k < a.count → AllByRecursion (IsBefore a) bs → AreApart bs → HoldsOf (λ y. (sample_instant a k +ℤ pos 500) ≤ℤ y) bs
 later_hold a k [] within before apart = tt
 later_hold a k (b ∷ bs) within before apart = (of, later_hold a k bs within before.1 apart.2)

@@ -22,7 +22,7 @@ placed place side batch = record { place = place; side = side; batch = batch }
 abbrev pub takes_by : Which → Presented → Placed → Bool
 takes_by side batch y = fits side batch y.batch
 
--- batch x may be paired with a batch that waits on the other side
+-- batch x may be paired with batch y, which waits on the other side
 abbrev pub takes : Placed → Placed → Bool
 takes x = takes_by x.side x.batch
 
