@@ -109,8 +109,8 @@ fn count_piece(instant: &mut Instant, batch: &Batch, rate: u32, most: u32) -> u3
     count
 }
 
-/// Whether the batch is known to be one piece from its line and its size alone: the line has the nominal rate and
-/// begins at the batch's first sample, and one packet can carry all samples.
+/// Whether the line and the size of the batch show that it is one piece: the line has the nominal rate and begins at
+/// the batch's first sample, and one packet can carry all samples.
 fn is_one_piece(to: To, shape: Shape, batch: &Batch) -> bool
     requires { IsShape shape }
     ensures { result ≡ true → IsOnePiece to shape batch.now }

@@ -26,8 +26,8 @@ abbrev pub bytes_of : Which → List ℕ → List ℕ → List ℕ
 bytes_of A bytes others = bytes
 bytes_of B bytes others = others
 
--- The side that must be fed or ended next: A if A has not ended and has no next batch; otherwise B if B has not ended
--- and has no next batch; otherwise none.
+-- The side that must be fed or ended next. This is a side that has not ended and has no next batch. If this is true of
+-- both sides, the result is A; if it is true of neither, the result is `None`.
 abbrev pub wanted_by : FedPair → Option Which
 wanted_by pair = wanted pair.matching
 
@@ -55,8 +55,8 @@ StandsFor bytes others given pair = Pairs (λ list n. IsFed bytes n pair.a) (λ 
 abbrev pub IsThrough : FedPair → Type 0
 IsThrough pair = IsIdle pair.matching
 
--- An upper bound on the number of differences that the pair returns before more is fed: one for each item that a
--- listener can still show, and one for each next batch.
+-- An upper bound on the number of differences that the pair returns before more is fed. It counts one for each item
+-- that a listener can still show, and one for each next batch.
 abbrev pub most_left : FedPair → ℕ
 most_left pair = (work pair.a + work pair.b) + nexts_left pair.matching
 

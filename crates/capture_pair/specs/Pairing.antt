@@ -28,8 +28,8 @@ abbrev pub other_of : Which → Which
 other_of A = B
 other_of B = A
 
--- The side that must be given a record or closed next: A if A has not ended and has no next batch; otherwise B if B has
--- not ended and has no next batch; otherwise none.
+-- The side that must be given a record or closed next. This is a side that has not ended and has no next batch. If this
+-- is true of both sides, the result is A; if it is true of neither, the result is `None`.
 abbrev pub wanted_by : PairState → Option Which
 wanted_by pair = wanted pair.matching
 
@@ -91,8 +91,8 @@ pub record Continues (more more_others : List Record) (old new : PairState) : Ty
   pub closed_a : is_closed old.a ≡ true → (is_closed new.a ≡ true) × (more ≡ [])
   pub closed_b : is_closed old.b ≡ true → (is_closed new.b ≡ true) × (more_others ≡ [])
 
--- An upper bound on the number of differences that the pair returns before more is given: one for each item that a
--- listener can still show, and one for each next batch.
+-- An upper bound on the number of differences that the pair returns before more is given. It counts one for each item
+-- that a listener can still show, and one for each next batch.
 abbrev pub most_left : PairState → ℕ
 most_left pair = (work pair.a + work pair.b) + nexts_left pair.matching
 

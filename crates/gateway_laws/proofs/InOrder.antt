@@ -139,8 +139,8 @@ within [] k below e = absurd (omega arith)
 within (x ∷ xs) zero below e = absurd cc
 within (x ∷ xs) (suc k) below e = within xs k (omega (arith, below)) e
 
--- Each entry is an item that can be presented, the first instants rise, and there is room for each item after the
--- earlier ones are accepted.
+-- Each entry is an item that can be presented. The first instants of the items rise. For each item, there is room after
+-- the earlier items are accepted.
 pub record AreFree (clock : Clock) (plan : SchedulePlan) (entries : List Entry) (batches : List Presented) : Type 0 where
   pub all : length batches ≡ length entries
   pub timed_at : (i : ℕ) (batch : Presented) → slice_get batches i ≡ Some batch → IsTimedAt clock plan entries i batch

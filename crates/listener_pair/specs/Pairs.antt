@@ -33,8 +33,8 @@ reaches B x y = within_reach y x
 unfoldable pub fits : Which → Presented → Presented → Bool
 fits side x y = y.seq == x.seq && reaches side x y
 
--- Batch x may be paired with the unpaired batch y. This holds if y is of the other side and among the 512 batches
--- directly before x, both batches have the same sequence number, and they are within reach.
+-- Batch x may be paired with the unpaired batch y. Three conditions must hold: y is of the other side and among the 512
+-- batches directly before x; both batches have the same sequence number; and they are within reach.
 abbrev pub may_pair : Placed → Placed → Bool
 may_pair x y = nat_le x.place (y.place + 512) && not (is_side x.side y.side) && fits x.side x.batch y.batch
 

@@ -65,8 +65,8 @@ impl Matching {
         })
     }
 
-    /// The side for which `take` or `end` must be called next: A if A has not ended and has no next batch; otherwise B
-    /// if B has not ended and has no next batch; otherwise `None`.
+    /// The side for which `take` or `end` must be called next. This is a side that has not ended and has no next batch.
+    /// If this is true of both sides, returns A; if it is true of neither, returns `None`.
     pub fn wants(&self) -> Option<Which>
         ensures { result ≡ wanted self.now }
     {

@@ -30,8 +30,8 @@ struct Source {
     start: u64,
     /// The block count of the first data block.
     dbc: u64,
-    /// The number of packets after which the stream restarts, or 0 if it never restarts; and how far presentation times
-    /// jump at each restart, in nanoseconds.
+    /// The number of packets after which the stream restarts; 0 if it never restarts. `jump` is how far presentation
+    /// times jump at each restart, in nanoseconds.
     restart: u64,
     jump: u64,
     /// The time from the capture of a packet to its first instant, in nanoseconds.

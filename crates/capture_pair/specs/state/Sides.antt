@@ -53,8 +53,8 @@ is_passed (Some (Present batch)) = false
 is_passed (Some (Flag frame seq reason)) = true
 is_passed None = false
 
--- A matching was given the batches among the first n items of the list of side `which` and the first k items of the
--- other side's list.
+-- A matching was given batches of both sides: of side `which`, those among the first n items of the side's list; of the
+-- other side, those among the first k items of that side's list.
 abbrev pub MatchesOn : Which → List Shown → List Shown → ℕ → ℕ → ℕ → MatchingState → Type 0
 MatchesOn A list other n k given m = Matches list other n k given m
 MatchesOn B list other n k given m = Matches other list k n given m
