@@ -168,7 +168,7 @@ three_bytes Int32 b e = absurd cc
 three_bytes Int24 b e = refl
 three_bytes Int16 b e = absurd cc
 
--- the payload of a PCM packet that its reader accepts has the stated length
+-- if the AAF reader accepts a packet, the packet's payload has the stated length
 payload_long : (bytes : List ℕ) → aaf_refusal bytes ≡ None → length (aaf_of bytes).payload ≡ bits 20 0 16 bytes
 payload_long bytes accepted =
     let kind = or_else-none (kind_refusal aaf_subtype bytes) (or_else (first_row (sample_rows bytes)) (first_row (length_rows bytes))) accepted in
@@ -209,7 +209,7 @@ block_values Aaf (Some shape) d rate accepted named fine p bytes count =
 
 -- ---- entries
 
--- The entry is not a unit. If it is a packet of samples with a known rate, the packet has values of this shape.
+-- The entry is not a unit. If the entry is a packet of samples with a known rate, this packet has values of this shape.
 abbrev pub IsShapely : To → Option Shape → Entry → Type 0
 IsShapely to shape (OfItem (OfPacket p)) = 1 ≤ p.count → 1 ≤ p.rate → HasValues to shape p
 IsShapely to shape (OfItem (OfUnit u)) = ⊥
@@ -306,7 +306,7 @@ shown_shaped to plan records none = presented_all (IsShapedAs to (shape_in plan.
 pub due_shaped : (to : To) (plan : ListenPlan) (records : List Record) → first_fault to plan.stream records ≡ None → AllByRecursion (IsShapedAs to (shape_in plan.stream records)) (presented_of (due_of plan records))
 due_shaped to plan records none = due_all (IsShapedAs to (shape_in plan.stream records)) plan records (shown_shaped to plan records none)
 
--- a batch of the shape is not skipped for its shape
+-- a batch that has the stream's shape is not skipped as `ShapeOff`
 pub not_shape_off : (to : To) (shape : Option Shape) (given : Given) (batch : Presented) → IsShapedAs to shape batch → skip_of to shape given batch ≢ Some ShapeOff
 not_shape_off to None given batch is e = absurd is
 not_shape_off to (Some shape) given batch is e = by (has_shape to shape batch) is (overlaps given.last batch) (list_any (is_late batch) (pieces_of to shape batch given.block)) e

@@ -48,14 +48,14 @@ abbrev pub samples_or_silent : ℕ → Option ℕ → (ℕ → Samples) → Cont
 samples_or_silent count None samples = Silent
 samples_or_silent count (Some rate) samples = if count == 0 then Silent else Audio (samples rate)
 
--- the samples of a PCM packet; `Silent` if the AAF reader refuses the packet, or if it has no samples or an unknown
--- rate
+-- the samples of a PCM packet; `Silent` if the AAF reader refuses the packet, or if the packet has no samples or an
+-- unknown rate
 abbrev pub pcm_content : Option Refusal → Aaf → Content
 pcm_content None v = samples_or_silent v.count (rate_of v.nsr) (pcm v)
 pcm_content (Some refusal) v = Silent
 
--- the samples of an IEC 61883-6 packet; `Silent` if the IEC 61883 reader refuses the packet, or if it has no samples or
--- an unknown rate
+-- the samples of an IEC 61883-6 packet; `Silent` if the IEC 61883 reader refuses the packet, or if the packet has no
+-- samples or an unknown rate
 abbrev pub am824_content : Option Refusal → Iec → Content
 am824_content None v = samples_or_silent v.count (rate_of_fdf v.cip.fdf) (am824 v)
 am824_content (Some refusal) v = Silent

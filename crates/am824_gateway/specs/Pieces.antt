@@ -62,7 +62,7 @@ block_after interval block (p ∷ pieces) = block_after interval (next_block int
 
 -- ---- the pieces of a batch
 
--- at most `most` pieces of a batch, from sample `first` on; the first of them has the block count `block`
+-- at most `most` pieces of a batch, from sample `first` on; the first piece has the block count `block`
 abbrev pub pieces_from : To → Shape → Presented → ℕ → ℕ → ℕ → List Piece
 pieces_from to shape batch zero first block = []
 pieces_from to shape batch (suc most) first block =

@@ -119,7 +119,8 @@ first_fault to stream records = fault_from to stream None 1 records
 
 -- ---- a scan
 
--- a scan: the format to which the stream is to be converted, the stream's id, and the shape of its first packet of samples
+-- a scan: the format to which the stream is to be converted, the stream's id, and the shape of the stream's first
+-- packet of samples
 pub record Scanning : Type 0 where
   pub to : To
   pub stream : ℕ

@@ -179,8 +179,8 @@ impl Gateway {
         })
     }
 
-    /// Cuts the next batch that is presented into pieces, and returns their number. It may be called while `batches` is
-    /// below 2^44. A skipped batch changes nothing. The call allocates nothing.
+    /// Cuts the next batch that is presented into pieces, and returns their number. `put` may be called while `batches`
+    /// is below 2^44. A skipped batch changes nothing. The call allocates nothing.
     ///
     /// A batch is skipped for the first of these reasons that holds: `ShapeOff`: there is no shape, the batch is a unit
     /// of H.264, it does not have one value of 24 bits for each channel of each sample, or a value has a label other
@@ -259,7 +259,7 @@ impl Gateway {
         }
     }
 
-    /// Writes the frame of piece `i` of the last batch that was not skipped. It allocates nothing.
+    /// Writes the frame of piece `i` of the last batch that was not skipped. Allocates nothing.
     pub fn write(&self, i: u32, turn: Turn, out: &mut [u8])
         requires turn { IsPieceTurn self.now i turn }
         requires room { length out.old ≡ turn.size }
@@ -282,7 +282,8 @@ impl Gateway {
         Some(current.batch.bytes)
     }
 
-    /// The frame of piece `i` of the last batch that was not skipped. Pieces are counted from 0. It allocates nothing.
+    /// Returns the frame of piece `i` of the last batch that was not skipped. Pieces are counted from 0. Allocates
+    /// nothing.
     pub fn piece(&mut self, i: u32) -> Sent<'_>
         requires { i < length self.old.frames }
         ensures frame { slice_get self.old.frames i ≡ Some (sent_frame result) }

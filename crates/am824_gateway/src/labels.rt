@@ -8,7 +8,8 @@ use crate::scan::To;
 /// The label of linear audio of 24 bits.
 pub(crate) const LINEAR: u8 = 0x40;
 
-/// Whether each quadlet is linear audio of 24 bits. All quadlets are tested, even after one fails, because usually none does.
+/// Whether each quadlet is linear audio of 24 bits. All quadlets are tested, even after one fails, because usually no
+/// quadlet fails.
 pub(crate) fn are_linear(quadlets: &[u8]) -> bool
     ensures { result ≡ are_linear_by quadlets.now }
 {

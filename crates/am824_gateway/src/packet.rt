@@ -21,7 +21,8 @@ use avtp_header::{StreamHeader, subtype};
 use iec61883_format::{Cip, IecView, write_iec};
 use talk_plan::{ETHERNET_HEADER, write_ethernet};
 
-/// The length of the headers of a frame of AM824: Ethernet's with its tag, the stream header and the CIP header.
+/// The length of the headers of a frame of AM824: the Ethernet header with its tag, the stream header and the CIP
+/// header.
 pub(crate) const AM824_HEADERS: usize = ETHERNET_HEADER + 32;
 
 /// The length of the headers of a frame of PCM.

@@ -13,7 +13,7 @@ use crate::rates::interval_of;
 use crate::scan::{Shape, To};
 use sample_schedule::{Batch, Instant};
 
-/// A piece of a batch, which one packet carries.
+/// A piece of a batch. One packet carries each piece.
 #[derive(Clone, Copy, Debug, PartialEq, Eq)]
 pub struct Piece {
     /// The number of its first sample in the batch, from 0.
@@ -109,8 +109,8 @@ fn count_piece(instant: &mut Instant, batch: &Batch, rate: u32, most: u32) -> u3
     count
 }
 
-/// Whether the line and the size of the batch show that it is one piece: the line has the nominal rate and begins at
-/// the batch's first sample, and one packet can carry all samples.
+/// Whether the line and the size of the batch show that the batch is one piece: the line has the nominal rate and
+/// begins at the first sample, and one packet can carry all samples.
 fn is_one_piece(to: To, shape: Shape, batch: &Batch) -> bool
     requires { IsShape shape }
     ensures { result ≡ true → IsOnePiece to shape batch.now }

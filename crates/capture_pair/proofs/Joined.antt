@@ -106,7 +106,7 @@ put-a a (y ∷ ys) h = at y.side y.batch h (int_lt (first_instant y.batch) (firs
     at B c n true e ih = ih
     at s c n false e ih = refl
 
--- putting a batch of A into a list leaves its batches of B as they are
+-- the batches of B in a list stay the same when a batch of A is put into the list
 put-b : (a : Presented) (l : List Sided) → batches_of B (put_before (of_side A a) l) ≡ batches_of B l
 put-b a [] = refl
 put-b a (y ∷ ys) = at y.side y.batch (int_lt (first_instant y.batch) (first_instant a)) (put-b a ys)

@@ -1,4 +1,4 @@
--- The differences that a pair has returned stay the first known differences, whatever its sides present later.
+-- The differences that a pair has returned stay the first known differences, whatever the pair's sides present later.
 use Rattle.std.proofs.Common.{◌≡◌, ℕ, zero, suc, ◌+◌, ◌≤◌, Bool, true, false, List, [], ◌∷◌, ◌++◌, length, take, drop}
 use Rattle.std.proofs.Common.{◌||◌, Option, Some, None, refl, sym, ap, ◌∙◌, subst, append_assoc, append-nil, length-append, arith}
 use Rattle.std.specs.Prelude.{slice_get}
@@ -73,7 +73,7 @@ shows-on plan records more l is none = at (is_closed l) refl
         (subst (λ (s : List Shown). IsPrefix s (shown_of plan (records ++ more)))
         (ap (λ (p : ListenPlan). due_of p records) (sym is) ∙ sym (out_open l records e)) (due-shown plan records more))
 
--- what a listener presents of `records` is a prefix of what it presents after it is given `more` or closed
+-- what a listener presents of `records` is a prefix of what the listener presents after it takes `more` or is closed
 pub presents-on : (records more : List Record) (old new : ListenState) → new.plan ≡ old.plan → (is_closed old ≡ true → (is_closed new ≡ true) × (more ≡ []))
     → Longer (presented_by old records) (presented_by new (records ++ more)) (is_closed old)
 presents-on records more old new plan closed = at (is_closed old) (is_closed new) refl refl

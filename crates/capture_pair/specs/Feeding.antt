@@ -41,8 +41,8 @@ pub record AreShort (bytes others : List ℕ) : Type 0 where
   pub a : length bytes ≤ 2 ^ 62
   pub b : length others ≤ 2 ^ 62
 
--- The known part of the merged list of both listeners' batches, after `bytes` of A and `others` of B were fed. It is
--- a prefix of the merged list that no later bytes can change.
+-- The known part of the merged list of both listeners' batches, after `bytes` of A and `others` of B were fed. The
+-- known part is a prefix of the merged list that no later bytes can change.
 abbrev pub known_by : FedPair → List ℕ → List ℕ → List Sided
 known_by pair bytes others = known (is_ended pair.a) (is_ended pair.b) (merged (presented_of (out pair.a bytes)) (presented_of (out pair.b others)))
 

@@ -39,12 +39,13 @@ pub record HavePlan (plan : ListenPlan) (pair : PairState) : Type 0 where
   pub b : pair.b.plan ≡ plan
 
 -- The batches that a listener presents of `records`. While the listener is open, these are the batches that are due,
--- which means that they are certain to be presented whatever records follow. After it is closed, these are all batches.
+-- which means that they are certain to be presented whatever records follow. After the listener is closed, these are
+-- all batches.
 abbrev pub presented_by : ListenState → List Record → List Presented
 presented_by listener records = presented_of (out listener records)
 
--- The known part of the merged list of both listeners' batches, after `records` of A and `others` of B were given. It
--- is a prefix of the merged list that no later records can change.
+-- The known part of the merged list of both listeners' batches, after `records` of A and `others` of B were given. The
+-- known part is a prefix of the merged list that no later records can change.
 abbrev pub known_by : PairState → List Record → List Record → List Sided
 known_by pair records others = known (is_closed pair.a) (is_closed pair.b) (merged (presented_by pair.a records) (presented_by pair.b others))
 

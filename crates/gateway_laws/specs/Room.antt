@@ -8,7 +8,7 @@ use Rattle.am824_gateway.specs.declared.scan.To.{To}
 use Rattle.am824_gateway.specs.Laws.{cut_instant, cuts_after}
 use Rattle.am824_gateway.specs.Pieces.{nothing_given}
 
--- each instant is at least 500 ns after all earlier ones
+-- each instant is at least 500 ns after all earlier instants
 abbrev pub AreSpread : List ℤ → Type 0
 AreSpread [] = ⊤
 AreSpread (x ∷ xs) = AllByRecursion (λ y. (x +ℤ pos 500) ≤ℤ y) xs × AreSpread xs

@@ -28,13 +28,13 @@ abbrev pub reaches : Which → Presented → Presented → Bool
 reaches A x y = within_reach x y
 reaches B x y = within_reach y x
 
--- Batch x of `side` may be paired with an earlier batch y of the other side: both have the same sequence number, and
--- they are within reach.
+-- Batch x of `side` may be paired with an earlier batch y of the other side: x and y have the same sequence number, and
+-- are within reach.
 unfoldable pub fits : Which → Presented → Presented → Bool
 fits side x y = y.seq == x.seq && reaches side x y
 
 -- Batch x may be paired with the unpaired batch y. Three conditions must hold: y is of the other side and among the 512
--- batches directly before x; both batches have the same sequence number; and they are within reach.
+-- batches directly before x; x and y have the same sequence number; and x and y are within reach.
 abbrev pub may_pair : Placed → Placed → Bool
 may_pair x y = nat_le x.place (y.place + 512) && not (is_side x.side y.side) && fits x.side x.batch y.batch
 
@@ -45,7 +45,7 @@ pub record Paired : Type 0 where
   pub earlier : Placed
   pub later : Placed
 
--- a list without its first element that passes a test
+-- a list from which the first element that passes a test is removed
 abbrev pub without_first : {T : Type 0} → (T → Bool) → List T → List T
 without_first {T} test [] = []
 without_first {T} test (y ∷ ys) = if test y then ys else y ∷ without_first test ys

@@ -196,8 +196,8 @@ impl Matching {
         }
     }
 
-    /// Takes the next batch of the known part, which is of side `side`. If it makes a pair that differs, returns the
-    /// difference.
+    /// Takes the next batch of the known part, which is of side `side`. If the batch makes a pair that differs, returns
+    /// the difference.
     fn step(&mut self, side: Which) -> Option<Difference>
         requires { next_side self.old ≡ Some side }
         ensures stands { (xs ys : List Presented) (given : ℕ) → StandsFor xs ys given self.old → StandsFor xs ys (given + length (option_to_list result)) self.new }

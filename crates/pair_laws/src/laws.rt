@@ -17,8 +17,8 @@ ghost use Rattle.capture_pair.specs.Pairing.{Continues, EndsAreClosed, HavePlan,
 ghost use Rattle.pair_laws.specs.Agreeing.{IsOfAnother, IsOneOf, IsPairOf, IsPresentedOfTalker};
 ghost use Rattle.pair_laws.specs.Beside.{IsPresentation};
 
-/// A capture compared with itself never differs, whatever it holds: each batch that a listener presents of it is paired
-/// with itself. This requires that each sequence number is a byte.
+/// A capture compared with itself never differs, whatever the capture holds: each batch that a listener presents of the
+/// capture is paired with itself. This requires that each sequence number is a byte.
 pub fn a_capture_beside_itself_never_differs()
     ensures differ { (list : List Presented) → IsPresentation list → differences (merged list list) ≡ [] }
     ensures matched { (list : List Presented) → IsPresentation list → counts_of (merged list list) ≡ record { matched = length list; only_a = 0; only_b = 0; differ = 0 } }

@@ -22,7 +22,7 @@ module _ {X : Type 0} (lt : X → X → Bool) (o : IsStrictWeakOrder lt) where
   Least x [] = Unit {0}
   Least x (y ∷ ys) = (lt y x ≡ false) × Least x ys
 
-  -- no element of the list is less than an earlier one
+  -- no element of the list is less than an earlier element
   Rising : List X → Type 0
   Rising [] = Unit {0}
   Rising (x ∷ xs) = Least x xs × Rising xs

@@ -2,7 +2,7 @@
 -- gives as an example, with 31 bits of state. The number of bits is this project's own.
 use Rattle.std.specs.Prelude.{ℕ, zero, suc, ◌+◌, ◌*◌, ◌/◌, ◌%◌, ◌^◌}
 
--- the number of states; each state is a number below it
+-- the number of states; each state is less than this number
 abbrev pub states : ℕ
 states = 2 ^ 31
 

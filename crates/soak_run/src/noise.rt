@@ -5,7 +5,7 @@ ghost use Rattle.soak_run.specs.Noise.{drawn, first_state, next_state};
 
 use std::marker::Model;
 
-/// The number of states. Each state is a number below it.
+/// The number of states. Each state is less than this number.
 const STATES: u64 = 1 << 31;
 
 const MULTIPLIER: u64 = 1_103_515_245;

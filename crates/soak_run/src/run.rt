@@ -70,8 +70,8 @@ fn want_of_memory(_fault: TalkFault) -> NoMemory
     NoMemory
 }
 
-/// Sends `packets` packets over a bad network, has a listener hear what arrives, and returns what became of it.
-/// `packets` is at most 1,000,000. `NoMemory` if memory cannot be allocated.
+/// Sends `packets` packets over a bad network, has a listener hear what arrives, and returns what became of the
+/// packets. `packets` is at most 1,000,000. `NoMemory` if memory cannot be allocated.
 ///
 /// The stream is sparse PCM of two channels at 48 kHz, with six sample frames in a packet. One packet in 16 is lost,
 /// one in 16 arrives twice, and each copy arrives up to 2.52 ms late. The listener looks 32 items ahead, and hears the

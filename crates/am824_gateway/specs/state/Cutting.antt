@@ -36,7 +36,7 @@ pub record CutsBatch (to : To) (shape : Shape) (batch : Presented) (block : ℕ)
   pub in_time : late ≡ list_any (is_late batch) (pieces_of to shape batch block)
   pub few : length pieces ≤ batch.count
 
--- All samples of the batch are on the nominal line of its first sample, and one packet can carry them.
+-- All samples of the batch are on the nominal line of the first sample, and one packet can carry all samples.
 pub record IsOnePiece (to : To) (shape : Shape) (batch : Presented) : Type 0 where
   pub begun : batch.from ≡ pos 0
   pub num : batch.line.num ≡ 1000000000
