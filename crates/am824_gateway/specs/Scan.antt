@@ -14,8 +14,8 @@ use Rattle.am824_gateway.specs.Content.{content}
 
 -- ---- the shape of a stream
 
--- A shape that can be converted: a sample rate of IEC 61883-6, and 1 to 256 channels, because a data block has at most 256
--- quadlets (IEC 61883-1).
+-- A shape that can be converted: a sample rate of IEC 61883-6, and 1 to 256 channels, because a data block has at most
+-- 256 quadlets (IEC 61883-1).
 pub record IsShape (shape : Shape) : Type 0 where
   pub rate : IsSome (fdf_of shape.rate)
   pub some : 1 ≤ shape.channels

@@ -46,8 +46,8 @@ pub(crate) struct Stream {
     pub to: To,
     pub shape: Shape,
     pub id: u64,
-    /// The headers of a frame, which are encoded once. Frames differ in the sequence number, the timestamp, the length and the
-    /// block count.
+    /// The headers of a frame, which are encoded once. Frames differ in the sequence number, the timestamp, the length
+    /// and the block count.
     pub headers: [u8; AM824_HEADERS],
 }
 

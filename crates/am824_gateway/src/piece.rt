@@ -30,8 +30,8 @@ pub(crate) const MOST_PIECES: usize = 65_535;
 
 const NANOSECONDS: u64 = 1_000_000_000;
 
-/// How long before its presentation time a packet arrives, in nanoseconds: the max transit time of stream reservation class A
-/// (IEEE 802.1BA).
+/// How long before its presentation time a packet arrives, in nanoseconds: the max transit time of stream reservation
+/// class A (IEEE 802.1BA).
 const TRANSIT: i64 = 2_000_000;
 
 /// 2^32 seconds, in nanoseconds. A capture cannot state an arrival at or after that time.

@@ -3,8 +3,8 @@
 /// Why a batch is skipped.
 #[derive(Clone, Copy, Debug, PartialEq, Eq)]
 pub enum Skip {
-    /// The stream has no shape, the batch is a unit of H.264, its bytes do not fit the stream's channels, or a quadlet has a
-    /// label other than 0x40.
+    /// The stream has no shape, the batch is a unit of H.264, its bytes do not fit the stream's channels, or a quadlet
+    /// has a label other than 0x40.
     ShapeOff,
     /// The batch begins at or before the last sample of the batches that were not skipped.
     Overlap,

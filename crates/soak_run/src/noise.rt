@@ -12,8 +12,8 @@ const MULTIPLIER: u64 = 1_103_515_245;
 
 const INCREMENT: u64 = 12_345;
 
-/// A generator of pseudo-random numbers, the same in each run: the linear congruential generator that the C standard gives as
-/// an example, with 31 bits of state.
+/// A generator of pseudo-random numbers, the same in each run: the linear congruential generator that the C standard
+/// gives as an example, with 31 bits of state.
 #[derive(Debug, Drop)]
 pub struct Noise {
     state: u64,

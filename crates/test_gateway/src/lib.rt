@@ -1,4 +1,5 @@
-//! Tests of the gateway as a library: what a scan finds, where batches are cut, and what a listener presents of the frames.
+//! Tests of the gateway as a library: what a scan finds, where batches are cut, and what a listener presents of the
+//! frames.
 #![tactic(auto)]
 
 #[cfg(test)]

@@ -72,8 +72,8 @@ fn batch_of(frame: u64, seq: u8, samples: Samples, bytes: Bytes) -> Result<Batch
     })
 }
 
-/// The batch that a word gives: the sequence number, `@`, the samples, and their bytes after `=`. Without bytes after `=`, each
-/// sample has one byte, 0.
+/// The batch that a word gives: the sequence number, `@`, the samples, and their bytes after `=`. Without bytes after
+/// `=`, each sample has one byte, 0.
 fn batch(alloc: Global, frame: u64, word: &str) -> Result<Batch, Fail> {
     let (seq, rest) = split(word, '@', "");
     let (rest, digits) = split(rest, '=', "");
