@@ -352,7 +352,7 @@ order-rest-b list other n k given xs ys ended_a ended_b m h f =
 none-rest : (next : Option Presented) (us vs : List Presented) → next ≡ None → us ≡ [] → vs ≡ [] → rest_of next (us ++ vs) ≡ []
 none-rest next us vs e f g = ap (λ (o : Option Presented). rest_of o (us ++ vs)) e ∙ both-none us vs f g
 
--- Let A be wanted, not have ended, and have shown no batch that the matching was not given. Then the known part is
+-- Let A be wanted, let A's listener be open, and let the matching have the whole list of A. Then the known part is
 -- `done`, whatever B presents later.
 known-done-a : (list other : List Shown) (n k given : ℕ) (xs ys : List Presented) (ended_a ended_b : Bool) (m : MatchingState)
     → (h : Matches list other n k given m) → (f : Further list other xs ys ended_a ended_b m)

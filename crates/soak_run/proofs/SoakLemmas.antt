@@ -62,7 +62,7 @@ sent_soon n few = omega arith
 
 -- ---- packet by packet
 
--- the `n + 1` numbers from `from` on are the n numbers from `from` on, and then the next number
+-- the `n + 1` numbers from `from` on are the first n of them, and then `next`
 pub range-more : (from n next : ℕ) → from + n ≡ next → range_with_len from (suc n) ≡ range_with_len from n ++ next ∷ []
 range-more from zero next e = let same : from ≡ next = omega arith in ap (λ (x : ℕ). x ∷ []) same
 range-more from (suc n) next e = ap (λ (l : List ℕ). from ∷ l) (range-more (from + 1) n next (omega arith))
