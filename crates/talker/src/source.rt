@@ -1,14 +1,13 @@
 //! What makes the packets of a stream.
 
-ghost use Rattle.std.specs.Prelude.{◌≡◌, ◌⊎◌, ◌<◌, ◌≤◌, length, pos, false, Err, Some, None, IfOk, IfErr, IfSome, OnOk};
-ghost use Rattle.talk_plan.specs.declared.fault.TalkFault.TheVariants.{Memory};
+ghost use Rattle.std.specs.Prelude.{◌≡◌, ◌<◌, ◌≤◌, length, pos, false, Some, None};
 ghost use Rattle.talk_plan.specs.declared.plan.TalkKind.TheVariants.{H264};
 ghost use Rattle.talker.specs.Faults.{fault_of};
 ghost use Rattle.talk_audio.specs.Streams.{IsAudio};
 ghost use Rattle.talk_plan.specs.Ethernet.{packet_bytes};
 ghost use Rattle.talk_plan.specs.Plan.{IsAudioPlan, IsPlan, IsVideoPlan, most_input};
 ghost use Rattle.talk_clock.specs.Streams.{IsClockOf};
-ghost use Rattle.talker.specs.state.Talking.{IsPacketOfSource, IsSource, IsSourceOf, plan_in, stream_in};
+ghost use Rattle.talker.specs.state.Talking.{BeginsSource, IsPacketOfSource, IsSource, plan_in, stream_in};
 ghost use Rattle.talker.specs.state.Turns.{IsTurnOf};
 
 use crate::turn::Turn;
@@ -48,10 +47,7 @@ impl<'a> Source<'a> {
     pub fn of(alloc: Global, plan: TalkPlan, input: &'a [u8]) -> Result<Self, TalkFault>
         requires plan { IsPlan plan }
         requires limit { length input.now ≤ most_input }
-        ensures made { IfOk result (IsSourceOf plan input.now) }
-        ensures accepted { OnOk result (fault_of plan input.now ≡ None) }
-        ensures fault { IfSome (fault_of plan input.now) (λ fault. result ≡ Err fault) }
-        ensures only { IfErr result (λ fault. (fault_of plan input.now ≡ Some fault) ⊎ (fault ≡ Memory)) }
+        ensures { BeginsSource plan input.now result }
     {
         match plan.kind {
             TalkKind::H264 { last_stamp } => Source::of_video(alloc, plan, last_stamp, input),
@@ -62,10 +58,7 @@ impl<'a> Source<'a> {
     fn of_audio(plan: TalkPlan, input: &'a [u8]) -> Result<Self, TalkFault>
         requires plan { IsAudioPlan plan }
         requires limit { length input.now ≤ most_input }
-        ensures made { IfOk result (IsSourceOf plan input.now) }
-        ensures accepted { OnOk result (fault_of plan input.now ≡ None) }
-        ensures fault { IfSome (fault_of plan input.now) (λ fault. result ≡ Err fault) }
-        ensures only { IfErr result (λ fault. (fault_of plan input.now ≡ Some fault) ⊎ (fault ≡ Memory)) }
+        ensures { BeginsSource plan input.now result }
     {
         let stream = AudioStream::of(plan);
         match audio_fault(&stream, input) {
@@ -83,10 +76,7 @@ impl<'a> Source<'a> {
         requires plan { IsVideoPlan plan }
         requires kind { plan.kind ≡ H264 last_stamp }
         requires limit { length input.now ≤ most_input }
-        ensures made { IfOk result (IsSourceOf plan input.now) }
-        ensures accepted { OnOk result (fault_of plan input.now ≡ None) }
-        ensures fault { IfSome (fault_of plan input.now) (λ fault. result ≡ Err fault) }
-        ensures only { IfErr result (λ fault. (fault_of plan input.now ≡ Some fault) ⊎ (fault ≡ Memory)) }
+        ensures { BeginsSource plan input.now result }
     {
         if let Some(fault) = units_fault(input) {
             return Err(fault);

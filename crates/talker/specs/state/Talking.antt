@@ -1,11 +1,14 @@
 -- Kept for proofs: what the code's own parts hold and do. No clause of a public call rests on it. The source and the clock of a
 -- talker.
-use Rattle.std.specs.Prelude.{◌≡◌, ◌⊎◌, ℕ, ◌<◌, ◌≤◌, List, length, Option, Some, None}
+use Rattle.std.specs.Prelude.{◌≡◌, ◌⊎◌, ℕ, ◌<◌, ◌≤◌, List, length, Option, Some, None, IfSome, Result, Err, IfErr, IfOk, OnOk}
 use Rattle.talk_clock.specs.declared.clock.ClockStream.{ClockStream}
+use Rattle.talk_plan.specs.declared.fault.TalkFault.{TalkFault}
+use Rattle.talk_plan.specs.declared.fault.TalkFault.TheVariants.{Memory}
 use Rattle.talk_plan.specs.declared.plan.TalkPlan.{TalkPlan}
 use Rattle.talker.specs.declared.source.Source.{Source}
 use Rattle.talker.specs.declared.source.Source.TheVariants.{Audio as OfAudio, Video as OfVideo}
 use Rattle.talk_clock.specs.Clock.{clock_arrival, clock_packets}
+use Rattle.talker.specs.Faults.{fault_of}
 use Rattle.talker.specs.Journal.{Stream, stream_of}
 use Rattle.talk_plan.specs.Plan.{most_input}
 use Rattle.talk_audio.specs.Streams.{IsAudio}
@@ -38,6 +41,13 @@ pub record IsSourceOf (plan : TalkPlan) (input : List ℕ) (source : Source) : T
   pub source_is : IsSource source
   pub plan_is : plan_in source ≡ plan
   pub input_is : input_in source ≡ input
+
+-- The source of a plan and an input. A fault of them is returned, and before `Memory`.
+pub record BeginsSource (plan : TalkPlan) (input : List ℕ) (result : Result Source TalkFault) : Type 0 where
+  pub made : IfOk result (IsSourceOf plan input)
+  pub accepted : OnOk result (fault_of plan input ≡ None)
+  pub fault : IfSome (fault_of plan input) (λ fault. result ≡ Err fault)
+  pub only : IfErr result (λ fault. (fault_of plan input ≡ Some fault) ⊎ (fault ≡ Memory))
 
 -- the source has a packet n
 pub record IsPacketOfSource (source : Source) (n : ℕ) : Type 0 where

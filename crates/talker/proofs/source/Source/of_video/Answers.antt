@@ -1,28 +1,21 @@
-use Rattle.std.proofs.Common.{inl, refl, sym, ◌∙◌}
+use Rattle.std.proofs.Common.{inl, refl, rules, sym, ◌∙◌}
 use Rattle.talker.proofs.SourceLemmas.{video_fault}
 use Rattle.talker.proofs.source.Source.of_video.Goals as goal
 
-pub returns-in-Some-clause-fault : goal.returns-in-Some-clause-fault
-returns-in-Some-clause-fault c =
+pub returns-in-Some : goal.returns-in-Some
+returns-in-Some c =
     let is = video_fault c.args.plan c.args.input.now c.args.last_stamp c.requires.plan c.requires.kind c.requires.limit in
-    rw (is ∙ sym c.units_fault.ensures ∙ c.in-Some.is) refl
+    let found = is ∙ sym c.units_fault.ensures ∙ c.in-Some.is in
+    record { made = tt; accepted = tt; fault = rw found refl; only = inl found; }
 
-pub returns-in-Some-clause-only : goal.returns-in-Some-clause-only
-returns-in-Some-clause-only c =
+pub returns-in_err-stream : goal.returns-in_err-stream
+returns-in_err-stream c =
     let is = video_fault c.args.plan c.args.input.now c.args.last_stamp c.requires.plan c.requires.kind c.requires.limit in
-    inl (is ∙ sym c.units_fault.ensures ∙ c.in-Some.is)
+    let none = is ∙ sym c.units_fault.ensures ∙ c.in_default.is in
+    record { made = search rules; accepted = search rules; fault = rw none tt; only = search rules; }
 
-pub returns-in_err-stream-clause-fault : goal.returns-in_err-stream-clause-fault
-returns-in_err-stream-clause-fault c =
+pub returns : goal.returns
+returns c =
     let is = video_fault c.args.plan c.args.input.now c.args.last_stamp c.requires.plan c.requires.kind c.requires.limit in
-    rw (is ∙ sym c.units_fault.ensures ∙ c.in_default.is) tt
-
-pub returns-clause-accepted : goal.returns-clause-accepted
-returns-clause-accepted c =
-    let is = video_fault c.args.plan c.args.input.now c.args.last_stamp c.requires.plan c.requires.kind c.requires.limit in
-    is ∙ sym c.units_fault.ensures ∙ c.in_default.is
-
-pub returns-clause-fault : goal.returns-clause-fault
-returns-clause-fault c =
-    let is = video_fault c.args.plan c.args.input.now c.args.last_stamp c.requires.plan c.requires.kind c.requires.limit in
-    rw (is ∙ sym c.units_fault.ensures ∙ c.in_default.is) tt
+    let none = is ∙ sym c.units_fault.ensures ∙ c.in_default.is in
+    record { made = search rules; accepted = none; fault = rw none tt; only = tt; }
