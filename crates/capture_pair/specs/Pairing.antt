@@ -84,8 +84,8 @@ pub record EndsAreClosed (pair : PairState) : Type 0 where
   pub a : pair.matching.ended_a ≡ true → is_closed pair.a ≡ true
   pub b : pair.matching.ended_b ≡ true → is_closed pair.b ≡ true
 
--- `new` is `old` after it was given the further records `more` of A and `more_others` of B. The plans are the same as
--- before. A side that was closed stays closed, and is given no further record.
+-- `new` is `old` after the further records `more` of A and `more_others` of B. Both plans are unchanged. A side that was
+-- closed stays closed, and has no further record.
 pub record Continues (more more_others : List Record) (old new : PairState) : Type 0 where
   pub plan_a : new.a.plan ≡ old.a.plan
   pub plan_b : new.b.plan ≡ old.b.plan

@@ -125,8 +125,8 @@ pub struct Pace {
     last: Option<Stamped>,
     /// The number of timestamps that were compared with the previous one.
     pub compared: u64,
-    /// The total advance of all timestamps that advanced as they should. `nominal` is this total by the nominal rate,
-    /// and `told` is this total by the timestamps.
+    /// The total advance of all timestamps that advanced as they should: in `nominal` as the nominal rate gives it, and
+    /// in `told` as the timestamps give it.
     pub nominal: u64,
     pub told: u64,
     /// The misses, on the assumption that each timestamp belongs to the event that the standard names.

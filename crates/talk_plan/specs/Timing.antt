@@ -11,12 +11,13 @@ nominal_offset rate k = k * 1000000000 / rate
 
 -- ---- runs
 
--- the run of packet n, from 0, if each run has `packets` packets; without restarts, all packets are of run 0
+-- the number of the run that packet n is in, counted from 0, if each run has `packets` packets; without restarts, all
+-- packets are in run 0
 abbrev pub run_by : Option ℕ → ℕ → ℕ
 run_by None n = 0
 run_by (Some packets) n = n / packets
 
--- the run of packet n of a plan, from 0
+-- the number of the run that packet n of a plan is in; runs are counted from 0
 abbrev pub run_of : TalkPlan → ℕ → ℕ
 run_of plan n = run_by plan.restart n
 

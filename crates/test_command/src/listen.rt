@@ -393,8 +393,9 @@ fn samples_follow_the_points_that_the_look_ahead_reaches(rt: HostRuntime) -> Res
     follow(&rt, rt.alloc(), CLOCKS)
 }
 
-/// The digits of each number after `=` are the frames of the items that a device took. In the last run, each packet
-/// makes the packet before it due, and the third record exceeds the limit.
+/// After `=` is one number for each of the three devices. Each of its digits is the frame number of an item that the
+/// device took, in order; the number is 0 if the device took none. In the last run, each packet makes the packet before
+/// it due, and the third record exceeds the limit.
 const RACKS: &str = "\
 < one.pcap V1
 ! devices 1 0 0

@@ -47,7 +47,7 @@ const ROWS: [Row; 5] = [
         frames: &[
             (0, "1000000000 0 04800001 1002000000 "),
             (14, "1000875000 7 04800701 1002875000 "),
-            // the restart adds 1 ms to the time after eight packets of 125 microseconds
+            // eight packets take 1 ms, and the restart adds another 1 ms
             (16, "1002000000 8 04880801 1004000000 "),
             (30, "1002875000 15 04880f01 1004875000 "),
         ],

@@ -158,7 +158,7 @@ pub record Takes (which : Which) (r : Record) (old new : PairState) : Type 0 whe
   pub stands : (mine theirs : List Record) (given : ℕ) → StandsOn which mine theirs given old → StandsOn which (mine ++ r ∷ []) theirs given new
   pub changes : Changes which 1 false old new
 
--- The pair was told that no more records of the side `which` follow.
+-- The pair was told that the side `which` has no more records.
 pub record Shuts (which : Which) (old new : PairState) : Type 0 where
   pub stands : (mine theirs : List Record) (given : ℕ) → StandsOn which mine theirs given old → StandsOn which mine theirs given new
   pub changes : Changes which 0 true old new
