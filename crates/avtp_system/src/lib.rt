@@ -25,8 +25,8 @@ pub use system::System;
 const PROGRAM: &str = "avtp";
 
 /// Does what the arguments ask for, over real files and standard output, and returns the exit status. If a file or
-/// standard output fails, standard error says which and why. If standard error is a terminal, the number of bytes read
-/// is shown there after one second.
+/// standard output fails, standard error says which and why. If standard error is a terminal, it shows after one second
+/// how much has been read so far, and keeps that up to date.
 pub fn run_program<T: Threads + Sync>(rt: &HostRuntime, threads: &T) -> ExitCode
     ensures { (ended : Status) × (exit_status result ≡ code_of ended) }
 {

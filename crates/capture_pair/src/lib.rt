@@ -1,4 +1,4 @@
-//! Where two captures of one stream present different samples.
+//! Finds where two captures of one stream present different samples.
 #![tactic(auto)]
 
 mod pair;

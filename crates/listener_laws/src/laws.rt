@@ -34,8 +34,7 @@ pub fn fronts_are_true()
 {}
 
 /// If a listener hears a talker in a whole capture, it hears the talker in the first records of the capture, too.
-/// Hence, if reading stops at a fault or a limit, what is due of the records before that stop is as the headline says
-/// (`fronts_are_true`).
+/// Hence, if reading stops at a fault or a limit, `fronts_are_true` applies to the records before that stop.
 pub fn shorter_captures_are_heard()
     ensures { (shift : ℤ) (p : PacketJournal) (plan : ListenPlan) (records others : List Record) → HearsTalker shift p plan (records ++ others) → HearsTalker shift p plan records }
 {}

@@ -113,7 +113,8 @@ pub data RefusesTwo (before after : ShelfState) (a b : List ℕ) (fault : OpenFa
   first : OnlyReads before after (a ∷ []) → Refuses before after a fault → RefusesTwo before after a b fault
   second : ((files : Files) → before.files ≡ Some files → IsSome (files a)) → OnlyReads before after (a ∷ b ∷ []) → Refuses before after b fault → RefusesTwo before after a b fault
 
--- Two captures were opened, and nothing was read from them yet. Or they were not opened.
+-- With `Ok`, both captures were opened, and nothing was read from them yet. With `Err`, one of them was not opened, or
+-- memory ran out.
 pub record OpensTwo (before after : ShelfState) (limit : ℕ) (plan : ListenPlan) (a b : List ℕ) (result : Result Comparing OpenFault) : Type 0 where
   pub told : IfOk result (λ c. (files : Files) → before.files ≡ Some files → IsSome after.files → AreTold limit files a b after c)
   pub begun : IfOk result IsBegun
