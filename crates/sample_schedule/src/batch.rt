@@ -46,6 +46,18 @@ impl Batch {
         self.line.at(self.from + i64::from(j))
     }
 
+    /// The instant of the first sample. In most batches it is the line's base, and nothing is computed.
+    #[inline(always)]
+    pub(crate) fn first_instant(&self) -> i64
+        ensures { result ≡ sample_instant self.now 0 }
+    {
+        if self.from == 0 {
+            self.line.base
+        } else {
+            self.instant(0)
+        }
+    }
+
     /// Whether this is a unit of H.264 and not audio samples: its line has one nanosecond per sample.
     pub fn is_unit(&self) -> bool
         ensures { result ≡ is_unit self.now }

@@ -100,7 +100,9 @@ impl Judge {
         ensures { self.new ≡ record self.old { time = now_with self.old.time (Some next); current = Some next } }
     {
         self.time = self.time.max(next.arrival());
-        self.current = Some(next);
+        let None = self.current.replace(next) else {
+            unreachable!()
+        };
     }
 
     /// Puts an entry into the delay line. If the line then has more entries than the look-ahead, its first entry

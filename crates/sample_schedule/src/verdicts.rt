@@ -31,7 +31,7 @@ fn judge(
     ensures buffer { IfOk result (λ a. length waiting.now.list < plan.now.buffer) }
     ensures stands { IfOk result (λ a. now ≤ℤ a.instant) }
 {
-    let instant = batch.instant(0);
+    let instant = batch.first_instant();
     if instant < now {
         return Err(Reason::Late);
     }
