@@ -1,4 +1,4 @@
--- The numbers of failing calls, counted anew after some calls.
+-- The numbers of the failing calls that are left after some calls.
 use Rattle.std.proofs.Common.{◌≡◌, ℕ, ◌+◌, ◌-◌, ◌<◌, ◌≤◌, ◌⊎◌, inl, inr, List, [], ◌∷◌, refl, ap, ◌∙◌, zero, suc, Contains, All, arith}
 use Rattle.std.proofs.lemmas.List.Elements.{Contains-append_left, Contains-append_right, Contains-append_cases, Contains-push, All-head, All-tail}
 use Rattle.std.proofs.lemmas.Bool.{cases_lt}

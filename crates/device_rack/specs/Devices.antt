@@ -2,12 +2,12 @@
 use Rattle.std.specs.Prelude.{◌≡◌, ℕ, ◌-◌, ◌==◌, ◌↔◌, not, List, map, filter, Contains, Option, Some, Result, IsErr}
 use Rattle.avtp_base.specs.declared.failed.Failed.{Failed}
 
--- the numbers of the failing calls that are left after `calls` calls, counted anew from 1
+-- the numbers of the failing calls that are left after `calls` calls, if the next call has number 1
 abbrev pub later : ℕ → List ℕ → List ℕ
 later calls numbers = filter (λ n. not (n == 0)) (map (λ n. n - calls) numbers)
 
 -- A device that reports the numbers of its future failing calls was called once. The call failed exactly if 1 is among
--- the numbers. The device now reports the other numbers, counted from the next call on.
+-- the numbers. The device now reports the failing calls that are left; the next call has number 1.
 pub record FailsAsTold {T : Type 0} (numbers : List ℕ) (after : Option (List ℕ)) (result : Result T Failed) : Type 0 where
   pub failed : IsErr result ↔ Contains numbers 1
   pub told : after ≡ Some (later 1 numbers)

@@ -7,8 +7,8 @@ use avtp_base::{Bytes, Failed, NoMemory};
 use sample_schedule::{Batch, Shown};
 use std::alloc::Global;
 
-/// Keeps copies of the items that it takes. The device's calls are numbered from 1. A call fails if its number is among
-/// those with which the device was made.
+/// Keeps copies of the items that it takes. The device is made with a list of call numbers, and its calls are numbered
+/// from 1. A call fails if its number is in the list.
 ///
 /// If there is no memory to keep an item, the device takes this item and all later items without keeping them.
 #[derive(Drop)]

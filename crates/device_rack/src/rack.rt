@@ -17,7 +17,7 @@ impl Rack {
     ghost use Rattle.std.specs.List.{AllZip};
     ghost use Rattle.device_rack.specs.Racks.{IsHanded, places_of, live_count, failed_count};
 
-    /// A rack of the given places. All of them are live, and there are fewer than 2^32. Allocates nothing.
+    /// A rack of the given places, which are all live. The number of places is less than 2^32. Allocates nothing.
     pub fn over(places: Vec<Place>) -> Self
         requires fit { length places.items < 2 ^ 32 }
         requires live { All (λ place. place.live ≡ true) places.items }

@@ -101,7 +101,7 @@ module _ {R P : Type 0} (gave : R → R → List Shown → Type 0) (left : R →
         | Some shown ↦ λ e. rw e refl
       ] refl
 
-  -- presenting the item in `hand` past the ring reduces the work
+  -- presenting the item in `hand` directly, without the ring, reduces the work
   pub less_past : (r r' : R) (p p' : P) (a b c : Pipe) → Fifo a → Fifo b → HasFed gave left ended r r' a.front b.front → HasPresented handed p p' a.back b.back
       → IsStill a b → KeepsRing b c → hand_of c.front ≡ [] → length (hand_of b.front) ≡ 1 → work (left r') c < work (left r) a
   less_past r r' p p' a b c old new fed shown still kept emptied one =
@@ -168,8 +168,6 @@ module _ {R P : Type 0} (gave : R → R → List Shown → Type 0) (left : R →
     works = omega (arith, x.works, y.works, length-append x.presented y.presented);
   }
 
-  -- Assume that, before a round, the presented items and then the waiting items are all items given so far. The same
-  -- holds after the round.
   pub runs_on : (r r' : R) (p p' : P) (a b : Pipe) (shown taken : List Shown) → (m : HasMoved gave left handed r r' p p' a b)
       → shown ++ waiting_in a ≡ taken → (shown ++ m.presented) ++ waiting_in b ≡ taken ++ m.given
   runs_on r r' p p' a b shown taken m h =

@@ -17,7 +17,7 @@ use std::thread::Threads;
 /// How a round ended.
 #[derive(Clone, Copy, Debug, PartialEq, Eq)]
 pub enum Round {
-    /// No presentation failed, and the presenter has not got every item yet.
+    /// No presentation failed, and some items may still have to be presented.
     More,
     /// The receiver has ended, and the presenter got every item.
     Drained,
@@ -125,7 +125,7 @@ impl Pipe {
         Ok(self.front.pushes != pushes || self.back.pops != pops)
     }
 
-    /// Hands the item in `hand` to the presenter, past the ring.
+    /// Hands the item in `hand` directly to the presenter, without the ring.
     fn present_hand<P: Presenter>(&mut self, presenter: &mut P) -> Result<(), Failed>
         requires { ring_of self.old ≡ [] }
         ensures hands { (begun : P) (items : List ShownValue) → P.handed begun presenter.old items → P.handed begun presenter.new (items ++ hand_of self.old.front) }
@@ -144,7 +144,7 @@ impl Pipe {
     }
 
     /// Both sides take their turns. If an item is in `hand` although nothing was pushed or popped, the ring is empty
-    /// and its producer knew of no free slot. The item is then presented past the ring.
+    /// and its producer knew of no free slot. The item is then presented directly, without the ring.
     fn advance<T: Threads + Sync, R: Receiver, P: Presenter, G: Gate>(
         &mut self,
         rt: &T,

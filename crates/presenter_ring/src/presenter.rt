@@ -11,10 +11,10 @@ pub trait Presenter: Send {
     ghost use Rattle.std.specs.Prelude.{List, ℕ};
     ghost use Rattle.sample_schedule.specs.declared.shown.Shown.{Shown as ShownValue};
 
-    /// The first state became the second when the presenter got these items, in this order.
+    /// Giving these items, in this order, took the presenter from the first state to the second state.
     ghost handed: { Self → Self → List ShownValue → Type 0 };
 
-    /// The number of faults so far. It stops at the greatest 64-bit number.
+    /// The number of faults so far, which stops at the greatest 64-bit number.
     ghost faults: { Self → ℕ };
 
     /// Presents an item. Returns `Failed` only if the count of faults rose; even then the item counts as presented.

@@ -30,7 +30,7 @@ pub trait Receiver: Send {
     ghost use Rattle.sample_schedule.specs.declared.shown.Shown.{Shown as ShownValue};
     ghost use Rattle.presenter_ring.specs.declared.receiver.Pull.{Pull as PullValue};
 
-    /// The first state became the second when the receiver gave these items, in this order.
+    /// The receiver gave these items, in this order, between the first state and the second state.
     ghost gave: { Self → Self → List ShownValue → Type 0 };
 
     /// The maximum number of items that the receiver can still give.

@@ -38,12 +38,12 @@ use Rattle.time_unfold.proofs.Floors.{one_more}
 
 -- ---- what holds for kinds of audio
 
--- packet n is counted from the stamped sample of a packet at most 7 before it, at the distance `far`
+-- Packet n is counted from the stamped sample of a packet at most 7 packets before it, at the distance `far`.
 pub record IsCountedBack (kind : Kind) (count n : ℕ) (far : Distance) : Type 0 where
   pub few : far.packets ≤ 7
   pub place : stamped_index (rule_of kind (n - far.packets)) + far.samples ≡ far.packets * count
 
--- packet n is counted from a stamped packet at most 7 before it
+-- packet n is counted from a stamped packet at most 7 packets before it
 pub record IsFound (kind : Kind) (count n : ℕ) : Type 0 where
   pub far : Distance
   pub is_far : distance (rule_of kind n) n count ≡ Some far
@@ -63,7 +63,7 @@ pub record IsKindOf (plan : TalkPlan) (kind : Kind) : Type 0 where
 -- ---- the head of a packet
 
 -- The head's instant is near the nominal instant of an event of packet n's run. If packet n is counted from the head,
--- it is not due before instant 0.
+-- packet n is due at instant 0 or later.
 pub record IsCounted (plan : TalkPlan) (n : ℕ) (head : Head) : Type 0 where
   pub event : ℕ
   pub stamp : ℕ

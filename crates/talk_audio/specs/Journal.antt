@@ -10,7 +10,7 @@ use Rattle.talk_audio.specs.Packets.{stamp_of}
 use Rattle.talk_audio.specs.Samples.{packets_for, samples_of}
 use Rattle.talk_plan.specs.Timing.{first_instant, mr_of}
 
--- the times of `packets` packets of a kind, as if each were due at its nominal first instant
+-- the times of `packets` packets of this kind, each due at its nominal first instant
 abbrev pub nominal_times : Kind → TalkPlan → ℕ → Journal
 nominal_times kind plan packets = record {
   kind = kind;

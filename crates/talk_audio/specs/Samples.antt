@@ -10,7 +10,7 @@ is_whole frame input = length input % frame == 0
 abbrev pub packets_for : ℕ → ℕ → List ℕ → ℕ
 packets_for frame count input = div_ceil (length input / frame) count
 
--- `count` sample frames of the input from number `first` on, or fewer if the input ends before
+-- `count` sample frames of the input from sample frame `first` on, or fewer if the input ends earlier
 abbrev pub sample_frames : ℕ → ℕ → ℕ → List ℕ → List ℕ
 sample_frames frame first count input = take (count * frame) (drop (first * frame) input)
 

@@ -17,7 +17,7 @@ use byteorder::{BigEndian, ByteOrder};
 use iec61883_format::{Cip, IecView, anchor_index, syt_interval, write_iec};
 use talk_plan::{ETHERNET_HEADER, TalkKind, TalkPlan, write_ethernet};
 
-/// What a plan of AM824 determines for each packet.
+/// The values that a plan of AM824 fixes for all packets.
 #[derive(Clone, Copy, Debug)]
 pub struct Am824Format {
     /// The code of the sample rate.
@@ -89,8 +89,8 @@ impl Am824Format {
         Am824Format { fdf, interval }
     }
 
-    /// The instant in the timestamp of packet `n`. The instant is that of the first block whose count is a multiple of
-    /// the interval, if the packet has such a block (IEC 61883-6).
+    /// The instant in the timestamp of packet `n`, which is the instant of the packet's first block whose count is a
+    /// multiple of the interval. If the packet has no such block, it has no timestamp (IEC 61883-6).
     fn stamp(&self, plan: &TalkPlan, n: u64) -> Option<u64>
         requires packet { IsPacketOf plan.now n }
         requires format { IsAm824 self.now plan.now }

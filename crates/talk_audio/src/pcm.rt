@@ -13,7 +13,7 @@ use aaf_format::{AafFormat, AafView, width_of, write_aaf};
 use avtp_header::{StreamHeader, subtype};
 use talk_plan::{ETHERNET_HEADER, TalkKind, TalkPlan, write_ethernet};
 
-/// What a plan of PCM determines for each packet.
+/// The values that a plan of PCM fixes for all packets.
 #[derive(Clone, Copy, Debug)]
 pub struct PcmFormat {
     pub format: AafFormat,

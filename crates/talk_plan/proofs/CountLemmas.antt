@@ -2,7 +2,6 @@
 use Rattle.std.proofs.Common.{◌≡◌, ℕ, zero, suc, ◌+◌, ◌-◌, ◌≤◌, List, [], ◌∷◌, ◌++◌, map, refl, ap, ◌∙◌, arith}
 use Rattle.std.specs.List.{range_with_len}
 
--- if no value of `g` exceeds the next one, no value exceeds a later value
 rises_by : (g : ℕ → ℕ) → ((k : ℕ) → g k ≤ g (k + 1)) → (a k d : ℕ) → a + d ≡ k → g a ≤ g k
 rises_by g rises a k zero e = let same : a ≡ k = omega arith in rw same (omega arith)
 rises_by g rises a k (suc d) e =

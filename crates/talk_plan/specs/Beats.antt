@@ -8,8 +8,8 @@ use Rattle.clock_track.specs.Pairs.{spot_by}
 use Rattle.time_unfold.specs.Lines.{instant_at}
 use Rattle.talk_plan.specs.Timing.{nominal_offset}
 
--- A stream of `rate` events a second, with a clock of up / down events a second. `spacing` events of the stream take as
--- long as `interval` events of the clock.
+-- A stream of `rate` events a second, with a clock of `up` / `down` events a second. `spacing` events of the stream
+-- take as long as `interval` events of the clock.
 pub record Beat : Type 0 where
   pub rate : ℕ
   pub spacing : ℕ
@@ -31,15 +31,16 @@ pub record IsBeat (b : Beat) : Type 0 where
 abbrev pub point_at : Beat → ℕ → ℕ → ℕ
 point_at b start m = start + nominal_offset b.rate (m * b.spacing)
 
--- The instant in the timestamp of event e of the run. Before the second point, it is the event's nominal instant. From
--- the second point on, it is counted from the last point, with the period between the last two points.
+-- The instant in the timestamp of event e of the run. If event e is before the second point, the instant is the event's
+-- nominal instant. Otherwise, the instant is computed from the last point up to event e, with the period that ends at
+-- that point.
 unfoldable pub stamped_at : Beat → ℕ → ℕ → ℕ
 stamped_at b start e =
     if nat_lt e b.spacing then start + nominal_offset b.rate e else
     point_at b start (e / b.spacing)
     + e % b.spacing * (point_at b start (e / b.spacing) - point_at b start (e / b.spacing - 1)) / b.spacing
 
--- the pair that listeners make of points m and m + 1
+-- the pair that listeners make from points m and m + 1
 abbrev pub pair_from : Beat → ℕ → ℕ → Pair
 pair_from b start m = record {
   earlier = pos (point_at b start m);
@@ -49,11 +50,12 @@ pair_from b start m = record {
   down = b.down;
 }
 
--- the next run starts at least 4 nanoseconds after the nominal end of the run before it
+-- the next run starts at least 4 nanoseconds after the nominal end of the run that starts at `start`
 abbrev pub IsNextStart : Beat → ℕ → ℕ → ℕ → Type 0
 IsNextStart b start events next = start + nominal_offset b.rate events + 4 ≤ next
 
--- if events of the clock are counted by the pair, the event nearest to `instant` is at `instant`, to the nanosecond
+-- if a listener counts the events of the clock by the pair, the event nearest to `instant` is exactly at `instant`, in
+-- whole nanoseconds
 abbrev pub IsOnEvent : Pair → ℕ → ℕ → Type 0
 IsOnEvent pair rate instant =
     instant_at (spot_by pair rate (pos instant)).line (spot_by pair rate (pos instant)).from ≡ pos instant

@@ -61,7 +61,7 @@ HasRate Am824 rate = IsSome (fdf_of rate)
 HasRate (H264 last_stamp) rate = ⊥
 
 -- The data blocks of an AM824 packet have at most 256 quadlets each, and fit an Ethernet frame. A packet has at least
--- SYT_INTERVAL / 8 data blocks, so every 8 packets have a stamped block.
+-- SYT_INTERVAL / 8 data blocks, so any 8 packets in a row have a stamped block.
 pub record FitsBlocks (plan : TalkPlan) : Type 0 where
   pub quadlets : plan.channels ≤ 256
   pub some : interval_of plan.rate ≤ 8 * plan.count
@@ -94,8 +94,8 @@ Restarts (Some packets) jump = IsRestart packets jump
 unfoldable pub spacing_of : CrfPlan → ℕ → ℕ
 spacing_of crf rate = crf.interval * rate * pull_down crf.pull / (crf.rate * pull_up crf.pull)
 
--- A run of `packets` packets takes as long as 8 packets of the clock, or a multiple of that. Without restarts, always
--- true.
+-- If there are restarts, a run of `packets` packets takes as long as 8 packets of the clock, or a multiple of that
+-- time.
 abbrev pub HasWholeRuns : CrfPlan → ℕ → ℕ → Option ℕ → Type 0
 HasWholeRuns crf rate count None = ⊤
 HasWholeRuns crf rate count (Some packets) = packets * count % (8 * spacing_of crf rate * crf.points) ≡ 0
@@ -120,8 +120,8 @@ abbrev pub HasClock : Option CrfPlan → ℕ → ℕ → Option ℕ → Type 0
 HasClock None rate count restart = ⊤
 HasClock (Some crf) rate count restart = IsClockPlan crf rate count restart
 
--- With a clock, the lead is at least 3 ns. The reason: a timestamp can be up to 2 ns earlier than its sample's nominal
--- instant, and the first sample of a packet can be due up to 3 ns earlier than its nominal instant.
+-- If there is a clock, the lead is at least 3 ns. The reason: a timestamp can be up to 2 ns earlier than its sample's
+-- nominal instant, and the first sample of a packet can be due up to 3 ns earlier than its nominal instant.
 abbrev pub IsAhead : Option CrfPlan → ℕ → Type 0
 IsAhead None lead = ⊤
 IsAhead (Some crf) lead = 3 ≤ lead
@@ -183,9 +183,9 @@ ExpectsBy (Aaf format true) plan lead = IsNearLead plan lead
 ExpectsBy Am824 plan lead = plan.count < interval_of plan.rate → IsNearLead plan lead
 ExpectsBy (H264 last_stamp) plan lead = ⊤
 
--- A listener identifies audio packets without a timestamp by their arrivals, so its lead must then be near the plan's
--- lead. Any lead will do for PCM that is not sparse, for AM824 whose packets have at least SYT_INTERVAL data blocks,
--- and for H.264.
+-- A listener identifies audio packets without a timestamp by their arrivals. If a plan has such packets, the listener's
+-- lead must be near the plan's lead. Any lead will do for PCM that is not sparse, for AM824 whose packets have at least
+-- SYT_INTERVAL data blocks, and for H.264.
 abbrev pub Expects : TalkPlan → ℕ → Type 0
 Expects plan lead = ExpectsBy plan.kind plan lead
 

@@ -17,8 +17,8 @@ beat_of crf plan = record {
   down = pull_down crf.pull;
 }
 
--- The instant in the timestamp of sample frame i of packet n. Without a clock, it is the sample frame's nominal
--- instant. With a clock, it follows from the clock's points in the packet's run.
+-- The instant in the timestamp of sample frame i of packet n. If there is no clock, the instant is the sample frame's
+-- nominal instant. If there is a clock, the instant follows from the clock's points in the packet's run.
 abbrev pub stamped_by : Option CrfPlan → TalkPlan → ℕ → ℕ → ℕ
 stamped_by None plan n i = nominal_instant plan n i
 stamped_by (Some crf) plan n i = stamped_at (beat_of crf plan) (run_start plan (run_of plan n)) (event_of plan n i)

@@ -49,7 +49,7 @@ nominal_instant plan n i = run_start plan (run_of plan n) + nominal_offset plan.
 abbrev pub first_instant : TalkPlan → ℕ → ℕ
 first_instant plan n = nominal_instant plan n 0
 
--- when packet n is sent: the plan's lead before the nominal instant of its first sample frame
+-- when packet n is sent: `plan.lead` nanoseconds before the nominal instant of the packet's first sample frame
 abbrev pub arrival_of : TalkPlan → ℕ → ℕ
 arrival_of plan n = first_instant plan n - plan.lead
 

@@ -42,7 +42,7 @@ pub struct TalkPlan {
     pub id: u64,
     /// When the first packet is sent, in nanoseconds of gPTP.
     pub start: i64,
-    /// How long before its first presentation time a packet is sent, in nanoseconds: the maximum transit time.
+    /// The maximum transit time in nanoseconds: a packet is sent this long before its first presentation time.
     pub lead: u32,
     /// The number of packets after which the media clock restarts.
     pub restart: Option<u32>,

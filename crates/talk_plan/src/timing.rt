@@ -126,7 +126,8 @@ impl TalkPlan {
     }
 
     /// The instant that the plan's clock gives the timestamp of sample frame `i` of packet `n`, in nanoseconds of gPTP.
-    /// The instant is counted from the last point of the clock, with the period before that point.
+    /// The instant is computed from the clock's last point up to the sample frame, with the period that ends at that
+    /// point. Before the second point, the instant is the nominal instant.
     #[cold]
     #[inline(never)]
     fn clocked_instant(&self, crf: &CrfPlan, n: u64, i: u32) -> u64
@@ -156,8 +157,8 @@ impl TalkPlan {
         }
     }
 
-    /// If the timestamp of packet `n` belongs to the packet's first sample frame, the instant of this timestamp, in
-    /// nanoseconds of gPTP. The packet is sent at `arrival`.
+    /// The instant in the timestamp of sample frame 0 of packet `n`, in nanoseconds of gPTP. The packet is sent at
+    /// `arrival`.
     #[tactic(auto, using(crate::proofs::TimingLemmas::lead_within))]
     pub fn first_stamped_instant(&self, n: u64, arrival: i64) -> u64
         requires { IsSentAt self.now n arrival }

@@ -26,12 +26,12 @@ const MOST_PACKETS: u64 = 255;
 /// A NAL unit, and which packets of the stream carry it.
 #[derive(Clone, Copy, Debug)]
 pub struct NalUnit {
-    /// The offset of its first byte, and the offset after its last byte.
+    /// The offset of the unit's first byte, and the offset after the unit's last byte.
     pub from: usize,
     pub to: usize,
-    /// Its access unit, from 0.
+    /// The number of the unit's access unit, counted from 0.
     pub access_unit: u64,
-    /// The first packet that carries it.
+    /// The number of the first packet that carries the unit.
     pub first: u64,
 }
 
@@ -39,14 +39,15 @@ pub struct NalUnit {
 /// units. With two walks, a fault is found even if memory runs out.
 #[derive(Clone, Copy, Debug)]
 pub struct Units {
-    /// How many units were passed, and the offset after the last of them.
+    /// How many units the walk has passed, and the offset after the last passed unit.
     number: usize,
     at: usize,
     /// Whether the access unit of the last passed unit has a slice.
     sliced: bool,
-    /// How many of the units that were passed begin a new access unit.
+    /// How many of the passed units begin a new access unit.
     begun: u64,
-    /// How many packets carry the units that were passed, and how many of these packets precede the last access unit.
+    /// How many packets carry the passed units, and how many of these packets precede the access unit of the last
+    /// passed unit.
     packets: u64,
     before: u64,
 }
@@ -105,7 +106,7 @@ impl Units {
         }
     }
 
-    /// Whether the unit from `from` to `to`, after the units that were passed, begins a new access unit.
+    /// Whether the unit from offset `from` to offset `to`, which follows the passed units, begins a new access unit.
     fn is_begun(&self, bytes: &[u8], from: usize, to: usize) -> bool
         requires { IsInside bytes.now (from, to) }
         ensures { result ≡ is_begun_by bytes.now self.now (from, to) }

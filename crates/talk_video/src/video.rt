@@ -33,7 +33,8 @@ pub struct VideoStream<'a> {
     pub packets: u64,
 }
 
-/// How many bytes of a NAL unit each fragment carries, except the last fragment. The unit's first byte is not counted.
+/// How many bytes of a NAL unit a fragment carries if it is not the last fragment. The unit's first byte is not
+/// counted.
 const FULL_BODY: usize = 1398;
 
 /// How many bytes of a packet are not counted in the packet's stated length.
@@ -56,7 +57,7 @@ fn part_by(packets: u64, k: u64) -> NalPart
     }
 }
 
-/// How many bytes the stated length counts before the body: the H.264 timestamp, and the headers of the part.
+/// How many bytes before the body the packet's stated length counts: the H.264 timestamp, and the headers of `part`.
 fn counted_header(part: NalPart) -> usize
     ensures { result ≡ header_size part - 24 }
 {
@@ -98,7 +99,7 @@ impl NalUnit {
         part_by(self.packets(), n - self.first)
     }
 
-    /// What packet `n` carries of the unit's bytes after its first byte.
+    /// The bytes that packet `n` carries of the unit, not counting the unit's first byte.
     fn body<'a>(&self, bytes: &'a [u8], n: u64) -> &'a [u8]
         requires { IsCarried bytes.now self.now n }
         ensures value { result.now
@@ -140,7 +141,8 @@ impl<'a> VideoStream<'a> {
         })
     }
 
-    /// The index of the unit that packet `n` carries: a binary search in the list of units by the first packet of each.
+    /// The index of the unit that packet `n` carries. A binary search finds the last unit whose first packet is at most
+    /// `n`.
     fn place_of_unit(&self, n: u64) -> usize
         requires { IsPacketOfVideo self.now n }
         ensures value { result ≡ (place_in self.now n).unit }
@@ -195,7 +197,7 @@ impl<'a> VideoStream<'a> {
         }
     }
 
-    /// Whether packet `n` is the last one of its access unit, which is `access_unit`.
+    /// Whether packet `n` is the last packet of `access_unit`, the access unit that packet `n` belongs to.
     fn ends_access_unit(&self, n: u64, access_unit: u64) -> bool
         requires packet { IsPacketOfVideo self.now n }
         requires access_unit { access_unit ≡ access_unit_of self.now.input.now (nal_units self.now.input.now) n }

@@ -91,7 +91,7 @@ all_early plan input (x ∷ before) after n due zero o all own le at =
     subst (λ (y : Origin). sent_by (stream_of plan input) y ≤ due) same (All-head (λ (m : ℕ). (stream_of plan input).arrival m ≤ due) x before all)
 all_early plan input (x ∷ before) after n due (suc j) o all own le at = all_early plan input before after n due j o (All-tail (λ (m : ℕ). (stream_of plan input).arrival m ≤ due) x before all) own (omega arith) at
 
--- `d` is the delivery of packet n after the packets `before`, and it arrives in time
+-- `d` is the delivery of packet n after the packets `before`, and `d` arrives in time
 pub record IsCopyAfter (plan : TalkPlan) (input : List ℕ) (listen : ListenPlan) (before : List ℕ) (n : ℕ) (after : List ℕ) : Type 0 where
   pub d : Delivery
   pub comes : CopyComesInTime (journal plan input) listen (captured plan input (before ++ n ∷ after)) (length before) n d

@@ -27,7 +27,8 @@ use Rattle.listener.specs.Laws.{by_clock}
 
 -- ---- the packet that a packet is counted from
 
--- Packet n is counted from the stamped packet `far.packets` before it, and no restart lies between these packets.
+-- Packet n is counted from a stamped packet, which was sent `far.packets` packets earlier. No restart lies between
+-- these two packets.
 pub record IsBack (j : Journal) (n : ℕ) : Type 0 where
   pub far : Distance
   pub back : distance (rule_of j.kind n) n j.count ≡ Some far

@@ -1,4 +1,5 @@
--- A listener with the default options of `listen` has room for all of a plan with the default lead of `talk`.
+-- A listener with the default options of `listen` has room for all waiting packets of a plan with the default lead of
+-- `talk`.
 use Rattle.std.proofs.Common.{◌≡◌, ℕ, ◌+◌, ◌*◌, ◌<◌, ◌≤◌, true, false, List, refl, sym, arith}
 use Rattle.talk_plan.specs.declared.plan.TalkKind.{TalkKind}
 use Rattle.talk_plan.specs.declared.plan.TalkKind.TheVariants.{Aaf, Am824, H264}

@@ -1,5 +1,5 @@
--- A listener with the default options of `listen` has room for all of an H.264 plan with the default lead of `talk`.
--- When a packet is sent, only packets of its own access unit are not yet due.
+-- A listener with the default options of `listen` has room for all waiting packets of an H.264 plan with the default
+-- lead of `talk`. When a packet is sent, only packets of its own access unit are not yet due.
 use Rattle.std.proofs.Common.{◌≡◌, ℕ, ◌+◌, ◌-◌, ◌*◌, ◌<◌, ◌≤◌, Bool, List, refl, ap, inl, inr, arith}
 use Rattle.std.proofs.lemmas.Bool.{cases_lt}
 use Rattle.std.proofs.Math.Nat.{mul-le-mul_right}

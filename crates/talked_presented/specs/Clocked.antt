@@ -19,14 +19,14 @@ use Rattle.talked_presented.specs.Whole.{HoldsLead, default_listener}
 abbrev pub first_covered : CrfPlan → TalkPlan → ℕ
 first_covered crf plan = div_ceil (spacing_of crf plan.rate) plan.count
 
--- If a batch is shown, it is that of packet `first` or of a later packet. If a flag is shown, it is that of an earlier
--- packet, with the reason `noclock`.
+-- If a batch is shown, it is that of packet `first` or of a later packet. If a flag is shown, it flags a packet before
+-- packet `first`, with the reason `noclock`.
 abbrev pub IsFrom : PacketJournal → ℕ → Shown → Type 0
 IsFrom p first (Present batch) = (n : ℕ) × ((first ≤ n) × IsOfPacket true p n batch)
 IsFrom p first (Flag frame seq reason) = (n : ℕ) × ((n < first) × ((seq ≡ n % 256) × (reason ≡ NoClock)))
 
--- Each packet from `first` on is presented by the clock, once and in order. Nothing else is shown but flags of earlier
--- packets, with the reason `noclock`.
+-- Each packet from `first` on is presented by the clock, once and in order. Any other shown item is a flag of a packet
+-- before `first`, with the reason `noclock`.
 pub record ArePresentedFrom (p : PacketJournal) (first : ℕ) (shown : List Shown) : Type 0 where
   pub each : (n : ℕ) → first ≤ n → n < p.times.packets → Any (IsOfPacket true p n) (presented_of shown)
   pub once : AllPairs (AreOther true p) (presented_of shown)

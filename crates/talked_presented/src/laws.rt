@@ -57,9 +57,9 @@ pub fn whole_capture_is_presented()
     carried_clock_packet_is_delivered();
 }
 
-/// A listener with the default options of `listen` presents all of an audio plan that has the default lead of `talk`
-/// and no clock. A plan of sparse PCM or of AM824 must have no restarts. The plan may have any rate, any number of
-/// channels, and any number of sample frames in a packet.
+/// A listener with the default options of `listen` presents all packets of an audio plan that has the default lead of
+/// `talk` and no clock. A plan of sparse PCM or of AM824 must have no restarts. The plan may have any rate, any number
+/// of channels, and any number of sample frames in a packet.
 pub fn defaults_present_all()
     ensures hears { (plan : TalkPlan) (input : List ℕ) → HasDefaultLead plan input → HearsAll plan input (default_listener plan.id) }
     ensures presented { (plan : TalkPlan) (input : List ℕ) → HasDefaultLead plan input
@@ -71,7 +71,7 @@ pub fn defaults_present_all()
 /// Assume that each packet of an audio plan with a clock stamps its first sample. Assume that there are no restarts,
 /// and that the lead is at least 3 ns. Assume that the listener has the talker's clock, no look-ahead, and room for
 /// what is sent during the lead. Then each packet of a whole capture from the second timestamp of the clock on is
-/// presented, once and in order. Nothing else is shown but flags of packets before that timestamp, with the reason
+/// presented, once and in order. Any other shown item is a flag of a packet before that timestamp, with the reason
 /// `noclock`.
 pub fn clocked_capture_is_presented()
     ensures { (plan : TalkPlan) (crf : CrfPlan) (input : List ℕ) (listen : ListenPlan) → HearsClock plan crf input listen
@@ -94,7 +94,8 @@ pub fn defaults_present_by_clock()
 }
 
 /// If the listener has room for the waiting units, it presents each unit of a whole capture of an H.264 plan, once and
-/// in order, and flags nothing. Either all packets have timestamps, or only the last packet of each unit has one.
+/// in order, and flags nothing. This holds both for plans that stamp all packets and for plans that stamp only the last
+/// packet of each unit.
 pub fn whole_video_is_presented()
     ensures { (plan : TalkPlan) (input : List ℕ) (listen : ListenPlan) → HearsUnits plan input listen
         → ArePresented (by_clock listen) (journal plan input) (unit_ends plan input) (shown_of listen (whole_records (capture plan input))) }

@@ -24,7 +24,7 @@ restarting = record {
 abbrev pub six_blocks : ℕ → TalkPlan
 six_blocks rate = record restarting { kind = Am824; rate = rate; restart = None }
 
--- packet n has the same times, restart bit and stamped sample in both journals
+-- packet n has the same times, restart bit and stamped sample in the journals `a` and `b`
 pub record HasSameTimes (a b : Journal) (n : ℕ) : Type 0 where
   pub due : a.due n ≡ b.due n
   pub stamp : a.stamp n ≡ b.stamp n

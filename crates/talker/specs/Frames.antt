@@ -100,7 +100,7 @@ packet_numbers [] = []
 packet_numbers (f ∷ frames) = if f.clock then packet_numbers frames else f.number ∷ packet_numbers frames
 
 -- If a stream of H.264 stamps only last fragments, adjacent packets in the list of numbers are near each other. For
--- other streams, always true.
+-- other streams, nothing is required.
 abbrev pub StaysNearBy : TalkKind → Journal → List ℕ → Type 0
 StaysNearBy (Aaf format sparse) j numbers = ⊤
 StaysNearBy Am824 j numbers = ⊤

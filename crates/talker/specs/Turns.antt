@@ -8,7 +8,7 @@ use Rattle.talker.specs.Talking.{Talking}
 abbrev pub frame_in : Turn → List ℕ → SentFrame
 frame_in turn bytes = record { arrival = turn.arrival; number = turn.number; clock = turn.clock; bytes = bytes }
 
--- the turn of a frame: it keeps the number of the frame's bytes, but not the bytes
+-- the turn of a frame; it has the number of bytes in the frame, but not the bytes
 abbrev pub turn_of : SentFrame → Turn
 turn_of f = record { arrival = f.arrival; number = f.number; clock = f.clock; size = length f.bytes }
 

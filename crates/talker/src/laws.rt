@@ -74,8 +74,8 @@ pub fn packets_are_sent_in_time()
         → IsSomeAnd (slice_get (stream_frames plan input) n) (λ f. f.arrival ≤ℤ pos ((journal plan input).times.due n)) }
 {}
 
-/// If no restart lies between packet n and the seventh packet before it, packet n has a head in the plan's journal. Of
-/// these eight packets, one is stamped, and packet n is counted from the stamped packet.
+/// If no restart lies between packet n and the seventh packet before it, packet n has a head in the plan's journal. At
+/// least one of these eight packets is stamped, and packet n is counted from a stamped one.
 pub fn packets_have_heads()
     ensures { (plan : TalkPlan) (input : List ℕ) (n : ℕ) → IsAudioPlan plan → 7 ≤ n → run_of plan (n - 7) ≡ run_of plan n
         → IsSome (head_of (journal plan input).times n) }
@@ -129,10 +129,11 @@ pub fn capture_delivers()
     records_of_both_are_delivered();
 }
 
-/// A capture may lose, repeat or reorder a plan's frames, each captured when it was sent. The capture still reads back
-/// as exactly the records of the captured frames, and delivers the plan's journal to the listeners that
-/// `capture_delivers` names. If NAL units of H.264 are stamped only on their last fragments, there is a further
-/// condition: the numbers of adjacent captured packets differ by at most 254, unless both packets are stamped.
+/// Assume that a capture loses, repeats or reorders a plan's frames, and that each captured frame is captured when it
+/// is sent. The capture still reads back as exactly the records of the captured frames, and delivers the plan's journal
+/// to the listeners that `capture_delivers` names. If NAL units of H.264 are stamped only on their last fragments,
+/// there is a further condition: the numbers of adjacent captured packets differ by at most 254, unless both packets
+/// are stamped.
 pub fn losses_are_delivered()
     ensures records { (plan : TalkPlan) (input places : List ℕ) → IsPlan plan → length input ≤ most_input
         → whole_records (capture_of (frames_at plan input places)) ≡ map record_of (frames_at plan input places) }

@@ -96,7 +96,7 @@ impl<'a> Source<'a> {
         }
     }
 
-    /// The media clock of a stream of `packets` packets, if there is one.
+    /// The media clock of the plan, if the plan has one. The stream has `packets` packets.
     pub fn clock(&self, packets: u64) -> Option<ClockStream>
         requires source { IsSource self.now }
         requires packets { packets ≡ (stream_in self.now).journal.times.packets }

@@ -31,8 +31,8 @@ pub struct Talker<'a> {
     clock: Option<ClockStream>,
     packets: u64,
     clocks: u64,
-    /// How many packets of the stream were given in the order of sending, and in the next field, how many packets of
-    /// the clock.
+    /// How many packets of the stream were given in the order of sending. The next field counts the clock's packets
+    /// that were given.
     given_packets: u64,
     given_clocks: u64,
     /// The frame that was lent last.
@@ -166,8 +166,8 @@ impl<'a> Talker<'a> {
         }
     }
 
-    /// What is sent next. Frames are sent by arrival; at equal arrivals, frames of the clock are sent first. Returns
-    /// `None` exactly if all frames were given.
+    /// What is sent next. Frames are sent in the order of their arrivals. If arrivals are equal, frames of the clock
+    /// are sent first. Returns `None` exactly if all frames were given.
     #[inline(always)]
     pub fn turn(&self) -> Option<Turn>
         ensures turn { IfSome result (IsTurn self.now) }
@@ -206,8 +206,8 @@ impl<'a> Talker<'a> {
         }
     }
 
-    /// Gives the next frame. Frames are sent by arrival; at equal arrivals, frames of the clock are sent first. Returns
-    /// `None` exactly if all frames were given. Allocates nothing.
+    /// Gives the next frame. Frames are sent in the order of their arrivals. If arrivals are equal, frames of the clock
+    /// are sent first. Returns `None` exactly if all frames were given. Allocates nothing.
     #[inline(always)]
     pub fn next(&mut self) -> Option<Sent<'_>>
         ensures frame { option_map sent_frame result ≡ slice_get (frames self.old.plan self.old.input) self.old.given }
@@ -268,7 +268,8 @@ fn write_front(source: &Source<'_>, clock: &Option<ClockStream>, turn: Turn, out
     write_frame(source, clock, turn, &mut out[..turn.size]);
 }
 
-/// Whether packet `m` of the clock exists and is not sent after packet `n` of the stream, if that packet exists.
+/// Whether packet `m` of the clock exists, and packet `n` of the stream, if it exists, is sent at the same time or
+/// later.
 fn clock_is_first(
     clock: &Option<ClockStream>,
     source: &Source<'_>,

@@ -3,12 +3,12 @@
 /// What a talker sends next: a frame without its bytes.
 #[derive(Clone, Copy, Debug)]
 pub struct Turn {
-    /// When it is sent, in nanoseconds of gPTP.
+    /// When the frame is sent, in nanoseconds of gPTP.
     pub arrival: i64,
-    /// The number of its packet in the stream, or in the clock, from 0.
+    /// The number of the frame's packet in the stream or in the clock, counted from 0.
     pub number: u64,
-    /// Whether the packet is one of the media clock.
+    /// Whether the frame's packet belongs to the media clock.
     pub clock: bool,
-    /// The number of bytes in its frame.
+    /// The number of bytes in the frame.
     pub size: usize,
 }

@@ -41,7 +41,7 @@ pub record Takes {R : Type 0} (gave : R → R → List Shown → Type 0) (left :
   pub ends : ended_of before ≡ None → ended_of after ≡ ended receiver'
   pub stays : IsSome (ended_of before) → (ended_of after ≡ ended_of before) × (receiver' ≡ receiver)
 
--- An item was pushed, or is in `hand` now because no slot was known to be free.
+-- The item `shown` was pushed, or is in `hand` now because no slot was known to be free.
 pub record Pushes (shown : Shown) (before after : Front) (pushed : Bool) : Type 0 where
   pub sends : sent after.producer ≡ sent before.producer ++ cond pushed (shown ∷ []) []
   pub keeps : hand_of after ≡ cond pushed [] (shown ∷ [])

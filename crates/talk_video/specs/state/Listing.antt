@@ -54,7 +54,7 @@ pub record IsNext (bytes : List ℕ) (i next : ℕ) (unit : NalUnit) : Type 0 wh
   pub some : unit.from < unit.to
   pub inside : unit.to ≤ length bytes
 
--- the walk had passed all units before, and is unchanged
+-- the walk `old` has passed all units of the byte stream, and `new` is the same as `old`
 pub record IsEnded (bytes : List ℕ) (old new : Units) : Type 0 where
   pub all : old.number ≡ length (nal_units bytes)
   pub same : new ≡ old

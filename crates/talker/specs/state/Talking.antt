@@ -14,7 +14,7 @@ use Rattle.talk_plan.specs.Plan.{most_input}
 use Rattle.talk_audio.specs.Streams.{IsAudio}
 use Rattle.talk_video.specs.Streams.{IsVideo}
 
--- packet m of the clock exists, and is not sent after packet n of the stream if that exists
+-- packet m of the clock exists, and packet n of the stream, if it exists, is sent at the same time or later
 abbrev pub IsClockFirst : Option ClockStream → Stream → ℕ → ℕ → Type 0
 IsClockFirst None s m n = ⊥
 IsClockFirst (Some c) s m n = (m < clock_packets c.crf c.plan c.stream) × ((s.journal.times.packets ≤ n) ⊎ (clock_arrival c.crf c.plan m ≤ s.arrival n))
