@@ -1,4 +1,5 @@
--- A walk along a list that changes each element once, and counts those that pass a test afterwards.
+-- A walk along a list changes each element once. The walk counts by how much the number of elements that pass a test
+-- rises.
 use Rattle.std.proofs.Common.{◌≡◌, ℕ, ◌+◌, ◌<◌, ◌≤◌, Bool, true, false, cond, not, ◌&&◌, List, [], ◌∷◌, ◌++◌, length, get_or, set, take, drop, refl, sym, subst, ◌∙◌, arith, count_by, length-set}
 use Rattle.std.specs.List.{AllZip}
 use Rattle.std.proofs.lemmas.List.{drop_more, drop-set-lt, take_more, take_more_set, take_all, length-take}

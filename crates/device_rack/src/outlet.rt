@@ -1,4 +1,4 @@
-//! A device until it fails.
+//! A device that is given items until it fails.
 
 ghost use Rattle.std.specs.Prelude.{◌≡◌, false, true};
 ghost use Rattle.device_rack.specs.Outlets.{IsHandedTo};

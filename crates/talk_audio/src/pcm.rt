@@ -80,7 +80,7 @@ fn put_bytes<const N: usize>(out: &mut [u8], offset: usize, bytes: &[u8; N])
     *place = *bytes;
 }
 
-/// The size in bytes of each of the two parts in which samples are moved.
+/// Samples are moved in two parts of this many bytes each.
 const PART: usize = 16;
 
 /// Copies samples to a slice of the same length. The 16 to 32 bytes of most packets are moved as two parts, which may
@@ -222,8 +222,8 @@ impl PcmFormat {
         self.write_over(out, 0, &front_bytes(&header), header.timestamp, samples);
     }
 
-    /// Writes a frame: the headers of packet 0's frame, with `part` written at offset `at` of the packet's header and
-    /// with the given timestamp; then the samples.
+    /// Writes a frame: the headers of packet 0's frame with two changes, and then the samples. In the packet's header,
+    /// `part` replaces the bytes at offset `at`, and the given timestamp replaces the timestamp.
     #[inline(always)]
     fn write_over<const N: usize>(
         &self,

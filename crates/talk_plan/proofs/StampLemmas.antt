@@ -72,7 +72,7 @@ is_beat plan crf p e =
 
 -- ---- timestamps lie near nominal instants
 
--- how many nanoseconds a timestamp may be after (`late_by`) and before (`early_by`) its nominal instant; 0 without a
+-- how many nanoseconds a timestamp may be after its nominal instant (`late_by`) or before it (`early_by`); 0 without a
 -- clock
 abbrev pub late_by : Option CrfPlan → ℕ
 late_by None = 0

@@ -75,7 +75,7 @@ in_time plan n i p events within =
     let start : nat_abs plan.start ≤ 4000000000000000000 = omega (arith, ints) in
     omega (arith, in_its.parts, p.count)
 
--- packet n is sent exactly the lead before its first instant
+-- packet n is sent exactly `plan.lead` nanoseconds before its first instant
 pub lead_within : (plan : TalkPlan) (n : ℕ) → arrival_of plan n + plan.lead ≡ first_instant plan n
 unfolding nominal_instant
 lead_within plan n = omega arith

@@ -17,8 +17,8 @@ pub record Beat : Type 0 where
   pub up : ℕ
   pub down : ℕ
 
--- The beat's rate is a sample rate of audio, and its clock has at most 250 MHz. `spacing` events of the stream take as
--- long as `interval` events of the clock.
+-- The beat's rate is a sample rate of audio, and the clock's frequency is at most 250 MHz. `spacing` events of the
+-- stream take as long as `interval` events of the clock.
 pub record IsBeat (b : Beat) : Type 0 where
   pub rate_from : 8000 ≤ b.rate
   pub rate_to : b.rate ≤ 192000

@@ -23,7 +23,7 @@ access_instant plan a = nat_abs plan.start + plan.lead + nominal_offset plan.rat
 abbrev pub video_due : TalkPlan → List ℕ → List (ℕ × ℕ) → ℕ → ℕ
 video_due plan bytes units n = access_instant plan (access_unit_of bytes units n)
 
--- when packet n is sent: `plan.lead` nanoseconds before it is due
+-- when packet n is sent: `plan.lead` nanoseconds before the packet is due
 abbrev pub video_arrival : TalkPlan → List ℕ → List (ℕ × ℕ) → ℕ → ℕ
 video_arrival plan bytes units n = video_due plan bytes units n - plan.lead
 

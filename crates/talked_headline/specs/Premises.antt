@@ -18,8 +18,8 @@ use Rattle.talk_video.specs.Units.{sent_units}
 abbrev pub captured : TalkPlan → List ℕ → List ℕ → List Record
 captured plan input places = whole_records (capture_of (frames_at plan input places))
 
--- An audio plan sends `input`, and the listener listens to the plan's stream, with or without the plan's clock. The
--- listener's lead lets it tell packets without a timestamp apart.
+-- An audio plan sends `input`, and the listener listens to the plan's stream, with or without the plan's clock. With
+-- its lead, the listener can tell packets without a timestamp apart.
 pub record ListensTo (plan : TalkPlan) (input : List ℕ) (listen : ListenPlan) : Type 0 where
   pub talked : IsAudioPlan plan
   pub id : plan.id < 2 ^ 64

@@ -113,7 +113,8 @@ stamp_kept j room k m instant e below few =
 
 -- ---- what arrived
 
--- In a capture of `count` packets from packet a on, the first `size` packets are packets a to a + m - 1.
+-- A capture has `count` packets, from packet a on. Among the first `size` packets of the capture are exactly packets a
+-- to a + m - 1.
 record IsFront (size a count : ℕ) : Type 0 where
   m : ℕ
   numbers : stream_numbers (take size (map OfStream (range_with_len a count))) ≡ range_with_len a m

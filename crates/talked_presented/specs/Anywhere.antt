@@ -30,9 +30,9 @@ pub record ComesInTime (plan : TalkPlan) (input : List ℕ) (listen : ListenPlan
   pub timed : IsTimed (journal plan input).times listen.lead (listen.look + 16) (sent_copy plan input n) (take (length before + listen.look + 1) (before ++ n ∷ after))
   pub in_time : All (λ (k : ℕ). (stream_of plan input).arrival k ≤ (journal plan input).times.due n) before
 
--- The copy of packet n must be presented for three reasons. The copy is captured in time. The copy is the first copy of
--- its packet. The buffer has room for the copy and for all earlier packets that are not yet due, even if each of them
--- takes the maximum of 1,500 bytes.
+-- The copy of packet n must be presented, because three conditions hold. The copy is captured in time. The copy is the
+-- first copy of its packet. The buffer has room for the copy and for all earlier packets that are not yet due, even if
+-- each of them takes the maximum of 1,500 bytes.
 pub record MustBePresented (plan : TalkPlan) (input : List ℕ) (listen : ListenPlan) (before : List ℕ) (n : ℕ) (after : List ℕ) : Type 0 where
   pub comes : ComesInTime plan input listen before n after
   pub first : All (λ (k : ℕ). k ≢ n) before
@@ -40,10 +40,10 @@ pub record MustBePresented (plan : TalkPlan) (input : List ℕ) (listen : Listen
   pub bytes : (length (waiting_at plan input n before) + 1) * 1500 ≤ listen.room
 
 -- Packets `from` to n of a plan of H.264 carry one unit, and are captured in order, after the packets `front` and
--- before the packets `after`. The unit must be presented for three reasons. All packets of `front` were captured no
--- later than the instant at which the unit is due. The unit's last packet is not in `front`. The buffer has room for
--- the unit and for all units completed in `front`, even if each of them takes the maximum of 255 packets of 1,500
--- bytes.
+-- before the packets `after`. The unit must be presented, because three conditions hold. All packets of `front` were
+-- captured no later than the instant at which the unit is due. The unit's last packet is not in `front`. The buffer has
+-- room for the unit and for all units completed in `front`, even if each of them takes the maximum of 255 packets of
+-- 1,500 bytes.
 pub record UnitMustBePresented (plan : TalkPlan) (input : List ℕ) (listen : ListenPlan) (front : List ℕ) (from n : ℕ) (after : List ℕ) : Type 0 where
   pub talk : ListensToVideo plan input (front ++ (range_with_len from (n - from) ++ n ∷ after)) listen
   pub sent : All (λ (k : ℕ). k < (journal plan input).times.packets) (front ++ n ∷ after)

@@ -90,7 +90,7 @@ abbrev pub unit_ends : TalkPlan → List ℕ → List ℕ
 unit_ends plan input = filter (λ (n : ℕ). ends_unit (part_sent input n)) (range_with_len 0 (journal plan input).times.packets)
 
 -- Whenever a packet is sent, the buffer has room for all packets that are not yet due. The buffer has 1,500 bytes for
--- each packet that it may hold, and for 255 further packets, the maximum of a unit.
+-- each packet that it may hold, and for 255 further packets, as many as a unit can have.
 pub record HoldsUnits (plan : TalkPlan) (input : List ℕ) (listen : ListenPlan) : Type 0 where
   pub packets : (k n : ℕ) → k ≤ n → n < (journal plan input).times.packets → (stream_of plan input).arrival n ≤ (journal plan input).times.due k
       → n < k + listen.buffer

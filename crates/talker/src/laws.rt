@@ -117,9 +117,9 @@ pub fn journal_conforms()
 {}
 
 /// The capture of a plan delivers its journal: its records carry each packet of the stream and of its clock once.
-/// Without a clock, the records carry the packets of the stream in order. The capture delivers the journal to every
-/// listener, except for sparse PCM and for AM824 with fewer data blocks in a packet than its SYT interval. For sparse
-/// PCM and such AM824, the listener's lead must be near the plan's lead.
+/// Without a clock, the records carry the packets of the stream in order. For sparse PCM, and for AM824 whose packets
+/// have fewer data blocks than the SYT interval, the capture delivers the journal to each listener whose lead is near
+/// the plan's lead. For all other plans, the capture delivers the journal to every listener.
 pub fn capture_delivers()
     ensures carries { (plan : TalkPlan) (input : List ℕ) (lead : ℕ) → IsPlan plan → plan.crf ≡ None → length input ≤ most_input → Expects plan lead
         → AllCarry (journal plan input) lead (range_with_len 0 (journal plan input).times.packets) (records plan input) }

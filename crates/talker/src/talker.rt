@@ -193,7 +193,7 @@ impl<'a> Talker<'a> {
         write_frame(&self.source, &self.clock, turn, out);
     }
 
-    /// Counts the frame of `turn`, which is sent next, as given.
+    /// Counts the frame of `turn` as given. This frame is the next frame to be sent.
     #[inline(always)]
     pub fn go_on(&mut self, turn: Turn)
         requires { IsTurn self.old turn }

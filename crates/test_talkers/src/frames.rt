@@ -151,7 +151,7 @@ fn check_row(rt: &impl Abort, alloc: Global, row: &Row) -> Result<(), Fail> {
     check_written(rt, name, begin(alloc, plan, &input)?, &frames)
 }
 
-/// Checks that the frames of each row's plan are those that the row lists.
+/// Checks, for each row, that the frames of the row's plan are the frames that the row lists.
 pub fn check_rows(rt: &impl Abort, alloc: Global, rows: &[Row]) -> Result<(), Fail> {
     for row in rows {
         check_row(rt, alloc, row)?;
