@@ -17,7 +17,8 @@ has_start_code bytes = list_any (is_start_code bytes) (range_with_len 0 (length 
 abbrev pub has_other_type : List ℕ → Bool
 has_other_type bytes = list_any (λ unit. not (is_single_type (type_in bytes unit))) (nal_units bytes)
 
--- The maximum number of packets of an access unit. The sequence numbers of that many packets all differ.
+-- The maximum number of packets of an access unit. With this limit, all packets of an access unit have different
+-- sequence numbers.
 abbrev pub most_packets : ℕ
 most_packets = 255
 

@@ -83,8 +83,9 @@ pub fn clocked_capture_is_presented()
     carried_clock_packet_is_delivered();
 }
 
-/// Take a plan as in `clocked_capture_is_presented` with the default lead of `talk`. A listener with the plan's clock
-/// and otherwise the default options of `listen` presents the plan's packets from the second timestamp of the clock on.
+/// Take a plan that meets the assumptions of `clocked_capture_is_presented` and has the default lead of `talk`. A
+/// listener with the plan's clock and otherwise the default options of `listen` presents the plan's packets from the
+/// second timestamp of the clock on.
 pub fn defaults_present_by_clock()
     ensures hears { (plan : TalkPlan) (crf : CrfPlan) (input : List ℕ) → HasDefaultClock plan crf input → HearsClock plan crf input (clocked_listener plan.id crf.id) }
     ensures presented { (plan : TalkPlan) (crf : CrfPlan) (input : List ℕ) → HasDefaultClock plan crf input

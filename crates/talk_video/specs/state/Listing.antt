@@ -31,7 +31,7 @@ pub record IsWalk (bytes : List ℕ) (u : Units) : Type 0 where
   pub few_packets : u.packets ≤ u.at
   pub order : u.before ≤ u.packets
 
--- after the units that the walk has passed, `unit` begins a new access unit
+-- `unit`, which follows the units that the walk has passed, begins a new access unit
 abbrev pub is_begun_by : List ℕ → Units → ℕ × ℕ → Bool
 is_begun_by bytes u unit = u.sliced && may_begin bytes unit
 
