@@ -57,7 +57,8 @@ fn part_by(packets: u64, k: u64) -> NalPart
     }
 }
 
-/// How many bytes before the body the packet's stated length counts: the H.264 timestamp, and the headers of `part`.
+/// The number of counted bytes before the body: the H.264 timestamp, and the headers of `part`. The packet's stated
+/// length counts these bytes and the body.
 fn counted_header(part: NalPart) -> usize
     ensures { result ≡ header_size part - 24 }
 {

@@ -9,6 +9,6 @@ pub struct Sent<'a> {
     pub number: u64,
     /// Whether the frame's packet belongs to the media clock.
     pub clock: bool,
-    /// The bytes of the frame.
+    /// The bytes of the Ethernet frame.
     pub bytes: &'a [u8],
 }
