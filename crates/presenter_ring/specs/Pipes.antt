@@ -22,7 +22,7 @@ ended_with pipe = ended_of pipe.front
 abbrev pub given_to : Pipe → ℕ
 given_to pipe = pipe.front.given
 
--- the greatest number of items in the ring
+-- the maximum number of items that the ring can hold
 abbrev pub capacity_of : Pipe → ℕ
 capacity_of pipe = pipe.capacity
 

@@ -32,7 +32,7 @@ pub struct CrfPlan {
 #[derive(Clone, Copy, Debug, PartialEq, Eq)]
 pub struct TalkPlan {
     pub kind: TalkKind,
-    /// The sample rate in Hz; for H.264 the access units in a second.
+    /// The sample rate in Hz; for H.264, the number of access units in a second.
     pub rate: u32,
     /// The number of channels in a sample frame.
     pub channels: u16,

@@ -6,7 +6,7 @@ use std::alloc::Global;
 use std::test::Fail;
 use vectors_avtp::vector;
 
-/// The first frame that is sent, from byte `from` on.
+/// The bytes of the first sent frame, from byte `from` on.
 fn first_frame(
     alloc: Global,
     planned: Planned,
