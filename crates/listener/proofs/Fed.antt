@@ -148,7 +148,6 @@ uncounted : (counts : Counts) (x : Shown) → without_shown (with_shown counts x
 uncounted counts (Present batch) = let back : counts.presented + 1 - 1 ≡ counts.presented = omega arith in ap (λ (n : ℕ). record counts { presented = n }) back
 uncounted counts (Flag frame seq reason) = let back : counts.flagged + 1 - 1 ≡ counts.flagged = omega arith in ap (λ (n : ℕ). record counts { flagged = n }) back
 
--- the counts before the next item was returned
 pub counted_before : (plan : ListenPlan) (records : List Record) (list : List Shown) (given : ℕ) (x : Shown) → Some x ≡ slice_get list given
     → without_shown (counts_of plan records (take (given + 1) list)) x ≡ counts_of plan records (take given list)
 counted_before plan records list given x is =

@@ -66,7 +66,7 @@ none_in ended judge units entries given j none to from is =
 pub judges_on : (entries : List Entry) (given more : ℕ) (old new : JudgeState) (units : Gathered) → ((es : List Entry) (n : ℕ) → JudgeStandsFor clock_spot es n old → JudgeStandsFor clock_spot es (n + more) new) → Judges entries given old units → Judges entries (given + more) new units
 judges_on entries given more old new units goes j = record { judged = j.judged; stands = goes j.judged given j.stands; all = j.all }
 
--- the judge after the next queued item
+-- the judge takes the next queued item
 pub judges_item : (entries : List Entry) (given : ℕ) (old new : JudgeState) (before after : Gathered) (item : Item) → left before ≡ item ∷ left after
     → ((es : List Entry) (n : ℕ) → JudgeStandsFor clock_spot es n old → JudgeStandsFor clock_spot (es ++ OfItem item ∷ []) n new) → Judges entries given old before → Judges entries given new after
 judges_item entries given old new before after item first goes j = record {
@@ -75,7 +75,7 @@ judges_item entries given old new before after item first goes j = record {
   all = append_assoc j.judged (OfItem item ∷ []) (map item_entry (left after)) ∙ (ap (λ (l : List Item). j.judged ++ map item_entry l) (sym first) ∙ j.all);
 }
 
--- the judge after a delivery whose items are all queued
+-- a delivery comes, and all its items are queued
 pub judges_given : (entries : List Entry) (given : ℕ) (judge : JudgeState) (old new : Gathered) (more : List Entry) → left old ≡ [] → map item_entry (left new) ≡ more → Judges entries given judge old → Judges (entries ++ more) given judge new
 judges_given entries given judge old new more none gives j = record {
   judged = j.judged;
@@ -83,7 +83,7 @@ judges_given entries given judge old new more none gives j = record {
   all = ap (λ (l : List Entry). j.judged ++ l) gives ∙ ap (λ (l : List Entry). l ++ more) (all_judged entries given judge old none j);
 }
 
--- the judge after the first item of a delivery; the delivery's other items are queued
+-- a delivery comes; the judge takes its first item, and its other items are queued
 pub judges_first : (entries : List Entry) (given : ℕ) (old new : JudgeState) (before after : Gathered) (item : Item) (more : List Entry) → left before ≡ [] → item_entry item ∷ map item_entry (left after) ≡ more
     → ((es : List Entry) (n : ℕ) → JudgeStandsFor clock_spot es n old → JudgeStandsFor clock_spot (es ++ OfItem item ∷ []) n new) → Judges entries given old before → Judges (entries ++ more) given new after
 judges_first entries given old new before after item more none gives goes j = record {
@@ -94,7 +94,7 @@ judges_first entries given old new before after item more none gives goes j = re
       ∙ (ap (λ (l : List Entry). j.judged ++ l) gives ∙ ap (λ (l : List Entry). l ++ more) (all_judged entries given old before none j));
 }
 
--- the judge after an entry that was not queued
+-- the judge takes an entry that was not queued
 pub judges_entry : (entries : List Entry) (given : ℕ) (old new : JudgeState) (units : Gathered) (entry : Entry) → left units ≡ []
     → ((es : List Entry) (n : ℕ) → JudgeStandsFor clock_spot es n old → JudgeStandsFor clock_spot (es ++ entry ∷ []) n new) → Judges entries given old units → Judges (entries ++ entry ∷ []) given new units
 judges_entry entries given old new units entry none goes j = record {

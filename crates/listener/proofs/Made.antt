@@ -68,8 +68,8 @@ lost_holds (x ∷ xs) why e = by (is_within (x ∷ xs)) (is_complete (x ∷ xs))
     by true false p e = absurd cc
     by false c p e = refl
 
--- How numbers of fragments are related when a packet with this outcome is added: `h` were held before, `g` are given
--- up, `s` are in the packet's stretch, and `w` are held afterwards.
+-- How four numbers of fragments are related if a packet with this outcome is added. `h` fragments were held before, `g`
+-- are given up, `s` are in the packet's stretch, and `w` are held afterwards.
 abbrev Adds : Piece → ℕ → ℕ → ℕ → ℕ → Type 0
 Adds Whole h g s w = (g + (s - 1) ≡ h) × (w ≡ 0)
 Adds Held h g s w = g + w ≡ h + 1

@@ -8,8 +8,8 @@ use Rattle.listener.specs.declared.listener.ListenFault.{ListenFault}
 use Rattle.listener.specs.declared.listener.ListenFault.TheVariants.{Refused, Memory}
 use Rattle.listener.specs.Listening.{ListenState, StandsFor as RecordsStandFor, is_closed, out as out_of, work as listener_work}
 
--- A listener that is fed bytes: its reader of records, the listener that the records are given to, the item that is due
--- next, and whether memory has run out.
+-- A listener that is fed bytes. `reader` reads the records, and `listener` takes them. `next` is the item that is due
+-- next. `out_of_memory` tells whether memory has run out.
 pub record Feeding : Type 0 where
   pub reader : Reading
   pub listener : ListenState
@@ -29,13 +29,13 @@ pub record IsReady (fed : Feeding) : Type 0 where
 abbrev pub is_ended : Feeding → Bool
 is_ended fed = is_closed fed.listener
 
--- what is shown of the whole records in these bytes: only what is due while more bytes may follow, and everything once
--- the capture has ended
+-- What is shown of the whole records in these bytes. While more bytes may follow, only items that are due are shown.
+-- Once the capture has ended, all items are shown.
 abbrev pub out : Feeding → List ℕ → List Shown
 out fed bytes = out_of fed.listener (whole_records bytes)
 
--- The listener was fed `bytes`, and has returned the first `given` items of what is shown of them. If memory ran out in
--- a call of `feed`, `bytes` are the bytes before that call.
+-- The listener was fed `bytes`. Of the items that are shown of these bytes, the listener has returned the first
+-- `given`. If memory ran out in a call of `feed`, `bytes` are the bytes before that call.
 pub record StandsFor (bytes : List ℕ) (given : ℕ) (fed : Feeding) : Type 0 where
   pub read : fed.out_of_memory ≡ false → HasRead fed.reader bytes (whole_records bytes)
   pub stands : RecordsStandFor (whole_records bytes) (given + length (option_to_list fed.next)) fed.listener

@@ -14,8 +14,9 @@ use Rattle.packet_journal.specs.Deliveries.{Delivery}
 use Rattle.listener.specs.Items.{lost_for}
 use Rattle.listener.specs.Units.{events}
 
--- The state of a stream's units. The state holds the fragments of the current unit, why the last fragments were given
--- up, how many of these lost fragments were taken, and the last delivery's own item.
+-- The state of a stream's units. `assembly` holds the fragments of the current unit and the fragments that were last
+-- given up. `why` is the reason for giving them up, and `taken` is how many of them were taken. `own` is the last
+-- delivery's own item.
 pub record Gathered : Type 0 where
   pub assembly : Assembly
   pub why : LostFor
@@ -30,7 +31,7 @@ lost_item reason mark = OfBad (record { frame = mark.frame; arrival = mark.arriv
 abbrev pub item_entry : Item → Entry
 item_entry item = OfItem item
 
--- the items of the last delivery that were not yet taken
+-- the items that the last delivery yields, without those that were already taken
 abbrev pub left : Gathered → List Item
 left u = map (lost_item (lost_for u.why)) (drop u.taken u.assembly.lost) ++ option_to_list u.own
 

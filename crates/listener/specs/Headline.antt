@@ -37,8 +37,9 @@ pub record KeepsHeadline (shift : ℤ) (p : PacketJournal) (plan : ListenPlan) (
       → shown_of_frame made.last.frame shown ≡ shown_by made.last (verdict_of plan records place item) ∷ []
   -- nothing else is shown
   pub no_other : All (IsShownItem plan records) shown
-  -- If another listener hears the talker, and both or neither use the talker's clock, the two listeners agree. If both
-  -- present a packet, its bytes are the same in both, and each of its samples is at the same nanosecond in both.
+  -- Suppose that another listener hears the talker, and that either both listeners use the talker's clock or neither
+  -- does. Then the two listeners agree: if both present a packet, its bytes are the same in both, and each of its
+  -- samples is at the same nanosecond in both.
   pub agrees : (other : ListenPlan) (others : List Record) → HearsTalker shift p other others → by_clock other ≡ by_clock plan → All (λ a. All (Agree (by_clock plan) p a) (presented_of (shown_of other others))) (presented_of shown)
   -- whenever an item is judged, at most `buffer` batches wait, and they have at most `room` bytes together
   pub buffer : (place : ℕ) → length (waiting_at clock_spot (schedule_plan plan) (entries_in plan records) place) ≤ plan.buffer

@@ -74,7 +74,7 @@ malformed d refusal = OfBad (record {
   reason = Malformed refusal.field;
 })
 
--- the item of a delivery: the malformed item if the packet is refused, otherwise `item`
+-- the item of the delivery `d`: `item` if the packet is accepted, otherwise the malformed item
 abbrev pub refused_or : Delivery → Option Refusal → Item → Item
 refused_or d None item = item
 refused_or d (Some refusal) item = malformed d refusal
@@ -210,7 +210,7 @@ given_after before (d ∷ ds) = given_by before d ++ given_after (before ++ d �
 
 -- ---- the items of all deliveries
 
--- the items of a list of deliveries while more may follow
+-- the items of a list of deliveries while more deliveries may follow
 abbrev pub items_so_far : List Delivery → List MadeItem
 items_so_far ds = given_after [] ds
 
@@ -230,6 +230,6 @@ made_entry made = made.entry
 abbrev pub entries : List Delivery → List Entry
 entries ds = map made_entry (items_of ds)
 
--- the entries that a list of deliveries makes while more may follow
+-- the entries of a list of deliveries while more deliveries may follow
 abbrev pub entries_so_far : List Delivery → List Entry
 entries_so_far ds = map made_entry (items_so_far ds)

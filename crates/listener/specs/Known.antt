@@ -19,8 +19,8 @@ clock_numbers [] = []
 clock_numbers (OfStream n ∷ os) = clock_numbers os
 clock_numbers (OfClock m ∷ os) = m ∷ clock_numbers os
 
--- the packets that have come when the delivery at index `place` is judged: those up to and including that delivery, and
--- the next `look`
+-- the packets that have come when the delivery at index `place` is judged: the packets of all deliveries up to and
+-- including that delivery, and of the next `look` deliveries
 abbrev pub came_by : ListenPlan → ℕ → List Origin → List Origin
 came_by plan place origins = take (place + plan.look + 1) origins
 

@@ -26,7 +26,7 @@ use Rattle.listener.specs.Heard.{entries_in, items_in, schedule_plan}
 use Rattle.listener.specs.Items.{MadeItem, sources}
 use Rattle.listener.specs.Known.{IsKnownItem}
 
--- Either the listener has no clock; or it has the talker's clock, and adds `shift` to the clock's timestamps.
+-- The listener has no clock, or it has the talker's clock and adds `shift` to the clock's timestamps.
 abbrev pub FollowsClock : ℤ → PacketJournal → ℤ → Option ℕ → Type 0
 FollowsClock shift p added None = ⊤
 FollowsClock shift p added (Some id) = (id ≡ p.clock) × (added ≡ shift)
@@ -51,7 +51,7 @@ presented_of [] = []
 presented_of (Present batch ∷ rest) = batch ∷ presented_of rest
 presented_of (Flag frame seq reason ∷ rest) = presented_of rest
 
--- the number of samples in a batch: that of an audio packet, or 1 for a unit of H.264
+-- the number of samples in a batch: as many as the talker's audio packets have, or 1 for a unit of H.264
 abbrev pub sample_count : Kind → ℕ → ℕ
 sample_count DenseAaf count = count
 sample_count SparseAaf count = count
@@ -176,7 +176,7 @@ pub record IsFurther (p : PacketJournal) (plan : ListenPlan) (records : List Rec
   pub timely : IsTimely p plan records place n made
   pub before : Any (λ a. IsOfPacket (by_clock plan) p n a.batch) (accepted_before plan records place)
 
--- the batch is presented for an item that is packet n
+-- the batch is packet n, and has the frame number of the item
 pub record IsPresentedOf (by : Bool) (p : PacketJournal) (n : ℕ) (made : MadeItem) (batch : Presented) : Type 0 where
   pub frame : batch.frame ≡ made.last.frame
   pub is : IsOfPacket by p n batch

@@ -24,8 +24,8 @@ pub record ListenState : Type 0 where
 abbrev pub is_closed : ListenState → Bool
 is_closed listener = listener.ended
 
--- what a listener shows of a list of records: what is due while more records may follow, and everything once no more
--- follow
+-- What a listener shows of a list of records. While more records may follow, only items that are due are shown. Once no
+-- more records follow, all items are shown.
 abbrev pub out : ListenState → List Record → List Shown
 out listener records = if is_closed listener then shown_of listener.plan records else due_of listener.plan records
 
@@ -33,20 +33,20 @@ out listener records = if is_closed listener then shown_of listener.plan records
 abbrev pub entries_by : Bool → ListenPlan → List Record → List Entry
 entries_by ended plan records = if ended then entries_in plan records else entries_so_far_in plan records
 
--- all that the listener shows so far was returned
+-- everything that the listener shows so far was returned
 pub record IsIdle (listener : ListenState) : Type 0 where
   pub judge : IsIdleJudge listener.judge
   pub none : left listener.units ≡ []
 
--- The judge has taken a prefix of `entries`, and has returned the first `given` items of what it shows. The other
--- entries are queued.
+-- The judge has taken a prefix of `entries`, and the other entries are queued. Of the items that the judge shows, the
+-- first `given` were returned.
 pub record Judges (entries : List Entry) (given : ℕ) (judge : JudgeState) (units : Gathered) : Type 0 where
   pub judged : List Entry
   pub stands : JudgeStandsFor clock_spot judged given judge
   pub all : judged ++ map item_entry (left units) ≡ entries
 
--- The listener was given these records, has shown the first `given` items of what is due, and has counted the records
--- and the items.
+-- The listener has taken `records`, and has counted the records and the items. Of the items that it shows of these
+-- records, the first `given` were returned.
 pub record StandsFor (records : List Record) (given : ℕ) (listener : ListenState) : Type 0 where
   pub plan : listener.judge.plan ≡ schedule_plan listener.plan
   pub units : is_closed listener ≡ false → HasUnits (deliveries_of listener.plan records) listener.units
@@ -60,7 +60,7 @@ pub record StandsFor (records : List Record) (given : ℕ) (listener : ListenSta
 abbrev pub work : ListenState → ℕ
 work listener = listener.counts.frames - (listener.counts.presented + listener.counts.flagged)
 
--- the plan, the number of records, and whether more may follow are unchanged
+-- the plan, the number of records, and whether more records may follow are unchanged
 pub record Keeps (old new : ListenState) : Type 0 where
   pub plan : new.plan ≡ old.plan
   pub frames : new.counts.frames ≡ old.counts.frames

@@ -12,20 +12,20 @@ use Rattle.packet_journal.specs.Deliveries.{Delivery}
 
 -- ---- packets of H.264
 
--- why a packet is in no unit: its time is uncertain, or it completes a unit and has no timestamp
+-- why a packet cannot be in a unit: its time is uncertain, or it would complete a unit but has no timestamp
 abbrev pub flaw_in : Cvf → Option Reason
 flaw_in v =
     if v.header.tu then Some Uncertain
     else if completes v.part && not v.header.tv then Some Untimed
     else None
 
--- why a packet of H.264 is in no unit: its reader refuses it, its time is uncertain, or it completes a unit and has no
--- timestamp
+-- why a packet of H.264 cannot be in a unit: its reader refuses it, its time is uncertain, or it would complete a unit
+-- but has no timestamp
 abbrev pub flaw_or : Option Refusal → Cvf → Option Reason
 flaw_or None v = flaw_in v
 flaw_or (Some refusal) v = Some (Malformed refusal.field)
 
--- why a delivery of H.264 is in no unit, whatever comes before or after it
+-- why a delivery of H.264 cannot be in a unit, whatever comes before or after the delivery
 abbrev pub flaw_of : Delivery → Option Reason
 flaw_of d = flaw_or (cvf_refusal d.packet) (cvf_of d.packet)
 

@@ -8,7 +8,7 @@ use std::alloc::Global;
 /// The maximum number of buffers that a pool keeps.
 const MOST: usize = 64;
 
-/// Buffers of samples that were given back. They are used for later samples before more memory is allocated.
+/// Sample buffers that the caller has given back. They are used for later samples before more memory is allocated.
 #[derive(Drop)]
 pub struct BufferPool {
     buffers: Vec<Vec<u8>>,

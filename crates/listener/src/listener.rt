@@ -39,9 +39,9 @@ pub enum ListenFault {
 /// A listener that takes a capture's bytes in pieces of any length. The listener shows what a `RecordListener` shows of
 /// the capture's records.
 ///
-/// After each call the caller takes all items that are due with `next_out` before it feeds more bytes. Memory for the
-/// listener's state is reserved when the listener is made. Later each packet's samples are copied once, into the batch
-/// that is shown. The bytes of a record that is cut between two pieces are copied one more time first.
+/// After each call, the caller calls `next_out` to take all items that are due, and only then feeds more bytes. Memory
+/// for the listener's state is reserved when the listener is made. Later each packet's samples are copied once, into
+/// the batch that is shown. The bytes of a record that is cut between two pieces are copied one more time first.
 #[derive(Drop)]
 pub struct Listener {
     reader: Reader,
@@ -145,7 +145,7 @@ impl Listener {
     }
 
     /// The next item that is shown of the bytes so far. Before `end`, only items that are due are returned; after
-    /// `end`, all items. Returns `None` exactly if all of these were returned. If the talker keeps the rules, what is
+    /// `end`, all items. Returns `None` exactly if none of these items is left. If the talker keeps the rules, what is
     /// returned is as the headline says (`listener_laws::bytes_are_given_truly`). Allocates nothing.
     pub fn next_out(&mut self) -> Option<Shown>
         ensures given { (bytes : List ℕ) (given : ℕ) → StandsFor bytes given self.old → result ≡ slice_get (out self.old bytes) given }
@@ -174,8 +174,8 @@ impl Listener {
     /// Ends the capture after the bytes so far, and makes all remaining items due. Nothing may be due before the call,
     /// and the listener must not have been ended. Allocates nothing.
     ///
-    /// `Refused` is the capture's first field that is cut off or refused, if there is one; only the records before it
-    /// are shown. If `feed` returned `Memory`, `end` returns `Memory` and changes nothing.
+    /// `Refused` is the capture's first field that is cut off or refused, if there is one; only the records before that
+    /// field are shown. If `feed` returned `Memory`, `end` returns `Memory` and changes nothing.
     pub fn end(&mut self) -> Result<(), ListenFault>
         requires open { is_ended self.old ≡ false }
         requires quiet { IsQuiet self.old }

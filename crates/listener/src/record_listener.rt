@@ -35,8 +35,8 @@ use std::marker::Model;
 /// once: presented, or flagged with the first reason why not. It shows an item as soon as no later record can change
 /// the result.
 ///
-/// After each record, and after `close`, the caller takes all items that are due with `next_out`. One record may yield
-/// as many as 4,097 items, because it may end a unit of H.264 that is not whole. `next_out` judges them one after
+/// After each record, and after `close`, the caller calls `next_out` to take all items that are due. One record may
+/// yield as many as 4,097 items, because it may end a unit of H.264 that is not whole. `next_out` judges them one after
 /// another. Memory for the listener's state is reserved when the listener is made. Later each packet's samples, and
 /// each whole unit, are copied once, into the batch that is shown.
 #[derive(Drop)]
@@ -94,8 +94,9 @@ impl RecordListener {
         })
     }
 
-    /// Takes the next record. All items that are due of the earlier records must have been returned, fewer than 2^62
-    /// records may have been taken, and the listener must not be closed. The record's time must be from 0 to 2^62 ns.
+    /// Takes the next record. Before the call, all items that are due of the earlier records must have been returned,
+    /// and fewer than 2^62 records must have been taken. The listener must not be closed. The record's time must be
+    /// from 0 to 2^62 ns.
     ///
     /// A record that belongs neither to the stream nor to its clock is counted and skipped. Returns `NoMemory` if there
     /// is no memory for the packet's samples or the unit; the listener is then unchanged.
@@ -131,8 +132,8 @@ impl RecordListener {
     }
 
     /// The next item that is shown of the records so far. Before `close`, only items that are due are returned; after
-    /// `close`, all items. Returns `None` exactly if all of these were returned. If the talker keeps the rules, what is
-    /// returned is as the headline says (`listener_laws::records_are_given_truly`). Allocates nothing.
+    /// `close`, all items. Returns `None` exactly if none of these items is left. If the talker keeps the rules, what
+    /// is returned is as the headline says (`listener_laws::records_are_given_truly`). Allocates nothing.
     #[inline(always)]
     pub fn next_out(&mut self) -> Option<Shown>
         ensures given { (records : List Record) (given : ℕ) → StandsFor records given self.old → result ≡ slice_get (out self.old records) given }

@@ -182,7 +182,7 @@ impl Units {
         })
     }
 
-    /// Ends the current unit before a delivery with this item.
+    /// Ends the current unit because of a delivery whose own item is `item`.
     #[inline(always)]
     fn cut(&mut self, item: Item)
         requires { IsItem item }
@@ -194,7 +194,8 @@ impl Units {
         self.own = Some(item);
     }
 
-    /// Ends the current unit before a delivery with this item. Returns the first resulting item; the others are queued.
+    /// Ends the current unit because of a delivery whose own item is `item`. Returns the first resulting item; the
+    /// others are queued.
     #[inline(always)]
     fn cut_first(&mut self, item: Item) -> Option<Item>
         requires { IsItem item }

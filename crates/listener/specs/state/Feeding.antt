@@ -15,7 +15,8 @@ pub record HasGiven (bytes : List ℕ) (list : List Shown) (fed : Feeding) : Typ
 
 -- ---- between two calls
 
--- The reader has taken `bytes`, each record that it returned was given to the listener, and `given` items were shown.
+-- The reader has taken `bytes`, and each record that it returned was given to the listener. The first `given` items
+-- were shown.
 pub record HasHeard (bytes : List ℕ) (given : ℕ) (reader : Reading) (listener : ListenState) : Type 0 where
   pub records : List Record
   pub read : HasRead reader bytes records

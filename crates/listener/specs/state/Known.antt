@@ -11,7 +11,7 @@ use Rattle.sample_schedule.specs.declared.plan.SchedulePlan.{SchedulePlan}
 use Rattle.sample_schedule.specs.Heads.{head_of}
 use Rattle.sample_schedule.specs.Verdicts.{spot_of}
 
--- the spot of a packet's first sample, given the entries `prefix` that are known when the packet is judged
+-- the spot of a packet's first sample; `prefix` holds the entries that are known when the packet is judged
 abbrev pub spot_in : SchedulePlan → List Entry → Packet → Option Spot
 spot_in plan prefix packet = option_and_then (spot_of clock_spot plan prefix packet.rate) (head_of plan prefix packet)
 
