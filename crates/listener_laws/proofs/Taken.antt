@@ -61,7 +61,7 @@ verdict_so P plan now earlier place (Err reason) is = tt
 verdict_so P plan now earlier place (Ok batch) is = decided_so P _ _ _ place batch is
 
 -- What delivery `j` adds to the accepted items. A copy of a clock packet adds nothing. A copy of packet k of the stream
--- adds nothing or packet k.
+-- adds either packet k or nothing.
 abbrev pub IsTakenAt : PacketJournal → ListenPlan → List Record → ℕ → Origin → Type 0
 IsTakenAt p plan records j (OfClock m) = accepted_before plan records (suc j) ≡ accepted_before plan records j
 IsTakenAt p plan records j (OfStream k) =

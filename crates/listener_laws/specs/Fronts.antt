@@ -16,9 +16,9 @@ use Rattle.listener.specs.Laws.{AreOther, ComesBefore, IsFurther, IsHeardFrom, I
 abbrev pub IsSettled : ListenPlan → List Record → ℕ → Type 0
 IsSettled plan records place = place + plan.look < length (items_so_far (deliveries_of plan records))
 
--- What is due of the first records is a prefix of what is shown, whatever records follow, and it is as the headline
--- says. Each batch is the packet of the talker that the batch's item was made of, and has the bytes and the instants of
--- that packet. No packet is presented twice, and first instants never decrease.
+-- Whatever records follow, what is due of the first records is a prefix of what is shown. What is due is as the
+-- headline says. Each batch is the packet of the talker that the batch's item was made of, and has the bytes and the
+-- instants of that packet. No packet is presented twice, and first instants never decrease.
 --
 -- The last three fields are about the items that are judged once the first records are read. An item that must be
 -- presented is presented, a further copy is flagged as a repeat, and each item is shown once, as its verdict says.

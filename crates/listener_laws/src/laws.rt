@@ -50,10 +50,10 @@ pub fn records_are_given_truly()
     fronts_are_true();
 }
 
-/// What a listener returns from the bytes of a talker's capture, in pieces of any length, is as the headline says.
-/// Before the capture has ended, the listener returns what is due, as `fronts_are_true` says. Once the capture has
-/// ended, the listener returns everything that is shown of the capture. `Listener::next_out` returns exactly these
-/// items, one by one.
+/// A listener may be fed the bytes of a talker's capture in pieces of any length. What the listener returns is as the
+/// headline says. Before the capture has ended, the listener returns what is due, as `fronts_are_true` says. Once the
+/// capture has ended, the listener returns everything that is shown of the capture. `Listener::next_out` returns
+/// exactly these items, one by one.
 pub fn bytes_are_given_truly()
     ensures ended { (shift : ℤ) (p : PacketJournal) (fed : Feeding) (bytes : List ℕ) → is_ended fed ≡ true → HearsTalker shift p fed.listener.plan (whole_records bytes) → KeepsHeadline shift p fed.listener.plan (whole_records bytes) (out_of fed bytes) }
     ensures due { (shift : ℤ) (p : PacketJournal) (fed : Feeding) (bytes : List ℕ) (others : List Record) → is_ended fed ≡ false → HearsTalker shift p fed.listener.plan (whole_records bytes) → (out_of fed bytes ≡ due_of fed.listener.plan (whole_records bytes)) × IsTrueFront p fed.listener.plan (whole_records bytes) others }
