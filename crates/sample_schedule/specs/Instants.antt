@@ -3,8 +3,8 @@ use Rattle.std.specs.Prelude.{◌≡◌, ℕ, ◌+◌, ◌*◌, ◌^◌, ◌<◌
 use Rattle.sample_schedule.specs.Batches.{Presented, sample_instant}
 use Rattle.sample_schedule.specs.declared.instants.Instant.{Instant}
 
--- `rest` is the fraction that rounding drops from the instant of sample j, in units of 1 / `den` of a nanosecond, for
--- the line's `den`.
+-- `rest` is the fraction that rounding drops from the instant of sample j. The unit of `rest` is 1 / `den` of a
+-- nanosecond; `den` belongs to the batch's line.
 pub record IsRestOf (batch : Presented) (j : ℕ) (instant : ℤ) (rest : ℕ) : Type 0 where
   pub steps : (batch.from +ℤ pos j) *ℤ pos batch.line.num ≡ (instant -ℤ batch.line.base) *ℤ pos batch.line.den +ℤ pos rest
   pub below : rest < batch.line.den

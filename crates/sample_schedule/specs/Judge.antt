@@ -46,7 +46,8 @@ begun judge = judge.place + length (option_to_list judge.current)
 abbrev pub taken : JudgeState → ℕ
 taken judge = begun judge + length judge.ahead
 
--- an upper bound of the work that is left: two for each entry to judge, and one for each batch that waits
+-- an upper bound of the steps that are left: two steps for each entry that is not judged, and one step for each batch
+-- that waits
 abbrev pub work : JudgeState → ℕ
 work judge = 2 * (length (option_to_list judge.current) + length judge.ahead) + length judge.waiting
 
@@ -68,8 +69,8 @@ none_left (Some p) ahead = false
 abbrev pub is_over : JudgeState → Bool
 is_over judge = if judge.closed then none_left judge.current judge.ahead else false
 
--- The judge has taken `entries`, and has returned the first `given` items that it shows of these entries. Samples are
--- timed by the clock of the judge's plan.
+-- The judge has taken `entries`. Of the items that the judge shows of these entries, it has returned the first `given`.
+-- Samples are timed by the clock of the judge's plan.
 pub record StandsFor (clock : Clock) (entries : List Entry) (given : ℕ) (judge : JudgeState) : Type 0 where
   pub asks : IsClockOf judge.plan clock
   -- the judge holds the entries that are not judged, and has noted the stamps and clock packets of all entries

@@ -47,7 +47,7 @@ presented [] = []
 presented (Presents a ∷ rest) = a ∷ presented rest
 presented (Flags place item reason ∷ rest) = presented rest
 
--- a has an earlier first instant than b, or the same first instant and a lower index
+-- `a` has an earlier first instant than `b`, or the first instants are equal and `a` has the lower index
 abbrev pub IsBefore : Accepted → Accepted → Type 0
 IsBefore a b = (a.instant <ℤ b.instant) ⊎ ((a.instant ≡ b.instant) × (a.place < b.place))
 
@@ -56,7 +56,7 @@ IsBefore a b = (a.instant <ℤ b.instant) ⊎ ((a.instant ≡ b.instant) × (a.p
 abbrev pub IsNoCopy : Accepted → Accepted → Type 0
 IsNoCopy a b = a.instant ≡ b.instant → a.batch.seq ≢ b.batch.seq
 
--- R holds between each item of a list and each later one
+-- `R` holds for each item of a list together with each later item of that list
 abbrev pub Pairwise : (Accepted → Accepted → Type 0) → List Accepted → Type 0
 Pairwise R [] = ⊤
 Pairwise R (a ∷ rest) = AllByRecursion (R a) rest × Pairwise R rest

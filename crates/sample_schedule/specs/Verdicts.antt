@@ -119,7 +119,7 @@ decided late repeat full place batch =
     Ok (record { place = place; instant = first_instant batch; batch = batch })
 
 -- The verdict on the item at index `place`. `now` is the greatest arrival up to and including that of the item, and
--- `earlier` are the items that were accepted before.
+-- `earlier` holds the items that were accepted before.
 unfoldable pub verdict : SchedulePlan → ℤ → List Accepted → ℕ → Result Presented Reason → Result Accepted Reason
 verdict plan now earlier place (Err reason) = Err reason
 verdict plan now earlier place (Ok batch) =

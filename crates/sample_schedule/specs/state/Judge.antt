@@ -23,7 +23,8 @@ abbrev pub IsPending : Pending → Type 0
 IsPending (PendingItem item) = IsItem item
 IsPending (PendingClock arrival) = IsArrival arrival
 
--- `list` holds exactly the items that the judge has returned so far of what it shows of `entries`.
+-- `list` holds exactly the items of `entries` that the judge has shown and returned so far, in the order in which they
+-- were returned.
 pub record HasGiven (clock : Clock) (entries : List Entry) (list : List Shown) (judge : JudgeState) : Type 0 where
   pub stands : StandsFor clock entries (length list) judge
   pub first : IsPrefix list (out clock judge entries)
