@@ -20,8 +20,8 @@ fn numbers_are_drawn_from_a_seed(rt: HostRuntime) {
     }
 }
 
-/// How many packets are sent, and how many copies of them are delivered. Then an index among the copies. Then some
-/// copies from that index on, each with its arrival and its packet's number.
+/// How many packets are sent, and how many copies of them are delivered. The third value is the index of a copy. The
+/// list has some copies from that index on, each with its arrival and its packet's number.
 const ROWS: [(u32, usize, usize, &[(i64, u64)]); 6] = [
     (0, 0, 0, &[]),
     (1, 1, 0, &[(1_002_480_000, 0)]),

@@ -26,7 +26,8 @@ const MOST: u64 = 1024;
 
 /// A packet and its findings. The first three values are the packet's sequence number, its restart bit, and whether it
 /// has both a reserved bit and a wrong timestamp. The fourth value is the step of the sequence number, unless that step
-/// is 1. The fifth value is for how many packets the restart bit kept its last value, if these are fewer than 8.
+/// is 1. The fifth value is the number of packets for which the restart bit kept its last value, if that number is
+/// below 8.
 type Noted = (u8, bool, bool, Option<u8>, Option<u32>);
 
 /// Separate streams, each with its packets in order.

@@ -29,7 +29,7 @@ pub enum Captured {
     Unit(u8, u32, u32),
 }
 
-/// A timestamp of a clock, 96 events after the one before.
+/// A timestamp of a clock, 96 events after the timestamp before it.
 #[derive(Clone, Copy)]
 pub struct Point {
     pub seq: u8,

@@ -37,8 +37,8 @@ const STAMPED: Stamped = Stamped {
     answer: ClockAnswer::NoClock,
 };
 
-/// A clock packet with one timestamp, 96 events after the one before. If the frequency or the pull is not a valid
-/// value, the timestamp is not usable.
+/// A clock packet with one timestamp, 96 events after the timestamp before it. If the frequency or the pull is not a
+/// valid value, the timestamp is not usable.
 fn packet(alloc: Global, seq: u8, row: &Stamped, timestamp: u64) -> Result<ClockRow, NoMemory>
     ensures { IfOk result IsNotable }
 {

@@ -1,4 +1,4 @@
--- If the last key is at or before the instant, no key is later.
+-- If the last key is at or before the instant, no key is after the instant.
 use Rattle.std.proofs.Common.{◌≡◌, ◌≤ℤ◌, ◌-◌, length, get_or, rules}
 use Rattle.std.proofs.lemmas.Int.{ints}
 use Rattle.sorted_keys.proofs.BlockLemmas.{place-end}
