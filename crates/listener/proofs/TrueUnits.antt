@@ -172,7 +172,7 @@ next_is p part n m t f g kind is near a b goes here there =
 
 -- ---- adjacent deliveries of the stream
 
--- Each delivery is a copy of a packet. The first packet is near packet `n`, and each later packet is near the one
+-- Each delivery is a copy of a packet. The first packet is near packet `n`, and each later packet is near the packet
 -- before it.
 abbrev pub Chain : PacketJournal → ℕ → ℕ → List Delivery → Type 0
 Chain p lead n [] = ⊤

@@ -548,7 +548,7 @@ shows_after ds before front earlier last rest same split all =
     let run : All Shows earlier = All-back Shows front earlier (subst (λ (l : List Delivery). All Shows l) split streamed) in
     All-append Shows earlier (last ∷ []) run (All-cons Shows last [] (All-head Shows last rest (All-back Shows before (last ∷ rest) there)) (All-nil Shows))
 
--- `last` and the deliveries `earlier` before it make a whole unit, which is one of the items.
+-- The deliveries `earlier`, and then the delivery `last`, make a whole unit, which is one of the items.
 pub record IsMadeUnit (items : List MadeItem) (before earlier : List Delivery) (last : Delivery) : Type 0 where
   pub listed : Contains items (unit_by before last)
   pub of : (unit_by before last).earlier ≡ earlier

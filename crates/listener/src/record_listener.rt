@@ -47,8 +47,9 @@ pub struct RecordListener {
     ended: bool,
     /// Whether the judge was closed.
     closed: bool,
-    /// All items that are due were returned. Since then, no record of the stream or of its clock was taken, and the
-    /// listener was not closed. The judge is not called in this state, for example after a record of another stream.
+    /// True only if all items that are due were returned and, since then, no record of the stream or of its clock was
+    /// taken and the listener was not closed. In this state, for example after a record of another stream, the judge is
+    /// not called.
     idle: bool,
     counts: Counts,
     pool: BufferPool,

@@ -30,8 +30,8 @@ abbrev pub FindsWaiting : PacketJournal → ListenPlan → List Record → ℕ �
 FindsWaiting p plan records place waits = (k : ℕ) (x : ℤ) → k < p.times.packets → IsAt (by_clock plan) p.times k 0 x → time_of plan records place ≤ℤ x → waits k ≡ true
 
 -- The copy must be presented: it comes in time, it is the first copy of its packet, and the buffer has room for it. No
--- packet of the stream has more than `most` bytes. The buffer must have room for the copy and for all earlier packets
--- for which `waits` is true, counted at `most` bytes each.
+-- packet of the stream carries more than `most` bytes. The buffer must have room for the copy and for all earlier
+-- packets for which `waits` is true, even if each of these packets carries `most` bytes.
 pub record MustBePresented (p : PacketJournal) (plan : ListenPlan) (records : List Record) (place n : ℕ) (d : Delivery) : Type 0 where
   pub comes : ComesInTime p plan records place n d
   pub first : All (λ (k : ℕ). k ≢ n) (stream_numbers (take place comes.known.origins))
@@ -61,14 +61,14 @@ pub record UnitComesInTime (p : PacketJournal) (plan : ListenPlan) (records : Li
   pub unit : AreOfUnit p part plan.lead from n earlier last
   pub in_time : All (λ (d : Delivery). d.arrival ≤ℤ pos (p.times.due n)) (before ++ last ∷ [])
 
--- `waits` is true for each delivery in `before` that ends a unit, unless that unit is due before the time at which the
+-- `waits` is true for each delivery in `before` that ends a unit, if that unit is due at or after the time at which the
 -- item at index `place` is judged.
 abbrev pub FindsWaitingUnits : PacketJournal → ListenPlan → List Record → (ℕ → Part) → List Delivery → ℕ → (Delivery → Bool) → Type 0
 FindsWaitingUnits p plan records part before place waits = (j k : ℕ) (d : Delivery) → slice_get before j ≡ Some d → IsCopyOf p plan.lead k d → Ends (part k) → time_of plan records place ≤ℤ pos (p.times.due k) → waits d ≡ true
 
 -- The unit must be presented: it comes in time, no copy of its last packet came before, and the buffer has room for it.
 -- No unit of the stream has more than `most` bytes. The buffer must have room for the unit and for all earlier units
--- for which `waits` is true, counted at `most` bytes each.
+-- for which `waits` is true, even if each of these units has `most` bytes.
 pub record UnitMustBePresented (p : PacketJournal) (plan : ListenPlan) (records : List Record) (part : ℕ → Part) (from n : ℕ) (before : List Delivery) (last : Delivery) : Type 0 where
   pub comes : UnitComesInTime p plan records part from n before last
   pub first : All (λ (d : Delivery). ¬ IsCopyOf p plan.lead n d) before

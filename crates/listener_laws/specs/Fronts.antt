@@ -12,7 +12,7 @@ use Rattle.listener.specs.Heard.{deliveries_of, due_of, items_in, shown_of}
 use Rattle.listener.specs.Items.{MadeItem, items_so_far}
 use Rattle.listener.specs.Laws.{AreOther, ComesBefore, IsFurther, IsHeardFrom, IsPresentedOf, IsWelcome, by_clock, presented_of, shown_by, shown_of_frame, verdict_of}
 
--- the item at index `place` is judged once these records are read: at least `look` items follow it
+-- the item at index `place` is judged once these records are read: at least `look` items follow that item
 abbrev pub IsSettled : ListenPlan → List Record → ℕ → Type 0
 IsSettled plan records place = place + plan.look < length (items_so_far (deliveries_of plan records))
 

@@ -14,8 +14,8 @@ pub enum Order {
     Rising,
     Falling,
     Random,
-    /// The packets have, one after the other, the earliest instant, the latest, the second earliest, the second latest,
-    /// and so on.
+    /// The first packet has the earliest instant, the second packet the latest, the third packet the second earliest,
+    /// the fourth packet the second latest, and so on.
     Middle,
     /// All packets have the same instant.
     Equal,

@@ -48,7 +48,8 @@ stamps_of entries = filter_map stamp_of entries
 abbrev pub distance_back : Packet → Option Distance
 distance_back p = distance p.rule p.seq p.count
 
--- the stamp to look for if the samples of packet `p` are counted from a stamp at the distance `far`
+-- the stamp to look for if the samples of packet `p` are counted from another packet's stamp; `far` is the distance
+-- back to that stamp
 abbrev pub want_of : SchedulePlan → Packet → Distance → Want
 want_of plan p far = record {
   seq = (p.seq + 256 - far.packets) % 256;

@@ -48,7 +48,7 @@ pub fn give_all(judge: &mut Judge, list: &mut Vec<Shown>) -> Result<(), NoMemory
 
 /// The schedule of a list of entries, in capture order. Each item of the stream is shown once: presented, or flagged
 /// with the first reason that holds. A batch is presented as soon as an entry arrives after the batch's first instant.
-/// After the last entry, the batches that are left are presented, by first instant and then by index in the list.
+/// After the last entry, the remaining batches are presented, sorted by first instant and then by index in the list.
 ///
 /// An item is judged once `look` later entries are known or the list has ended. Hence the item's samples may be counted
 /// from the timestamp of a later packet. A packet without a timestamp is counted from the last usable timestamp that

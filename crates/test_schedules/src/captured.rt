@@ -18,10 +18,10 @@ pub enum Captured {
     Cd(u8, u32, u64),
     /// A packet of six data blocks: its sequence number, the count of its first block, its timestamp and its arrival.
     Blocks(u8, u8, Option<u32>, u64),
-    /// The packet with this number of a sparse stream.
+    /// The packet with this number in a sparse stream.
     Sparse(u16),
-    /// The packet with this number of a sparse stream that restarts after every ten packets. Each restart delays the
-    /// rest of the stream by a further 1 ms.
+    /// The packet with this number in a sparse stream that restarts after every ten packets. Each restart delays all
+    /// later packets of the stream by a further 1 ms.
     Restarted(u16),
     /// A packet of the clock.
     Clock(Point),
