@@ -285,7 +285,7 @@ video_stream d e = rw e refl
 video_test : (d : Delivery) → d.subtype ≡ cvf_subtype → (d.subtype == cvf_subtype) ≡ true
 video_test d e = rw e refl
 
--- a packet with a flaw yields the fragments before it, and then its own flagged item
+-- a packet with a flaw yields the fragments that are given up because of it, and then its own flagged item
 flawed_taken : (ds : List Delivery) (d : Delivery) (reason : Reason) (old new : Gathered) → d.subtype ≡ cvf_subtype → flaw_of d ≡ Some reason → HasUnits ds old → Cuts (lost_item reason (mark_of d)) old new → Gives ds d new
 flawed_taken ds d reason old new video flaw has c =
     let own : own_by ds d ≡ video_by ds d (Some reason) = ap (λ (b : Bool). if b then video_by ds d (flaw_of d) else made_of_one d ∷ []) (video_test d video) ∙ ap (video_by ds d) flaw in

@@ -8,7 +8,7 @@ use avtp_header::{ETHERTYPE, StreamHeader, subtype};
 use pcap_frames::{FrameView, Order, Style, Tag, Unit, write_frame, write_header, write_record};
 use std::alloc::Global;
 
-/// The ID of the first stream. The other streams have the IDs after it.
+/// The ID of the first stream. Each further stream has the next higher ID.
 pub const STREAM: u64 = 0x0200_0000_0001_0000;
 
 const STYLE: Style = Style {

@@ -36,7 +36,7 @@ pub fn lines(alloc: Global, timestamps: u32, count: u32) -> Option<u64>
     Some(found)
 }
 
-/// The bytes of `count` timestamps of a clock. These timestamps follow the clock's first `before` timestamps.
+/// The bytes of `count` timestamps of a clock. `before` is the number of earlier timestamps of that clock.
 fn timestamps_of(alloc: Global, before: u32, count: u32) -> Option<Vec<u8>>
     requires most { before + count ≤ 2 ^ 31 }
 {

@@ -8,16 +8,17 @@ use clock_track::ClockRow;
 use sample_schedule::{Entry, HeadRule, Item, Packet};
 use std::alloc::Global;
 
-/// How the instants of packets are ordered, if the packets are taken in the order of arrival.
+/// The order of the instants in each group of packets. The packets of a group are numbered in the order of arrival.
+/// `Stream::waiting` is the number of packets in a group.
 #[derive(Clone, Copy)]
 pub enum Order {
     Rising,
     Falling,
     Random,
-    /// The first packet has the earliest instant, the second packet the latest, the third packet the second earliest,
-    /// the fourth packet the second latest, and so on.
+    /// The first packet of a group has the earliest instant, the second packet the latest, the third packet the second
+    /// earliest, the fourth packet the second latest, and so on.
     Middle,
-    /// All packets have the same instant.
+    /// All packets of a group have the same instant.
     Equal,
 }
 

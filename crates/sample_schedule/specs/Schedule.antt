@@ -98,8 +98,8 @@ abbrev pub flag_by : ℕ → Option Entry → Option (Result Accepted Reason) �
 flag_by i (Some (OfItem item)) (Some (Err reason)) = Flags i item reason ∷ []
 flag_by i e v = []
 
--- Step i presents batches that were accepted before entry i: those whose first instants passed when entry i arrived.
--- Then, if entry i is an item that is not accepted, step i flags it. (Before step 0, nothing is accepted.)
+-- Step i first presents each batch that was accepted before entry i and whose first instant passes when entry i
+-- arrives. Then, if entry i is an item that is not accepted, step i flags it. (Before step 0, nothing is accepted.)
 unfoldable pub step : Clock → SchedulePlan → List Entry → ℕ → List Given
 step clock plan entries i =
     let earlier = accepted clock plan entries i in

@@ -34,9 +34,9 @@ impl Accepted {
             from,
             bytes,
         } = batch;
-        // Copied field by field, so that the fields go through registers. If the batch were copied whole, the processor
-        // would read it in other pieces than those it was written in. The processor would then wait for the writes, for
-        // a fifth of the time that a packet takes.
+        // Copied field by field, so that the fields go through registers. If the batch were copied whole, the pieces
+        // that the processor reads would differ from the pieces that it wrote. The processor would then wait for the
+        // writes, for a fifth of the time that a packet takes.
         Shown::Present(Batch {
             frame,
             seq,
