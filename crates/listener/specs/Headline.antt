@@ -24,8 +24,8 @@ pub record KeepsHeadline (shift : ℤ) (p : PacketJournal) (plan : ListenPlan) (
   pub once : AllPairs (AreOther (by_clock plan) p) (presented_of shown)
   -- first instants never decrease, and batches with equal first instants are in the order of the items
   pub in_order : AllPairs ComesBefore (presented_of shown)
-  -- an item is presented if its timestamp or clock reference is known, it came in time, the buffer had room for it, and
-  -- no copy of its packet was accepted before
+  -- Suppose that an item's timestamp or clock reference is known, that the item came in time, that the buffer had room
+  -- for the item, and that no copy of its packet was accepted before. Then the item is presented.
   pub known : (place n : ℕ) (made : MadeItem) → IsWelcome p plan records place n made → Any (IsPresentedOf (by_clock plan) p n made) (presented_of shown)
   -- If a copy of a packet was accepted, a further copy is flagged as a repeat. The further copy must have come in time,
   -- and its timestamp or clock reference must be known.

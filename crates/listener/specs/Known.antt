@@ -38,7 +38,7 @@ pub record IsKnownUnit (made : MadeItem) : Type 0 where
   pub unit : WholeUnit
   pub is : made.entry ≡ OfItem (OfUnit unit)
 
--- The item at index `place` is a whole unit of H.264, or a copy of an audio packet whose samples can be timed by the
+-- The item at index `place` is a whole unit of H.264, or a copy of an audio packet whose samples can be timed from the
 -- packets that came.
 abbrev pub IsKnownItem : Kind → PacketJournal → ListenPlan → List Record → ℕ → Copy → MadeItem → Type 0
 IsKnownItem DenseAaf p plan records place c made = IsKnownCopy p plan records place c

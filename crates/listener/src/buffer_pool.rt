@@ -29,9 +29,9 @@ impl BufferPool {
         }
     }
 
-    /// An empty buffer with room for `size` bytes: the pool's last buffer if that fits, otherwise a new one. If the
-    /// pool's last buffer is too small, it is freed. If that buffer has room for more than about 2 * `size` bytes, it
-    /// is freed, too: small packets must not hold the memory of large ones.
+    /// An empty buffer with room for `size` bytes: the pool's last buffer if that fits, otherwise a new one. The pool's
+    /// last buffer is freed if it is too small. It is also freed if it has room for more than about 2 * `size` bytes,
+    /// because small packets must not hold the memory of large ones.
     #[inline(always)]
     pub fn take(&mut self, alloc: Global, size: usize) -> Result<Vec<u8>, NoMemory>
         ensures empty { IfOk result (λ buffer. buffer.items ≡ []) }

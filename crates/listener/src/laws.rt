@@ -26,8 +26,8 @@ ghost use Rattle.listener.specs.Units.{in_stream};
 use packet_journal::laws::records_of_both_are_delivered;
 
 /// Each packet of the stream is shown once, or is a fragment of one unit that is shown. A packet of the clock is never
-/// shown. Hence the number of stream packets is the sum of three numbers: the items presented, the items flagged, and
-/// the fragments in whole units, not counting the last fragment of each unit.
+/// shown. Hence the number of stream packets is the sum of three numbers: the number of presented items, the number of
+/// flagged items, and the number of fragments in whole units, not counting the last fragment of each unit.
 pub fn each_packet_is_shown_once()
     ensures { (plan : ListenPlan) (records : List Record) → (counts_of plan records (shown_of plan records)).presented + (counts_of plan records (shown_of plan records)).flagged + fragments_in (items_in plan records) ≡ (counts_of plan records (shown_of plan records)).packets }
 {}

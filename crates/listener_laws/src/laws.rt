@@ -87,9 +87,9 @@ pub fn units_anywhere_are_welcome()
         → UnitMustBePresented p plan records part from n before last → IsWelcome p plan records (unit_place before last) n (unit_by before last) }
 {}
 
-/// If a unit must be presented and arrives whole again later, the later copy of the unit must be flagged as a repeat if
-/// it is in time. The later copy is in time if all deliveries up to and including its last packet were captured no
-/// later than the instant at which the unit is due.
+/// Suppose that a unit must be presented, and that the whole unit arrives again later. If the later copy of the unit is
+/// in time, the copy must be flagged as a repeat. The later copy is in time if all deliveries up to and including its
+/// last packet were captured no later than the instant at which the unit is due.
 pub fn units_anywhere_are_further()
     ensures { (shift : ℤ) (p : PacketJournal) (plan : ListenPlan) (records : List Record) (part : ℕ → Part) (earlier from n : ℕ) (made : MadeItem) (before : List Delivery) (last : Delivery) → HearsTalker shift p plan records → p.times.kind ≡ H264 part → IsWelcome p plan records earlier n made
         → earlier < unit_place before last → UnitComesInTime p plan records part from n before last → IsFurther p plan records (unit_place before last) n (unit_by before last) }

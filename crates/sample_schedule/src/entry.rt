@@ -4,7 +4,7 @@ use crate::item::Item;
 use clock_track::ClockRow;
 
 /// An item of the stream, or a packet of its clock. A packet of the clock is never shown, but its arrival makes batches
-/// due as an item's arrival does.
+/// due, as the arrival of an item does.
 #[derive(Debug, Drop)]
 pub enum Entry {
     Item(Item),
