@@ -31,7 +31,7 @@ impl BufferPool {
 
     /// An empty buffer with room for `size` bytes: the pool's last buffer if that fits, otherwise a new one. The pool's
     /// last buffer is freed if it is too small. It is also freed if it has room for more than about 2 * `size` bytes,
-    /// because small packets must not hold the memory of large ones.
+    /// because small packets must not hold the memory of large ones. If `size` is 0, the pool is not changed.
     #[inline(always)]
     pub fn take(&mut self, alloc: Global, size: usize) -> Result<Vec<u8>, NoMemory>
         ensures empty { IfOk result (λ buffer. buffer.items ≡ []) }

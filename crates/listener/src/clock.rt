@@ -40,8 +40,8 @@ fn no_points<'a>() -> Points<'a>
     }
 }
 
-/// The timestamps of a packet of a media clock (IEEE 1722-2016, 10), borrowed. The timestamps are used only if the
-/// packet is well formed and of the type for audio samples, and its times are certain.
+/// Borrows the timestamps of a packet of a media clock (IEEE 1722-2016, 10). The timestamps are used only if the packet
+/// is well formed and of the type for audio samples, and its times are certain.
 pub fn clock_points(packet: &[u8]) -> Points<'_>
     ensures exact { row_of result ≡ points_or_none (crf_refusal packet.now) (crf_of packet.now) }
     ensures notable { IsNotable (row_of result) }

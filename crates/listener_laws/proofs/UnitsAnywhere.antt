@@ -63,7 +63,7 @@ place_in (x ∷ front) m back = place_in front m back
 entry_in : (plan : ListenPlan) (records : List Record) (front : List MadeItem) (m : MadeItem) (back : List MadeItem) → items_in plan records ≡ front ++ m ∷ back → slice_get (entries_in plan records) (length front) ≡ Some m.entry
 entry_in plan records front m back e = entry_at (items_in plan records) (length front) m (ap (λ (l : List MadeItem). slice_get l (length front)) e ∙ place_in front m back)
 
--- an item adds to the accepted items what its verdict accepts
+-- an item adds to the list of accepted items exactly what the item's verdict accepts
 next_is : (plan : ListenPlan) (records : List Record) (front : List MadeItem) (m : MadeItem) (back : List MadeItem) → items_in plan records ≡ front ++ m ∷ back
     → accepted_before plan records (length (front ++ m ∷ [])) ≡ accepted_before plan records (length front) ++ accepted_by (judged clock_spot (schedule_plan plan) (entries_in plan records) (length front) (accepted_before plan records (length front)) m.entry)
 next_is plan records front m back e =

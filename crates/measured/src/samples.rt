@@ -15,7 +15,7 @@ use std::alloc::Global;
 use std::collections::VecDeque;
 use std::time::{Clock, Instant};
 
-/// A sink that accepts everything and keeps nothing, and counts the bytes.
+/// A sink that accepts all bytes, counts them, and keeps none.
 #[derive(Drop)]
 struct Counter {
     bytes: u64,

@@ -1,4 +1,4 @@
-//! Tests of which line of a media clock a sample is on.
+//! Tests of the search for the line of a media clock that a sample is on.
 
 ghost use Rattle.std.specs.Prelude.{IfOk};
 ghost use Rattle.clock_track.specs.Limits.{IsNotable};
