@@ -1,4 +1,4 @@
--- The records that were checked so far in a capture.
+-- The records of a capture that were checked so far.
 use Rattle.std.proofs.Common.{◌≡◌, ℕ, ◌+◌, ◌≤◌, Bool, true, false, if◌then◌else◌, inl, inr, List, [], ◌∷◌, ◌++◌, length, map, take, Option, Some, None, Result, Ok, Err, refl, sym, ap, subst, ◌∙◌, append_assoc, append-nil, arith, length-append}
 use Rattle.std.specs.Prelude.{◌⊎◌, ◌==◌, flat_map, IfOk}
 use Rattle.std.proofs.lemmas.Grind.{flat_map-append}

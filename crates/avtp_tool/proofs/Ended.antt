@@ -45,7 +45,7 @@ ends_prefix {h} {h'} {w} {w'} {line = line} (Err e) ends = prefix_none (written 
 not_write : (result other : Status) → result ≡ other → other ≢ status.WriteFault → result ≢ status.WriteFault
 not_write result other is differs e = differs (sym is ∙ e)
 
--- If a run ends with a status other than `WriteFault`, it had this status before its text was written.
+-- If a run ends with a status other than `WriteFault`, the run already had this status before its text was written.
 pub ended_as : {h h' : SinkState} {w w' : List ℕ} {ended : Result Status Failed} {result : Status} (other : Status) → other ≢ status.WriteFault → Finishes h h' w w' ended result → result ≡ other → ended ≡ Ok other
 ended_as {result = result} other differs finishes is = (finishes.whole (not_write result other is differs)).0 ∙ ap (λ (s : Status). Ok s) is
 

@@ -13,7 +13,7 @@ written_none : (held : Option (List ℕ)) → written held [] ≡ held
 written_none None = refl
 written_none (Some xs) = ap (λ t. Some t) (append-nil xs)
 
--- If no text was pending before the call and none is pending after it, the sink got the whole text.
+-- If no text was pending before the call and no text is pending after the call, the sink got the whole text.
 pub flushed : (old mid new : Option (List ℕ)) (start last text : List ℕ) → start ≡ [] → last ≡ [] → Appends (written old start) mid text → Keeps mid (written new last) → Appends old new text
 flushed old mid new start last text none ended appends keeps =
     let whole = Appends-kept (written old start) mid (written new last) text appends keeps in
@@ -21,7 +21,6 @@ flushed old mid new start last text none ended appends keeps =
     let to = subst (λ l. Appends (written old []) (written new l) text) ended from in
     subst (λ h. Appends h new text) (written_none old) (subst (λ h. Appends (written old []) h text) (written_none new) to)
 
--- If the sink's bytes followed by the pending text grew by a prefix of `text`, the sink itself got a prefix of `text`.
 prefix_of : (old mid new : Option (List ℕ)) (waits text prefix rest more : List ℕ) → text ≡ prefix ++ rest → Appends (written old []) mid prefix → Keeps mid (written new waits) → Appends old new more → AppendsPrefix old new text
 prefix_of None mid None waits text prefix rest more split appends keeps grew = record { prefix = []; rest = text; split = refl; appends = tt }
 prefix_of None mid (Some ys) waits text prefix rest more split appends keeps grew = absurd grew

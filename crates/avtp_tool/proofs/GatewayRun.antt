@@ -36,7 +36,8 @@ use Rattle.avtp_tool.specs.Status.{status_of}
 never_fault : (limit : ℕ) (bytes : List ℕ) → end_of limit bytes ≡ end.ReadFault → ⊥
 never_fault limit bytes e = (subst (λ (h : End). EndsAt limit (Some bytes) ⊥ h (take limit bytes)) e (ends_here limit bytes ⊥)).0
 
--- the outcome of a run without read faults, given how the scan ended and the record that cannot be converted, if any
+-- the outcome of a run without read faults, given the first record that cannot be converted, if any, and how the scan
+-- ended
 here_by : (asked : Turning) (files : Files) (fault : Type 0) (bytes : List ℕ) (at : Option FaultAt) (how : End) → files asked.input ≡ Some bytes → fault_in asked (records_of asked bytes) ≡ at → end_of asked.listener.limit bytes ≡ how
     → GatewayOutcome asked files fault (came_by asked at how) (ended_by asked (records_of asked bytes) at how) (text_by asked (records_of asked bytes) at how) (made_by asked (records_of asked bytes) at how)
 here_by asked files fault bytes (Some at) how is found ends = faulty bytes at is found refl refl refl refl
@@ -61,7 +62,8 @@ gateway_here asked files fault = at (files asked.input) refl where
 abbrev pub TurnsOut : Turning → List (List ℕ) → Status → List ℕ → Option (List ℕ) → Option (List ℕ) → Type 0
 TurnsOut asked came ended text made told = (came ≡ gateway_came asked told) × (ended ≡ gateway_ended asked told) × (text ≡ gateway_report asked told) × (made ≡ gateway_made asked told)
 
--- the outcome of a run without read faults, given how the scan ended and the record that cannot be converted, if any
+-- the outcome of a run without read faults, given the first record that cannot be converted, if any, and how the scan
+-- ended
 abbrev pub TurnsBy : Turning → List Record → List (List ℕ) → Status → List ℕ → Option (List ℕ) → Option FaultAt → End → Type 0
 TurnsBy asked records came ended text made at how = (came ≡ came_by asked at how) × (ended ≡ ended_by asked records at how) × (text ≡ text_by asked records at how) × (made ≡ made_by asked records at how)
 
@@ -79,7 +81,7 @@ cut_by asked records came ended text made (end.Refused refusal) other c e t m = 
 cut_by asked records came ended text made end.ReadFault other c e t m = (c, e, t, m)
 cut_by asked records came ended text made end.Limit other c e t m = (c, e, t, m)
 
--- without a read fault, the bytes and the limit decide how a reading ends, and all bytes within the limit are read
+-- If no read fault occurs, the bytes and the limit decide how a reading ends. All bytes within the limit are then read.
 pub by_end : (limit : ℕ) (bytes prefix : List ℕ) (fault : Type 0) (how : End) → (fault → ⊥) → EndsAt limit (Some bytes) fault how prefix → (how ≡ end_of limit bytes) × (prefix ≡ take limit bytes)
 by_end limit bytes prefix fault end.Whole none ends = ends
 by_end limit bytes prefix fault (end.Refused refusal) none ends = ends
@@ -120,7 +122,7 @@ skips_none to None [] none = refl
 skips_none to None (batch ∷ batches) none = absurd cc
 skips_none to (Some shape) batches none = none_skipped to shape nothing_given batches none
 
--- a run that ends with `Done` skipped nothing
+-- a run that ends with `Done` skipped no batch
 done_none : {S : Type 0} (skips : List S) (how : End) → turned_status (length skips) how ≡ status.Done → skips ≡ []
 done_none [] how done = refl
 done_none (skip ∷ skips) end.Whole done = absurd (by (length (skip ∷ skips) == 0) refl done) where
@@ -131,7 +133,6 @@ done_none (skip ∷ skips) (end.Refused refusal) done = absurd cc
 done_none (skip ∷ skips) end.ReadFault done = absurd cc
 done_none (skip ∷ skips) end.Limit done = absurd cc
 
--- each batch that a listener presents begins in time
 begin_in_time : (asked : Turning) (records : List Record) (how : End) → AllByRecursion BeginsInTime (batches_by asked records how)
 begin_in_time asked records end.Whole = shown_in_time (plan_of asked.listener) records
 begin_in_time asked records (end.Refused refusal) = shown_in_time (plan_of asked.listener) records

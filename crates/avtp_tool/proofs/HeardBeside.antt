@@ -1,4 +1,4 @@
--- A capture that is heard while another file of the shelf is written between its items.
+-- A capture is heard item by item, and another file of the shelf is written between two items.
 use Rattle.std.proofs.Common.{◌≡◌, ℕ, ◌≤◌, true, false, List, [], ◌∷◌, ◌++◌, length, take, Option, Some, None, Result, Ok, inl, inr, refl, sym, ap, subst, ◌∙◌, arith, append-nil}
 use Rattle.std.specs.Prelude.{◌≢◌, ◌==◌, if◌then◌else◌, IsSome, count_by, option_and_then, option_map}
 use Rattle.std.proofs.lemmas.Bool.Decides.{eqb_tells, nat_tests}
@@ -176,7 +176,8 @@ module _ {s t u : ShelfState} (first : Sourcing) {a b : Sourcing} {l m : ListenS
 
 -- ---- what was shown
 
--- Since the state `s` of the shelf, these items were shown of the capture that is read.
+-- While the shelf went from the state `s` to the state `t`, `items` were shown. They are items of the capture that is
+-- read.
 pub record IsHeard (s t : ShelfState) (first source : Sourcing) (fresh listener : ListenState) (stage : Stage) (items : List Shown) : Type 0 where
   pub shown : (limit : ℕ) (bytes : List ℕ) → HasGiven limit bytes (left_in s.slots (slot_of first)) first [] → StandsFor [] 0 fresh → is_closed fresh ≡ false
       → IsShown stage limit bytes (Rose s.reading_faults t.reading_faults) (left_in t.slots (slot_of source)) source listener items

@@ -42,7 +42,7 @@ use Rattle.listener.proofs.Fed.{prefix_twice}
 
 -- ---- what is shown
 
--- what is shown of a capture begins with what is due, however its reading ended
+-- the items that are shown of a capture begin with the items that are due, however the reading of the capture ended
 shown_first : (plan : ListenPlan) (records : List Record) (how : End) → IsPrefix (due_of plan records) (shown_by plan records how)
 shown_first plan records end.Whole = due_first plan records
 shown_first plan records (end.Refused refusal) = due_first plan records

@@ -16,7 +16,7 @@ use Rattle.avtp_tool.proofs.Yields.{gives_then, Joins, more_more, more_none, par
 
 -- ---- the status of files that are read one after another
 
--- if the later status is not `Done`, it is the joined status, whatever the earlier status is
+-- if the later status is not `Done`, the joined status is the later status, whatever the earlier status is
 last_of : (s : Status) → (s ≡ status.Done) ⊎ ((first : Status) → joined first s ≡ s)
 last_of status.Done = inl refl
 last_of status.Findings = inr (λ first. refl)
@@ -45,7 +45,7 @@ rest_done first rest done = elim (last_of rest) [ inl is ↦ ap is_done is | inr
 pub all_done : (first rest : Status) → is_done first ≡ true → is_done rest ≡ true → is_done (joined first rest) ≡ true
 all_done first rest done more = elim (last_of rest) [ inl is ↦ ap (λ (s : Status). is_done (joined first s)) is ∙ done | inr last ↦ ap is_done (last first) ∙ more ]
 
--- if the later files are not done, their status is the joined status
+-- if the run over the later files is not done, the joined status is the status of that run
 joined_stop : (first rest : Status) → is_done rest ≡ false → joined first rest ≡ rest
 joined_stop first rest stops = elim (last_of rest) [ inl is ↦ absurd (let t : true ≡ false = sym (ap is_done is) ∙ stops in cc) | inr last ↦ last first ]
 

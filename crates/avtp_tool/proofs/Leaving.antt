@@ -96,7 +96,7 @@ ends_reading end.Limit = refl
 pub own_ended : (result : Result Status Failed) (how : End) → IfOk result (λ s. s ≡ status_of how) → IsReadingStatus result
 own_ended result how is = own_as result (status_of how) (ends_reading how) is
 
--- if a run only reads, it never ends with a status that is not one of reading
+-- if `other` is not a status of reading, a run that only reads does not end with `other`
 pub never_ends : (result : Result Status Failed) (other : Status) → is_of_reading other ≡ false → IsReadingStatus result → result ≡ Ok other → ⊥
 never_ends (Ok s) other differs own is = let same : s ≡ other = cc in let t : true ≡ false = sym own ∙ (ap is_of_reading same ∙ differs) in cc
 never_ends (Err e) other differs own is = absurd cc

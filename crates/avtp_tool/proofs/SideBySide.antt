@@ -146,7 +146,7 @@ amid_two s c live begun = record {
   plan_b = refl;
 }
 
--- printing differences between two steps changes nothing about how far the captures were read
+-- printing differences does not change how far the captures were read
 pub amid_printed : {s t : ShelfState} {first : Comparing} {a b : Side} {old new : PairState} → KeepsPair old new → IsAmidTwo s t first (record { a = a; b = b; pair = old }) → IsAmidTwo s t first (record { a = a; b = b; pair = new })
 amid_printed {a = a} {b} {old} {new} keeps amid = record {
   reads = amid.reads;
@@ -281,8 +281,8 @@ whole_end how limit bytes fault records other after = at how other after.prefix 
   at end.ReadFault other prefix ends whole = absurd (other refl)
   at end.Limit other prefix ends whole = (ends.0, sym whole ∙ ap records_in ends.1)
 
--- In a step, the side `which` gave the records `more` after the records `mine`, and the pair took them. The step
--- neither closed nor reopened the listener of the other side.
+-- In a step, the side `which` gave the records `more` after the records `mine`, and the pair took the records `more`.
+-- The step neither closed nor reopened the listener of the other side.
 record SideOn (which : Which) (limit : ℕ) (bytes : List ℕ) (t : ShelfState) (side' : Side) (mine theirs : List Record) (given : ℕ) (pair pair' : PairState) : Type 0 where
   pub more : List Record
   pub read : SideRead limit bytes t side'.source side'.end (mine ++ more)
@@ -370,7 +370,8 @@ told_b {s} {t} {a} {b} {b'} {pair} {pair'} {asked} {x} {y} {before} {mid} {now} 
 
 -- ---- all that a side has
 
--- `more` are the records of a side that were not given yet. There are none if the listener of the side is closed.
+-- `more` are the records of a side that were not given to the pair yet. `more` is empty if the listener of the side is
+-- closed.
 record RestOf (limit : ℕ) (bytes : List ℕ) (records : List Record) (listener : ListenState) : Type 0 where
   pub more : List Record
   pub all : records_in (take limit bytes) ≡ records ++ more

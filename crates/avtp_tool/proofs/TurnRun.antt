@@ -70,7 +70,7 @@ some_of : (f : Option Files) → IsSome f → (all : Files) × (f ≡ Some all)
 some_of None some = absurd cc
 some_of (Some all) some = (all, refl)
 
--- writing another file does not make this file missing
+-- writing the file `name` does not make the file `other` missing
 missing_put : (f g : Option Files) (name bytes other : List ℕ) → other ≢ name → PutsFile f g name bytes → IsMissing g other → IsMissing f other
 missing_put f None name bytes other differs put missing = absurd missing
 missing_put None (Some g) name bytes other differs put missing = absurd put
@@ -101,7 +101,7 @@ turned_own skipped (end.Refused refusal) = (λ e. cc, λ e. cc)
 turned_own skipped end.ReadFault = (λ e. cc, λ e. cc)
 turned_own skipped end.Limit = (λ e. cc, λ e. cc)
 
--- the status is that of a read fault exactly if the reading ended with a read fault
+-- the status is `ReadFault` exactly if the reading ended with a read fault
 turned_fault : (skipped : ℕ) (how : End) → (turned_status skipped how ≡ status.ReadFault → how ≡ end.ReadFault) × (how ≡ end.ReadFault → turned_status skipped how ≡ status.ReadFault)
 turned_fault skipped end.Whole = (elim (skipped == 0) as (λ b. (if b then status.Done else status.Findings) ≡ status.ReadFault → end.Whole ≡ end.ReadFault) [ true ↦ λ e. cc | false ↦ λ e. cc ], λ e. cc)
 turned_fault skipped (end.Refused refusal) = (λ e. cc, λ e. cc)

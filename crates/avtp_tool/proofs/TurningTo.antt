@@ -1,4 +1,4 @@
--- The batches of a capture that is heard, which are put one after another.
+-- The batches of a heard capture are put one after another.
 use Rattle.std.proofs.Common.{◌≡◌, ℕ, zero, suc, List, [], ◌∷◌, ◌++◌, length, take, Option, Some, None, Result, Ok, Err, refl, sym, ap, subst, ◌∙◌, arith, append-nil}
 use Rattle.std.specs.Prelude.{◌≢◌, flat_map, IsSome}
 use Rattle.std.proofs.lemmas.List.{take_all}
@@ -57,8 +57,8 @@ use Rattle.avtp_tool.proofs.PutBatches.{lines_first, lines_more, records_first}
 
 -- ---- batches that were put
 
--- Since the state `s` of the shelf and the output `old`, these batches were put, and the lines of the skipped batches
--- were printed.
+-- While the shelf went from `s` to `t` and the output from `old` to `new`, these batches were put. The lines of the
+-- skipped batches were printed.
 pub record PutsAll (s t : ShelfState) (old new : Output) (batches : List Presented) (before now : Option (List ℕ)) : Type 0 where
   pub put : (to : To) (shape : Option Shape) (id : ℕ) → HasPut to shape id [] old.gateway → HasPut to shape id batches new.gateway
   pub holds : (to : To) (shape : Option Shape) (id : ℕ) (files : Option Files) (name : List ℕ) → HasPut to shape id [] old.gateway → HoldsCapture files s old.writer name [] → HoldsCapture files t new.writer name (records_for to shape id batches)
@@ -124,8 +124,8 @@ puts_given_back {new = new} puts = record {
 
 -- ---- between two items
 
--- Since the state `s` of the shelf, items were heard and their batches were put. The items `more` were heard too, but
--- their batches are not put yet.
+-- While the shelf went from `s` to `t` and the output from `old` to `new`, items were heard and their batches were put.
+-- The items `more` were heard after those items, but the batches of `more` are not put yet.
 pub record IsPutSoFar (s t : ShelfState) (first source : Sourcing) (fresh listener : ListenState) (stage : Stage) (old new : Output) (out out' : SinkState) (waits waits' : List ℕ) (more : List Shown) : Type 0 where
   pub plan : listener.plan ≡ fresh.plan
   pub slot : new.writer.slot ≡ old.writer.slot

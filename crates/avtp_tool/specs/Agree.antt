@@ -46,7 +46,7 @@ difference_lines list = flat_map difference_line list
 abbrev pub counts_line : PairCounts → List ℕ
 counts_line counts = end_agree_line counts.matched counts.only_a counts.only_b counts.differ
 
--- the line that says why a capture was not read to its end; nothing if it was read to its end
+-- the line that says why a capture was not read to its end; empty if the capture was read to its end
 abbrev pub side_line : ℕ → End → List ℕ
 side_line limit end.Whole = []
 side_line limit (end.Refused refusal) = capture_refused_line refusal
@@ -83,7 +83,7 @@ compared_text asked x y =
     difference_lines (differences (merged_in asked x y))
     ++ last_lines asked.listener.limit (counts_of (merged_in asked x y)) (end_of asked.listener.limit x) (end_of asked.listener.limit y)
 
--- the status of `agree` of two captures
+-- the status of `agree` for two captures
 abbrev pub compared_status : Agreeing → List ℕ → List ℕ → Status
 compared_status asked x y =
     agree_status (counts_of (merged_in asked x y)).differ (end_of asked.listener.limit x) (end_of asked.listener.limit y)
@@ -115,7 +115,7 @@ pub data AgreeOutcome (asked : Agreeing) (files : Files) (fault : Type 0) (came 
   without_a : IsUnopened files fault asked.a → came ≡ asked.a ∷ [] → ended ≡ status.ReadFault → text ≡ read_fault_line → AgreeOutcome asked files fault came ended text
   -- A was opened, and B was not.
   without_b : IsSome (files asked.a) → IsUnopened files fault asked.b → came ≡ asked.a ∷ asked.b ∷ [] → ended ≡ status.ReadFault → text ≡ read_fault_line → AgreeOutcome asked files fault came ended text
-  -- Both were opened, and each was read to its end, to a refused field or to the limit.
+  -- Both files were opened, and each was read to its end, to a refused field or to the limit.
   compared : (x y : List ℕ) → files asked.a ≡ Some x → files asked.b ≡ Some y → came ≡ asked.a ∷ asked.b ∷ []
       → ended ≡ compared_status asked x y → text ≡ compared_text asked x y → AgreeOutcome asked files fault came ended text
   -- A read fault occurred after a prefix of A.

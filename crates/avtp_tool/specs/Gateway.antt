@@ -171,7 +171,7 @@ pub data GatewayOutcome (asked : Turning) (files : Files) (fault : Type 0) (came
 
 -- What the capture OUT keeps of IN. OUT is whole. From OUT a listener presents exactly the samples of the batches of IN
 -- that are not skipped. These samples have the same order, values and instants as in IN. `check` prints no finding for
--- OUT. With status 0 no batch is skipped.
+-- OUT. If the status is 0, no batch is skipped.
 pub record KeepsInput (asked : Turning) (files : Files) (fault : Type 0) (ended : Status) (capture : List ℕ) : Type 0 where
   pub shape : Option Shape
   pub batches : List Presented
@@ -183,27 +183,27 @@ pub record KeepsInput (asked : Turning) (files : Files) (fault : Type 0) (ended 
 
 -- ---- if no read fault occurs
 
--- the names that `gateway` asks for, given how the scan ended and the first record that cannot be converted, if any
+-- the names that `gateway` asks for, given the first record that cannot be converted, if any, and how the scan ended
 abbrev pub came_by : Turning → Option FaultAt → End → List (List ℕ)
 came_by asked (Some at) how = asked.input ∷ []
 came_by asked None end.Whole = asked.input ∷ asked.output ∷ asked.input ∷ []
 came_by asked None how = asked.input ∷ []
 
--- the status of `gateway`, given the records of IN, how the scan ended, and the first record that cannot be converted,
--- if any
+-- the status of `gateway`, given the records of IN, the first record that cannot be converted, if any, and how the scan
+-- ended
 abbrev pub ended_by : Turning → List Record → Option FaultAt → End → Status
 ended_by asked records (Some at) how = status.TalkInput
 ended_by asked records None how = turned_status (length (skips_in asked (shape_asked asked records) (batches_by asked records how))) how
 
--- the text of `gateway`, given the records of IN, how the scan ended, and the first record that cannot be converted, if
--- any
+-- the text of `gateway`, given the records of IN, the first record that cannot be converted, if any, and how the scan
+-- ended
 abbrev pub text_by : Turning → List Record → Option FaultAt → End → List ℕ
 text_by asked records (Some at) how = fault_line at
 text_by asked records None end.Whole = turned_text asked (shape_asked asked records) (batches_by asked records end.Whole) end.Whole
 text_by asked records None how = side_line asked.listener.limit how
 
--- The capture that `gateway` makes, or `None`. It depends on the records of IN, how the scan ended, and the first
--- record that cannot be converted, if any.
+-- The capture that `gateway` makes, or `None`. It depends on the records of IN, on the first record that cannot be
+-- converted, if any, and on how the scan ended.
 abbrev pub made_by : Turning → List Record → Option FaultAt → End → Option (List ℕ)
 made_by asked records (Some at) how = None
 made_by asked records None end.Whole = Some (turned_capture asked (shape_asked asked records) (batches_by asked records end.Whole))

@@ -25,8 +25,8 @@ pub record IsOneMissing (names : List (List ℕ)) (files : Option Files) : Type 
   pub one : Contains names name
   pub missing : IsMissing files name
 
--- The shelf was asked for a prefix of `names`, in order, and for no other name. If `done` holds, it was asked for all
--- of `names`.
+-- The shelf was asked for a prefix of `names`, in order, and for no other name. If `done` holds, the shelf was asked
+-- for all of `names`.
 pub record AsksFor (names : List (List ℕ)) (shelf shelf' : ShelfState) (done : Type 0) : Type 0 where
   pub count : ℕ
   pub within : count ≤ length names

@@ -107,8 +107,8 @@ impl Hearing {
         self.listener.give_back(samples);
     }
 
-    /// Reads the next record and gives it to the listener, or ends the reading. All items that are due must have been
-    /// returned before.
+    /// Reads the next record and gives it to the listener, or ends the reading. Before this call, all due items must
+    /// have been returned.
     fn read_record<F: Shelf>(&mut self, shelf: &mut F) -> Result<(), NoMemory>
         requires reading { IsAtReading (F.state shelf.old).slots self.old.source self.old.stage }
         requires idle { IsIdle self.old.listener }

@@ -141,7 +141,7 @@ fn print_skip<S: Sink>(text: &mut Text, out: &mut S, frame: u64, skip: Skip) -> 
     text.skip(out, frame, skip_name(skip))
 }
 
-/// If the next item may not be there yet, writes the pending text.
+/// If the next item may not have arrived yet, writes the pending text.
 fn write_ahead<S: Sink>(hearing: &Hearing, text: &mut Text, out: &mut S) -> Result<(), Failed>
     ensures { WritesWaiting (S.state out.old) (S.state out.new) text.old text.new result }
 {

@@ -43,8 +43,7 @@ pub record IsTurning (asked : Turning) : Type 0 where
 
 -- ---- the second reading
 
--- The capture to convert was opened again, converted as far as it could be read and written, and closed. Or it was not
--- opened.
+-- IN was opened again, converted as far as it could be read and written, and closed. Or IN was not opened.
 pub record TurnsInput (asked : Turning) (before after : ShelfState) (listener : ListenState) (old new : Output) (out out' : SinkState) (waits waits' : List ℕ) (result : Result Turned Failed) : Type 0 where
   pub told : (shape : Option Shape) (bytes : List ℕ) (files : Option Files) (all : Files) → before.files ≡ Some all → all asked.input ≡ Some bytes → IsSome after.files → IsFreshOutput asked shape files before old
       → StandsFor [] 0 listener → is_closed listener ≡ false → listener.plan ≡ plan_of asked.listener → end_of asked.listener.limit bytes ≡ end.Whole
@@ -75,20 +74,19 @@ pub record PrintsNothing (out out' : SinkState) (waits waits' : List ℕ) : Type
   pub sink : out' ≡ out
   pub text : waits' ≡ waits
 
--- The capture that is made was finished, and the last line was printed. Or the capture could not be completed.
+-- OUT was finished, and the last line was printed. Or OUT could not be completed.
 pub data FinishesOutput (limit : ℕ) (how : End) (presented : ℕ) (before after : ShelfState) (o : Output) (out out' : SinkState) (waits waits' : List ℕ) (result : Result Status Failed) : Type 0 where
   finished : FinishesCapture before after o.writer (Ok tt) → EndsWith (turned_status (presented - o.gateway.given.batches) how) out out' waits waits' result (ended_line limit presented o.gateway how)
       → FinishesOutput limit how presented before after o out out' waits waits' result
   unfinished : (e : Failed) → FinishesCapture before after o.writer (Err e) → result ≡ Ok status.WriteFault → PrintsNothing out out' waits waits' → FinishesOutput limit how presented before after o out out' waits waits' result
 
--- The capture that is made was closed without being finished. The run ends without a line, and its result satisfies
--- `so`.
+-- OUT was closed without being finished. The run ends without a line, and its result satisfies `so`.
 pub record AbandonsOutput (so : Result Status Failed → Type 0) (before after : ShelfState) (o : Output) (out out' : SinkState) (waits waits' : List ℕ) (result : Result Status Failed) : Type 0 where
   pub closes : ClosesCapture before after o.writer (Ok tt)
   pub ended : so result
   pub nothing : PrintsNothing out out' waits waits'
 
--- how the capture that is made was closed, given the result of the conversion
+-- how OUT was closed, given the result of the conversion
 abbrev pub EndsOutput : ℕ → Result Turned Failed → ShelfState → ShelfState → Output → SinkState → SinkState → List ℕ → List ℕ → Result Status Failed → Type 0
 EndsOutput limit (Ok (turned.Ended how presented)) before after o out out' waits waits' result = FinishesOutput limit how presented before after o out out' waits waits' result
 EndsOutput limit (Ok turned.NoMemory) before after o out out' waits waits' result = AbandonsOutput (λ r. r ≡ Ok status.Memory) before after o out out' waits waits' result

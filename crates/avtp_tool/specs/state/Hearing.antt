@@ -104,7 +104,8 @@ unread stage source = 0
 abbrev pub left_of : Stage → Sourcing → ListenState → ℕ
 left_of stage source listener = (listener.counts.frames + unread stage source) - (listener.counts.presented + listener.counts.flagged)
 
--- There is a list of records that leads to the listener's state. The listener has shown `given` items of these records.
+-- Some list of records brings a listener to the state of `listener`. The listener has shown `given` items of these
+-- records.
 pub record WasGiven (listener : ListenState) : Type 0 where
   pub records : List Record
   pub given : ℕ

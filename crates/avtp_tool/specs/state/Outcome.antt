@@ -30,8 +30,8 @@ pub record Tells {Y : Type 0} (Outcome : Status → Y → Type 0) (Whole Part : 
   pub whole : IfOk result (λ s. s ≢ status.Memory → s ≢ status.WriteFault → (s ≡ ended) × Whole yields)
   pub part : Part yields
 
--- `Tells` for outcomes that yield a text. To give out the text is to append it to the known bytes `before`, which
--- become `now`.
+-- `Tells` for outcomes that yield a text. A text is given out by appending it to the known bytes `before`; the result
+-- is `now`.
 abbrev pub TellsText : (Status → List ℕ → Type 0) → Option (List ℕ) → Option (List ℕ) → Result Status Failed → Type 0
 TellsText Outcome before now result = Tells Outcome (Appends before now) (AppendsPrefix before now) result
 
@@ -55,8 +55,8 @@ pub record KeepsSink {T : Type 0} (out out' : SinkState) (result : Result T Fail
   pub grows : Grows out.held out'.held
   pub counted : IsCounted out.faults out'.faults result
 
--- The pending text was written, or a part of it if the sink failed. The written text followed by the pending text is
--- unchanged.
+-- The pending text was written, or a part of it if the sink failed. The bytes that the sink holds, followed by the text
+-- that is still pending, are the same as before.
 pub record WritesWaiting (out out' : SinkState) (waits waits' : List ℕ) (result : Result Unit Failed) : Type 0 where
   pub kept : Keeps (written out.held waits) (written out'.held waits')
   pub sink : KeepsSink out out' result

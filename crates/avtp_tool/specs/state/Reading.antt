@@ -53,8 +53,8 @@ pub record ReadsRecords {T : Type 0} (Told : ℕ → List ℕ → Type 0 → Opt
 
 -- ---- what was done
 
--- A run that only reads can end with this status. It is not the status of a failed write, wrong words, a failed device
--- or a refused input of `talk`.
+-- A run that only reads can end with this status. The status does not stand for a failed write, wrong words, a failed
+-- device or a refused input of `talk`.
 abbrev pub is_of_reading : Status → Bool
 is_of_reading status.Words = false
 is_of_reading status.WriteFault = false

@@ -137,8 +137,8 @@ pub record HasTurned (asked : Asked) (shape : Option Shape) (batches : List Pres
   pub lines : Appends before now (flat_map skipped_line (skips_in asked shape batches))
   pub holds : HoldsCapture files shelf o.writer asked.output (map record_of (turned_frames asked shape batches))
 
--- A capture of these bytes was heard as far as it could be read. All batches that a listener presents from what was
--- read were put.
+-- A capture of these bytes was heard as far as it could be read. If a listener presents a batch from the part that was
+-- read, this batch was put.
 pub record HasHeard (asked : Asked) (shape : Option Shape) (bytes : List ℕ) (fault : Type 0) (files : Option Files) (shelf : ShelfState) (o : Output) (how : End) (presented : ℕ) (before now : Option (List ℕ)) : Type 0 where
   pub prefix : List ℕ
   pub ends : EndsAt asked.listener.limit (Some bytes) fault how prefix
