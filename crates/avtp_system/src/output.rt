@@ -4,8 +4,8 @@ use crate::progress::ProgressLine;
 use avtp_files::FaultTeller;
 use std::io::{self, ErrorKind, IsTerminal, Print, Write};
 
-/// Standard output. If a write fails, the reason is printed on standard error. Nothing is printed there if the reader
-/// of standard output has ended, as `head` does.
+/// Standard output. If a write fails, the reason is printed on standard error. If the write fails because the reader of
+/// standard output has ended, as `head` does, nothing is printed on standard error.
 #[derive(Drop)]
 pub struct Output<'a> {
     rt: &'a HostRuntime,

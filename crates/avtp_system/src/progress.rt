@@ -51,7 +51,7 @@ struct Progress<'a> {
     /// When the run began; `None` if no progress is shown.
     start: Option<Instant>,
     bytes: u64,
-    /// The running time at which the progress is next shown.
+    /// The time after `start` at which the progress is next shown.
     due: Duration,
 }
 
