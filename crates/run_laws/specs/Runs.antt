@@ -15,7 +15,7 @@ use Rattle.avtp_tool.specs.declared.status.Status.{Status}
 use Rattle.avtp_tool.specs.HasRun.{HasRun, ReadsAll}
 
 -- A run with these words ended with the status `ended`. All that is known of the run is what `run` promises of one
--- request (`HasRun`); there, `handed`, `still` and `failed` mean the same. No read fault occurred. The shelf shows its
+-- request, namely `HasRun` with these `handed`, `still` and `failed`. No read fault occurred. The shelf shows its
 -- files: `files` before the run and `files'` after it.
 pub record Ran (words : List (List ℕ)) (handed : List Shown → Type 0) (still : Type 0) (failed : Bool) (files files' : Files) (ended : Status) : Type 0 where
   pub shelf : ShelfState
