@@ -83,7 +83,7 @@ impl Device for Noting {
     }
 }
 
-/// A device in a rack. The call with the number `fails` fails.
+/// A device in a rack. Call number `fails` of the device fails.
 fn place_of(alloc: Global, notes: &Arc<Notes, Global>, fails: u64) -> Result<Place, NoMemory>
     ensures { IfOk result (λ place. place.live ≡ true) }
 {
