@@ -33,7 +33,7 @@ pub struct Bases {
 }
 
 impl Bases {
-    /// Makes the stream of each talker.
+    /// Makes the records of the vectors and the stream of each talker.
     pub fn new<T: Threads + Sync>(rt: &T, alloc: Global) -> Result<Self, NoMemory> {
         let input = input(alloc)?;
         let labelled = labelled(alloc, &input)?;

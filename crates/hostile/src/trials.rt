@@ -53,8 +53,8 @@ pub struct Found {
     pub wrong: Wrong,
 }
 
-/// Runs each command over a damaged capture, and returns the runs that went wrong. `talk` may instead run over damaged
-/// samples.
+/// Runs each command over a damaged capture, and returns the runs that went wrong. `talk` runs either over this capture
+/// or over samples that may be damaged.
 pub fn try_commands<T: Threads + Sync>(
     rt: &T,
     alloc: Global,
