@@ -2,7 +2,7 @@
 
 use avtp_base::NoMemory;
 
-/// The bytes after each change was made at its offset, then cut to `len` bytes, and then followed by `zeros` zero bytes.
+/// Makes each change at its offset, cuts the bytes to `len` bytes, and then appends `zeros` zero bytes.
 pub fn changed(
     bytes: Vec<u8>,
     changes: &[(usize, u8)],
