@@ -173,7 +173,7 @@ listener_within settings id asked says =
     let shift = shift_within (value_in (codes "--crf-shift") settings) asked.shift says.shift in
     (limit.1, record { some_buffer = buffer.0; buffer = buffer.1; some_room = room.0; room = omega (arith, room.1); look = look.1; lead = lead.1; shift_from = shift.0; shift_to = shift.1 })
 
--- if the words ask for `request`, all its values are within their bounds
+-- if the words ask for `request`, all values in `request` are within their bounds
 pub requested : (words : List (List ℕ)) (request : Request) → IsCommandLine words request → IsRequest request
 requested words (show limit file) line = (given_within (value_in (codes "--limit") line.settings) 1 (2 ^ 40) (2 ^ 40) limit (omega arith) (omega arith) line.limit_given).1
 requested words (check limit names) line = (given_within (value_in (codes "--limit") line.settings) 1 (2 ^ 40) (2 ^ 40) limit (omega arith) (omega arith) line.limit_given).1
@@ -187,7 +187,7 @@ requested words (gateway asked) (line, rules) =
     record { limit = within.0; plan = within.1; apart = rules.apart }
 requested words (agree asked) line = let within = listener_within line.settings line.id asked.listener line.listener in record { limit = within.0; plan = within.1 }
 
--- if the words were parsed, none of them is wrong
+-- if the words were parsed as a command, no word is wrong
 pub not_offence : (r : Result Command Offence) (command : Command) (position : ℕ) → IsErrAnd r (λ offence. offence.position ≡ position) → r ≡ Ok command → ⊥
 not_offence (Ok c) command position h e = h
 not_offence (Err o) command position h e = absurd cc

@@ -138,7 +138,7 @@ reads_since {s} {t} {k} beside = record {
   counted = beside.counted;
 }
 
--- the listener after it is closed
+-- the state of a listener after the listener was closed
 abbrev shut : ListenState → ListenState
 shut listener = record listener { ended = true }
 

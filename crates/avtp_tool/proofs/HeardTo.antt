@@ -68,7 +68,7 @@ ended_within plan limit bytes fault items records end.Whole first ends given = l
 ended_within plan limit bytes fault items records (end.Refused refusal) first ends given = let all : records ≡ records_in (take limit bytes) = sym ends.whole ∙ ap records_in ends.ends.1 in rw (sym ends.ends.0, sym all) given
 ended_within plan limit bytes fault items records end.Limit first ends given = let all : records ≡ records_in (take limit bytes) = sym ends.whole ∙ ap records_in ends.ends.1 in rw (sym ends.ends.0, sym all) given
 
--- the items so far are a prefix of what is shown of the file
+-- the items that were shown so far are a prefix of all items that are shown of the file
 pub within : (stage : Stage) (limit : ℕ) (bytes : List ℕ) (fault : Type 0) (remains : Option (List ℕ)) (source : Sourcing) (listener : ListenState) (items : List Shown) → is_closed listener ≡ closed_at stage → IsShown stage limit bytes fault remains source listener items
     → IsPrefix items (shown_by listener.plan (records_in (take limit bytes)) (end_of limit bytes))
 within Reading limit bytes fault remains source listener items closed shown =

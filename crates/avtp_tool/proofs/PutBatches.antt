@@ -1,4 +1,4 @@
--- What one more batch adds: its frames, or the line that says why it is skipped.
+-- What one more batch adds: its frames, or the line that says why the batch is skipped.
 use Rattle.std.proofs.Common.{◌≡◌, ℕ, suc, ◌+◌, List, [], ◌∷◌, ◌++◌, length, Option, Some, None, refl, sym, ap, ◌∙◌, arith, append_assoc, append-nil, length-append}
 use Rattle.std.specs.Prelude.{flat_map, map}
 use Rattle.std.proofs.lemmas.Grind.{flat_map-append}
@@ -67,7 +67,8 @@ skips_shaped to shape given (b ∷ batches) batch =
     ap (λ (l : List Skipped). here ++ l) (skips_shaped to shape next batches batch)
     ∙ sym (append_assoc here (skips_after to (Some shape) next batches) (skipped_at batch.frame (skip_by to shape (given_by to shape next batches) batch)))
 
--- If one more batch is skipped, its line is appended to the lines of the skipped batches.
+-- If one more batch is skipped, the line of this batch is appended to the lines of the batches that were skipped
+-- before.
 pub skips_more : (to : To) (shape : Option Shape) (batches : List Presented) (batch : Presented)
     → skips_after to shape nothing_given (batches ++ batch ∷ []) ≡ skips_after to shape nothing_given batches ++ skipped_at batch.frame (skip_of to shape (given_over to shape batches) batch)
 skips_more to None batches batch = skips_shapeless to nothing_given batches batch

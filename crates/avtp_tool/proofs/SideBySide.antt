@@ -271,8 +271,8 @@ other_left s t k i source reads apart = ap (λ o. left_at o) (reads.others (slot
   left_at : Option Open → Option (List ℕ)
   left_at o = option_and_then (λ (f : Open). f.left) o
 
--- Unless a read fault ended the reading, the bytes and the limit decide how it ended, and `records` are all records
--- within the limit.
+-- Unless a read fault ended the reading, the bytes and the limit decide how the reading ended. `records` are then all
+-- records within the limit.
 whole_end : (how : End) (limit : ℕ) (bytes : List ℕ) (fault : Type 0) (records : List Record) → how ≢ end.ReadFault → EndsAfter limit bytes fault how records → (how ≡ end_of limit bytes) × (records ≡ records_in (take limit bytes))
 whole_end how limit bytes fault records other after = at how other after.prefix after.ends after.whole where
   at : (h : End) → h ≢ end.ReadFault → (prefix : List ℕ) → EndsAt limit (Some bytes) fault h prefix → records_in prefix ≡ records → (h ≡ end_of limit bytes) × (records ≡ records_in (take limit bytes))
@@ -685,7 +685,7 @@ pub kept_on : {t u : ShelfState} {c c' : Comparing} {h h' : SinkState} {w w' : L
 kept_on A on = let r = on.in_a refl in (r.0.kept, r.0.sink)
 kept_on B on = let r = on.in_b refl in (r.0.kept, r.0.sink)
 
--- If the listener of a side is not closed, it has taken fewer than 2^61 records and can take another.
+-- If the listener of a side is not closed, this listener has taken fewer than 2^61 records and can take another.
 pub few_on : {s t : ShelfState} {first c : Comparing} (which : Which) → IsAmidTwo s t first c → is_closed (listener_of which c.pair) ≡ false → (listener_of which c.pair).counts.frames < 2 ^ 61
 few_on {c = c} A amid listens = let going = amid.a.going (open_by c.a c.pair.a amid.a listens) in omega (arith, going.1)
 few_on {c = c} B amid listens = let going = amid.b.going (open_by c.b c.pair.b amid.b listens) in omega (arith, going.1)

@@ -116,7 +116,7 @@ missing_before o None name keeps missing = absurd missing
 missing_before None (Some new) name keeps missing = absurd keeps
 missing_before (Some old) (Some new) name keeps missing = sym (keeps name) ∙ missing
 
--- if the shelf still shows its files, they are unchanged
+-- if the shelf still shows its files, these files are unchanged
 pub shown_still : (o o' : Option Files) (files : Files) → o ≡ Some files → KeepsFiles o o' → IsSome o' → (other : Files) × (o' ≡ Some other) × ((name : List ℕ) → other name ≡ files name)
 shown_still o None files told keeps some = absurd cc
 shown_still None (Some new) files told keeps some = absurd keeps

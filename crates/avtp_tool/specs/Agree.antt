@@ -60,8 +60,8 @@ last_lines limit counts end.Whole end.Whole = counts_line counts
 last_lines limit counts a b = side_line limit a ++ side_line limit b
 
 -- The status, given the number of differences and how the readings of A and B ended. If both captures were read to
--- their ends, the status says whether there are differences. Otherwise it is the status of A's reading or, if A was
--- read to its end, the status of B's reading.
+-- their ends, the status says whether there are differences. Otherwise the status is that of A's reading or, if A was
+-- read to its end, that of B's reading.
 abbrev pub agree_status : ℕ → End → End → Status
 agree_status found end.Whole end.Whole = if found == 0 then status.Done else status.Findings
 agree_status found end.Whole b = status_of b
@@ -108,8 +108,8 @@ text_without_b asked x prefix = difference_lines (differences (known true false 
 abbrev pub IsUnopened : Files → Type 0 → List ℕ → Type 0
 IsUnopened files fault name = (files name ≡ None) ⊎ fault
 
--- The possible outcomes of a run of `agree` over these files: the names that it asks for, its status, and its text. A
--- read fault is possible only if `fault` holds.
+-- The possible outcomes of a run of `agree` over these files: the names that the run asks for, its status, and its
+-- text. A read fault is possible only if `fault` holds.
 pub data AgreeOutcome (asked : Agreeing) (files : Files) (fault : Type 0) (came : List (List ℕ)) (ended : Status) (text : List ℕ) : Type 0 where
   -- A was not opened.
   without_a : IsUnopened files fault asked.a → came ≡ asked.a ∷ [] → ended ≡ status.ReadFault → text ≡ read_fault_line → AgreeOutcome asked files fault came ended text

@@ -80,7 +80,7 @@ notes_of records = flat_map (λ r. noted (checked_record r.bytes)) records
 abbrev pub unmarked_findings : Bool → Findings
 unmarked_findings reserved = record { reserved = reserved; step = None; hold = None; stamp = false; untracked = false }
 
--- a line for each finding in the record `number`, given the packets that were noted before it
+-- a line for each finding in the record `number`, given the packets that were noted before this record
 abbrev pub found_lines : ℕ → List Seen → Checked → List (List ℕ)
 found_lines number notes Passed = []
 found_lines number notes (Malformed refusal) = malformed_line number refusal ∷ []
@@ -111,8 +111,8 @@ check_text limit name records how =
     (capture_line name ++ joined_lines (of_each check_lines records))
     ++ total_line limit (length records) (length (tracked (notes_of records))) (length (of_each check_lines records)) how
 
--- The status of a capture. If the capture was read to its end, the status says whether there are findings. Otherwise it
--- says how the reading ended.
+-- The status of a capture. If the capture was read to its end, the status says whether there are findings. Otherwise
+-- the status says how the reading ended.
 abbrev pub check_status : ℕ → End → Status
 check_status found end.Whole = if found == 0 then status.Done else status.Findings
 check_status found how = status_of how

@@ -58,7 +58,7 @@ skip_name skip.ShapeOff = codes "shape"
 skip_name skip.Overlap = codes "overlap"
 skip_name skip.Range = codes "range"
 
--- A skipped batch: the number of its packet's frame, and the reason.
+-- A skipped batch: the number of the frame of the batch's packet, and the reason why the batch is skipped.
 pub record Skipped : Type 0 where
   pub frame : ℕ
   pub why : Skip
@@ -74,13 +74,13 @@ abbrev pub skipped_at : ℕ → Option Skip → List Skipped
 skipped_at frame None = []
 skipped_at frame (Some why) = record { frame = frame; why = why } ∷ []
 
--- What the gateway has given out after `batch`, if `given` is what it had given out before. A skipped batch changes
--- nothing.
+-- What the gateway has given out after `batch`. Before `batch`, the gateway had given out `given`. A skipped batch
+-- changes nothing.
 abbrev pub given_next : To → Option Shape → Given → Presented → Given
 given_next to None given batch = given
 given_next to (Some shape) given batch = unless (skip_by to shape given batch) (given_with to shape given batch) given
 
--- the skipped batches of a list, in order, if `given` is what the gateway had given out before them
+-- The skipped batches of a list, in order. Before the first batch of the list, the gateway had given out `given`.
 abbrev pub skips_after : To → Option Shape → Given → List Presented → List Skipped
 skips_after to shape given [] = []
 skips_after to shape given (batch ∷ batches) =
@@ -116,8 +116,8 @@ skips_in asked shape batches = skips_after (format_of asked.to) shape nothing_gi
 abbrev pub turned_capture : Turning → Option Shape → List Presented → List ℕ
 turned_capture asked shape batches = capture_of (turned_frames asked shape batches)
 
--- The last line, given how the reading ended. It has the numbers of batches, packets and skipped batches, or says why
--- the capture was not read to its end.
+-- The last line, given how the reading ended. The line has the numbers of batches, packets and skipped batches, or says
+-- why the capture was not read to its end.
 abbrev pub turned_last : Turning → Option Shape → List Presented → End → List ℕ
 turned_last asked shape batches end.Whole =
     gateway_line (length batches) (length (turned_frames asked shape batches)) (length (skips_in asked shape batches))
@@ -127,8 +127,8 @@ turned_last asked shape batches how = side_line asked.listener.limit how
 abbrev pub turned_text : Turning → Option Shape → List Presented → End → List ℕ
 turned_text asked shape batches how = flat_map skipped_line (skips_in asked shape batches) ++ turned_last asked shape batches how
 
--- The status. If the capture was read to its end, the status says whether batches were skipped. Otherwise it says how
--- the reading ended.
+-- The status. If the capture was read to its end, the status says whether batches were skipped. Otherwise the status
+-- says how the reading ended.
 abbrev pub turned_status : ℕ → End → Status
 turned_status skipped end.Whole = if skipped == 0 then status.Done else status.Findings
 turned_status skipped how = status_of how
@@ -151,8 +151,8 @@ pub record HearsInput (asked : Turning) (files : Files) (fault : Type 0) (shape 
   pub shape_is : shape ≡ shape_asked asked (records_of asked bytes)
   pub presented : batches ≡ batches_by asked (records_in prefix) how
 
--- The possible outcomes of a run of `gateway` over these files: the names that it asks for, its status, its text, and
--- the capture that it makes, if any. A read fault is possible only if `fault` holds.
+-- The possible outcomes of a run of `gateway` over these files: the names that the run asks for, its status, its text,
+-- and the capture that the run makes, if any. A read fault is possible only if `fault` holds.
 pub data GatewayOutcome (asked : Turning) (files : Files) (fault : Type 0) (came : List (List ℕ)) (ended : Status) (text : List ℕ) (made : Option (List ℕ)) : Type 0 where
   -- IN was not opened.
   unopened : IsUnopened files fault asked.input → came ≡ asked.input ∷ [] → ended ≡ status.ReadFault → text ≡ read_fault_line → made ≡ None

@@ -40,7 +40,7 @@ pub record ComparesTalker (request : Request) (files : Files) (asked : Agreeing)
 -- What a run of the request over these files printed, gave to devices, asked for and made.
 pub record Reports (request : Request) (files : Files) (failed : Bool) (handed : List Shown → Type 0) (shelf shelf' : ShelfState)
     (out out' : SinkState) (ended : Status) : Type 0 where
-  -- the names of the files that the run reached, the status of its outcome, and what the run yields
+  -- the names of the files that the run reached, the status of the run's outcome, and what the run yields
   pub came : List (List ℕ)
   pub reached : Status
   pub yields : Yield

@@ -2,12 +2,12 @@
 use Rattle.std.specs.Prelude.{List, [], ◌∷◌, ◌++◌}
 use Rattle.pcap_frames.specs.Capture.{Record}
 
--- What `one` makes of each of `records`, given the records before it. `earlier` are the records before the first of
--- `records`.
+-- What `one` makes of each record of `records`, given all records before this record. `earlier` are the records before
+-- the first record of `records`.
 unfoldable pub after : {A : Type 0} → (List Record → Record → List A) → List Record → List Record → List A
 after one earlier [] = []
 after one earlier (r ∷ records) = one earlier r ++ after one (earlier ++ r ∷ []) records
 
--- what `one` makes of each record of a capture, given the records before it
+-- what `one` makes of each record of a capture, given all records before this record
 abbrev pub of_each : {A : Type 0} → (List Record → Record → List A) → List Record → List A
 of_each one records = after one [] records

@@ -47,8 +47,8 @@ file_yield report limit (Some bytes) = report.yields (records_in (take limit byt
 
 -- ---- files in order
 
--- The status of a run whose first file is done. If the other files end with `Done`, it is the status of the first file.
--- Otherwise it is the status of the other files.
+-- The status of a run whose first file is done. If the other files end with `Done`, the run has the status of the first
+-- file. Otherwise the run has the status of the other files.
 abbrev pub joined : Status → Status → Status
 joined first status.Done = first
 joined first rest = rest

@@ -108,7 +108,8 @@ pub record Refuses (before after : ShelfState) (name : List ℕ) (fault : OpenFa
   pub missing : IsErrOf {T = Sourcing} (Err fault) open_fault.Missing → IsMissing before.files name
   pub counted : IsOpenCounted {T = Sourcing} before.reading_faults after.reading_faults (Err fault)
 
--- The first file was not opened. Or it was opened, and then the second file was not opened or memory ran out.
+-- The first file was not opened. Or the first file was opened, and then the second file was not opened or memory ran
+-- out.
 pub data RefusesTwo (before after : ShelfState) (a b : List ℕ) (fault : OpenFault) : Type 0 where
   first : OnlyReads before after (a ∷ []) → Refuses before after a fault → RefusesTwo before after a b fault
   second : ((files : Files) → before.files ≡ Some files → IsSome (files a)) → OnlyReads before after (a ∷ b ∷ []) → Refuses before after b fault → RefusesTwo before after a b fault
