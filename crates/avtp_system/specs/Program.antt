@@ -16,22 +16,22 @@ use Rattle.avtp_tool.specs.Yield.{HandsOn}
 
 -- `path` gives the path of the file of a sink, and `state` gives the state of a sink.
 module _ {S : Type 0} (path : S → List ℕ) (state : S → SinkState) where
-  -- The device writes raw samples to the file that was asked for, with the silence that was asked for. It has taken no
-  -- item yet.
+  -- The device writes raw samples to the file that was asked for, with the silence that was asked for. The device has
+  -- taken no item yet.
   pub record WritesRaw (asked : NamedRaw) (device : RawDevice S) : Type 0 where
     pub name : path (raw_sink device) ≡ asked.file.name
     pub silence : silence_in device ≡ silence_as asked.silence
     pub failed : raw_failed device ≡ false
     pub new : HasTakenRaw state (state (raw_sink device)) device []
 
-  -- The device writes NAL units to the file that was asked for. It has taken no item yet.
+  -- The device writes NAL units to the file that was asked for. The device has taken no item yet.
   pub record WritesUnits (asked : NamedFile) (device : AnnexBDevice S) : Type 0 where
     pub name : path (annexb_sink device) ≡ asked.name
     pub failed : annexb_failed device ≡ false
     pub new : HasTakenUnits state (state (annexb_sink device)) device []
 
-  -- If a device was asked for, it exists, is live, and does what was asked for. If no device was asked for, there is
-  -- none.
+  -- If a device was asked for, there is a device. This device is live and does what was asked for. If no device was
+  -- asked for, there is no device.
   abbrev pub IsFor : {Asked D : Type 0} → (Asked → D → Type 0) → Option Asked → Option (Outlet D) → Type 0
   IsFor Writes None None = ⊤
   IsFor Writes None (Some outlet) = ⊥

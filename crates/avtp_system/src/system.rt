@@ -24,8 +24,8 @@ pub trait System<S> {
         ensures said { IfOk result (λ words. IfSome (told self.now) (λ said. texts words.items ≡ said)) }
         ensures fault { IfErr result (λ status. IsSome (told self.now) → status ≡ Status.Memory) };
 
-    /// The file with the path `name`. It must differ from the files with the paths `apart`. It is created when it is
-    /// first written to.
+    /// The file with the path `name`. The file must differ from the files with the paths `apart`. The file is created
+    /// when it is first written to.
     fn file(&self, name: &str, apart: Vec<String>) -> Result<S, NoMemory>
         ensures { IsSome (told self.now) → IfOk result (λ file. path self.now file ≡ name.now) };
 }
