@@ -22,7 +22,7 @@ use std::alloc::Global;
 
 /// Compares the samples of a stream that a listener presents from two captures, and prints each difference. Then prints
 /// how many packets are presented from both captures and how many from only one. If a capture was not read to its end,
-/// prints instead why it was not. Each capture is read only as far as the comparison needs. All memory except that of
+/// prints the reason instead. Each capture is read only as far as the comparison needs. All memory except that of
 /// samples is allocated before the first line is printed.
 pub fn agree<F: Shelf, S: Sink>(
     alloc: Global,

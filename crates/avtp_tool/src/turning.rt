@@ -1,4 +1,4 @@
-//! A capture that is converted: what a listener presents from it is written as packets of the other format.
+//! A capture that is converted: what a listener presents from the capture is written as packets of the other format.
 
 ghost use Rattle.std.specs.Prelude.{◌≡◌, ◌≤◌, ◌<◌, ◌^◌, length};
 ghost use Rattle.avtp_files.specs.ShelfCalls.{IsMadeIn};
@@ -66,7 +66,7 @@ impl Spelled for PieceFrame<'_> {
     }
 }
 
-/// The capture that is made: a gateway cuts batches into packets, and a writer adds them to the file.
+/// The capture that is made: a gateway cuts batches into packets, and a writer adds the packets to the file.
 #[derive(Drop)]
 pub struct Output {
     pub gateway: Gateway,

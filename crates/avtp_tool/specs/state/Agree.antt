@@ -20,7 +20,7 @@ pub record IsAgreeing (asked : Agreeing) : Type 0 where
   pub limit : asked.listener.limit ≤ 2 ^ 40
   pub plan : IsPlan (schedule_plan (plan_of asked.listener))
 
--- what a run of `agree` over these files can result in: the names that it asks for, its status, and what it yields
+-- what a run of `agree` over these files can result in: the names that the run asks for, the status, and the yield
 abbrev pub AgreeYields : Agreeing → Files → Type 0 → List (List ℕ) → Status → Yield → Type 0
 AgreeYields asked files fault came ended yields = AgreeOutcome asked files fault came ended yields.text × (yields.items ≡ [])
 

@@ -133,7 +133,8 @@ PrintedAll records others pair all base (Ok x) now =
 PrintedAll records others pair all base (Err e) now =
     (n : ℕ) × StandsFor records others (n + 1) pair × Appends base now (difference_lines (take n all))
 
--- The known differences that had not been printed were printed. If the sink failed, only a prefix of them was printed.
+-- The known differences that had not been printed were printed. If the sink failed, only a prefix of these differences
+-- was printed.
 pub record PrintsDifferences (pair pair' : PairState) (out out' : SinkState) (waits waits' : List ℕ) (result : Result Unit Failed) : Type 0 where
   pub printed : (records others : List Record) (given : ℕ) (base : Option (List ℕ)) → StandsFor records others given pair
       → Appends base (written out.held waits) (difference_lines (take given (differences (known_by pair records others))))
@@ -223,7 +224,7 @@ pub record IsAmidTwo (shelf shelf' : ShelfState) (old new : Comparing) : Type 0 
   pub plan_a : new.pair.a.plan ≡ old.pair.a.plan
   pub plan_b : new.pair.b.plan ≡ old.pair.b.plan
 
--- If the reading of the capture has ended, `records` are all its records within the limit. Otherwise they are the
+-- If the reading of the capture has ended, `records` are all its records within the limit. Otherwise `records` are the
 -- records that `source` has given so far.
 abbrev pub SideRead : ℕ → List ℕ → ShelfState → Sourcing → Option End → List Record → Type 0
 SideRead limit bytes shelf source None records = HasGivenOf limit bytes shelf source records

@@ -81,7 +81,8 @@ IsGoing slots source stage = IsSome (slots (slot_of source)) × (pull_at stage �
 abbrev pub IsAtReading : Slots → Sourcing → Stage → Type 0
 IsAtReading slots source stage = IsSome (slots (slot_of source)) × (stage ≡ Reading)
 
--- If all items are shown after a reading that ended as `how`, the listener was closed. Otherwise it was left open.
+-- If all items are shown after a reading that ended as `how`, the listener was closed. Otherwise the listener was left
+-- open.
 pub record ClosesAt (how : End) (old new : ListenState) : Type 0 where
   pub stands : (records : List Record) (given : ℕ) → StandsFor records given old → StandsFor records given new
   pub plan : new.plan ≡ old.plan
@@ -143,7 +144,7 @@ pub record IsShown (stage : Stage) (limit : ℕ) (bytes : List ℕ) (fault : Typ
   pub given : IsPrefix items (out listener records)
   pub whole : (how : End) → stage ≡ Ended how → items ≡ out listener records
 
--- Since a capture was opened and a listener was made for it, these items were shown. The shelf changed only by reading
+-- A capture was opened, a listener was made for it, and then these items were shown. The shelf changed only by reading
 -- the capture.
 pub record Shows (shelf shelf' : ShelfState)
     (old_source source : Sourcing) (old_listener listener : ListenState) (stage : Stage) (items : List Shown) : Type 0 where

@@ -17,9 +17,9 @@ use Rattle.avtp_tool.specs.state.Outcome.{TellsText}
 use Rattle.avtp_tool.specs.declared.status.Status.{Status}
 use Rattle.avtp_tool.specs.declared.status.Status.TheVariants as status
 
--- What becomes of the file `name` in a run that makes it, given the run's result. If everything was done, the file has
--- these bytes. If memory ran out or a write failed, the file is unchanged or has a prefix of these bytes. Otherwise all
--- files are unchanged.
+-- What becomes of the file `name` in a run that makes this file, given the run's result. If everything was done, the
+-- file has these bytes. If memory ran out or a write failed, the file is unchanged or has a prefix of these bytes.
+-- Otherwise all files are unchanged.
 pub record Makes (name bytes : List ℕ) (files files' : Option Files) (result : Result Status Failed) : Type 0 where
   pub done : result ≡ Ok status.Done → PutsFile files files' name bytes
   pub part : MakesPrefix files files' name bytes
@@ -35,9 +35,9 @@ pub record CountsWriting (name : Option (List ℕ)) (before after : ℕ) (result
 
 -- ---- one file
 
--- A call made the file `name` with these bytes, or returns why it did not. If the file was not made, memory ran out or
--- a writing fault was counted, and the file is unchanged or has a prefix of the bytes. All else is unchanged, and no
--- other name was asked for.
+-- A call made the file `name` with these bytes, or returns why the file was not made. If the file was not made, memory
+-- ran out or a writing fault was counted, and the file is unchanged or has a prefix of the bytes. All else is
+-- unchanged, and no other name was asked for.
 pub record MakesFile (shelf shelf' : ShelfState) (name bytes : List ℕ) (result : Result Unit OpenFault) : Type 0 where
   pub made : OnOk result (PutsFile shelf.files shelf'.files name bytes)
   pub part : OnErr result (MakesPrefix shelf.files shelf'.files name bytes)
@@ -67,7 +67,7 @@ unmade_as fault = status.WriteFault
 
 -- ---- a run that makes a file
 
--- A run gave out the text of one of the possible outcomes, and its output is what this outcome makes.
+-- A run gave out the text of one of the possible outcomes, and the run's output is what this outcome makes.
 pub record Produces (Outcome : Status → List ℕ → Option (List ℕ) → Type 0) (name : Option (List ℕ)) (before now : Option (List ℕ)) (files files' : Option Files) (result : Result Status Failed) : Type 0 where
   pub made : Option (List ℕ)
   pub tells : TellsText (λ ended text. Outcome ended text made) before now result

@@ -22,7 +22,7 @@ IsDone (Ok ended) = is_done ended ≡ true
 IsDone (Err e) = ⊥
 
 -- For one of the possible outcomes, the run gave out a part of what the outcome yields. Unless memory ran out or a
--- write failed, the run gave out all of it and ended with the outcome's status.
+-- write failed, the run gave out all that the outcome yields, and ended with the outcome's status.
 pub record Tells {Y : Type 0} (Outcome : Status → Y → Type 0) (Whole Part : Y → Type 0) (result : Result Status Failed) : Type 0 where
   pub ended : Status
   pub yields : Y
@@ -40,8 +40,8 @@ abbrev pub TellsYield : (Status → Yield → Type 0) → (List Shown → Type 0
 TellsYield Outcome handed before now result = Tells Outcome (Gives handed before now) (GivesPart handed before now) result
 
 -- For one of the possible outcomes, the run gave out a prefix of what the outcome yields. Unless memory ran out or a
--- write failed, the run gave out all of it, ended with the outcome's status, and asked the shelf for exactly the
--- outcome's names.
+-- write failed, the run gave out all that the outcome yields, ended with the outcome's status, and asked the shelf for
+-- exactly the outcome's names.
 pub record TellsRun (Outcome : List (List ℕ) → Status → Yield → Type 0) (handed : List Shown → Type 0) (shelf shelf' : ShelfState) (before now : Option (List ℕ)) (result : Result Status Failed) : Type 0 where
   pub came : List (List ℕ)
   pub ended : Status

@@ -34,8 +34,8 @@ pub record CanPass (pipe : Pipe) (ended : Option Pull) (left : ℕ) : Type 0 whe
   pub live : ended ≡ None
   pub room : given_to pipe + left ≤ 2 ^ 62
 
--- The receiver gave the items `given`, and the presenter got them in this order. If the presenter failed, it got only a
--- prefix of them. `gave` and `handed` say what the receiver and the presenter did, as lists of items.
+-- The receiver gave the items `given`, and the presenter got them in this order. If the presenter failed, the presenter
+-- got only a prefix of `given`. `gave` and `handed` say what the receiver and the presenter did, as lists of items.
 pub record HasPassed {R P : Type 0} (gave : R → R → List Shown → Type 0) (ended : R → Option Pull) (handed : P → P → List Shown → Type 0) (faults : P → ℕ) (receiver receiver' : R) (presenter presenter' : P) (result : Result Unit Failed) : Type 0 where
   pub given : List Shown
   pub presented : List Shown

@@ -65,8 +65,8 @@ is_of_reading ended = true
 abbrev pub IsReadingStatus : Result Status Failed → Type 0
 IsReadingStatus result = IfOk result (λ s. is_of_reading s ≡ true)
 
--- The file `name` was read, up to `limit` bytes. Its report was printed and given to devices, and nothing else was
--- done.
+-- The file `name` was read, up to `limit` bytes. The report on the file was printed and given to devices, and nothing
+-- else was done.
 pub record DoesFile (report : Report) (handed : List Shown → Type 0) (limit : ℕ) (name : List ℕ) (shelf shelf' : ShelfState) (out out' : SinkState) (waits waits' : List ℕ) (result : Result Status Failed) : Type 0 where
   pub tells : (all : Files) → shelf.files ≡ Some all → TellsYield (FileOutcome report limit (all name) (Rose shelf.reading_faults shelf'.reading_faults)) handed (written out.held waits) (written out'.held waits') result
   pub keeps : OnlyReads shelf shelf' (name ∷ [])
@@ -74,8 +74,8 @@ pub record DoesFile (report : Report) (handed : List Shown → Type 0) (limit : 
   pub own : IsReadingStatus result
   pub sink : KeepsSink out out' result
 
--- A command read some of these files, in this order. What it yields was printed and given to devices, and nothing else
--- was done. `Outcome` gives the possible outcomes over the files that a shelf shows.
+-- A command read some of these files, in this order. What the command yields was printed and given to devices, and
+-- nothing else was done. `Outcome` gives the possible outcomes over the files that a shelf shows.
 pub record DoesReading (Outcome : Files → Type 0 → List (List ℕ) → Status → Yield → Type 0) (names : List (List ℕ)) (handed : List Shown → Type 0) (shelf shelf' : ShelfState) (out out' : SinkState) (waits waits' : List ℕ) (result : Result Status Failed) : Type 0 where
   pub tells : (all : Files) → shelf.files ≡ Some all → IsSome shelf'.files → TellsRun (Outcome all (Rose shelf.reading_faults shelf'.reading_faults)) handed shelf shelf' (written out.held waits) (written out'.held waits') result
   pub count : ℕ

@@ -1,5 +1,5 @@
 -- Kept for proofs: what private code holds and does. No clause of a public call uses it. A capture that is converted:
--- what a listener presents from it is written as packets of the other format.
+-- what a listener presents from the capture is written as packets of the other format.
 use Rattle.std.specs.Prelude.{◌≡◌, ◌≢◌, ℕ, ◌+◌, ◌≤◌, List, [], ◌∷◌, ◌++◌, flat_map, length, map, slice_get, take, Option, Some, None, IfOk, IsSome, OnErr, OnOk, Result, Ok, Err, option_map, false}
 use Rattle.avtp_base.specs.declared.failed.Failed.{Failed}
 use Rattle.avtp_base.specs.Faults.{Rose}
@@ -44,8 +44,8 @@ abbrev pub given_over : To → Option Shape → List Presented → Given
 given_over to None batches = nothing_given
 given_over to (Some shape) batches = given_by to shape nothing_given batches
 
--- The gateway `g` was given these batches. It converts a stream of this shape to the format `to`, under the stream ID
--- `id`.
+-- The gateway `g` was given these batches. The gateway converts a stream of this shape to the format `to`, under the
+-- stream ID `id`.
 pub record HasPut (to : To) (shape : Option Shape) (id : ℕ) (batches : List Presented) (g : Gating) : Type 0 where
   pub to_is : g.to ≡ to
   pub shape_is : g.shape ≡ shape
@@ -130,7 +130,7 @@ pub record IsToTurn (asked : Asked) (shape : Option Shape) (bytes : List ℕ) (f
   pub going : is_closed listener ≡ false
   pub plan : listener.plan ≡ plan_of asked.listener
 
--- These batches were put: for each batch, its packets were written, or the line that says why it is skipped was
+-- These batches were put: for each batch, its packets were written, or the line that says why the batch is skipped was
 -- printed.
 pub record HasTurned (asked : Asked) (shape : Option Shape) (batches : List Presented) (files : Option Files) (shelf : ShelfState) (o : Output) (before now : Option (List ℕ)) : Type 0 where
   pub put : HasPut (format_of asked.to) shape asked.id batches o.gateway
@@ -162,7 +162,8 @@ pub record AreOpenIn (slots : Slots) (source : Sourcing) (o : Output) : Type 0 w
   pub made : IsMadeIn slots o.writer.slot
 
 -- A capture was written to a file while another file was read. If the written file was a capture without records
--- before, it is a capture of some records now. A writing fault was counted exactly if a packet could not be written.
+-- before, the file is now a capture of some records. A writing fault was counted exactly if a packet could not be
+-- written.
 pub record WritesOutput (before after : ShelfState) (old new : Output) (result : Result Turned Failed) : Type 0 where
   pub slot : new.writer.slot ≡ old.writer.slot
   pub made : IsMadeIn after.slots old.writer.slot
