@@ -133,7 +133,7 @@ fn a_side_that_ends_early_is_compared_up_to_there(rt: HostRuntime) -> Result<(),
     follow(&rt, rt.alloc(), ENDS)
 }
 
-/// A row has the input of `talk`, the options of `talk`, and the options of `agree`. Then it has, for each of two
+/// A row has the input of `talk`, the options of `talk`, and the options of `agree`. Then the row has, for each of two
 /// captures, the records that are delivered, written as in the rows of `losses`. In the first row of H.264, each access
 /// unit has 255 NAL units. In the other row of H.264, the second access unit is a single NAL unit in 255 fragments, all
 /// of which are delivered.

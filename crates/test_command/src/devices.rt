@@ -97,7 +97,7 @@ fn place_of(alloc: Global, notes: &Arc<Notes, Global>, fails: u64) -> Result<Pla
     })
 }
 
-/// A rack of devices. The list has one entry for each device: the number of its call that fails.
+/// A rack of devices. For each device, `fails` has the number of the call that fails.
 pub fn rack_of(
     alloc: Global,
     fails: [u64; 3],

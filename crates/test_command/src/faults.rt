@@ -16,8 +16,8 @@ const READS: [usize; 2] = [1, 65_536];
 
 const WRITES: [usize; 2] = [7, 65_536];
 
-/// A command that reads one or two captures of equal size. `before` is printed before the command reads, `certain` once
-/// it has read all bytes, and `end` at the end.
+/// A command that reads one or two captures of equal size. `before` is printed before the command reads. `certain` is
+/// printed once the command has read all bytes, and `end` at the end of the run.
 #[derive(Clone, Copy)]
 struct Case {
     line: &'static str,

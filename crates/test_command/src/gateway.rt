@@ -390,7 +390,7 @@ fn a_failing_call_of_either_reading_leaves_a_prefix(rt: HostRuntime) -> Result<(
     Ok(())
 }
 
-/// The second packet overlaps the first. The third packet makes the second one due.
+/// The second packet overlaps the first packet. The third packet makes the second packet due.
 const OVERLAPPED: &str = "\
 V1 74=03 77=18
 V1/58 2=01 16=03 19=18 ts:1002062500 record:1000062500

@@ -86,7 +86,8 @@ fn network_places(alloc: Global, comes: &str, records: usize) -> Result<Vec<usiz
     Ok(places)
 }
 
-/// On average, one record of eight is lost, one is delivered twice, and one overtakes the record before it.
+/// On average, one record of eight is lost, one record of eight is delivered twice, and one record of eight overtakes
+/// the record before it.
 fn drawn_places(alloc: Global, seed: usize, records: usize) -> Result<Vec<usize>, NoMemory> {
     let mut draws = Draws::seeded(seed as u64);
     let mut places = Vec::new(alloc);
@@ -125,7 +126,7 @@ fn deliver(places: &mut Vec<usize>, n: usize, fate: Fate) -> Result<(), NoMemory
     Ok(())
 }
 
-/// Whether `n`, counted from 0, is the last of a group of `each` numbers. If `each` is 0, it never is.
+/// Whether `n`, counted from 0, is the last of a group of `each` numbers. If `each` is 0, the result is `false`.
 fn is_each(n: usize, each: usize) -> bool {
     each > 0 && n % each == each - 1
 }

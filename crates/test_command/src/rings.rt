@@ -70,7 +70,7 @@ fn each_item_is_pushed_and_popped_once_whatever_room_the_ring_has(
     Ok(())
 }
 
-/// Whether a read is running, whether a write is running, and whether one of them has seen the other.
+/// Whether a read is running, whether a write is running, and whether one of the two calls has seen the other call.
 #[derive(Drop)]
 struct Meeting {
     reading: AtomicBool,

@@ -220,8 +220,8 @@ fn a_sparse_stream_is_known_from_a_stamp_of_its_own_run_on(
     follow(&rt, rt.alloc(), SPARSE)
 }
 
-/// If one packet is sent, its only copy arrives 0.48 ms after its presentation time. If two are sent, the second
-/// arrives exactly at its presentation time.
+/// If one packet is sent, the only copy of this packet arrives 0.48 ms after the packet's presentation time. If two
+/// packets are sent, the second packet arrives exactly at its presentation time.
 const SOAKS: &str = "\
 $ soak 0
 soak 0 delivered 0 presented 0 late 0 repeat 0 untimed 0 full 0
