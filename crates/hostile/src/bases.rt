@@ -68,8 +68,8 @@ impl Bases {
     }
 }
 
-/// One input for all talkers. For each talker it consists of whole sample frames. It is also an H.264 byte stream, with
-/// short NAL units and one NAL unit that needs fragments.
+/// One input for all talkers. For each talker, the input consists of whole sample frames. The input is also an H.264
+/// byte stream, with short NAL units and one NAL unit that needs fragments.
 fn input(alloc: Global) -> Result<Vec<u8>, NoMemory> {
     let mut bytes = Vec::new(alloc);
     for n in 0..3_840_u32 {

@@ -12,7 +12,7 @@ pub struct Record {
     pub frame: Vec<u8>,
 }
 
-/// The byte order of a capture's numbers, and whether it counts microseconds or nanoseconds.
+/// The byte order of a capture's numbers, and whether the capture counts microseconds or nanoseconds.
 #[derive(Clone, Copy)]
 struct Style {
     big: bool,
