@@ -205,8 +205,7 @@ impl Units {
         self.lost = self.assembler.cut();
         self.why = Lost::Broken;
         self.taken = 0;
-        if self.lost == 0 {
-            self.own = None;
+        if self.lost == 0 && self.own.is_none() {
             return Some(item);
         }
         self.own = Some(item);
