@@ -151,7 +151,7 @@ number_is form words place r option default bound n sound is_row has small reads
     number_given option default bound n (value_in option.name r.rest.settings) has small (value_is form.rows option.name (number option) r.rest.settings is_row r.rest.options.each)
     (subst (λ v. IsRead bound default v n) (after_options form words place r option.name (number option) sound is_row refl) reads)
 
--- the word at index `place + k` is operand `k`, counted from 0
+-- operand `k` is the word at index `place + k`; operands are counted from 0
 operand_at : (form : Form) (words : List (List ℕ)) (place k : ℕ) (r : IsRestTo form.rows form.operands words place) → slice_get words (place + k) ≡ slice_get r.rest.names k
 operand_at form words place k r = ap (λ n. slice_get words (n + k)) r.here ∙ ap (λ ws. slice_get ws (length (flat_map words_of r.rest.settings) + k)) r.rest.spelled ∙ beyond (flat_map words_of r.rest.settings) r.rest.names k
 
@@ -554,7 +554,7 @@ gateway_says words place stream asked r n is read to read_id = record {
 
 -- ---- one request
 
--- the same words cannot be lines of two commands
+-- words cannot be lines of two different commands
 same_command : (form other : Form) (words : List (List ℕ)) (gs hs : List Setting) (ns ms : List (List ℕ)) → IsOf form words gs ns → IsOf other words hs ms → form.command ≡ other.command
 same_command form other words gs hs ns ms p q = cc (p.spelled, q.spelled)
 
@@ -855,7 +855,7 @@ no_offence : (words : List (List ℕ)) (position : ℕ) (request : Request) → 
 no_offence words position request (of_a_word place here stops) line = stopped words place stops (line_of words request line)
 no_offence words position request (of_a_rule here fits none) line = none request line
 
--- Of two prefixes of one list, one is a prefix of the other.
+-- If two lists are prefixes of the same list, the shorter is a prefix of the longer.
 one_begins : (xs ys rest more : List (List ℕ)) → xs ++ rest ≡ ys ++ more → ((m : List (List ℕ)) × (ys ≡ xs ++ m) × (rest ≡ m ++ more)) ⊎ ((m : List (List ℕ)) × (xs ≡ ys ++ m) × (more ≡ m ++ rest))
 one_begins [] ys rest more e = inl (ys, refl, e)
 one_begins (x ∷ xs) [] rest more e = inr (x ∷ xs, refl, sym e)
@@ -867,7 +867,6 @@ one_begins (x ∷ xs) (y ∷ ys) rest more e =
       | inr (m, whole, left) ↦ inr (m, ap (λ (first : List ℕ). first ∷ xs) heads ∙ ap (λ (ws : List (List ℕ)). y ∷ ws) whole, left)
     ]
 
--- If the word after `before` is not accepted, no prefix that is longer than `before` begins a line.
 past : (before rest m : List (List ℕ)) (more : List (List ℕ)) → Stops IsLine before rest → rest ≡ m ++ more → Begins IsLine (before ++ m) → m ≡ []
 past before rest [] more stops split begins = refl
 past before [] (word ∷ m) more stops split begins = absurd (cc)

@@ -41,7 +41,7 @@ one_place : (rows : List Row) (gs : List Setting) (ns : List (List ℕ)) (name :
 one_place rows [] ns name p q sound each once named dashes first second = absurd (name-dash name (All-contains IsName ns name named (contains_at ns p name first)) (one_dash name dashes))
 one_place rows (g ∷ gs) ns name p q sound each once named dashes first second =
     go p q first second (λ m n. one_place rows gs ns name m n sound (All-tail (IsSetting rows) g gs each) (later_once g gs once) named dashes) where
-      -- if the option `g` is named `name`, `name` is not among the words that follow
+      -- if `name` is the name of the option `g`, no later word is `name`
       past : (v : Option (List ℕ)) (n : ℕ) → g.value ≡ v → g.name ≡ name → slice_get ((option_to_list v ++ flat_map words_of gs) ++ ns) n ≡ Some name → ⊥
       past None n e is there = not_there rows gs ns name sound (All-tail (IsSetting rows) g gs each) (later_apart g gs name once is) named dashes (contains_at (flat_map words_of gs ++ ns) n name there)
       past (Some word) zero e is there = setting-value rows g word sound (All-head (IsSetting rows) g gs each) e (let same : word ≡ name = cc in rw same dashes)

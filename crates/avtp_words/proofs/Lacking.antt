@@ -10,7 +10,7 @@ use Rattle.avtp_words.specs.Number.{IsNumber}
 use Rattle.avtp_words.specs.Options.{Setting, value_in, words_of}
 use Rattle.avtp_words.proofs.Settings.{same-true}
 
--- the name of an option that has a value is among the words
+-- if an option has a value, the option's name is among the words
 has_value : (gs : List Setting) (name word : List ℕ) → value_in name gs ≡ Some word → Contains (flat_map words_of gs) name
 has_value [] name word e = absurd cc
 has_value (g ∷ gs) name word e = elim (cases_Bool (bytes_eq g.name name)) [
@@ -25,7 +25,7 @@ without words asked says name lacks = go (value_in name says.settings) refl wher
   go (Some word) e = absurd (lacks (subst (λ ws. Contains ws name) (sym (ap (drop 1) says.line.spelled))
       (Contains-append_left (flat_map words_of says.settings) (asked.input ∷ asked.output ∷ []) name (has_value says.settings name word e))))
 
--- H.264 has no restarts
+-- words that ask for H.264 ask for no restarts
 pub video_restart : (words : List (List ℕ)) (asked : Talking) (last_stamp : Bool) → SaysTalk words asked → FitsOptions (H264 last_stamp) (drop 1 words) → asked.restart ≡ None
 video_restart words asked last_stamp says fits =
     subst (λ v. MatchOption v (asked.restart ≡ None) (λ word. (n : ℕ) × (asked.restart ≡ Some n) × IsNumber 8 1000000000 word n)) (without words asked says (codes "--restart") (fits.kind_has 4 [] (omega arith))) says.restart
@@ -34,6 +34,6 @@ no_clock : (gs : List Setting) (rate : ℕ) (crf : Option Crf) → value_in (cod
 no_clock gs rate None none says = refl
 no_clock gs rate (Some crf) none says = absurd (let id : Some crf.id ≡ None = rw none at says.id in cc)
 
--- H.264 has no media clock
+-- words that ask for H.264 ask for no media clock
 pub video_clock : (words : List (List ℕ)) (asked : Talking) (last_stamp : Bool) → SaysTalk words asked → FitsOptions (H264 last_stamp) (drop 1 words) → asked.crf ≡ None
 video_clock words asked last_stamp says fits = no_clock says.settings asked.rate asked.crf (without words asked says (codes "--crf") (fits.kind_has 6 [] (omega arith))) says.crf

@@ -166,7 +166,8 @@ read_if {E = E} word n r given small spells tried is = record { absent = tt; rea
   go (Ok x) (fits, x_is) k below same = ap Some (x_is ∙ sym same)
   go (Err e) large k below same = absurd (large (omega (arith, below, same)))
 
--- if a word without a leading `-` spells a number of 2^63 or more, it spells no signed 64-bit number
+-- if a word without a leading `-` spells `n`, but `n` does not fit a signed 64-bit integer, the word spells no signed
+-- 64-bit integer
 pub unfit : {E : Type 0} (word : List ℕ) (n : ℕ) (r : Result ℤ E) (given : Option ℤ) → n < 2 ^ 64 → word ≡ decimal n → OkIff r (FitsSigned w64 (pos n)) (pos n) → given ≡ result_ok r → ((rest : List ℕ) → word ≢ 45 ∷ rest) → IfNone given ((z : ℤ) → unsigned_abs z < 2 ^ 63 → word ≢ signed_decimal z)
 unfit {E = E} word n r given small spells tried is plain = rw is (go r tried) where
   go : (r : Result ℤ E) → OkIff r (FitsSigned w64 (pos n)) (pos n) → IfNone (result_ok r) ((z : ℤ) → unsigned_abs z < 2 ^ 63 → word ≢ signed_decimal z)

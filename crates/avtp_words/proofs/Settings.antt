@@ -132,7 +132,7 @@ push rows gs s options is new = record { each = All-push (IsSetting rows) gs s o
 same_setting : (g h : Setting) → g.name ≡ h.name → g.value ≡ h.value → g ≡ h
 same_setting g h p q = ap (λ n. let s : Setting = record { name = n; value = g.value } in s) p ∙ ap (λ v. let s : Setting = record { name = h.name; value = v } in s) q
 
--- If the same words begin with the option `g` and with the option `h`, `g` and `h` are equal.
+-- If a list of words begins with the option `g` and also with the option `h`, `g` equals `h`.
 pub same_first : (rows : List Row) (g h : Setting) (xs ys : List (List ℕ)) → IsSetting rows g → IsSetting rows h → words_of g ++ xs ≡ words_of h ++ ys → (g ≡ h) × (xs ≡ ys)
 same_first rows g h xs ys g_is h_is e = go (row_named rows h.name) g.value h.value refl refl
     (subst (λ name. IsSomeAnd (row_named rows name) (λ row. IsTaken row.takes g.value)) names g_is.value) h_is.value (cc) where
@@ -148,8 +148,8 @@ same_first rows g h xs ys g_is h_is e = go (row_named rows h.name) g.value h.val
           let values : value ≡ other = cc in
           (same_setting g h names (v_is ∙ ap Some values ∙ sym w_is), cc)
 
--- `hs` is the list `gs`, then the option named `word`, then `more`. `rest` is the value of that option, if any, then
--- the words of `more`, then `names`.
+-- The list `hs` consists of `gs`, the option named `word`, and the options `more`. The list `rest` consists of the
+-- value of that option, if any, the words of the options `more`, and `names`.
 pub record Next (rows : List Row) (gs hs : List Setting) (word : List ℕ) (rest names : List (List ℕ)) : Type 0 where
   pub setting : Setting
   pub more : List Setting

@@ -292,8 +292,8 @@ pub record IsCheck (words : List (List ℕ)) (limit : ℕ) (files : List (List �
   pub line : IsOf check_form words settings files
   pub limit_given : IsGiven limits.limit settings limit
 
--- The option named `option` gives `file`. The name of `file` directly follows the option's name in `words`, at index
--- `file.place`.
+-- The option named `option` gives `file`. In `words`, the name of `file` is at index `file.place`, directly after the
+-- option's name.
 pub record NamesFile (words : List (List ℕ)) (settings : List Setting) (option : List ℕ) (file : NamedFile) : Type 0 where
   pub value : value_in option settings ≡ Some file.name
   pub before : ℕ
@@ -301,7 +301,7 @@ pub record NamesFile (words : List (List ℕ)) (settings : List Setting) (option
   pub option_at : slice_get words before ≡ Some option
   pub name_at : slice_get words file.place ≡ Some file.name
 
--- If there is a file, the option of the given name gives this file. If there is no file, that option is not given.
+-- If there is a file, the option of this name gives this file. If there is no file, that option is not given.
 abbrev pub IsGivenFile : List (List ℕ) → List Setting → List ℕ → Option NamedFile → Type 0
 IsGivenFile words settings option None = value_in option settings ≡ None
 IsGivenFile words settings option (Some file) = NamesFile words settings option file
@@ -327,7 +327,7 @@ pub record SaysListener (settings : List Setting) (id : List ℕ) (asked : Liste
   pub clock : IsGivenIdIf (codes "--clock") settings asked.clock
   pub shift : IsGivenSigned limits.crf_shift settings asked.shift
 
--- `words` fit the form of `listen` and ask for `asked`. The rules over several words are not included.
+-- `words` fit the form of `listen`, and `asked` is what `words` ask for. The rules over several words need not hold.
 pub record SaysListen (words : List (List ℕ)) (asked : Listening) : Type 0 where
   pub settings : List Setting
   pub id : List ℕ
@@ -337,21 +337,22 @@ pub record SaysListen (words : List (List ℕ)) (asked : Listening) : Type 0 whe
   pub raw : IsGivenRaw words settings asked.raw
   pub annexb : IsGivenFile words settings (codes "--annexb") asked.annexb
 
--- `words` are a `soak` command line for `packets` packets
+-- `words` are a `soak` command line whose number of packets is `packets`
 pub record IsSoak (words : List (List ℕ)) (packets : ℕ) : Type 0 where
   pub settings : List Setting
   pub number : List ℕ
   pub line : IsOf soak_form words settings (number ∷ [])
   pub packets_given : IsNumber 0 limits.packets number packets
 
--- `words` are an `agree` command line that asks for `asked`
+-- `words` are an `agree` command line, and `asked` is what `words` ask for
 pub record SaysAgree (words : List (List ℕ)) (asked : Agreeing) : Type 0 where
   pub settings : List Setting
   pub id : List ℕ
   pub line : IsOf agree_form words settings (id ∷ asked.a ∷ asked.b ∷ [])
   pub listener : SaysListener settings id asked.listener
 
--- `words` fit the form of `gateway`, give `--to`, and ask for `asked`. If `--id` is not given, the stream keeps its ID.
+-- `words` fit the form of `gateway` and give `--to`, and `asked` is what `words` ask for. If `--id` is not given, the
+-- stream keeps its ID.
 pub record SaysGateway (words : List (List ℕ)) (asked : Turning) : Type 0 where
   pub settings : List Setting
   pub id : List ℕ
@@ -378,7 +379,7 @@ SaysKind words settings (Aaf format sparse) = SaysAaf words settings format spar
 SaysKind words settings Am824 = value_in (codes "--kind") settings ≡ Some (codes "am824")
 SaysKind words settings (H264 last_stamp) = SaysVideo words settings last_stamp
 
--- The options ask for the media clock `crf`, for a stream of `rate` sample frames a second. If `--crf-rate` is not
+-- The options ask for the media clock `crf`. The stream has `rate` sample frames a second. If `--crf-rate` is not
 -- given, the clock's base frequency is `rate`.
 pub record SaysCrf (settings : List Setting) (rate : ℕ) (crf : Crf) : Type 0 where
   pub id : IsGivenIdIf (codes "--crf") settings (Some crf.id)
@@ -392,7 +393,7 @@ abbrev pub SaysClock : List Setting → ℕ → Option Crf → Type 0
 SaysClock settings rate None = IsGivenIdIf (codes "--crf") settings None
 SaysClock settings rate (Some crf) = SaysCrf settings rate crf
 
--- `words` fit the form of `talk` and ask for `asked`. The rules over several words are not included.
+-- `words` fit the form of `talk`, and `asked` is what `words` ask for. The rules over several words need not hold.
 pub record SaysTalk (words : List (List ℕ)) (asked : Talking) : Type 0 where
   pub settings : List Setting
   pub line : IsOf talk_form words settings (asked.input ∷ asked.output ∷ [])
@@ -486,8 +487,8 @@ of_restart = codes "--jump" ∷ []
 abbrev pub of_clock : List (List ℕ)
 of_clock = codes "--crf-interval" ∷ codes "--crf-points" ∷ codes "--crf-rate" ∷ codes "--crf-pull" ∷ []
 
--- `words` contain no option that `kind` does not allow. If an option in `words` needs another option, `words` contain
--- that option, too.
+-- `words` contain no option that `kind` does not allow. If `words` contain an option that needs a second option,
+-- `words` contain the second option, too.
 pub record FitsOptions (kind : Kind) (words : List (List ℕ)) : Type 0 where
   pub kind_has : Lacks words (lacking kind)
   pub restart : Need words (codes "--restart") of_restart
@@ -537,13 +538,13 @@ pub record IsLine (words : List (List ℕ)) : Type 0 where
   pub names : List (List ℕ)
   pub line : IsOf form words settings names
 
--- `words` begin a line of `L`: `words` followed by `more`, which may be empty, are a line of `L`
+-- `words` begin a line of `L`: the list `words ++ more` is a line of `L`; `more` may be empty
 pub record Begins (L : List (List ℕ) → Type 0) (words : List (List ℕ)) : Type 0 where
   pub more : List (List ℕ)
   pub whole : L (words ++ more)
 
--- `before` followed by the next word does not begin a line of `L`. If there is no next word, `before` is not a line of
--- `L`.
+-- No line of `L` begins with the words `before` and the word after them. If no word follows, the words `before` are not
+-- a line of `L`.
 abbrev pub Stops : (List (List ℕ) → Type 0) → List (List ℕ) → List (List ℕ) → Type 0
 Stops L before [] = L before → ⊥
 Stops L before (next ∷ _) = Begins L (before ++ next ∷ []) → ⊥

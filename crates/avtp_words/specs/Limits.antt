@@ -16,7 +16,7 @@ pub record NumberOption : Type 0 where
 abbrev pub option : List ℕ → ℕ → ℕ → Option ℕ → NumberOption
 option name low high default = record { name = name; low = low; high = high; default = default }
 
--- the option `given`, with this default instead of its own
+-- the same option, but with `default` as its default
 abbrev pub with_default : NumberOption → ℕ → NumberOption
 with_default given default = option given.name given.low given.high (Some default)
 
@@ -80,7 +80,7 @@ default_rate (H264 last_stamp) = 30
 abbrev pub channels : NumberOption
 channels = option (codes "--channels") 1 1023 (Some 2)
 
--- talk: the number of sample frames of a packet
+-- talk: the number of sample frames in a packet
 abbrev pub count : NumberOption
 count = option (codes "--count") 1 1476 (Some 6)
 

@@ -22,7 +22,7 @@ pub struct Crf {
     pub id: u64,
     /// The base frequency in Hz, 1 to 200,000,000.
     pub rate: u32,
-    /// The code of the pull factor, by which the base frequency is multiplied, 0 to 5.
+    /// The code, 0 to 5, of the pull factor. The base frequency is multiplied by this factor.
     pub pull: u8,
     /// The number of events of the clock from one timestamp to the next, 1 to 65,535.
     pub interval: u16,
@@ -30,7 +30,7 @@ pub struct Crf {
     pub points: u8,
 }
 
-/// The media clock that the options ask for, for a stream of `rate` sample frames a second. `None` if the options ask
+/// The media clock that the options ask for. The stream has `rate` sample frames a second. `None` if the options ask
 /// for no media clock.
 pub fn crf_after(options: &[String], rate: u32) -> Option<Crf>
     ensures { IsReadClock (texts options.now) rate result }

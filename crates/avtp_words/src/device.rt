@@ -13,7 +13,7 @@ use crate::option::{lacks_word, place_of, word_after, word_at};
 pub struct DeviceFile<'a> {
     /// The file's name.
     pub name: &'a str,
-    /// The position of the name among the words of the command line, from 0.
+    /// The position of the name among the words of the command line, counted from 0.
     pub place: usize,
 }
 
@@ -36,7 +36,7 @@ pub struct RawFile<'a> {
 }
 
 /// The file that the option `name` gives, if that option is given. The file's `place` is an index on the whole command
-/// line, with the command as word 0.
+/// line; the command is word 0.
 pub fn file_after<'a>(options: &'a [String], name: &str) -> Option<DeviceFile<'a>>
     ensures { IsReadFile name.now (texts options.now) (option_map named_file result) }
 {

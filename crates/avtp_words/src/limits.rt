@@ -199,7 +199,7 @@ pub const H264_LACKS: [OptionRow; 11] = [
     CRF_PULL,
 ];
 
-/// The options that need `--restart`. `CLOCK_OPTIONS` are those that need `--crf`.
+/// The options that need `--restart`. `CLOCK_OPTIONS` are the options that need `--crf`.
 pub const RESTART_OPTIONS: [OptionRow; 1] = [JUMP];
 
 pub const CLOCK_OPTIONS: [OptionRow; 4] = [CRF_INTERVAL, CRF_POINTS, CRF_RATE, CRF_PULL];
@@ -243,7 +243,7 @@ pub const CHANNELS: OptionRow = OptionRow {
 
 pub const CHANNELS_DEFAULT: u16 = 2;
 
-/// The number of sample frames of a packet.
+/// The number of sample frames in a packet.
 pub const COUNT: OptionRow = OptionRow {
     name: "--count",
     takes: Takes::Number {

@@ -24,7 +24,7 @@ pub struct Listen<'a> {
     pub raw: Option<RawFile<'a>>,
     /// The file to which presented H.264 units are written as a byte stream, if one is asked for.
     pub annexb: Option<DeviceFile<'a>>,
-    /// The names of the captures, in order, at least one.
+    /// The names of the captures, in order. There is at least one capture.
     pub files: &'a [String],
 }
 

@@ -41,7 +41,7 @@ pub fn signed_number_of(word: &str) -> Option<i64>
     }
 }
 
-/// Whether a word spells a number that is at most `most` away from 0.
+/// Whether a word spells a number from `-most` to `most`.
 pub fn is_signed(word: &str, most: u32) -> bool
     ensures { IsTrue result ↔ ((z : ℤ) × IsSigned most word.now z) }
 {

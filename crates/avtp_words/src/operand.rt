@@ -120,7 +120,8 @@ fn first_unnamed(words: &[String]) -> Option<usize>
     None
 }
 
-/// The index of the first word that is not valid as the operand at its index, is missing, or is left over.
+/// The index of the first wrong word. A word is wrong if it is not valid as the operand at its index, or if no operand
+/// has this index. A missing word is wrong, too.
 fn first_wrong(operands: &[Operand], words: &[String]) -> Option<usize>
     ensures wrong { IfSome result (StopsAt (AreOperands operands.now) (texts words.now)) }
     ensures within { IfSome result (λ place. place ≤ length words.now) }
@@ -145,7 +146,7 @@ fn first_wrong(operands: &[Operand], words: &[String]) -> Option<usize>
 }
 
 /// The index of the first operand in `words`, the words after a command. The position of an offence is counted on the
-/// whole command line, with the command at position 1.
+/// whole command line; the command has position 1.
 pub fn operands_at(
     rows: &[OptionRow],
     operands: &[Operand],

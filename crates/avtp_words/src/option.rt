@@ -19,7 +19,7 @@ use crate::value::format_of;
 pub enum Takes {
     /// A number from `low` to `high`.
     Number { low: u64, high: u64 },
-    /// A number that may be negative, at most `most` away from 0.
+    /// A number from `-most` to `most`.
     Signed { most: u32 },
     /// A stream ID.
     Id,
@@ -151,8 +151,8 @@ fn value_len(words: &[String], place: usize, takes: Takes) -> Option<usize>
     }
 }
 
-/// The number of words that options take up in `words`, the words after a command. The operands follow the options. If
-/// a word is missing or is not accepted, the error is the word's index.
+/// How many of `words`, the words after a command, belong to options. The operands follow the options. If a word is
+/// missing or is not accepted, the error is the word's index.
 pub fn options_len(rows: &[OptionRow], words: &[String]) -> Result<usize, usize>
     requires { IsTrue (are_sound (rows_of rows.now)) }
     ensures ok { IfOk result (EndsOptions (rows_of rows.now) (texts words.now)) }

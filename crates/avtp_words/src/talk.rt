@@ -1,4 +1,4 @@
-//! The command `talk`: what to make a capture of.
+//! The command `talk`: which input to make into a capture, and how.
 
 ghost use Rattle.std.specs.Prelude.{◌≡◌, ℕ, ◌*◌, ◌≤◌, ◌^◌, ◌↔◌, ◌∷◌, pos, codes, IsTrue, IfOk, IfErr, IsSomeAnd, Some, nat_eq};
 ghost use Rattle.std.specs.List.{list_any};

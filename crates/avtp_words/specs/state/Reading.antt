@@ -91,12 +91,12 @@ pub record IsReadFormat (default : AafFormat) (word : Option (List ℕ)) (format
   pub absent : IfNone word (format ≡ default)
   pub read : IfSome word (λ word. (named : AafFormat) → word ≡ format_name named → format ≡ named)
 
--- `n` is the number that is read from the words `options` for `option`, which has a default
+-- the number that is read for `option` from the words `options` is `n`; `option` has a default
 abbrev pub IsReadOf : ℕ → NumberOption → List (List ℕ) → ℕ → Type 0
 IsReadOf bound option options n = IsSomeAnd option.default (λ default. IsRead bound default (value_after option.name options) n)
 
 -- The word after the option `name` is the name of `file`. The position of this word on the whole command line is
--- `file.place`, with the command as word 0.
+-- `file.place`; the command is word 0.
 pub record ReadsFile (name : List ℕ) (options : List (List ℕ)) (file : NamedFile) : Type 0 where
   pub value : value_after name options ≡ Some file.name
   pub before : ℕ
@@ -256,8 +256,8 @@ pub record StopsOptions (rows : List Row) (words : List (List ℕ)) (place : ℕ
   pub begins : Begins (AreOptions rows) before
   pub stops : Stops (IsTail rows) before rest
 
--- The first word of `words` that is wrong for a line of `L` is at index `place`. On the whole command line, this word
--- is at `position`, with the command at position 1.
+-- The first word of `words` that is wrong for a line of `L` is at index `place`. On the whole command line, the
+-- position of this word is `position`; the command has position 1.
 pub record StopsAfter (L : List (List ℕ) → Type 0) (words : List (List ℕ)) (position : ℕ) : Type 0 where
   pub place : ℕ
   pub here : position ≡ place + 2
