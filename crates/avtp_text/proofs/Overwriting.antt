@@ -26,7 +26,7 @@ overwritten s t piece place behind ends kept written before was after split same
     ap length split ∙ length-append (before ++ was) after ∙ ap (λ (n : ℕ). n + length after) (length-append before was) in
     from_place s t before was after piece place split (omega (arith, len, ends, same, last)) same kept written
 
--- if the `n` bytes of `piece` are put at index `place`, they overwrite the bytes there
+-- if the `n` bytes of `piece` are put at index `place`, `piece` overwrites the bytes there
 pub part_overwritten : (s piece : List ℕ) (place n behind : ℕ) → length piece ≡ n → place + n + behind ≡ length s
     → Overwrites s (put_mid place n s piece) piece behind
 part_overwritten s piece place n behind len ends =

@@ -3,8 +3,8 @@ use Rattle.std.specs.Prelude.{List, ℕ, ℤ, ◌++◌, codes, decimal}
 use Rattle.std.specs.Fmt.{signed_decimal}
 use Rattle.avtp_text.specs.Pieces.{newline}
 
--- the start of the line of a packet that is presented differently: the number, from 1, of the packet's frame in capture
--- A, the number of its frame in capture B, and the packet's sequence number
+-- the start of the line of a packet that is presented differently: the number of the packet's frame in capture A, the
+-- number of its frame in capture B, and the packet's sequence number; frames are numbered from 1
 unfoldable pub differ_start : ℕ → ℕ → ℕ → List ℕ
 differ_start a b seq = codes "differ frame " ++ decimal a ++ codes " " ++ decimal b ++ codes " seq " ++ decimal seq ++ codes " "
 

@@ -4,7 +4,7 @@ use Rattle.avtp_base.specs.declared.refusal.Refusal.{Refusal}
 use Rattle.sequence_track.specs.declared.seen.Findings.{Findings}
 use Rattle.avtp_text.specs.Pieces.{newline, id_text, refusal_text}
 
--- how the line of a finding begins: the number of the frame, from 1
+-- how the line of a finding begins: the number of the frame, counted from 1
 unfoldable pub finding_start : ℕ → List ℕ
 finding_start number = codes "finding frame " ++ decimal number ++ codes " "
 

@@ -16,7 +16,7 @@ use Rattle.avtp_text.specs.Pieces.{newline}
 unfoldable pub capture_line : List ℕ → List ℕ
 capture_line name = codes "capture " ++ name ++ newline
 
--- the bytes of all channels of sample `j` of a batch, in which all samples have the same size
+-- the bytes of sample `j` of a batch, for all channels; all samples of a batch have the same size
 abbrev pub sample_bytes : Presented → ℕ → List ℕ
 sample_bytes batch j = take (length batch.bytes / batch.count) (drop (j * (length batch.bytes / batch.count)) batch.bytes)
 

@@ -20,6 +20,6 @@ device_fault_line = codes "device fault" ++ newline
 unfoldable pub limit_line : ℕ → List ℕ
 limit_line bytes = codes "limit " ++ decimal bytes ++ newline
 
--- the line of a wrong command line: the position, from 1, of the first argument that is wrong
+-- the line of a wrong command line: the position of the first wrong argument, counted from 1
 unfoldable pub words_line : ℕ → List ℕ
 words_line place = codes "words: " ++ decimal place ++ newline

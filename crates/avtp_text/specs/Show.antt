@@ -14,7 +14,7 @@ use Rattle.cvf_format.specs.Cvf.{Cvf}
 use Rattle.crf_format.specs.Crf.{Crf, point_at}
 use Rattle.avtp_text.specs.Pieces.{newline, flag_text, id_text, refusal_text}
 
--- how the line of a record begins: the record's number, from 1, and the record's arrival in nanoseconds
+-- how the line of a record begins: the record's number, counted from 1, and the record's arrival in nanoseconds
 unfoldable pub frame_start : ℕ → ℤ → List ℕ
 frame_start number arrival = codes "frame " ++ decimal number ++ codes " at " ++ signed_decimal arrival ++ codes " "
 

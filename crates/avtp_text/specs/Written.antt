@@ -9,7 +9,7 @@ use Rattle.avtp_base.specs.States.{SinkState}
 abbrev pub written : Option (List ℕ) → List ℕ → Option (List ℕ)
 written held waiting = append_known held waiting
 
--- a prefix of `text` was appended to the bytes `before`, if these are known
+-- a prefix of `text` was appended to the bytes that the sink held before, if those bytes are known
 pub record AppendsPrefix (before now : Option (List ℕ)) (text : List ℕ) : Type 0 where
   pub prefix : List ℕ
   pub rest : List ℕ
@@ -24,7 +24,7 @@ Writes before now result text = MatchResult result (λ _. Appends before now tex
 abbrev pub WritesPrefix : Option (List ℕ) → Option (List ℕ) → Result Unit Failed → List ℕ → Type 0
 WritesPrefix before now result text = MatchResult result (λ _. Appends before now text) (λ _. AppendsPrefix before now text)
 
--- what the sink holds now begins with what it held before
+-- the bytes in the sink begin with the bytes that the sink held before
 pub record Grows (before now : Option (List ℕ)) : Type 0 where
   pub more : List ℕ
   pub appends : Appends before now more

@@ -100,7 +100,7 @@ impl IdText {
     }
 }
 
-/// Puts the part that changes from packet to packet before the end of a line.
+/// Writes, before the end of a line, the part that changes with each packet.
 #[inline(always)]
 fn prepend_start(line: &mut Line, id: &IdText, view: &AafView<'_>)
     requires id { id.now.id ≡ view.now.header.stream_id }

@@ -55,8 +55,7 @@ impl Text {
         }
     }
 
-    /// Appends the line of a finding that has the number `count`, if there is such a number. There must be room for the
-    /// line.
+    /// Appends the line of a finding if the finding has a number `count`. There must be room for the line.
     fn push_counted(&mut self, number: u64, id: u64, count: Option<u32>, label: &str)
         requires short { length label.now ≤ 8 }
         requires room { length self.old + FINDING ≤ ROOM }

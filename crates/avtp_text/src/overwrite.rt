@@ -1,4 +1,4 @@
-//! Overwrites parts of a text at a given distance from its end.
+//! Overwrites parts of a text that are at a known distance from the text's end.
 
 ghost use Rattle.std.specs.Prelude.{◌≡◌, ◌+◌, ◌*◌, ◌<◌, ◌≤◌, length, decimal};
 ghost use Rattle.hex.specs.Hex.{encode_lower};

@@ -21,7 +21,7 @@ const INSTANTS: i64 = 100_000_000;
 /// The longest line that is kept, in bytes. A longer line is built anew for each sample.
 const KEPT: usize = 128;
 
-/// Prepends the sequence number of a packet and the number of a sample in it to the line.
+/// Prepends to the line a packet's sequence number and the number of a sample in the packet.
 #[tactic(auto, unfolding(crate::specs::Listen::place_text))]
 #[inline(always)]
 pub fn prepend_place(line: &mut Line, seq: u8, j: u32)

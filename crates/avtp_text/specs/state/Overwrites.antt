@@ -2,6 +2,7 @@
 -- that is overwritten.
 use Rattle.std.specs.Prelude.{◌≡◌, ℕ, List, ◌++◌, length}
 
--- `new` is `old` with `piece` in place of equally many bytes; the last `behind` bytes follow `piece`
+-- After `piece` replaces equally many bytes of the text `old`, the text is `new`. The number of bytes after the piece
+-- is `behind`.
 abbrev pub Overwrites : List ℕ → List ℕ → List ℕ → ℕ → Type 0
 Overwrites old new piece behind = (before was after : List ℕ) → old ≡ before ++ was ++ after → length was ≡ length piece → length after ≡ behind → new ≡ before ++ piece ++ after

@@ -67,7 +67,7 @@ pub record StartsAt (instant start : ℤ) : Type 0 where
   pub at : instant ≡ pos (high * 100000000 + low)
 
 -- The line of sample `j` differs from the kept line only in the sample's number, the sample's bytes, and the last eight
--- digits of the instant. These digits are `low`.
+-- digits of the instant. In the line of sample `j`, these digits are `low`.
 pub record Fits (from : ℤ) (numbers : Numbers) (instant : ℤ) (j low : ℕ) : Type 0 where
   pub small : low < 100000000
   pub at : instant ≡ from +ℤ pos low
