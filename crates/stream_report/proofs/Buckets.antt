@@ -47,7 +47,8 @@ next-wide shift top least most =
         last-top : (t : ℕ) → t < 129 → 128 ≤ t → 128 ≡ t
         last-top t lt le = omega arith
 
--- The bucket begins below the next bucket. The width of the bucket is at most a 64th of each of its values.
+-- The least magnitude of the bucket is below the least magnitude of the next bucket. The greatest magnitude of the
+-- bucket exceeds the least by at most a 64th of the least.
 pub record Width (bucket : ℕ) : Type 0 where
   pub rises : first_in bucket < first_in (bucket + 1)
   pub wide : 64 * (first_in (bucket + 1) - 1 - first_in bucket) ≤ first_in bucket

@@ -46,7 +46,8 @@ tells-none spread empty first count least greatest = record {
 
 -- ---- one more value
 
--- after one more value in the bucket at index `k`, the counts of the buckets from index `from` on are still right
+-- One more value in the bucket at index `k` keeps the counts right. The list of counts begins with the bucket at index
+-- `from`.
 counts-more : (from : ℕ) (xs : List ℕ) (v : ℤ) (values : List ℤ) (k p : ℕ) → from ≤ k → k < from + length xs → length values < most_values → p ≤ 2 * side → HasPlace v k
     → ((place : ℕ) → place ≤ 2 * side → sum (take (place - from) xs) ≡ number_below (edge place) values)
     → sum (take (p - from) (set xs (k - from) (min (get_or xs (k - from) 0 + 1) (2 ^ 32 - 1)))) ≡ number_below (edge p) (v ∷ values)

@@ -9,7 +9,7 @@ use Rattle.stream_report.specs.declared.sequence.Place.TheVariants.{Ahead, Late,
 use Rattle.stream_report.specs.declared.sequence.Window.{Window}
 use Rattle.stream_report.specs.declared.order.Order.{Order}
 
--- how far the sequence number `seq` is ahead of the newest, from 1 to 256
+-- how far the sequence number `seq` is ahead of the newest; the result is from 1 to 256
 abbrev pub ahead_of : ℕ → ℕ → ℕ
 ahead_of newest seq = (seq + 255 - newest) % 256 + 1
 
@@ -18,7 +18,7 @@ abbrev pub greatest : ℕ → List ℕ → ℕ
 greatest first [] = first
 greatest first (number ∷ later) = max number (greatest first later)
 
--- the packet `number` has arrived
+-- the packet with this number has arrived
 abbrev pub has_come : ℕ → List ℕ → ℕ → Bool
 has_come first later number = first == number || list_any (λ come. come == number) later
 
@@ -31,7 +31,7 @@ place_of first later number =
     if has_come first later number then Repeat else
     if nat_lt number first then Early else Late
 
--- how many of the `count` numbers from `first` on have not arrived
+-- of the `count` successive numbers that begin with `first`, how many have not arrived
 abbrev pub missing_among : ℕ → List ℕ → ℕ → ℕ
 missing_among first later zero = 0
 missing_among first later (suc count) = missing_among first later count + (if has_come first later (first + count) then 0 else 1)
@@ -41,8 +41,9 @@ missing_among first later (suc count) = missing_among first later count + (if ha
 abbrev pub lost : ℕ → List ℕ → ℕ
 lost first later = missing_among first later (greatest first later - first)
 
--- The number of lost packets after a packet with this place. If the packet is ahead, the number grows by the packets
--- that are skipped. If the packet is late, the number falls by one. Otherwise the number does not change.
+-- The number of lost packets after one more packet, which has this place. If the new packet is ahead, the number grows
+-- by the number of packets that it skips. If the new packet is late, the number falls by one. Otherwise the number does
+-- not change.
 abbrev pub lost_with : ℕ → Place → ℕ
 lost_with before (Ahead missing) = before + missing
 lost_with before Late = before - 1
@@ -55,7 +56,7 @@ repeats first [] = 0
 repeats first (number ∷ later) = repeats first later + (if has_come first later number then 1 else 0)
 
 -- How many packets are late. A late packet is not ahead of all packets that arrived earlier, and its number had not
--- arrived.
+-- arrived before.
 abbrev pub late : ℕ → List ℕ → ℕ
 late first [] = 0
 late first (number ∷ later) = late first later + (if nat_lt (greatest first later) number then 0 else if has_come first later number then 0 else 1)
@@ -65,24 +66,25 @@ abbrev pub most_passed : ℕ → List ℕ → ℕ
 most_passed first [] = 0
 most_passed first (number ∷ later) = max (most_passed first later) (number - greatest first later - 1)
 
--- `number` is at most 192 after the greatest number, or is one of the 64 numbers up to the greatest. The packet's
--- sequence number therefore determines `number`.
+-- `number` exceeds the greatest number by at most 192, or is one of the 64 numbers that end with the greatest. The
+-- packet's sequence number therefore determines `number`.
 pub record Follows (first : ℕ) (later : List ℕ) (number : ℕ) : Type 0 where
   pub most : number ≤ greatest first later + 192
   pub least : greatest first later < number + 64
 
--- `number` is ahead of all others, and at most 256 after the greatest
+-- `number` exceeds the greatest number, by at most 256
 pub record Passes (first : ℕ) (later : List ℕ) (number : ℕ) : Type 0 where
   pub ahead : greatest first later < number
   pub most : number ≤ greatest first later + 256
 
--- `number` is `behind` below the greatest number, and is one of the 64 numbers up to the greatest
+-- the greatest number exceeds `number` by `behind`, which is at most 63
 pub record Returns (first : ℕ) (later : List ℕ) (number behind : ℕ) : Type 0 where
   pub place : number + behind ≡ greatest first later
   pub near : behind < 64
 
--- A window describes the packets of a stream. It has the greatest number modulo 256. It knows which of the 64 numbers
--- up to the greatest have arrived. It also knows how far the first number is before the greatest, up to 64.
+-- A window describes the packets of a stream. The window holds the greatest number modulo 256. It knows which of the 64
+-- numbers that end with the greatest have arrived. It also knows how far the first number is before the greatest, up to
+-- 64.
 pub record StandsFor (window : Window) (first : ℕ) (later : List ℕ) : Type 0 where
   pub newest : window.newest ≡ greatest first later % 256
   pub came : (number behind : ℕ) → Returns first later number behind → (bit_at window.came behind == 1) ≡ has_come first later number

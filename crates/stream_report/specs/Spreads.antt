@@ -14,18 +14,19 @@ abbrev pub number_up_to : ℤ → List ℤ → ℕ
 number_up_to limit [] = 0
 number_up_to limit (value ∷ values) = number_up_to limit values + (if int_le value limit then 1 else 0)
 
--- The rank of a percentile of `count` values: how many of the values must be at most the percentile. The rank is at
--- least 1.
+-- The rank of a percentile of `count` values: the least number of values that must be at most the percentile. The rank
+-- is at least 1.
 abbrev pub rank : ℕ → ℕ → ℕ
 rank count hundredths = max 1 (div_ceil (count * hundredths) 100)
 
--- `value` is the nearest-rank percentile `hundredths` of `values`. Fewer values than the percentile's rank are less
--- than `value`. At least as many values as this rank are at most `value`.
+-- `value` is the nearest-rank percentile `hundredths` of `values`. The number of values below `value` is less than the
+-- percentile's rank. The number of values that are at most `value` is at least this rank.
 pub record NearestRank (values : List ℤ) (hundredths : ℕ) (value : ℤ) : Type 0 where
   pub less : number_below value values < rank (length values) hundredths
   pub enough : rank (length values) hundredths ≤ number_up_to value values
 
--- `told` is the exact percentile, rounded up by at most a 64th of its magnitude.
+-- The number `told` is at least the exact percentile, and exceeds it by at most a 64th of the exact percentile's
+-- magnitude.
 pub record RoundedUp (values : List ℤ) (hundredths : ℕ) (told : ℤ) : Type 0 where
   pub exact : ℤ
   pub percentile : NearestRank values hundredths exact
@@ -62,7 +63,7 @@ greatest_of [] = negsuc (2 ^ 63 - 1)
 greatest_of (value ∷ values) = int_max (greatest_of values) value
 
 -- `spread` describes `values`. It has the number of values, the least value and the greatest value. For each edge, the
--- buckets below the edge hold as many values as are less than the edge.
+-- counts of the buckets below the edge add up to the number of values that are less than the edge.
 pub record TellsOf (spread : Spread) (values : List ℤ) : Type 0 where
   pub count : spread.count ≡ length values
   pub few : length values ≤ most_values

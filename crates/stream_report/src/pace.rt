@@ -43,8 +43,8 @@ impl Stamp {
         }
     }
 
-    /// The given difference of two leads. For AVTP streams, the difference is known only modulo 2^32, and the possible
-    /// value nearest to 0 is returned.
+    /// The difference of two leads. For AVTP streams, `difference` is known only modulo 2^32, and the possible value
+    /// that is nearest to 0 is returned.
     pub fn wrapped(self, difference: i64) -> i64 {
         match self {
             Stamp::Short(_) => {
@@ -140,7 +140,7 @@ pub struct Pace {
     pub swapped_by_first: Misses,
 }
 
-/// How a timestamp compares with the previous one.
+/// How a timestamp compares with the previous timestamp.
 #[derive(Clone, Copy, PartialEq, Eq)]
 pub enum Advance {
     /// The timestamp is the first, or could not be compared.

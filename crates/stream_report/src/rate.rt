@@ -37,7 +37,7 @@ impl Rate {
         })
     }
 
-    /// The duration of a number of events in nanoseconds, rounded down. At a rate of 0 it is 0.
+    /// The time that a number of events takes, in nanoseconds, rounded down. If the rate is 0, the time is 0.
     pub fn time_of(self, events: u64) -> u64 {
         let nanoseconds = SECOND.saturating_mul(self.seconds);
         if let Some(product) = events.checked_mul(nanoseconds) {
@@ -69,7 +69,7 @@ impl Beat {
         }
     }
 
-    /// The duration of a number of events in nanoseconds, at the rate.
+    /// The time that a number of events takes at this rate, in nanoseconds.
     pub fn time_of(self, events: u64) -> u64 {
         if events == self.events {
             self.time

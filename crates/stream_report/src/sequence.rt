@@ -9,8 +9,7 @@ ghost use Rattle.stream_report.specs.state.Bits.{Moves, Marks};
 /// ahead belongs to an earlier packet.
 const FARTHEST: u8 = 192;
 
-/// The number of sequence numbers, up to and including the newest, for which the window knows whether they have
-/// arrived.
+/// The window knows, for this many sequence numbers up to and including the newest, whether they have arrived.
 const KNOWN: u64 = 64;
 
 /// The newest sequence number of a stream, and which of the 64 numbers up to the newest have arrived.
@@ -26,7 +25,7 @@ pub struct Window {
 /// How a packet's number relates to the numbers that have arrived before.
 #[derive(Clone, Copy)]
 pub enum Place {
-    /// The packet is ahead of the newest packet, and `missing` packets are missing between them.
+    /// The packet is ahead of the newest packet. `missing` is the number of packets that are missing between these two.
     Ahead { missing: u8 },
     /// The number is between the first packet's number and the newest number, and had not arrived before. The packet is
     /// late, and was counted as missing.
@@ -64,7 +63,7 @@ impl Window {
         self.place_behind(self.newest.wrapping_sub(seq))
     }
 
-    /// The place of a packet whose number is `behind` before the newest.
+    /// The place of a packet whose number is the newest number minus `behind`.
     fn place_behind(&self, behind: u8) -> Place
         ensures place { (first : ℕ) → (later : List ℕ) → (number : ℕ) → StandsFor self.now first later → Returns first later number behind
             → result ≡ place_of first later number }
@@ -78,14 +77,14 @@ impl Window {
         }
     }
 
-    /// Whether the number that is `behind` before the newest has arrived.
+    /// Whether the number `newest - behind` has arrived.
     fn has_come(&self, behind: u8) -> bool
         ensures { behind < 64 → result ≡ (bit_at self.now.came behind == 1) }
     {
         self.came.checked_shr(u32::from(behind)).unwrap_or(1) % 2 == 1
     }
 
-    /// How far `seq` is ahead of the newest number, from 1 to 256.
+    /// How far `seq` is ahead of the newest number. The result is from 1 to 256.
     pub fn ahead(&self, seq: u8) -> u64
         ensures { result ≡ ahead_of self.now.newest seq }
     {
@@ -126,7 +125,7 @@ fn moved(came: u64, ahead: u64) -> u64
     if ahead < KNOWN { came << ahead | 1 } else { 1 }
 }
 
-/// The next value of `came`, after a packet whose number is `behind` before the newest.
+/// The next value of `came`, after a packet whose number is the newest number minus `behind`.
 fn marked(came: u64, behind: u8) -> u64
     ensures { behind < 64 → Marks came behind result }
 {

@@ -93,7 +93,7 @@ fn widen(counts: &mut Vec<u32>, first: usize, place: usize) -> Result<usize, NoM
     Ok(first)
 }
 
-/// Inserts `more` counts of 0 at the beginning of `counts`.
+/// Inserts counts of 0 at the beginning of `counts`. `more` is the number of inserted counts.
 fn put_before(counts: &mut Vec<u32>, more: usize) -> Result<(), NoMemory>
     ensures { OnOk result (counts.new.items ≡ replicate more 0 ++ counts.old.items) }
 {

@@ -82,7 +82,7 @@ pub struct Stream {
     pub first_arrival: i64,
     pub last_arrival: i64,
     last: Option<Last>,
-    /// The number of events in the packets that arrived in order, without the newest packet.
+    /// The number of events in the packets that arrived in order, not counting the newest packet.
     events: u64,
     last_lead: Option<i64>,
     /// How often the time between two arrivals was compared with the duration of the earlier packet.
@@ -119,8 +119,8 @@ pub struct Stream {
     pub first_label: u8,
     pub malformed: Tally,
     pub fields: Vec<FieldCount>,
-    /// Packets whose sender differs from the first packet's. `formats` are those whose format differs from the first
-    /// packet's.
+    /// Packets whose sender differs from the first packet's. `formats` are the packets whose format differs from the
+    /// first packet's.
     pub senders: Tally,
     pub formats: Tally,
 }
@@ -303,7 +303,7 @@ impl Stream {
         }
     }
 
-    /// What is counted by sequence numbers. All counts are 0 before the first packet.
+    /// The counts that are based on sequence numbers. All counts are 0 before the first packet.
     fn counted(&self) -> Order {
         match self.order {
             Some(order) => order,
@@ -396,8 +396,8 @@ impl Stream {
         restarted
     }
 
-    /// Counts the packet's block count if it does not continue the block count of the packet directly before. Returns
-    /// false only in this case.
+    /// Whether the packet's block count continues the block count of the packet directly before. If it does not, the
+    /// packet is counted in `blocks`. True if one of the block counts is not known.
     fn note_block_count(&mut self, at: At, facts: &Facts, last: Option<Last>) -> bool {
         let Some(last) = last else {
             return true;

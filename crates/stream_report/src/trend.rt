@@ -84,8 +84,8 @@ impl Trend {
     }
 }
 
-/// `rise` nanoseconds per `run` units, in parts of 10^9. If a product would not fit, `rise` and `run` are divided by
-/// the same power of two.
+/// The quotient of `rise`, in nanoseconds, and `run`, in time units, as parts of 10^9. If a product would not fit,
+/// `rise` and `run` are divided by the same power of two.
 fn quotient(rise: i128, run: i128) -> Option<i64> {
     let cut = bits_of(rise)
         .saturating_sub(96)

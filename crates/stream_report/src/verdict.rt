@@ -17,16 +17,16 @@ pub enum ClockGuess {
 /// A verdict. The kinds are in order, the worst first. Times are in nanoseconds.
 #[derive(Clone, Copy)]
 pub enum Verdict {
-    /// Most timestamps do not advance by their packets' durations. If `swapped` is true, most timestamps would do so if
-    /// their bytes were swapped.
+    /// Most timestamps do not advance by their packets' durations. If `swapped` is true, most timestamps would advance
+    /// by these durations if their bytes were swapped.
     NotInOrder {
         off: u64,
         compared: u64,
         first: Miss,
         swapped: bool,
     },
-    /// Presentation times are far from the packets' arrivals. `lead` is the median distance. It is exact if `exact` is
-    /// true, and otherwise known modulo 2^32.
+    /// Presentation times are far from the packets' arrivals. `lead` is the median distance. If `exact` is true, the
+    /// distance is exact. Otherwise the distance is known modulo 2^32.
     Clocks {
         lead: i64,
         guess: ClockGuess,
@@ -78,11 +78,11 @@ pub enum Verdict {
     Flapping {
         restarts: Tally,
     },
-    /// Packets without a timestamp that should have one.
+    /// Packets that have no timestamp but should have one.
     Missing {
         packets: Tally,
     },
-    /// Packets with a timestamp that should have none.
+    /// Packets that have a timestamp but should have none.
     Unwanted {
         packets: Tally,
     },

@@ -67,13 +67,13 @@ fn add(verdicts: &mut Vec<Verdict>, verdict: Option<Verdict>) -> Result<(), NoMe
     Ok(())
 }
 
-/// Whether `some` is more than `of` divided by `part`.
+/// Whether `some` exceeds the quotient `of / part`.
 fn is_more(some: u64, of: u64, part: u64) -> bool {
     some.saturating_mul(part) > of
 }
 
 /// The verdict that most timestamps do not advance by their packets' durations. `None` if at least half of the
-/// timestamps do.
+/// timestamps advance by these durations.
 fn order_verdict(stream: &Stream) -> Option<Verdict> {
     let pace = &stream.pace;
     let compared = pace.compared;

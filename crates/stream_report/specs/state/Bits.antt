@@ -3,13 +3,13 @@
 use Rattle.std.specs.Prelude.{◌≡◌, ◌≢◌, ℕ, ◌+◌, ◌<◌}
 use Rattle.std.specs.Int.{bit_at}
 
--- the newest number moved ahead by `ahead`, and the numbers that were skipped have not arrived
+-- the newest number rose by `ahead`, and the numbers that were skipped have not arrived
 pub record Moves (came ahead now : ℕ) : Type 0 where
   pub newest : bit_at now 0 ≡ 1
   pub between : (behind : ℕ) → 0 < behind → behind < ahead → behind < 64 → bit_at now behind ≡ 0
   pub before : (behind : ℕ) → behind + ahead < 64 → bit_at now (behind + ahead) ≡ bit_at came behind
 
--- the number that is `behind` before the newest has arrived
+-- the newest number minus `behind` is now marked as arrived; no other mark changed
 pub record Marks (came behind now : ℕ) : Type 0 where
   pub same : bit_at now behind ≡ 1
   pub other : (place : ℕ) → place ≢ behind → bit_at now place ≡ bit_at came place
