@@ -290,8 +290,8 @@ fn say_first<W: fmt::Write>(found: i64, wanted: u64, f: &mut fmt::Formatter<W>) 
     )
 }
 
-/// A drift up to this limit is given in ppm, and a greater drift in percent. No clock drifts by more than this limit,
-/// which is 1,000 ppm, here in parts of 10^9.
+/// This limit is 1,000 ppm, in parts of 10^9. A drift up to the limit is given in ppm, and a greater drift in percent.
+/// No clock drifts by more than the limit.
 const MOST_DRIFT: u64 = 1_000_000;
 
 fn say_drift<W: fmt::Write>(parts: i64, f: &mut fmt::Formatter<W>) -> fmt::Result {
