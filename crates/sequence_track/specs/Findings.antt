@@ -82,7 +82,8 @@ tracked_findings notes seen = record {
   untracked = false;
 }
 
--- the findings in a packet of a stream that is not tracked: that it is not tracked, and whether a reserved bit is set
+-- the findings in a packet of a stream that is not tracked: that the stream is not tracked, and whether a reserved bit
+-- is set
 abbrev pub untracked_findings : Seen → Findings
 untracked_findings seen = record { reserved = seen.reserved; step = None; hold = None; stamp = false; untracked = true }
 
