@@ -126,7 +126,7 @@ fn add_listen(text: &mut String, asked: &Listen<'_>) -> Result<(), AllocError> {
     add_names(text, asked.files)
 }
 
-/// Adds the files that are written, each with the position of its name among the words, from 0.
+/// Adds the files that are written, each with the position of its name among the words, counted from 0.
 fn add_devices(text: &mut String, asked: &Listen<'_>) -> Result<(), AllocError> {
     if let Some(raw) = asked.raw {
         let silence = match raw.silence {

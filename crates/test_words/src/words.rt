@@ -53,8 +53,8 @@ fn assert_offence(
     Ok(())
 }
 
-/// Tries an option with each value that the option does not accept. Also tries the option without a value, twice, and
-/// after the names.
+/// Tries an option with each value that the option does not accept. Also tries the option in three more ways: without a
+/// value, given twice, and after the names.
 fn assert_option(
     rt: &impl Abort,
     alloc: Global,
