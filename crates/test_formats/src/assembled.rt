@@ -30,7 +30,7 @@ fn push(assembler: &mut Assembler, frame: u64, packet: &[u8]) -> Option<Pushed>
     Some(assembler.push(mark, instant, &view))
 }
 
-/// The numbers of the `lost` frames that were given up last.
+/// The numbers of the frames that were given up last. `lost` is the number of these frames.
 fn given_up(alloc: Global, assembler: &Assembler, lost: u32) -> Result<String, Fail>
     requires { lost ≤ length assembler.now.lost }
 {
@@ -101,8 +101,8 @@ fn a_unit_is_whole_if_its_fragments_go_on_with_each_other(rt: HostRuntime) -> Re
     Ok(())
 }
 
-/// Pushes `fragments` fragments of one unit. All but the last have equal bodies. Returns what becomes of the last
-/// fragment.
+/// Pushes all fragments of one unit. `fragments` is the number of fragments. All but the last have equal bodies.
+/// Returns what becomes of the last fragment.
 fn push_long(
     assembler: &mut Assembler,
     fragments: u64,
