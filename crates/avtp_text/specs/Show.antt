@@ -1,4 +1,4 @@
--- The lines of `show`: one for each record of a capture, and one at its end.
+-- The lines of `show`: one for each record of a capture, and one at the end of the capture.
 use Rattle.std.specs.Prelude.{List, ℕ, ℤ, ◌/◌, ◌%◌, ◌++◌, length, codes, decimal, unwrap_or}
 use Rattle.std.specs.Fmt.{signed_decimal}
 use Rattle.avtp_base.specs.declared.refusal.Refusal.{Refusal}

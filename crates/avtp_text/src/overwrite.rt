@@ -7,8 +7,8 @@ ghost use Rattle.avtp_text.specs.state.Pairs.{eight_digits};
 
 use crate::pairs::{write_bytes, write_eight_digits, write_hex};
 
-/// Overwrites eight bytes of a text with the eight digits of `number`. The last `behind` bytes of the text follow the
-/// digits.
+/// Overwrites eight bytes of a text with the eight digits of `number`. `behind` is the number of bytes of the text
+/// after the digits.
 #[inline(always)]
 pub fn overwrite_eight_digits(text: &mut [u8], number: u32, behind: usize)
     requires number { number < 100000000 }
@@ -19,8 +19,8 @@ pub fn overwrite_eight_digits(text: &mut [u8], number: u32, behind: usize)
     write_eight_digits(number, &mut text[end - 8..end]);
 }
 
-/// Overwrites bytes of a text with the digits of `number`. The last `behind` bytes of the text follow the digits.
-/// Returns the number of digits. Most sample numbers have one digit.
+/// Overwrites bytes of a text with the digits of `number`. `behind` is the number of bytes of the text after the
+/// digits. Returns the number of digits. Most sample numbers have one digit.
 #[tactic(auto, using(crate::proofs::Digits::one_digit))]
 #[inline(always)]
 pub fn overwrite_decimal(text: &mut [u8], number: u64, behind: usize) -> usize
@@ -36,8 +36,8 @@ pub fn overwrite_decimal(text: &mut [u8], number: u64, behind: usize) -> usize
     end - itoa::write_digits(number, text, end)
 }
 
-/// Overwrites bytes of a text with the hexadecimal digits of `bytes`. The last `behind` bytes of the text follow the
-/// digits.
+/// Overwrites bytes of a text with the hexadecimal digits of `bytes`. `behind` is the number of bytes of the text after
+/// the digits.
 #[inline(always)]
 pub fn overwrite_hex(text: &mut [u8], bytes: &[u8], behind: usize)
     requires { 2 * length bytes.now + behind ≤ length text.old }

@@ -1,5 +1,5 @@
-//! The lines of `show`: one for each record of a capture, and one at its end. The records are numbered from 1, and an
-//! arrival is in nanoseconds.
+//! The lines of `show`: one for each record of a capture, and one at the end of the capture. The records are numbered
+//! from 1, and an arrival is in nanoseconds.
 
 ghost use Rattle.std.specs.Prelude.{◌≡◌, ◌+◌, ◌/◌, ◌≤◌, ◌++◌, length, codes, decimal};
 ghost use Rattle.avtp_text.specs.Show.{frame_start, frame_line, end_frames_line, refused_content, ethertype_content, other_content, format_text, header_text, aaf_content, iec_content, part_text, nal_type as type_of_nal, h264_content, crf_content};

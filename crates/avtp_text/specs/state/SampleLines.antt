@@ -53,7 +53,7 @@ pub record HasGaps (line : KeptLine) (packet : SamplePacket) : Type 0 where
   pub frame : line.behind.frame ≡ length (behind_frame packet.seq number hex)
   pub seq : line.behind.seq ≡ length (behind_seq number hex)
 
--- if a line is kept, it is the line of a sample of the given packet, and the positions of its gaps are known
+-- if a line is kept, it is the line of a sample of this packet, and the positions of its gaps are known
 abbrev pub KnowsGaps : KeptLine → SamplePacket → Type 0
 KnowsGaps line packet = line.numbers.least < line.numbers.limit → HasGaps line packet
 
