@@ -74,7 +74,7 @@ begun first place old new within none one = record {
     empty : (n : ℕ) → sum (take n []) ≡ 0
     empty n = sum-zeros n 0
 
--- putting counts of 0 before `old` widens `old` down to the bucket at index `place`
+-- if counts of 0 are put before the counts `old`, the result widens `old` down to the bucket at index `place`
 pub lower : (first place : ℕ) (old new : List ℕ) → place < first → new ≡ replicate (first - place) 0 ++ old → Widens first old place new place
 lower first place old new lt is = record {
   same = λ to. ap (λ (l : List ℕ). sum (take (to - place) l)) is ∙ sum-before (first - place) old (to - place) ∙ ap (λ (n : ℕ). sum (take n old)) (rest to);
@@ -89,7 +89,7 @@ lower first place old new lt is = record {
     size : length new ≡ first - place + length old
     size = ap (λ (l : List ℕ). length l) is ∙ length-append (replicate (first - place) 0) old ∙ ap (λ (n : ℕ). n + length old) (length-replicate {A = ℕ} (first - place) 0)
 
--- putting counts of 0 after `old` widens `old` up to the bucket at index `place`
+-- if counts of 0 are put after the counts `old`, the result widens `old` up to the bucket at index `place`
 pub higher : (first place more : ℕ) (old new : List ℕ) → first ≤ place → place < 2 * side → length old + more ≡ place - first + 1
     → new ≡ take (place - first + 1) old ++ replicate more 0 → Widens first old place new first
 higher first place more old new le inside enough is = record {

@@ -7,7 +7,7 @@ ghost use Rattle.stream_report.specs.state.Orders.{Passed};
 use crate::sequence::{Place, Window};
 use crate::tally::{At, Tally};
 
-/// The counts of a stream by its sequence numbers.
+/// The counts of a stream that are based on its sequence numbers.
 #[derive(Clone, Copy)]
 pub struct Order {
     window: Window,

@@ -24,7 +24,7 @@ pub enum Stamp {
 }
 
 impl Stamp {
-    /// How long this timestamp is after `other`, modulo 2^32 or 2^64. Negative if it is before `other`.
+    /// How long this timestamp is after `other`, modulo 2^32 or 2^64. Negative if this timestamp is before `other`.
     fn since(self, other: Stamp) -> i64 {
         match (self, other) {
             (Stamp::Short(now), Stamp::Short(then)) => {

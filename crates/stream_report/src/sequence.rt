@@ -16,7 +16,7 @@ const KNOWN: u64 = 64;
 #[derive(Clone, Copy)]
 pub struct Window {
     newest: u8,
-    /// Bit `i` is set if the sequence number that is `i` before the newest has arrived.
+    /// Bit `i` is set if the newest number minus `i` has arrived.
     came: u64,
     /// How far the first packet's number is before the newest number, but at most 64.
     begin: u64,

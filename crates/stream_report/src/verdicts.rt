@@ -11,7 +11,7 @@ use avtp_base::NoMemory;
 use avtp_header::subtype;
 use std::alloc::Global;
 
-/// The class of a stream, by its leads: the first class whose max transit time is at least the median lead.
+/// The class of a stream: the first class whose max transit time is at least the median lead.
 #[derive(Clone, Copy, PartialEq, Eq)]
 pub enum Class {
     /// The max transit time is 2 ms.
@@ -24,7 +24,7 @@ pub enum Class {
     Unknown,
 }
 
-/// The class of a stream, by its leads. `None` if no packet has a timestamp.
+/// The class of a stream, judged from its leads. `None` if no packet has a timestamp.
 pub fn class_of(stream: &Stream) -> Option<Class> {
     let median = stream.leads.percentile(50)?;
     Some(match median {
