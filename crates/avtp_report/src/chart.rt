@@ -97,7 +97,7 @@ fn right(since: u64, duration: u64) -> u64 {
     part_of(WIDTH, since, duration)
 }
 
-/// The fraction `part / all` of `length`: at most `length`, and 0 if `all` is 0.
+/// The fraction `part / all` of `length`. The result is at most `length`. If `all` is 0, the result is 0.
 fn part_of(length: u64, part: u64, all: u64) -> u64 {
     let product = u128::from(part).saturating_mul(u128::from(length));
     let scaled = product.checked_div(u128::from(all)).unwrap_or(0);
