@@ -57,9 +57,9 @@ stood mr notes = prefix_len (λ note. beq note.mr mr) notes
 abbrev pub least_hold : ℕ
 least_hold = 8
 
--- Of the stream's `all` packets, the newest `packets` have the same media clock restart bit. The answer is `packets` if
--- `packets` is less than 8 and less than `all`. Otherwise it is `None`. If `packets` equals `all`, the value of the bit
--- did not begin with a change.
+-- `all` is the number of the stream's packets, and `packets` is how many of the newest have the same media clock
+-- restart bit. If `packets` is less than 8 and less than `all`, the answer is `packets`. Otherwise the answer is
+-- `None`. If `packets` equals `all`, the value of the bit did not begin with a change.
 abbrev pub early : ℕ → ℕ → Option ℕ
 early packets all = if nat_lt packets all && nat_lt packets least_hold then Some packets else None
 
