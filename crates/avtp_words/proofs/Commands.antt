@@ -639,7 +639,7 @@ same_talk words a b p q = same inputs outputs
       same : a.input ≡ b.input → a.output ≡ b.output → a.kind ≡ b.kind → a.rate ≡ b.rate → a.channels ≡ b.channels → a.count ≡ b.count → a.id ≡ b.id → a.start ≡ b.start → a.lead ≡ b.lead → a.restart ≡ b.restart → a.jump ≡ b.jump → a.crf ≡ b.crf → a ≡ b
       same inputs outputs kinds rates channels counts ids starts leads restarts jumps clocks = rw (inputs, outputs, kinds, rates, channels, counts, ids, starts, leads, restarts, jumps, clocks) refl
 
--- if the words of `talk` fit its form but break a rule over several words, their offence is at the command
+-- if words fit the form of `talk` but break a rule over several words, the offence is at the command
 pub offence_of_rule : (words : List (List ℕ)) (asked : Talking) → SaysTalk words asked → (KeepsRules (drop 1 words) asked → ⊥) → IsOffence words 1
 offence_of_rule words asked says breaks = offence_of_form talk_form words says.settings (asked.input ∷ asked.output ∷ []) refl says.line none where
   none : (request : Request) (p : IsCommandLine words request) → mark (line_of words request p).form.command ≡ mark (codes "talk") → ⊥
@@ -685,7 +685,7 @@ same_listen words a b p q = same
       same : a.listener ≡ b.listener → a.ring ≡ b.ring → a.raw ≡ b.raw → a.annexb ≡ b.annexb → a.files ≡ b.files → a ≡ b
       same listeners rings raws annexbs files = rw (listeners, rings, raws, annexbs, files) refl
 
--- if the words of `listen` fit its form but break a rule over several words, their offence is at the command
+-- if words fit the form of `listen` but break a rule over several words, the offence is at the command
 pub offence_of_names : (words : List (List ℕ)) (asked : Listening) → SaysListen words asked → (KeepsNames (drop 1 words) asked → ⊥) → IsOffence words 1
 offence_of_names words asked says breaks = offence_of_form listen_form words says.settings (says.id ∷ asked.files) refl says.line none where
   none : (request : Request) (p : IsCommandLine words request) → mark (line_of words request p).form.command ≡ mark (codes "listen") → ⊥
@@ -843,7 +843,7 @@ same_request words (talk asked) (listen other) p q = absurd (omega (arith, one_m
 same_request words (talk asked) (talk other) (p, rules) (q, others) = ap talk (same_talk words asked other p q)
 same_request words (listen asked) (listen other) (p, rules) (q, others) = ap listen (same_listen words asked other p q)
 
--- if words have a first wrong word, they do not fit the form of their command
+-- if words have a first wrong word, the words do not fit the form of their command
 stopped : (words : List (List ℕ)) (place : ℕ) → StopsAt IsLine words place → IsLine words → ⊥
 stopped words place o line = go o.rest o.split o.stops where
   go : (rest : List (List ℕ)) → words ≡ o.before ++ rest → Stops IsLine o.before rest → ⊥

@@ -549,8 +549,9 @@ abbrev pub Stops : (List (List ℕ) → Type 0) → List (List ℕ) → List (Li
 Stops L before [] = L before → ⊥
 Stops L before (next ∷ _) = Begins L (before ++ next ∷ []) → ⊥
 
--- The first wrong word is at index `place`: the words before it begin a line of `L`, but the words up to and including
--- it do not. If there are only `place` words, a word is missing: `words` begin a line of `L`, but are not a whole line.
+-- The first wrong word is at index `place`. The words before index `place` begin a line of `L`. The words up to and
+-- including index `place` begin no line of `L`. If there are only `place` words, a word is missing. Then `words` begin
+-- a line of `L`, but are not a whole line.
 pub record StopsAt (L : List (List ℕ) → Type 0) (words : List (List ℕ)) (place : ℕ) : Type 0 where
   pub before : List (List ℕ)
   pub rest : List (List ℕ)
@@ -561,8 +562,8 @@ pub record StopsAt (L : List (List ℕ) → Type 0) (words : List (List ℕ)) (p
 
 -- The position, counted from 1, of what is wrong with `words`.
 pub data IsOffence (words : List (List ℕ)) (position : ℕ) : Type 0 where
-  -- The position of the first wrong word. The words before it begin a line, but the words up to and including it do
-  -- not. If a word is missing, the position is one past the last word.
+  -- The position of the first wrong word. The words before the wrong word begin a line. If the wrong word is appended
+  -- to these words, they begin no line. If a word is missing, the position is one past the last word.
   of_a_word : (place : ℕ) → position ≡ place + 1 → StopsAt IsLine words place → IsOffence words position
   -- The position of the command, because no word is wrong by itself, but a rule over several words fails.
   of_a_rule : position ≡ 1 → IsLine words → ((request : Request) → IsCommandLine words request → ⊥) → IsOffence words position

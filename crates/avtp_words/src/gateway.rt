@@ -22,7 +22,7 @@ pub enum GatewayFormat {
     Aaf,
 }
 
-/// The stream of a capture to convert, its listener, and the format to convert it to.
+/// The stream of a capture to convert, its listener, and the format of the output.
 #[derive(Clone, Copy, Debug, PartialEq, Eq)]
 pub struct Gateway<'a> {
     /// The stream, and the listener that presents it.

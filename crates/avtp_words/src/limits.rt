@@ -93,7 +93,7 @@ pub const LOOK: OptionRow = OptionRow {
 pub const LOOK_DEFAULT: u32 = 0;
 
 /// The stream ID of the media clock whose timestamps determine the presentation times. Without this option, the
-/// stream's own timestamps determine them.
+/// stream's own timestamps determine the presentation times.
 pub const CLOCK: OptionRow = OptionRow {
     name: "--clock",
     takes: Takes::Id,

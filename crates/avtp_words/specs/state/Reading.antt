@@ -35,7 +35,7 @@ rows_of rows = map row_of rows
 abbrev pub names_of : List OptionRow → List (List ℕ)
 names_of rows = map (λ row. row.name.now) rows
 
--- If the option takes a number, its range is not empty and its numbers fit 64 bits.
+-- If the option takes a number, the option's range is not empty, and all numbers in the range fit 64 bits.
 abbrev pub is_sound : Takes → Bool
 is_sound (Number low high) = nat_le low high && nat_lt high (2 ^ 64)
 is_sound (Signed most) = nat_lt most (2 ^ 63)
