@@ -20,11 +20,12 @@ capture_line name = codes "capture " ++ name ++ newline
 abbrev pub sample_bytes : Presented → ℕ → List ℕ
 sample_bytes batch j = take (length batch.bytes / batch.count) (drop (j * (length batch.bytes / batch.count)) batch.bytes)
 
--- how the line of a sample begins: its presentation time in nanoseconds, and the number of its packet's frame
+-- how the line of a sample begins: the sample's presentation time in nanoseconds, and the number of the frame of the
+-- sample's packet
 unfoldable pub due_text : ℤ → ℕ → List ℕ
 due_text instant frame = codes "at " ++ signed_decimal instant ++ codes " frame " ++ decimal frame
 
--- how the line of a sample continues: the sequence number of its packet, and the sample's number in the packet
+-- how the line of a sample continues: the sequence number of the sample's packet, and the sample's number in the packet
 unfoldable pub place_text : ℕ → ℕ → List ℕ
 place_text seq j = codes " seq " ++ decimal seq ++ codes " sample " ++ decimal j ++ codes " "
 

@@ -1,8 +1,8 @@
 -- The line of a sample, which is reused for the next samples.
 use Rattle.std.specs.Prelude.{ℕ}
 
--- the packet whose samples a line shows: the number of its frame, its sequence number, and the size of a sample in
--- bytes
+-- the packet whose samples a line shows: the number of the packet's frame, the packet's sequence number, and the size
+-- of a sample in bytes
 pub record SamplePacket : Type 0 where
   pub frame : ℕ
   pub seq : ℕ

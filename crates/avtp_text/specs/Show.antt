@@ -18,7 +18,7 @@ use Rattle.avtp_text.specs.Pieces.{newline, flag_text, id_text, refusal_text}
 unfoldable pub frame_start : ℕ → ℤ → List ℕ
 frame_start number arrival = codes "frame " ++ decimal number ++ codes " at " ++ signed_decimal arrival ++ codes " "
 
--- the line of a record: its number, its arrival, and its content
+-- the line of a record: the record's number, arrival and content
 abbrev pub frame_line : ℕ → ℤ → List ℕ → List ℕ
 frame_line number arrival content = frame_start number arrival ++ content ++ newline
 

@@ -9,7 +9,8 @@ use crate::line::{LONGEST, Line};
 use avtp_base::Failed;
 use avtp_files::Sink;
 
-/// A packet that is in both captures: the number of its frame in each capture, and its sequence number.
+/// A packet that is in both captures: the number of the packet's frame in each capture, and the packet's sequence
+/// number.
 #[derive(Clone, Copy, Debug, PartialEq, Eq)]
 pub struct PacketPair {
     pub frame_a: u64,
@@ -86,8 +87,8 @@ impl Text {
         self.print(out, line.as_slice())
     }
 
-    /// Prints how many packets both listeners present, how many only the first presents, how many only the second
-    /// presents, and how many both listeners present, but differently.
+    /// Prints how many packets both listeners present, how many only the first listener presents, how many only the
+    /// second listener presents, and how many both listeners present, but differently.
     #[tactic(auto, unfolding(crate::specs::Agree::end_agree_line))]
     pub fn end_agree<S: Sink>(
         &mut self,

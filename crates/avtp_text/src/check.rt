@@ -115,7 +115,8 @@ impl Text {
         self.print(out, line.as_slice())
     }
 
-    /// Prints that a capture ended after `frames` records, how many of its streams are tracked, and how many findings it has.
+    /// Prints that a capture ended after `frames` records, how many streams of the capture are tracked, and how many
+    /// findings the capture has.
     #[tactic(auto, unfolding(crate::specs::Check::end_check_line))]
     pub fn end_check<S: Sink>(
         &mut self,

@@ -147,7 +147,7 @@ impl Line {
         self.prepend(label);
     }
 
-    /// Prepends `label` and, after it, `number` in decimal digits, with a minus sign if it is negative.
+    /// Prepends `label` and, after it, `number` in decimal digits, with a minus sign if the number is negative.
     #[tactic(auto, using(crate::proofs::Digits::digits_of_u64))]
     #[inline(always)]
     pub fn prepend_i64(&mut self, label: &str, number: i64)

@@ -80,8 +80,8 @@ struct Behind {
     seq: usize,
 }
 
-/// The whole line of a sample, and how many bytes of it follow the instant, the number of the frame, and the sequence
-/// number.
+/// The whole line of a sample, and how many bytes of the line follow the instant, the number of the frame, and the
+/// sequence number.
 #[tactic(auto, unfolding(crate::specs::state::SampleLines::behind_instant))]
 fn whole_line(instant: i64, frame: u64, seq: u8, j: u32, bytes: &[u8]) -> (Line, Behind)
     requires { length bytes.now ≤ SHORT }
