@@ -126,7 +126,8 @@ fn is_avtp_port(port: u16) -> bool {
 /// The code FMT of IEC 61883-6.
 const AM824: u8 = 0x10;
 
-/// The kind of a refused packet of this subtype, if its format is not supported. `None` if the packet is malformed.
+/// The kind of a refused packet of this subtype, if the packet's format is not supported. `None` if the packet is
+/// malformed.
 pub fn unread_format(subtype: u8, field: Field, pdu: &[u8]) -> Option<Other> {
     match field {
         Field::Format => Some(Other::AafFormat(byte_at(pdu, 16))),

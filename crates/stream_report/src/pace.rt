@@ -4,8 +4,8 @@ use crate::rate::Beat;
 use crate::tally::At;
 
 /// A timestamp may be off by 1 / `PART_OF_PACKET` of a packet's duration, plus 1 / `PART_OF_ADVANCE` of the time since
-/// the previous timestamp. The reasons are that a talker rounds, and that its media clock does not run exactly at its
-/// nominal speed.
+/// the previous timestamp. The reasons are that a talker rounds timestamps, and that a media clock does not run exactly
+/// at its nominal speed.
 const PART_OF_PACKET: u64 = 8;
 
 const PART_OF_ADVANCE: u64 = 1024;

@@ -498,7 +498,7 @@ impl Stream {
     }
 }
 
-/// How a packet follows the packet before it, if `missing` packets are missing between them.
+/// How a packet follows the packet before it. `missing` is the number of packets that are missing between the two.
 fn after(missing: u64) -> Step {
     if missing == 0 {
         Step::Next

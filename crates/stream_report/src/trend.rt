@@ -1,4 +1,4 @@
-//! How fast the lead of a stream changes: the drift of its timestamps against their arrivals.
+//! How fast the lead of a stream changes: the drift of the stream's timestamps against the packets' arrivals.
 
 /// Arrival times are counted in units of 2^20 ns, about a millisecond.
 const UNIT: u32 = 20;
