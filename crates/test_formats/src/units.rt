@@ -4,7 +4,8 @@ use cvf_format::{next_unit, split_annex_b};
 use std::test::Fail;
 use vectors_avtp::{bytes_of, row_of};
 
-/// Byte streams. For each unit in a stream, the index of its first byte and the index after its last byte.
+/// Byte streams. For each unit in a stream, the index of the unit's first byte and the index after the unit's last
+/// byte.
 const STREAMS: &str = "\
  => []
 01 => []
