@@ -165,8 +165,8 @@ impl Report {
         }
     }
 
-    /// Finds the index of the stream with this key, and keeps it as the follower of the last packet's stream. If there
-    /// is no stream with this key yet, one is added.
+    /// Returns the index of the stream with this key. This stream becomes the follower of the last packet's stream. If
+    /// there is no stream with this key yet, one is added.
     #[inline(never)]
     fn find(&mut self, key: StreamKey, sender: &Sender, at: At) -> Result<usize, NoMemory> {
         let place = match self.places.get(&key).copied() {
