@@ -57,9 +57,9 @@ stood mr notes = prefix_len (λ note. beq note.mr mr) notes
 abbrev pub least_hold : ℕ
 least_hold = 8
 
--- `all` is the number of the stream's packets, and `packets` is how many of the newest have the same media clock
--- restart bit. If `packets` is less than 8 and less than `all`, the answer is `packets`. Otherwise the answer is
--- `None`. If `packets` equals `all`, the value of the bit did not begin with a change.
+-- `all` is the number of the stream's packets. The newest packets in a row have the same media clock restart bit, and
+-- `packets` is their number. If `packets` is less than 8 and less than `all`, the answer is `packets`. Otherwise the
+-- answer is `None`. If `packets` equals `all`, the value of the bit did not begin with a change.
 abbrev pub early : ℕ → ℕ → Option ℕ
 early packets all = if nat_lt packets all && nat_lt packets least_hold then Some packets else None
 
