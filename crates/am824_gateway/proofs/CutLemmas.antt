@@ -161,7 +161,7 @@ is_after (Some m) l b e apart =
     before : (x y : ℤ) → int_le x y ≡ false → y <ℤ x
     before x y e = grind (arith, ints)
 
--- the pieces of batch b, unless b is skipped, and then the pieces of the batches `bs` after b
+-- The pieces of batch b, followed by the pieces of the batches `bs` after b. If b is skipped, it has no pieces.
 abbrev cuts_by : Option Skip → To → Shape → Given → Presented → List Presented → List Cut
 cuts_by skip to shape given b bs = unless skip (cuts_from given.packets b (pieces_of to shape b given.block) ++ cuts_after to shape (given_with to shape given b) bs) (cuts_after to shape given bs)
 

@@ -8,7 +8,7 @@ use Rattle.am824_gateway.specs.declared.scan.To.TheVariants.{Aaf, Am824}
 use Rattle.am824_gateway.specs.Packets.{packet_of, timestamp_at}
 use Rattle.am824_gateway.specs.state.Streams.{no_samples, stated_of}
 
--- if `xs` is written over a whole list, the list is `xs`
+-- if `xs` replaces all elements of a list, the new list is `xs`
 pub put_all : (o new xs : List ℕ) (n : ℕ) → length o ≡ n → new ≡ take 0 o ++ (xs ++ drop (0 + n) o) → new ≡ xs
 put_all o new xs n size e =
     let none : drop (0 + n) o ≡ [] = drop_of_length-le o {i = 0 + n} (omega arith) in

@@ -18,7 +18,7 @@ pub passed : (frame : ℕ) (fault : Option ScanFault) (later : Option FaultAt) �
 passed frame None later e = (refl, e)
 passed frame (Some fault) later e = absurd cc
 
--- if the records `xs` have no fault, the first fault is the first one of the records after `xs`
+-- if the records `xs` have no fault, the first fault of all records is the first fault of the records after `xs`
 none_more : (to : To) (stream : ℕ) (first : Option Shape) (frame n : ℕ) (xs : List Record) (r : Record) (others : List Record) → frame + length xs ≡ n → fault_from to stream first frame xs ≡ None
     → fault_from to stream first frame (xs ++ r ∷ others) ≡ fault_from to stream (shape_from stream first xs) n (r ∷ others)
 none_more to stream first frame n [] r others at e = (let same : frame ≡ n = omega arith in ap (λ (k : ℕ). fault_from to stream first k (r ∷ others)) same)

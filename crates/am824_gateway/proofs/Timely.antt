@@ -127,7 +127,7 @@ spot_slow p rate instant few joined is = by (p.up == rate * p.down) refl
         rw e (record { some = own.0; least = own.1 })
     by false e = rw e (record { some = some; least = other_slow p rate few joined })
 
--- The pair is joined, and covers an instant.
+-- The pair is joined, and covers `instant`.
 record IsFound (rate : ℕ) (instant : ℤ) (p : Pair) : Type 0 where
   joined : IsJoined p
   covers : Covers p rate instant

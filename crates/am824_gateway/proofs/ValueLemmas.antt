@@ -65,8 +65,8 @@ back (suc n) v h =
 
 -- ---- part of a list with its labels added or removed
 
--- Add labels to all values. Without their labels, the `b` quadlets after the first `a` quadlets are the `b` values
--- after the first `a` values.
+-- If all values get labels, and quadlets a to a + b - 1 then lose their labels, the result is values a to a + b - 1 of
+-- `v`.
 pub labels_part : (a b d : ℕ) (v : List ℕ) → 3 * (a + b + d) ≤ length v → unlabelled b (take (4 * b) (drop (4 * a) (labelled (a + b + d) v))) ≡ take (3 * b) (drop (3 * a) v)
 labels_part a b d v h =
     let group : a + b + d ≡ a + (b + d) = omega arith in
@@ -77,8 +77,8 @@ labels_part a b d v h =
     let here = take_here (labelled b (drop (3 * a) v)) (labelled d (drop (3 * b) (drop (3 * a) v))) (4 * b) (length_labelled b (drop (3 * a) v) rest) in
     rw (group, whole, first, both, here) (back b (drop (3 * a) v) rest)
 
--- Remove the labels of all quadlets. The `b` values after the first `a` values are the `b` quadlets after the first `a`
--- quadlets, without labels.
+-- If all quadlets lose their labels, values a to a + b - 1 of the result are quadlets a to a + b - 1 of `q`, each
+-- without its label.
 pub values_part : (a b d : ℕ) (q : List ℕ) → 4 * (a + b + d) ≤ length q → take (3 * b) (drop (3 * a) (unlabelled (a + b + d) q)) ≡ unlabelled b (take (4 * b) (drop (4 * a) q))
 values_part a b d q h =
     let group : a + b + d ≡ a + (b + d) = omega arith in

@@ -29,7 +29,7 @@ given_out (Some shape) g batch = record g {
 }
 
 -- `turn` states the arrival, number and size of frame i of the last batch that was not skipped. A capture can hold this
--- frame: it has at most 1518 bytes, and arrives at 0 or later and before 2^32 seconds.
+-- frame: the frame has at most 1518 bytes, and arrives at 0 or later and before 2^32 seconds.
 pub record IsPieceTurn (g : Gating) (i : ℕ) (turn : Turn) : Type 0 where
   pub is : option_map turn_of (slice_get g.frames i) ≡ Some turn
   pub begun : pos 0 ≤ℤ turn.arrival

@@ -30,7 +30,7 @@ samples_of to shape batch p = turned to (p.count * shape.channels) (values_of to
 
 -- ---- packets
 
--- the timestamp of an instant: its low 32 bits (IEEE 1722-2016, 4.4.4)
+-- the timestamp of an instant: the low 32 bits of the instant (IEEE 1722-2016, 4.4.4)
 abbrev pub timestamp_at : ℤ → ℕ
 timestamp_at instant = unsigned_abs (int_rem_euclid instant (pos (2 ^ 32)))
 

@@ -98,7 +98,7 @@ fn packet_content(packet: &StreamPacket<'_>) -> Content
     }
 }
 
-/// What a record holds of the stream with this ID, given the record's bytes.
+/// What a record with these bytes holds of the stream with this ID.
 pub(crate) fn content_of(stream: u64, frame: &[u8]) -> Content
     ensures exact { result ≡ content stream frame.now }
     ensures counted { IsCounted result }

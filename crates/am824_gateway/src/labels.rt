@@ -20,7 +20,7 @@ pub(crate) fn are_linear(quadlets: &[u8]) -> bool
     linear
 }
 
-/// Writes bytes at an offset. The number of bytes is known at compile time, so they are moved without a call.
+/// Writes bytes at an offset. The number of bytes is known at compile time, so the bytes are copied without a call.
 #[inline(always)]
 pub(crate) fn put_bytes<const N: usize>(out: &mut [u8], offset: usize, bytes: &[u8; N])
     requires { offset + N ≤ length out.old }

@@ -39,7 +39,7 @@ pub fn instants_rise_through_all_pieces()
         RiseByArrival (frames_after to shape id given batches) }
 {}
 
-/// No frame is too long for Ethernet, whatever the batches.
+/// For any batches, no frame is too long for Ethernet.
 pub fn frames_are_short_enough()
     ensures { (to : ToValue) (shape : ShapeValue) (id : ℕ) (given : Given) (batches : List Presented) → IsShape shape →
         AllByRecursion IsFrame (frames_after to shape id given batches) }

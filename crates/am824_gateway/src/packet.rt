@@ -37,7 +37,7 @@ const TIMESTAMP: usize = ETHERNET_HEADER + 12;
 /// The offset of the stream data length in a frame: the number of bytes after the stream header.
 const DATA_LENGTH: usize = ETHERNET_HEADER + 20;
 
-/// The offset of the block count in a frame of AM824: that of the packet's first data block (IEC 61883-1).
+/// The offset, in a frame of AM824, of the block count of the packet's first data block (IEC 61883-1).
 const BLOCK_COUNT: usize = ETHERNET_HEADER + 27;
 
 /// What all packets of a stream have in common: their format, their sample rate and channels, and their stream id.
@@ -135,7 +135,7 @@ fn write_packet(out: &mut [u8], to: To, shape: Shape, id: u64)
     }
 }
 
-/// The timestamp of an instant: its low 32 bits.
+/// The timestamp of an instant: the low 32 bits of the instant.
 fn timestamp_of(instant: i64) -> u32
     ensures { result ≡ timestamp_at instant }
 {

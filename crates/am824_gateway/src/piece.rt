@@ -16,11 +16,11 @@ use sample_schedule::{Batch, Instant};
 /// A piece of a batch. One packet carries each piece.
 #[derive(Clone, Copy, Debug, PartialEq, Eq)]
 pub struct Piece {
-    /// The number of its first sample in the batch, from 0.
+    /// The number of the piece's first sample. The samples of a batch are numbered from 0.
     pub first: u32,
-    /// The number of its samples.
+    /// How many samples the piece has.
     pub count: u32,
-    /// The block count, modulo 256, of its first data block in AM824 (IEC 61883-6).
+    /// The block count, modulo 256, of the piece's first data block in AM824 (IEC 61883-6).
     pub block: u8,
 }
 
@@ -165,7 +165,7 @@ fn cut_once(pieces: &mut Vec<Piece>, to: To, shape: Shape, batch: &Batch, block:
     (next, is_late_with(false, batch.instant(0)))
 }
 
-/// Cuts any batch. Finds the instant of each sample from that of the sample before it.
+/// Cuts any batch. Computes the instant of each sample from the instant of the previous sample.
 fn cut_by_instants(
     pieces: &mut Vec<Piece>,
     to: To,

@@ -20,7 +20,7 @@ pub enum To {
 /// Why a capture cannot be converted.
 #[derive(Clone, Copy, Debug, PartialEq, Eq)]
 pub enum ScanFault {
-    /// A packet of the stream is of neither format, or of the wanted format already.
+    /// A packet of the stream is neither AM824 nor PCM, or it already has the wanted format.
     Kind,
     /// PCM samples do not have 24 bits, or not all bits of them are used.
     Format,
@@ -102,7 +102,7 @@ impl Samples {
 }
 
 impl Scan {
-    /// A scan of the stream with this id, for what cannot be converted to the format `to`.
+    /// A new scan. It looks for packets of the stream with this ID that cannot be converted to the format `to`.
     pub fn new(to: To, stream: u64) -> Self
         ensures { HasScanned to stream [] result }
     {

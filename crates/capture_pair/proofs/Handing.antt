@@ -57,7 +57,8 @@ presented-split n xs = sym (presented-append (take n xs) (drop n xs)) ∙ ap pre
 taken-few : (n : ℕ) (xs : List Shown) → length (presented_of (take n xs)) ≤ n
 taken-few n xs = let a = presented-few (take n xs) in let b = take-few n xs in omega arith
 
--- if item n is a batch, the first n + 1 items present the batches of the first n items and then this batch
+-- if item n is a batch, the batches among the first n + 1 items are those among the first n items, followed by this
+-- batch
 next-batch : (n : ℕ) (xs : List Shown) (batch : Presented) → slice_get xs n ≡ Some (Present batch) → presented_of (take (n + 1) xs) ≡ presented_of (take n xs) ++ batch ∷ []
 next-batch n xs batch e =
     let one : n + 1 ≡ suc n = omega arith in
@@ -68,7 +69,7 @@ next-flag n xs x e f =
     let one : n + 1 ≡ suc n = omega arith in
     ap (λ k. presented_of (take k xs)) one ∙ ap presented_of (take-one n xs x e) ∙ presented-append (take n xs) (x ∷ []) ∙ ap (λ (l : List Presented). presented_of (take n xs) ++ l) f ∙ append-nil (presented_of (take n xs))
 
--- the batches of the first n items and the next batch are in order
+-- if item n is a batch, the batches among the first n items, followed by this batch, are in order
 next-order : (n : ℕ) (xs : List Shown) (batch : Presented) → IsHeard xs → slice_get xs n ≡ Some (Present batch) → IsInOrder (presented_of (take n xs) ++ batch ∷ [])
 next-order n xs batch h e =
     subst IsInOrder (next-batch n xs batch e) (order-front (presented_of (take (n + 1) xs)) (presented_of (drop (n + 1) xs)) (subst IsInOrder (sym (presented-split (n + 1) xs)) h.order))

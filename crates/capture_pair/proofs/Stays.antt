@@ -130,7 +130,8 @@ further-goes list other n k given xs ys ended_a ended_b m h f = record {
   is_over_b = f.over_b;
 }
 
--- the known part is `done`, and then the known part of the merged list of the batches that are not in `done`
+-- Merge the batches that are not in `done`. The known part of all batches is `done`, followed by the known part of that
+-- merged list.
 pub further-known : (list other : List Shown) (n k given : ℕ) (xs ys : List Presented) (ended_a ended_b : Bool) (m : MatchingState)
     → (h : Matches list other n k given m) → (f : Further list other xs ys ended_a ended_b m)
     → known ended_a ended_b (merged xs ys)
@@ -390,8 +391,8 @@ shown-is : (plan : ListenPlan) (records : List Record) (l : ListenState) → l.p
     → presented_by l records ≡ presented_of (shown_of plan records)
 shown-is plan records l is closed = ap presented_of (out_ended l records closed) ∙ ap (λ (p : ListenPlan). presented_of (shown_of p records)) is
 
--- If A is wanted, further records of B add nothing to the known part. The known part is then that of two lists, as if
--- only B had ended: the batches that are due of A, and all batches that are shown of B.
+-- If A is wanted, further records of B add nothing to the known part. The known part is then computed as if only B had
+-- ended: from the batches of A that are due, and all batches of B that are shown.
 pub fault-a : (plan : ListenPlan) (records others more : List Record) (given : ℕ) (pair : PairState)
     → StandsFor records others given pair → HavePlan plan pair → EndsAreClosed pair → wanted_by pair ≡ Some A
     → is_closed pair.a ≡ false → (is_closed pair.b ≡ true → more ≡ [])
@@ -419,8 +420,8 @@ fault-a plan records others more given pair s plans ends w opened none =
     (is_closed pair.a) (is_closed pair.b) m s.matches (further-now records others pair ends) w (s.filled_a w) refl opened
     ∙ sym (known-done-a list other s.shown_a s.shown_b given xs ys false true m s.matches f w (s.filled_a w) refl refl)
 
--- If B is wanted, further records of A add nothing to the known part. The known part is then that of two lists, as if
--- only A had ended: all batches that are shown of A, and the batches that are due of B.
+-- If B is wanted, further records of A add nothing to the known part. The known part is then computed as if only A had
+-- ended: from all batches of A that are shown, and the batches of B that are due.
 pub fault-b : (plan : ListenPlan) (records others more : List Record) (given : ℕ) (pair : PairState)
     → StandsFor records others given pair → HavePlan plan pair → EndsAreClosed pair → wanted_by pair ≡ Some B
     → is_closed pair.b ≡ false → (is_closed pair.a ≡ true → more ≡ [])

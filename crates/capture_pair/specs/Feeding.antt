@@ -21,7 +21,7 @@ abbrev pub fed_of : Which → FedPair → Feeding
 fed_of A pair = pair.a
 fed_of B pair = pair.b
 
--- the bytes of side A (`bytes`) or of side B (`others`)
+-- the bytes of a side: `bytes` for A, and `others` for B
 abbrev pub bytes_of : Which → List ℕ → List ℕ → List ℕ
 bytes_of A bytes others = bytes
 bytes_of B bytes others = others
@@ -41,12 +41,12 @@ pub record AreShort (bytes others : List ℕ) : Type 0 where
   pub a : length bytes ≤ 2 ^ 62
   pub b : length others ≤ 2 ^ 62
 
--- The known part of the merged list of both listeners' batches, after `bytes` of A and `others` of B were fed. The
+-- The known part of the merged list of both listeners' batches, after A was fed `bytes` and B was fed `others`. The
 -- known part is a prefix of the merged list that no later bytes can change.
 abbrev pub known_by : FedPair → List ℕ → List ℕ → List Sided
 known_by pair bytes others = known (is_ended pair.a) (is_ended pair.b) (merged (presented_of (out pair.a bytes)) (presented_of (out pair.b others)))
 
--- The pair was fed `bytes` of A and `others` of B, and has returned the first `given` differences of the known part.
+-- A was fed `bytes`, and B was fed `others`. The pair has returned the first `given` differences of the known part.
 abbrev pub StandsFor : List ℕ → List ℕ → ℕ → FedPair → Type 0
 StandsFor bytes others given pair = Pairs (λ list n. IsFed bytes n pair.a) (λ list n. IsFed others n pair.b) (out pair.a bytes) (out pair.b others) given pair.matching
 
@@ -60,8 +60,8 @@ IsThrough pair = IsIdle pair.matching
 abbrev pub most_left : FedPair → ℕ
 most_left pair = (work pair.a + work pair.b) + nexts_left pair.matching
 
--- Each listener has the same plan and the same reader as before. It has ended exactly if it had ended before, and has
--- run out of memory exactly if it had before.
+-- Each listener keeps its plan and its reader. A listener has ended exactly if it had ended before, and has run out of
+-- memory exactly if it had run out of memory before.
 pub record Keeps (old new : FedPair) : Type 0 where
   pub a : KeepsFed old.a new.a
   pub b : KeepsFed old.b new.b

@@ -44,8 +44,8 @@ pub record HavePlan (plan : ListenPlan) (pair : PairState) : Type 0 where
 abbrev pub presented_by : ListenState → List Record → List Presented
 presented_by listener records = presented_of (out listener records)
 
--- The known part of the merged list of both listeners' batches, after `records` of A and `others` of B were given. The
--- known part is a prefix of the merged list that no later records can change.
+-- The known part of the merged list of both listeners' batches, after A was given `records` and B was given `others`.
+-- The known part is a prefix of the merged list that no later records can change.
 abbrev pub known_by : PairState → List Record → List Record → List Sided
 known_by pair records others = known (is_closed pair.a) (is_closed pair.b) (merged (presented_by pair.a records) (presented_by pair.b others))
 
@@ -69,7 +69,7 @@ pub record Pairs (ShowsA ShowsB : List Shown → ℕ → Type 0) (list other : L
   pub filled_a : wanted m ≡ Some A → shown_a ≡ length list
   pub filled_b : wanted m ≡ Some B → shown_b ≡ length other
 
--- The pair was given `records` of A and `others` of B, and has returned the first `given` differences of the known
+-- A was given `records`, and B was given `others`. The pair has returned the first `given` differences of the known
 -- part.
 abbrev pub StandsFor : List Record → List Record → ℕ → PairState → Type 0
 StandsFor records others given pair = Pairs (λ list n. IsGiven records n pair.a) (λ list n. IsGiven others n pair.b) (out pair.a records) (out pair.b others) given pair.matching
@@ -84,8 +84,8 @@ pub record EndsAreClosed (pair : PairState) : Type 0 where
   pub a : pair.matching.ended_a ≡ true → is_closed pair.a ≡ true
   pub b : pair.matching.ended_b ≡ true → is_closed pair.b ≡ true
 
--- `new` is `old` after the further records `more` of A and `more_others` of B. Both plans are unchanged. A side that was
--- closed stays closed, and has no further record.
+-- `new` is the pair `old` after A took the further records `more` and B took the further records `more_others`. Both
+-- plans are unchanged. A side that was closed stays closed, and has no further record.
 pub record Continues (more more_others : List Record) (old new : PairState) : Type 0 where
   pub plan_a : new.a.plan ≡ old.a.plan
   pub plan_b : new.b.plan ≡ old.b.plan

@@ -23,8 +23,8 @@ use listener_pair::{Difference, Matching, PairCounts, Which};
 use std::alloc::Global;
 use std::marker::Model;
 
-/// Two listeners with the same plan, fed the bytes of two captures of a stream, and the differences between what they
-/// present. The bytes of each capture are fed in their order, and only when `wants` asks for them.
+/// Two listeners with the same plan, which are fed the bytes of two captures of a stream, and the differences between
+/// what the listeners present. The bytes of each capture are fed in their order, and only when `wants` asks for them.
 ///
 /// The differences are those that a `RecordPair` returns for the records of both captures. Items that a listener flags
 /// are dropped, and do not end a side. Each capture has at most 2^62 bytes.

@@ -21,8 +21,9 @@ use pcap_frames::RecordView;
 use std::alloc::Global;
 use std::marker::Model;
 
-/// Two listeners with the same plan, given the records of two captures of a stream, and the differences between what
-/// they present. The records of each capture are given in their order, and only when `wants` asks for them.
+/// Two listeners with the same plan, which are given the records of two captures of a stream, and the differences
+/// between what the listeners present. The records of each capture are given in their order, and only when `wants` asks
+/// for them.
 ///
 /// A difference is returned as soon as all earlier batches of the merged list are known. Items that a listener flags
 /// are dropped, and do not end a side. Memory is reserved when the pair is made. After that, the samples of each packet

@@ -34,7 +34,7 @@ known-here ea eb x rest a b =
     ∙ ap (λ v. cond (v && is_settled eb B (x ∷ rest)) (x ∷ known ea eb rest) []) a
     ∙ ap (λ v. cond v (x ∷ known ea eb rest) []) b
 
--- if both sides are settled by `ys`, all batches before `ys` are known
+-- if `is_settled` is true for both sides and the list `ys`, all batches before `ys` are known
 known-before : (ea eb : Bool) (xs ys : List Sided) → is_settled ea A ys ≡ true → is_settled eb B ys ≡ true → known ea eb (xs ++ ys) ≡ xs ++ known ea eb ys
 known-before ea eb [] ys a b = refl
 known-before ea eb (x ∷ xs) ys a b =
@@ -63,7 +63,7 @@ own-here : (e : Bool) (r : Bool) → (e || (true || r)) ≡ true
 own-here true r = refl
 own-here false r = refl
 
--- if both sides are settled by the last batch of `done` and the batches after it, all of `done` is known
+-- If `done` ends with x, and `is_settled` is true for both sides and the list of x and `ys`, all of `done` is known.
 known-ends : (ea eb : Bool) (done front ys : List Sided) (x : Sided) → done ≡ front ++ x ∷ [] → is_settled ea A (x ∷ ys) ≡ true → is_settled eb B (x ∷ ys) ≡ true → known ea eb (done ++ ys) ≡ done ++ known ea eb ys
 known-ends ea eb done front ys x e a b =
     ap (λ (d : List Sided). known ea eb (d ++ ys)) e

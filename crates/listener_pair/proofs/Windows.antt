@@ -14,7 +14,7 @@ use Rattle.listener_pair.specs.state.Window.{kept, paired_with, takes, without_p
 
 -- ---- positions that ascend
 
--- the positions of the batches ascend, from `lo` on and below `hi`
+-- the positions of the batches ascend; each is at least `lo` and less than `hi`
 abbrev pub IsAscending : ℕ → ℕ → List Placed → Type 0
 IsAscending lo hi [] = lo ≤ hi
 IsAscending lo hi (y ∷ ys) = (lo ≤ y.place) × IsAscending (suc y.place) hi ys

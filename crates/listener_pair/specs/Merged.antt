@@ -11,7 +11,7 @@ pub record Sided : Type 0 where
   pub side : Which
   pub batch : Presented
 
--- the batches of a list, marked as those of one side
+-- a list of batches, each marked as a batch of this side
 abbrev pub all_of : Which → List Presented → List Sided
 all_of side batches = map (λ b. record { side = side; batch = b }) batches
 
@@ -49,9 +49,9 @@ is_side B B = true
 abbrev pub is_settled : Bool → Which → List Sided → Bool
 is_settled ended side list = ended || list_any (λ x. is_side side x.side) list
 
--- The known part of a merged list, given which sides have ended. A batch is known if each side that has not ended has
--- presented this batch or a later batch of the list. Whatever the two sides present later, the known part stays a
--- prefix of the merged list.
+-- The known part of a merged list. The two conditions say whether A has ended and whether B has ended. A batch is known
+-- if each side that has not ended has presented this batch or a later batch of the list. Whatever the two sides present
+-- later, the known part stays a prefix of the merged list.
 unfoldable pub known : Bool → Bool → List Sided → List Sided
 known ended_a ended_b [] = []
 known ended_a ended_b (x ∷ rest) =

@@ -87,8 +87,8 @@ unfoldable pub unpaired_from : ℕ → List Placed → List Sided → List Place
 unpaired_from place unpaired [] = unpaired
 unpaired_from place unpaired (x ∷ rest) = unpaired_from (suc place) (unpaired_with (at_place place x) unpaired) rest
 
--- The pairs of a merged list, in the order of their later batches. Each batch in turn is paired with the first earlier
--- unpaired batch with which it may be paired.
+-- The pairs of a merged list, in the order of their later batches. From first to last, each batch is paired with the
+-- first earlier unpaired batch with which it may be paired, if there is one.
 abbrev pub pairs : List Sided → List Paired
 pairs list = pairs_from 0 [] list
 

@@ -10,11 +10,12 @@ pub enum Which {
 /// How two batches of the same packet differ.
 #[derive(Clone, Copy, Debug, PartialEq, Eq)]
 pub enum Way {
-    /// The batches have `a` and `b` samples.
+    /// The batch of A has `a` samples, and the batch of B has `b` samples.
     Count { a: u32, b: u32 },
-    /// Sample `sample` is presented at `a` in one batch and at `b` in the other, in nanoseconds of gPTP.
+    /// The sample with the number `sample` is presented at `a` in the batch of A and at `b` in the batch of B, in
+    /// nanoseconds of gPTP.
     At { sample: u32, a: i64, b: i64 },
-    /// The bytes of sample `sample` differ.
+    /// The bytes of the sample with the number `sample` differ.
     Bytes { sample: u32 },
 }
 

@@ -29,7 +29,7 @@ pub struct Matching {
     next_b: Option<Timed>,
     ended_a: bool,
     ended_b: bool,
-    /// The position of the next batch in the merged list, from 0.
+    /// The position of the next batch in the merged list. Positions are counted from 0.
     place: u64,
     waiting_a: Waiting,
     waiting_b: Waiting,
@@ -196,8 +196,8 @@ impl Matching {
         }
     }
 
-    /// Takes the next batch of the known part, which is of side `side`. If the batch makes a pair that differs, returns
-    /// the difference.
+    /// Takes the next batch of the known part. This batch is of side `side`. If the batch makes a pair that differs,
+    /// returns the difference.
     fn step(&mut self, side: Which) -> Option<Difference>
         requires { next_side self.old ≡ Some side }
         ensures stands { (xs ys : List Presented) (given : ℕ) → StandsFor xs ys given self.old → StandsFor xs ys (given + length (option_to_list result)) self.new }

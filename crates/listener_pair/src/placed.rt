@@ -3,7 +3,7 @@
 use crate::difference::{Difference, Which};
 use crate::timed::Timed;
 
-/// A batch of a side, and its position in the merged list, from 0.
+/// A batch of a side, and the position of the batch in the merged list. Positions are counted from 0.
 #[derive(Drop)]
 pub struct Placed {
     pub place: u64,

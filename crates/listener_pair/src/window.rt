@@ -18,7 +18,7 @@ use std::marker::Model;
 /// A batch is paired only with one of this many batches directly before it in merged order.
 const WINDOW: usize = 512;
 
-/// The memory of the samples of at most this many batches is kept, to be used again.
+/// The maximum number of batches whose sample memory is kept, to be used again.
 const SPENT: usize = 8;
 
 /// The batches of a side that wait for a partner, and the memory of the samples of some batches that no longer wait.

@@ -43,8 +43,9 @@ abbrev pub first_in : Option Current → ℕ
 first_in None = 0
 first_in (Some c) = c.first
 
--- The invariant of every gateway. `g.pieces` are the pieces of its last batch, and its counters are within bounds. Each
--- of its two lists of pieces has room for the pieces of any batch, and its buffer is as long as the longest frame.
+-- The invariant of every gateway `g`. `g.pieces` are the pieces of the last batch that was not skipped. The counters
+-- are within bounds. Both lists of pieces have room for the pieces of any batch, and the buffer is as long as the
+-- longest frame.
 pub record IsGateway (g : Inside) : Type 0 where
   pub shape : IfSome g.shape IsShape
   pub headers : IfSome g.shape (λ shape. HasHeaders g.to shape g.id g.headers)

@@ -123,10 +123,9 @@ wants_side A (Some B) = false
 wants_side B (Some A) = false
 wants_side which None = false
 
--- How a matching changes when it is given the next batch of side `which`, if it wants that side. If it does not want
--- the side, nothing changes. If it still wants the side afterwards, the matching is unchanged, and the side's listener
--- has not ended and has shown all items that are known so far. The other side is unchanged. Side `which` ends only if
--- its listener has ended.
+-- How a matching changes when side `which` is filled. If the matching does not want this side, nothing changes. If the
+-- matching still wants this side afterwards, the matching is unchanged, and the side's listener has not ended and has
+-- shown all items that are known so far. The other side is unchanged. Side `which` ends only if its listener has ended.
 pub record Fills (which : Which) (ended : Bool) (Quiet : Type 0) (old new : MatchingState) : Type 0 where
   pub idle : wants_side which (wanted old) ≡ false → new ≡ old
   pub same : wanted new ≡ Some which → new ≡ old

@@ -66,7 +66,7 @@ EntersSide B x next old new pair = Enters x next old.waiting_b old.waiting_a new
 abbrev pub risen : ℕ → ℕ
 risen n = min (n + 1) (2 ^ 64 - 1)
 
--- a count plus one if a condition holds
+-- a count plus one if a condition holds, and otherwise the count
 abbrev pub risen_if : Bool → ℕ → ℕ
 risen_if true n = risen n
 risen_if false n = n
