@@ -200,7 +200,7 @@ within_at current pieces c i p e cut h is =
     let cut : IsCut c pieces = rw e at cut in
     subst (IsWithin c.stream.to c.stream.shape c.batch) (sym is) (at (IsWithin c.stream.to c.stream.shape c.batch) pieces i p h cut.within)
 
--- if `IsCutFrom` holds for `pieces`, it holds for the list that has only piece i
+-- if `IsCutFrom` holds for `pieces`, `IsCut` holds for the list that has only piece i
 pub cut_one : (current : Option Current) (pieces : List Piece) (c : Current) (i : ℕ) (p : Piece) → current ≡ Some c → IsCutFrom current pieces → i < length pieces → p ≡ slice_index_or pieces i p → IsCut c (p ∷ [])
 cut_one current pieces c i p e cut h is =
     let all : IsCut c pieces = rw e at cut in

@@ -33,8 +33,8 @@ abbrev pub is_nominal : ℕ → Presented → ℕ → ℕ → Bool
 is_nominal rate batch first k =
     int_eq (sample_instant batch (first + k)) (sample_instant batch first +ℤ pos (nominal_offset rate k))
 
--- Samples k to k + more - 1 are tested in order. The result is the number of the first sample that fails the test, or k
--- + more if no sample fails.
+-- At most `more` samples are tested in order, from sample k on. The result is the number of the first sample that fails
+-- the test. If no sample fails, the result is k + more.
 abbrev pub going_on : (ℕ → Bool) → ℕ → ℕ → ℕ
 going_on test k zero = k
 going_on test k (suc more) = if test k then going_on test (suc k) more else k

@@ -55,7 +55,7 @@ pub record IsNotedAs (bytes : List ℕ) (seen : Seen) : Type 0 where
   pub reserved : has_reserved (packet_of (packet_in bytes)) ≡ seen.reserved
   pub stamp : stamp_is_off (packet_of (packet_in bytes)) ≡ seen.stamp_wrong
 
--- After `check` has made `notes`, it makes a note of each of these records, and finds nothing in them.
+-- After `check` has made `notes`, it makes a note of each of these records, and finds nothing in any of the records.
 abbrev pub FindsNothingAfter : List Seen → List Record → Type 0
 FindsNothingAfter notes [] = ⊤
 FindsNothingAfter notes (r ∷ records) =
@@ -63,9 +63,9 @@ FindsNothingAfter notes (r ∷ records) =
 
 -- ---- a capture as a whole
 
--- The bytes are a whole capture of the frames that a gateway to this format, under this ID, makes of these batches. A
--- listener that has no clock, and whose buffer is never full, presents exactly the samples of the batches that were not
--- skipped. `check` finds nothing in the capture.
+-- The bytes are a whole capture. Its records are the frames that a gateway sends for these batches, in this format and
+-- under this stream ID. A listener that has no clock, and whose buffer is never full, presents exactly the samples of
+-- the batches that were not skipped. `check` finds nothing in the capture.
 pub record Keeps (to : To) (shape : Option Shape) (id : ℕ) (batches : List Presented) (bytes : List ℕ) : Type 0 where
   pub records : whole_records bytes ≡ map record_of (gateway_frames to shape id batches)
   pub whole : first_refusal bytes ≡ None

@@ -73,7 +73,8 @@ cancel w x y some h = elim (cases_lt y x) [
   | inr le ↦ le
 ]
 
--- if a line keeps the pace, 64 times a batch's duration on this line is at most 72 times the packet's nominal duration
+-- If the pace of a line is kept, 64 times the duration of a batch on this line is at most 72 times the packet's nominal
+-- duration.
 paced : (u den count num rate : ℕ) → 1 ≤ den → u * den ≤ 64 * count * num → 8 * (rate * num) ≤ 9000000000 * den → u * rate ≤ 72 * (count * 1000000000)
 paced u den count num rate some near pace =
     let a : (8 * rate) * (u * den) ≤ (8 * rate) * (64 * count * num) = mul-le-mul_left (8 * rate) near in

@@ -54,8 +54,8 @@ pub fn batches_of_one_talker_never_differ()
     ensures presented { (shift : ℤ) (p : PacketJournal) (plan : ListenPlan) (records : List Record) → HearsTalker shift p plan records → AllByRecursion (IsPresentedOfTalker (by_clock plan) p) (presented_of (shown_of plan records)) }
 {}
 
-/// The differences that a pair has returned are the first known differences: those that no later record can change.
-/// They stay the first ones, however the two captures continue or end.
+/// The differences that a pair has returned are the first known differences. A difference is known if no later record
+/// can change it. However the two captures continue or end, the returned differences stay the first known differences.
 pub fn what_was_given_stays()
     ensures within { (records others : List Record) (given : ℕ) (pair : PairState) → StandsFor records others given pair → EndsAreClosed pair → given ≤ length (differences (known_by pair records others)) }
     ensures stays { (records others more more_others : List Record) (given : ℕ) (old new : PairState) → StandsFor records others given old → EndsAreClosed old → Continues more more_others old new

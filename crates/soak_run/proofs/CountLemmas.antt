@@ -67,6 +67,6 @@ counts_on d list (x ∷ items) few =
     ∙ counts_on d (list ++ x ∷ []) items (omega (arith, few, length-append list (x ∷ [])))
     ∙ ap (outcomes d) (append_assoc list (x ∷ []) items)
 
--- if a list is not too long, counting its items one after another gives the counts of the list
+-- if a list is not too long, counting item by item gives the counts of the list
 pub counts_all : (d : ℕ) (items : List Shown) → IsFew (length items) → with_all (outcomes d []) items ≡ outcomes d items
 counts_all d items few = counts_on d [] items (omega (arith, few))

@@ -14,7 +14,7 @@ multiplier = 1103515245
 abbrev pub increment : ℕ
 increment = 12345
 
--- the state after `state`
+-- the state that follows `state`
 abbrev pub next_state : ℕ → ℕ
 next_state state = (state * multiplier + increment) % states
 

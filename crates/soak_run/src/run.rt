@@ -53,7 +53,7 @@ fn hear<T: Threads + Sync>(
     }
 }
 
-/// Whether a pipe's receiver has given all its items and ended.
+/// Whether the receiver of a pipe has returned all items and has ended.
 fn is_over(pipe: &Pipe) -> bool
     ensures { result ≡ true → ended_with pipe.now ≡ Some Pull.Done }
 {

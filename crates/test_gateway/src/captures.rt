@@ -1,4 +1,4 @@
-//! Captures of an audio stream. Each is made from the words of a row of a table, byte by byte as the standards say.
+//! Captures of an audio stream. Each capture is made from a row of a table, byte by byte as the standards say.
 
 ghost use Rattle.std.specs.Prelude.{◌≤◌, ◌<◌};
 

@@ -12,7 +12,7 @@ use std::collections::VecDeque;
 use std::test::Fail;
 use vectors_avtp::row_of;
 
-/// The batches of A, the batches of B, and the differences and counts that the matching returns.
+/// The batches of A, and the batches of B. After `=>` are the differences and counts that the matching returns.
 const ROWS: &str = "\
  |  => matched 0 only 0 0 differ 0
 0@0 |  => matched 0 only 1 0 differ 0
