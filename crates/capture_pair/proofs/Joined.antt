@@ -188,7 +188,8 @@ same-side : (s : Which) (z b : Presented) → first_instant z ≤ℤ first_insta
 same-side A z b le = record { instants = le; sides = λ p q. absurd (cc) }
 same-side B z b le = record { instants = le; sides = λ p q. absurd (cc) }
 
--- If the batches in `rest` are of side `s`, each batch in `done` may precede each of them in merged order.
+-- If the batches in the list `rest` are of side `s`, each batch in the list `done` may precede each batch in `rest` in
+-- merged order.
 abbrev pub Crosses : Which → List Presented → List Sided → Type 0
 Crosses s rest done = AllByRecursion (λ d. AllByRecursion (λ r. MayPrecede d (of_side s r)) rest) done
 
@@ -197,7 +198,7 @@ cross-next s done a more p le =
     all-weaker (λ d. MayPrecede d (of_side s a)) (λ d. AllByRecursion (λ r. MayPrecede d (of_side s r)) (a ∷ more))
     (λ d m. (m, all-weaker (λ r. first_instant a ≤ℤ first_instant r) (λ r. MayPrecede d (of_side s r)) (λ r h. precede-more s d a r m h) more le)) done p
 
--- if `done` ends with a batch of side `s`, each batch of `done` may precede the later batches of that side
+-- If the list `done` ends with a batch of side `s`, each batch of `done` may precede the later batches of that side.
 cross-last : (s : Which) (done : List Sided) (more : List Presented) → IsSorted done → EndsOn s done → IsInOrder (batches_of s done ++ more) → Crosses s more done
 cross-last s done more sorted (inl none) order = subst (Crosses s more) (sym none) tt
 cross-last s done more sorted (inr (front, z, e)) order =
@@ -213,8 +214,8 @@ cross-last s done more sorted (inr (front, z, e)) order =
     one-of A z = refl
     one-of B z = refl
 
--- if each batch of `done` may precede all of `ra` and `rb`, the merged list of all batches is `done`, followed by the
--- merged list of `ra` and `rb`
+-- If each batch of the list `done` may precede all of `ra` and `rb`, the merged list of all batches consists of `done`,
+-- followed by the merged list of `ra` and `rb`.
 pub merged-after : (done : List Sided) (ra rb : List Presented) → IsSorted done → IsInOrder ra → IsInOrder rb → Crosses A ra done → Crosses B rb done → merged (batches_of A done ++ ra) (batches_of B done ++ rb) ≡ done ++ merged ra rb
 merged-after done ra rb sorted oa ob ca cb =
     let m = merges ra rb oa ob in
@@ -249,7 +250,7 @@ any-end s (x ∷ front) z rest = at (is_side s x.side) (any-end s front z rest)
     at true h = refl
     at false h = h
 
--- `is_settled` is true for side `s` and the list `rest`, or `done` ends with a batch of side `s`
+-- `is_settled` is true for side `s` and the list `rest`, or the list `done` ends with a batch of side `s`
 abbrev pub Covered : Bool → Which → List Sided → List Sided → Type 0
 Covered e s done rest = (is_settled e s rest ≡ true) ⊎ EndsOn s done
 
@@ -322,7 +323,8 @@ pub record GoesOn (xs ys more_a more_b : List Presented) (over_a over_b : Bool) 
   pub is_over_a : m.ended_a ≡ true → over_a ≡ true
   pub is_over_b : m.ended_b ≡ true → over_b ≡ true
 
--- the side's batches that the matching has not worked through: the next batch, if there is one, and then `more`
+-- the side's batches that the matching has not worked through: the next batch, if there is one, followed by the list
+-- `more`
 abbrev pub rest_of : Option Presented → List Presented → List Presented
 rest_of next more = option_to_list next ++ more
 
@@ -362,11 +364,12 @@ cross-nexts-b done na nb sorted = all-weaker (λ d. AllByRecursion (MayPrecede d
         by true p = (p.0, tt)
         by false p = p.1
 
--- a side's batches are those in `done`, then the next batch, if there is one, and then `more`
+-- A side's batches are those in the list `done`, followed by the next batch, if there is one, and by the list `more`.
 pub given-back : (xs done more : List Presented) (next : Option Presented) → done ++ option_to_list next ≡ xs → xs ++ more ≡ done ++ rest_of next more
 given-back xs done more next e = ap (λ (l : List Presented). l ++ more) (sym e) ∙ append_assoc done (option_to_list next) more
 
--- the merged list of all batches is `done`, and then the merged list of the batches that are not in `done`
+-- the merged list of all batches consists of the list `done`, followed by the merged list of the batches that are not
+-- in `done`
 pub merged-all : (xs ys more_a more_b : List Presented) (given : ℕ) (over_a over_b : Bool) (m : MatchingState) (s : StandsFor xs ys given m) → GoesOn xs ys more_a more_b over_a over_b m
     → merged (xs ++ more_a) (ys ++ more_b) ≡ s.done ++ merged (rest_of m.next_a more_a) (rest_of m.next_b more_b)
 merged-all xs ys more_a more_b given over_a over_b m s g =
@@ -433,7 +436,7 @@ idle-ended m none idle = at (wanted-at (lacks m.ended_a m.next_a) (lacks m.ended
     at (inr (inl w)) = let e : Some B ≡ None = sym w ∙ none in absurd (cc)
     at (inr (inr (la, lb))) = let t = through-at m.ended_a m.ended_b m.next_a m.next_b la lb idle in (t.2, t.3)
 
--- if the matching is idle, only the batches in `done` are known
+-- if the matching is idle, only the batches in the list `done` are known
 rest-idle : (ra rb : List Presented) (more_a more_b : List Presented) (over_a over_b : Bool) (m : MatchingState) → ra ≡ rest_of m.next_a more_a → rb ≡ rest_of m.next_b more_b → IsInOrder ra → IsInOrder rb → IsIdle m
     → (m.ended_a ≡ true → more_a ≡ []) → (m.ended_b ≡ true → more_b ≡ []) → IsAsked more_a more_b over_a over_b m
     → (wanted m ≡ Some A) ⊎ ((wanted m ≡ Some B) ⊎ ((lacks m.ended_a m.next_a ≡ false) × (lacks m.ended_b m.next_b ≡ false))) → known over_a over_b (merged ra rb) ≡ []
@@ -449,7 +452,7 @@ rest-idle ra rb more_a more_b over_a over_b m ea eb oa ob idle none_a none_b ask
     let b : rb ≡ [] = eb ∙ ap (λ (n : Option Presented). option_to_list n ++ more_b) t.1 ∙ none_b t.3 in
     ap (λ (l : List Presented). known over_a over_b (merged l rb)) a ∙ ap (λ (l : List Presented). known over_a over_b (merged [] l)) b ∙ ap (known over_a over_b) (merged-def [] [] ∙ by-nil) ∙ known-nil over_a over_b
 
--- if the matching is idle, the known part is `done`
+-- if the matching is idle, the known part is the list `done`
 pub known-idle : (xs ys more_a more_b : List Presented) (given : ℕ) (over_a over_b : Bool) (m : MatchingState) (s : StandsFor xs ys given m) → GoesOn xs ys more_a more_b over_a over_b m → IsAsked more_a more_b over_a over_b m → IsIdle m
     → known over_a over_b (merged (xs ++ more_a) (ys ++ more_b)) ≡ s.done
 known-idle xs ys more_a more_b given over_a over_b m s g asked idle =

@@ -73,7 +73,8 @@ shows-on plan records more l is none = at (is_closed l) refl
         (subst (λ (s : List Shown). IsPrefix s (shown_of plan (records ++ more)))
         (ap (λ (p : ListenPlan). due_of p records) (sym is) ∙ sym (out_open l records e)) (due-shown plan records more))
 
--- what a listener presents of `records` is a prefix of what the listener presents after it takes `more` or is closed
+-- What a listener presents of `records` is a prefix of what the listener presents after it takes further records or is
+-- closed.
 pub presents-on : (records more : List Record) (old new : ListenState) → new.plan ≡ old.plan → (is_closed old ≡ true → (is_closed new ≡ true) × (more ≡ []))
     → Longer (presented_by old records) (presented_by new (records ++ more)) (is_closed old)
 presents-on records more old new plan closed = at (is_closed old) (is_closed new) refl refl
@@ -107,7 +108,7 @@ pub record Further (list other : List Shown) (xs ys : List Presented) (ended_a e
   pub over_a : m.ended_a ≡ true → ended_a ≡ true
   pub over_b : m.ended_b ≡ true → ended_b ≡ true
 
--- the batches in a list after its first n items, and then `more`
+-- the batches in a list after its first n items, followed by the list `more`
 abbrev left-of : List Shown → ℕ → List Presented → List Presented
 left-of list n more = presented_of (drop n list) ++ more
 
@@ -130,8 +131,8 @@ further-goes list other n k given xs ys ended_a ended_b m h f = record {
   is_over_b = f.over_b;
 }
 
--- Merge the batches that are not in `done`. The known part of all batches is `done`, followed by the known part of that
--- merged list.
+-- Merge the batches that are not in the list `done`. The known part of all batches is `done`, followed by the known
+-- part of that merged list.
 pub further-known : (list other : List Shown) (n k given : ℕ) (xs ys : List Presented) (ended_a ended_b : Bool) (m : MatchingState)
     → (h : Matches list other n k given m) → (f : Further list other xs ys ended_a ended_b m)
     → known ended_a ended_b (merged xs ys)
@@ -159,7 +160,7 @@ front-within done more given e =
     let long = length-append (differences done) front.0 in
     omega arith
 
--- the first `given` known differences are the differences that the matching has returned
+-- The first known differences are the differences that the matching has returned; `given` is their number.
 pub further-take : (list other : List Shown) (n k given : ℕ) (xs ys : List Presented) (ended_a ended_b : Bool) (m : MatchingState)
     → (h : Matches list other n k given m) → Further list other xs ys ended_a ended_b m
     → take given (differences (known ended_a ended_b (merged xs ys))) ≡ differences h.matched.done
@@ -215,14 +216,15 @@ further-then records others more more_others old new ends c =
       over_b = λ t. (c.closed_b (ends.b t)).0;
     }
 
--- at least `given` differences are known
+-- the number of known differences is at least `given`
 pub given-within : (records others : List Record) (given : ℕ) (pair : PairState) → StandsFor records others given pair → EndsAreClosed pair
     → given ≤ length (differences (known_by pair records others))
 given-within records others given pair s ends =
     further-within (out pair.a records) (out pair.b others) s.shown_a s.shown_b given (presented_by pair.a records) (presented_by pair.b others)
     (is_closed pair.a) (is_closed pair.b) pair.matching s.matches (further-now records others pair ends)
 
--- the first `given` known differences stay the same, whatever records the pair takes later
+-- The first known differences stay the same, whatever records the pair takes later; `given` is the number of these
+-- differences.
 pub given-stays : (records others more more_others : List Record) (given : ℕ) (old new : PairState)
     → StandsFor records others given old → EndsAreClosed old → Continues more more_others old new
     → take given (differences (known_by new (records ++ more) (others ++ more_others))) ≡ take given (differences (known_by old records others))
@@ -233,7 +235,7 @@ given-stays records others more more_others given old new s ends c =
     ∙ sym (further-take (out old.a records) (out old.b others) s.shown_a s.shown_b given (presented_by old.a records) (presented_by old.b others)
     (is_closed old.a) (is_closed old.b) old.matching s.matches (further-now records others old ends))
 
--- after the pair takes more records, at least `given` differences are known
+-- after the pair takes more records, the number of known differences is at least `given`
 pub given-within-more : (records others more more_others : List Record) (given : ℕ) (old new : PairState)
     → StandsFor records others given old → EndsAreClosed old → Continues more more_others old new
     → given ≤ length (differences (known_by new (records ++ more) (others ++ more_others)))
@@ -264,7 +266,7 @@ pub continues-close : (which : Which) (old new : PairState) → Changes which 0 
 continues-close A old new c = record { plan_a = c.plan_a; plan_b = c.plan_b; closed_a = λ t. (c.closed, refl); closed_b = λ t. (c.other_closed ∙ t, refl) }
 continues-close B old new c = record { plan_a = c.plan_a; plan_b = c.plan_b; closed_a = λ t. (c.other_closed ∙ t, refl); closed_b = λ t. (c.closed, refl) }
 
--- the first `given` known differences stay the same when a record of A is taken
+-- the differences that the pair has returned stay the first known differences when a record of A is taken
 pub taken-stays-a : (r : Record) (records others : List Record) (given : ℕ) (old new : PairState)
     → StandsFor records others given old → EndsAreClosed old → is_closed old.a ≡ false → Changes A 1 false old new
     → take given (differences (known_by new (records ++ r ∷ []) others)) ≡ take given (differences (known_by old records others))
@@ -272,7 +274,7 @@ taken-stays-a r records others given old new s ends opened c =
     ap (λ (l : List Record). take given (differences (known_by new (records ++ r ∷ []) l))) (sym (append-nil others))
     ∙ given-stays records others (r ∷ []) [] given old new s ends (continues-record-a r old new opened c)
 
--- the first `given` known differences stay the same when a record of B is taken
+-- the differences that the pair has returned stay the first known differences when a record of B is taken
 pub taken-stays-b : (r : Record) (records others : List Record) (given : ℕ) (old new : PairState)
     → StandsFor records others given old → EndsAreClosed old → is_closed old.b ≡ false → Changes B 1 false old new
     → take given (differences (known_by new records (others ++ r ∷ []))) ≡ take given (differences (known_by old records others))
@@ -280,7 +282,7 @@ taken-stays-b r records others given old new s ends opened c =
     ap (λ (l : List Record). take given (differences (known_by new l (others ++ r ∷ [])))) (sym (append-nil records))
     ∙ given-stays records others [] (r ∷ []) given old new s ends (continues-record-b r old new opened c)
 
--- the first `given` known differences stay the same when a side is closed
+-- the differences that the pair has returned stay the first known differences when a side is closed
 pub closed-stays : (which : Which) (records others : List Record) (given : ℕ) (old new : PairState) → StandsFor records others given old → EndsAreClosed old
     → Changes which 0 true old new → take given (differences (known_by new records others)) ≡ take given (differences (known_by old records others))
 closed-stays which records others given old new s ends c =
@@ -302,7 +304,6 @@ known-as old new records others pa pb ca cb =
 pub known-kept : (old new : PairState) (records others : List Record) → Keeps old new → known_by new records others ≡ known_by old records others
 known-kept old new records others k = known-as old new records others k.plan_a k.plan_b k.closed_a k.closed_b
 
--- if element `given` of a list is d, the first `given + 1` elements are the first `given` elements and then d
 pub given-next : (list : List Difference) (given : ℕ) (d : Difference) → slice_get list given ≡ Some d → take (given + 1) list ≡ take given list ++ d ∷ []
 given-next list given d e = let one : given + 1 ≡ suc given = omega arith in ap (λ n. take n list) one ∙ at list given e
   where
@@ -311,7 +312,6 @@ given-next list given d e = let one : given + 1 ≡ suc given = omega arith in a
     at (x ∷ l) zero e = let s : x ≡ d = cc in ap (λ (z : Difference). z ∷ []) s
     at (x ∷ l) (suc n) e = ap (λ (z : List Difference). x ∷ z) (at l n e)
 
--- if a list has no element `given`, its first `given` elements are the whole list
 pub given-all : (list : List Difference) (given : ℕ) → slice_get list given ≡ None → take given list ≡ list
 given-all [] zero e = refl
 given-all [] (suc n) e = refl
@@ -353,8 +353,8 @@ order-rest-b list other n k given xs ys ended_a ended_b m h f =
 none-rest : (next : Option Presented) (us vs : List Presented) → next ≡ None → us ≡ [] → vs ≡ [] → rest_of next (us ++ vs) ≡ []
 none-rest next us vs e f g = ap (λ (o : Option Presented). rest_of o (us ++ vs)) e ∙ both-none us vs f g
 
--- Let A be wanted, let A's listener be open, and let the matching have the whole list of A. Then the known part is
--- `done`, whatever B presents later.
+-- Let A be wanted, let A's listener be open, and let the matching have the whole list of A. Then the known part is the
+-- list `done`, whatever B presents later.
 known-done-a : (list other : List Shown) (n k given : ℕ) (xs ys : List Presented) (ended_a ended_b : Bool) (m : MatchingState)
     → (h : Matches list other n k given m) → (f : Further list other xs ys ended_a ended_b m)
     → wanted m ≡ Some A → n ≡ length list → f.more_a ≡ [] → ended_a ≡ false

@@ -46,7 +46,8 @@ pub record AreShort (bytes others : List ℕ) : Type 0 where
 abbrev pub known_by : FedPair → List ℕ → List ℕ → List Sided
 known_by pair bytes others = known (is_ended pair.a) (is_ended pair.b) (merged (presented_of (out pair.a bytes)) (presented_of (out pair.b others)))
 
--- A was fed `bytes`, and B was fed `others`. The pair has returned the first `given` differences of the known part.
+-- A was fed `bytes`, and B was fed `others`. The pair has returned the first differences of the known part; `given` is
+-- the number of these differences.
 abbrev pub StandsFor : List ℕ → List ℕ → ℕ → FedPair → Type 0
 StandsFor bytes others given pair = Pairs (λ list n. IsFed bytes n pair.a) (λ list n. IsFed others n pair.b) (out pair.a bytes) (out pair.b others) given pair.matching
 

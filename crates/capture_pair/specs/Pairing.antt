@@ -49,8 +49,8 @@ presented_by listener records = presented_of (out listener records)
 abbrev pub known_by : PairState → List Record → List Record → List Sided
 known_by pair records others = known (is_closed pair.a) (is_closed pair.b) (merged (presented_by pair.a records) (presented_by pair.b others))
 
--- A matching was given the batches among the first n items of `list` and the first k items of `other`, and has returned
--- `given` differences. If a side has ended, the matching was given all of that side's list.
+-- A matching was given the batches among the first n items of `list` and the first k items of `other`. It has returned
+-- as many differences as `given` says. If a side has ended, the matching was given all of that side's list.
 pub record Matches (list other : List Shown) (n k given : ℕ) (m : MatchingState) : Type 0 where
   pub within_a : n ≤ length list
   pub within_b : k ≤ length other
@@ -58,8 +58,9 @@ pub record Matches (list other : List Shown) (n k given : ℕ) (m : MatchingStat
   pub ended_a : m.ended_a ≡ true → n ≡ length list
   pub ended_b : m.ended_b ≡ true → k ≡ length other
 
--- Two listeners show these lists. A matching was given the batches among the items that they have shown, and has
--- returned `given` differences. If the matching wants a side, that side's listener has shown all of its list.
+-- Two listeners show these lists. A matching was given the batches among the items that the listeners have shown. It
+-- has returned as many differences as `given` says. If the matching wants a side, that side's listener has shown all of
+-- its list.
 pub record Pairs (ShowsA ShowsB : List Shown → ℕ → Type 0) (list other : List Shown) (given : ℕ) (m : MatchingState) : Type 0 where
   pub shown_a : ℕ
   pub shown_b : ℕ
@@ -69,8 +70,8 @@ pub record Pairs (ShowsA ShowsB : List Shown → ℕ → Type 0) (list other : L
   pub filled_a : wanted m ≡ Some A → shown_a ≡ length list
   pub filled_b : wanted m ≡ Some B → shown_b ≡ length other
 
--- A was given `records`, and B was given `others`. The pair has returned the first `given` differences of the known
--- part.
+-- A was given `records`, and B was given `others`. The pair has returned the first differences of the known part;
+-- `given` is the number of these differences.
 abbrev pub StandsFor : List Record → List Record → ℕ → PairState → Type 0
 StandsFor records others given pair = Pairs (λ list n. IsGiven records n pair.a) (λ list n. IsGiven others n pair.b) (out pair.a records) (out pair.b others) given pair.matching
 
@@ -107,8 +108,8 @@ pub record Keeps (old new : PairState) : Type 0 where
   pub closed_a : is_closed new.a ≡ is_closed old.a
   pub closed_b : is_closed new.b ≡ is_closed old.b
 
--- The listener of side `which` was given `more` records, and is closed exactly if `ended` is true. The other listener
--- is unchanged, except for what it has shown.
+-- The listener of side `which` was given more records; `more` is the number of these records. The listener is closed
+-- exactly if `ended` is true. The other listener is unchanged, except for what it has shown.
 pub record Changes (which : Which) (more : ℕ) (ended : Bool) (old new : PairState) : Type 0 where
   pub plan_a : new.a.plan ≡ old.a.plan
   pub plan_b : new.b.plan ≡ old.b.plan

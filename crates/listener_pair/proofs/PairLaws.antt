@@ -138,7 +138,8 @@ none-below k lo hi (y ∷ u) h lt =
 abbrev Paired-at : ℕ → List Paired → ℕ
 Paired-at k ps = length (filter (is_in k) ps)
 
--- If k is below `place`, `times` is at most the number of batches of `u` at position k. Otherwise `times` is at most 1.
+-- If k is less than `place`, the count `times` is at most the number of batches of `u` at position k. Otherwise the
+-- count is at most 1.
 abbrev Bound : ℕ → ℕ → List Placed → ℕ → Type 0
 Bound k place u times = (k < place → times ≤ length (filter (at k) u)) × (place ≤ k → times ≤ 1)
 

@@ -41,11 +41,11 @@ front_first f zero xs = omega arith
 front_first f (suc n) [] = omega arith
 front_first f (suc n) (x ∷ xs) = let le = front_first f n xs in omega arith
 
--- the listener was given the first `given` deliveries
+-- the listener was given the first deliveries of the list; `given` is their number
 abbrev pub Heard : Talking → List (ℤ × ℕ) → ℕ → ListenState → Type 0
 Heard talker deliveries given listener = StandsFor (records_of talker deliveries given) (shown_by listener) listener
 
--- A step shows `more` further items.
+-- A step shows further items; `more` is their number.
 module _ {old new : ListenState} {before after : List Record} (more : ℕ) (step : (given : ℕ) → StandsFor before given old → StandsFor after (given + more) new) where
   pub shown_on : StandsFor before (shown_by old) old → shown_by new ≡ shown_by old + more
   shown_on was = shown_count new after (shown_by old + more) (step (shown_by old) was)

@@ -37,7 +37,8 @@ ended hearing = pull_at hearing.stage
 abbrev pub handed : SoakCounts → SoakCounts → List Shown → Type 0
 handed begun now items = now ≡ with_all begun items
 
--- All items shown so far of `delivered` deliveries were counted, except for those that wait in the pipe.
+-- All items that were shown so far were counted, except for the items that wait in the pipe. `delivered` is the number
+-- of deliveries.
 pub record HasCounted (delivered : ℕ) (begun now : Hearing) (pipe : Pipe) (counts : SoakCounts) : Type 0 where
   pub items : List Shown
   pub shown : HasShown begun now items

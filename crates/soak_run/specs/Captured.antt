@@ -15,7 +15,7 @@ use Rattle.soak_run.specs.Soak.{deliveries_of, soak_plan}
 abbrev pub sample_frame : ℕ → List ℕ
 sample_frame k = big_bytes 2 (k % 65536) ++ big_bytes 2 (65535 - k % 65536)
 
--- the first `number` sample frames
+-- this many sample frames, from sample frame 0 on
 abbrev pub sample_frames : ℕ → List ℕ
 sample_frames number = flat_map sample_frame (range_with_len 0 number)
 

@@ -26,11 +26,11 @@ drawn state = state / 2 ^ 16
 abbrev pub first_state : ℕ → ℕ
 first_state seed = seed % states
 
--- the state after `draws` numbers were drawn from a seed
+-- the state after this many numbers were drawn from a seed
 unfoldable pub state_after : ℕ → ℕ → ℕ
 state_after seed zero = first_state seed
 state_after seed (suc draws) = next_state (state_after seed draws)
 
--- the number that is drawn after `draws` other numbers
+-- the number that is drawn from a seed after this many other numbers
 abbrev pub draw_after : ℕ → ℕ → ℕ
 draw_after seed draws = drawn (next_state (state_after seed draws))

@@ -32,7 +32,8 @@ is_full shown = false
 
 -- ---- counts
 
--- the counts of `delivered` deliveries: how many shown items are presented, and how many are flagged for each reason
+-- The counts, if the number of deliveries is `delivered`: how many shown items are presented, and how many are flagged
+-- for each reason.
 abbrev pub outcomes : ℕ → List Shown → SoakCounts
 outcomes delivered shown = record {
   delivered = delivered;

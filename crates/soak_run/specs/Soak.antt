@@ -53,7 +53,7 @@ copy_of seed n k = (pos (arrival_of soak_plan n + delay_by (draw_after seed (dra
 abbrev pub copies : ℕ → ℕ → List (ℤ × ℕ)
 copies seed n = map (copy_of seed n) (range_with_len 0 (copies_of seed n))
 
--- the copies of the first `packets` packets, one packet after another
+-- the copies of this many packets, from packet 0 on, one packet after another
 abbrev pub all_copies : ℕ → ℕ → List (ℤ × ℕ)
 all_copies seed packets = flat_map (copies seed) (range_with_len 0 packets)
 
@@ -69,7 +69,7 @@ abbrev pub by_arrival : List (ℤ × ℕ) → List (ℤ × ℕ)
 by_arrival [] = []
 by_arrival (copy ∷ rest) = put_in copy (by_arrival rest)
 
--- The deliveries of the first `packets` packets, sorted by arrival, then by packet, then by copy. The seed of the noise
--- is the number of packets.
+-- The deliveries of this many packets, from packet 0 on. They are sorted by arrival, then by packet, then by copy. The
+-- seed of the noise is the number of packets.
 abbrev pub deliveries_of : ℕ → List (ℤ × ℕ)
 deliveries_of packets = by_arrival (all_copies packets packets)

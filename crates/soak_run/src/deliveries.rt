@@ -73,7 +73,7 @@ fn deliver(noise: &mut Noise, number: u64, copies: &mut Vec<(i64, u64)>) -> Resu
     Ok(())
 }
 
-/// The copies of the first `packets` packets, one packet after another.
+/// The copies of this many packets, one packet after another.
 fn copies_of_all(alloc: Global, packets: u32) -> Result<Vec<(i64, u64)>, NoMemory>
     requires { packets ≤ 1000000 }
     ensures { IfOk result (λ copies. copies.items ≡ all_copies packets packets) }

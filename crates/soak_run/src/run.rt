@@ -70,16 +70,16 @@ fn want_of_memory(_fault: TalkFault) -> NoMemory
     NoMemory
 }
 
-/// Sends `packets` packets over a bad network, has a listener hear what arrives, and returns what became of the
-/// packets. `packets` is at most 1,000,000. `NoMemory` if memory cannot be allocated.
+/// Sends a stream over a bad network, has a listener hear what arrives, and returns what became of the packets.
+/// `packets` is the number of packets that are sent, at most 1,000,000. `NoMemory` if memory cannot be allocated.
 ///
 /// The stream is sparse PCM of two channels at 48 kHz, with six sample frames in a packet. One packet in 16 is lost,
 /// one in 16 arrives twice, and each copy arrives up to 2.52 ms late. The listener looks 32 items ahead, and hears the
 /// deliveries in the order in which they arrive, as the records of a capture. Each delivery has one outcome, so the
 /// counts add up.
 ///
-/// One thread talks and hears, and another counts what is shown, with a ring between them. The counts do not depend on
-/// how the threads interleave.
+/// One thread talks and hears, and another thread counts what is shown. A ring is between the two threads. The counts
+/// do not depend on how the threads interleave.
 pub fn soak<T: Threads + Sync>(rt: &T, alloc: Global, packets: u32) -> Result<SoakCounts, NoMemory>
     requires { packets ≤ 1000000 }
     ensures exact { IfOk result (λ counts. counts ≡ soak_counts packets) }

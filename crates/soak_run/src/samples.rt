@@ -17,7 +17,7 @@ fn put_sample_frame(samples: &mut Vec<u8>, number: u32) -> Result<(), NoMemory>
     Ok(())
 }
 
-/// The samples of the first `packets` packets.
+/// The samples of this many packets.
 #[tactic(auto, unfolding(crate::specs::Captured::soak_input))]
 pub(crate) fn soak_input(alloc: Global, packets: u32) -> Result<Vec<u8>, NoMemory>
     requires { packets ≤ 1000000 }

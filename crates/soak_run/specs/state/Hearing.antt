@@ -43,7 +43,7 @@ pub record IsDeliverable (talker : Talking) (delivery : ℤ × ℕ) : Type 0 whe
   pub known : delivery.1 < length (stream_frames talker.plan talker.input)
   pub time : IsArrival delivery.0
 
--- the first `given` deliveries as records
+-- the records of the first deliveries of the list; `given` is their number
 abbrev pub records_of : Talking → List (ℤ × ℕ) → ℕ → List Record
 records_of talker deliveries given = map (captured (stream_of talker.plan talker.input)) (take given deliveries)
 

@@ -1,4 +1,4 @@
--- The packets before `number` were delivered.
+-- The packets with numbers less than `number` were delivered.
 use Rattle.std.proofs.Common.{◌≡◌}
 use Rattle.soak_run.specs.Noise.{state_after}
 use Rattle.soak_run.specs.Soak.{all_copies, draws_before}

@@ -1,4 +1,4 @@
--- The first `number` sample frames were appended.
+-- The sample frames with numbers less than `number` were appended.
 use Rattle.std.proofs.Common.{◌≡◌}
 use Rattle.soak_run.specs.Captured.{sample_frames}
 use Rattle.soak_run.proofs.samples.soak_input.Given as goal
