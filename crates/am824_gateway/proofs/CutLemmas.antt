@@ -93,7 +93,7 @@ all_by : {X : Type 0} (P Q : X → Type 0) → ((x : X) → P x → Q x) → (xs
 all_by P Q go [] all = tt
 all_by P Q go (x ∷ xs) all = (go x all.0, all_by P Q go xs all.1)
 
--- The piece begins at this sample or after it, within the batch.
+-- The piece begins at sample `first` or later, within the batch.
 pub record BeginsFrom (batch : Presented) (first : ℕ) (p : Piece) : Type 0 where
   pub from : first ≤ p.first
   pub inside : p.first < batch.count

@@ -31,7 +31,7 @@ use Rattle.capture_pair.proofs.Joined.{GoesOn, given-back, known-all, merges, no
 
 -- ---- what a listener presents of more records
 
--- `ys` begins with `xs`. If the side has ended, `ys` is `xs`.
+-- The list `ys` begins with `xs`. If the side has ended, `ys` equals `xs`.
 pub record Longer (xs ys : List Presented) (ended : Bool) : Type 0 where
   pub more : List Presented
   pub split : ys ≡ xs ++ more
@@ -93,9 +93,9 @@ presents-on records more old new plan closed = at (is_closed old) (is_closed new
 
 -- ---- the known part begins with what the matching has done
 
--- Two sides present `xs` and `ys`. `xs` begins with the batches of `list`, and `ys` begins with the batches of `other`.
--- If a side has ended in the matching, that side's listener has ended, and the side presents only the batches of its
--- list.
+-- Side A presents `xs`, which begins with the batches of `list`. Side B presents `ys`, which begins with the batches of
+-- `other`. If a side has ended in the matching, that side's listener has ended, and the side presents only the batches
+-- of its list.
 pub record Further (list other : List Shown) (xs ys : List Presented) (ended_a ended_b : Bool) (m : MatchingState) : Type 0 where
   pub more_a : List Presented
   pub more_b : List Presented

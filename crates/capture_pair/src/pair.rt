@@ -73,10 +73,10 @@ impl Pair {
         self.matching.wants()
     }
 
-    /// Takes bytes of the capture that is wanted, up to the end of one record or of the piece. Returns the number of
-    /// bytes taken. At most 2^62 bytes of each capture may be taken.
+    /// Takes bytes of the wanted capture from the start of `piece`. Stops at the end of a record, or at the end of
+    /// `piece`. Returns the number of bytes taken. At most 2^62 bytes of each capture may be taken.
     ///
-    /// Without a fault, returns `Ok(0)` exactly if the piece is empty. `Refused` is the capture's first refusal, and is
+    /// Without a fault, returns `Ok(0)` exactly if `piece` is empty. `Refused` is the capture's first refusal, and is
     /// returned as soon as the bytes taken so far are certain to be refused. The records before the refusal are still
     /// compared, and `end` ends that side. `Memory` is returned if there is no memory for the samples of a record.
     /// After `Memory` was returned, every `feed` and `end` of that side returns `Memory`.

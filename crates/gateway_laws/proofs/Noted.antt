@@ -82,7 +82,7 @@ is_known to id (x ∷ cs) c = tracked_first to id x (map (cut_seen to id) cs ++ 
 one_step : (n : ℕ) → ((suc n % 256 + 256 - n % 256) % 256 == 1) ≡ true
 one_step n = eq-eqb ((suc n % 256 + 256 - n % 256) % 256) 1 (omega arith)
 
--- The list is not empty: it consists of `front` and the last piece.
+-- The list is not empty: it consists of the list `front`, followed by the last piece.
 record Ends (cs : List Cut) : Type 0 where
   front : List Cut
   last : Cut

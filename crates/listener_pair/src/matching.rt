@@ -89,7 +89,7 @@ impl Matching {
         self.put(which, Timed::over(batch));
     }
 
-    /// Notes that the side that is wanted presents no further batch. Allocates nothing.
+    /// Notes that the wanted side presents no further batch. Allocates nothing.
     pub fn end(&mut self, which: Which)
         requires { wanted self.old ≡ Some which }
         ensures ended { self.new ≡ ended_by which self.old }

@@ -13,7 +13,6 @@ pub record Delivering (seed number count noise : ℕ) (old new : List (ℤ × �
   pub state : noise ≡ state_after seed (draws_before seed number + 1 + count)
   pub copies : new ≡ old ++ map (copy_of seed number) (range_with_len 0 count)
 
--- the state after one more number is drawn
 state-more : (seed draws more noise next : ℕ) → suc draws ≡ more → noise ≡ state_after seed draws → next ≡ next_state noise → next ≡ state_after seed more
 unfolding state_after
 state-more seed draws more noise next e s n = n ∙ ap next_state s ∙ ap (state_after seed) e
@@ -62,7 +61,6 @@ sent_soon n few = omega arith
 
 -- ---- packet by packet
 
--- the `n + 1` numbers from `from` on are the first n of them, and then `next`
 pub range-more : (from n next : ℕ) → from + n ≡ next → range_with_len from (suc n) ≡ range_with_len from n ++ next ∷ []
 range-more from zero next e = let same : from ≡ next = omega arith in ap (λ (x : ℕ). x ∷ []) same
 range-more from (suc n) next e = ap (λ (l : List ℕ). from ∷ l) (range-more (from + 1) n next (omega arith))
@@ -72,7 +70,7 @@ pub none-drawn : (seed noise : ℕ) → noise ≡ first_state seed → noise ≡
 unfolding state_after draws_before
 none-drawn seed noise e = e
 
--- the copies of the first `n + 1` packets are those of the first n packets, and then those of packet n
+-- the copies of the first `n + 1` packets are those of the first n packets, followed by those of packet n
 pub copies-more : (seed n : ℕ) → all_copies seed (suc n) ≡ all_copies seed n ++ copies seed n
 copies-more seed n =
     ap (λ (l : List ℕ). flat_map (copies seed) l) (range-more 0 n n (omega arith))

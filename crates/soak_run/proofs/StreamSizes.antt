@@ -18,7 +18,7 @@ use Rattle.talker.proofs.TalkLemmas.{none_late}
 use Rattle.soak_run.specs.Captured.{sample_frame, sample_frames, soak_input}
 use Rattle.soak_run.proofs.SoakLemmas.{range-more}
 
--- the first `n + 1` sample frames are the first n, and then sample frame n
+-- the first `n + 1` sample frames are the first n sample frames, followed by sample frame n
 pub frames_more : (n : ℕ) → sample_frames (suc n) ≡ sample_frames n ++ sample_frame n
 frames_more n =
     ap (λ (l : List ℕ). flat_map sample_frame l) (range-more 0 n n (omega arith))

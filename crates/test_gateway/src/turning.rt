@@ -74,7 +74,7 @@ fn copy_of(alloc: Global, batch: &Batch) -> Result<Batch, NoMemory>
     })
 }
 
-/// The frame of a piece, as `write` writes it.
+/// The frame that `write` writes for a piece, as a record.
 fn record_of(alloc: Global, gateway: &Gateway, i: u32) -> Result<Recorded, Fail>
     requires { i < length gateway.now.frames }
 {
@@ -89,7 +89,7 @@ fn record_of(alloc: Global, gateway: &Gateway, i: u32) -> Result<Recorded, Fail>
     })
 }
 
-/// Checks that `piece` lends the same frame of piece `i` that `write` writes.
+/// Checks that the method `piece` lends the frame that the method `write` writes for piece `i`.
 fn check_lent(alloc: Global, gateway: &mut Gateway, i: u32) -> Result<(), Fail>
     requires { i < length gateway.old.frames }
     ensures { gateway.new ≡ gateway.old }

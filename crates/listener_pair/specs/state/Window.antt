@@ -49,15 +49,15 @@ abbrev pub kept : Placed → Option Paired → List Placed
 kept x None = x ∷ []
 kept x (Some pair) = []
 
--- Batch x was added, and made this pair or none. Before that, `own` were the waiting batches of the side of x, and
--- `other` those of the other side. After that, `own_then` and `other_then` are the waiting batches of these sides.
--- `next` is the position of the batch after x.
+-- Batch x was added; `pair` is the pair that x made, if any. Before that, `own` were the waiting batches of the side of
+-- x, and `other` those of the other side. After that, `own_then` and `other_then` are the waiting batches of these
+-- sides. `next` is the position of the batch after x.
 pub record Enters (x : Placed) (next : ℕ) (own other own_then other_then : List Placed) (pair : Option Paired) : Type 0 where
   pub made : pair ≡ made x other
   pub others : other_then ≡ without_passed next (without_first (takes x) other)
   pub owns : length (without_passed next own) < 512 → own_then ≡ without_passed next own ++ kept x pair
 
--- batch x was added to a matching, and made this pair or none
+-- batch x was added to a matching, and made this pair, or no pair
 abbrev pub EntersSide : Which → Placed → ℕ → MatchingState → MatchingState → Option Paired → Type 0
 EntersSide A x next old new pair = Enters x next old.waiting_a old.waiting_b new.waiting_a new.waiting_b pair
 EntersSide B x next old new pair = Enters x next old.waiting_b old.waiting_a new.waiting_b new.waiting_a pair
@@ -82,7 +82,7 @@ abbrev pub with_pair : Which → Bool → PairCounts → PairCounts
 with_pair A differs counts = record counts { matched = risen counts.matched; only_b = counts.only_b - 1; differ = risen_if differs counts.differ }
 with_pair B differs counts = record counts { matched = risen counts.matched; only_a = counts.only_a - 1; differ = risen_if differs counts.differ }
 
--- the counts after a batch of a side made this pair or none
+-- the counts after a batch of a side was added, and made this pair, or no pair
 abbrev pub counted : Which → Option Paired → PairCounts → PairCounts
 counted side None counts = with_alone side counts
 counted side (Some pair) counts = with_pair side (is_some (difference_of pair)) counts
@@ -120,7 +120,7 @@ abbrev pub without_next : Which → MatchingState → MatchingState
 without_next A m = record m { next_a = None }
 without_next B m = record m { next_b = None }
 
--- The next batch of a side was added to the matching, and made this pair or none.
+-- The next batch of a side was added to the matching; `pair` is the pair that this batch made, if any.
 pub record Steps (side : Which) (batch : Presented) (old new : MatchingState) (pair : Option Paired) : Type 0 where
   pub same : new ≡ record (without_next side old) { place = new.place; waiting_a = new.waiting_a; waiting_b = new.waiting_b; counts = new.counts }
   pub place : new.place ≡ risen old.place
