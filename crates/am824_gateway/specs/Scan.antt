@@ -96,7 +96,7 @@ content_fault to first Silent = None
 content_fault to first Video = Some Kind
 content_fault to first (Audio s) = first_of (fault_rows to (first_or first s) s)
 
--- a record with a fault: its number in the capture, from 1, and the fault
+-- A record with a fault: the number of the record in the capture, and the fault. Records are numbered from 1.
 pub record FaultAt : Type 0 where
   pub frame : ℕ
   pub fault : ScanFault

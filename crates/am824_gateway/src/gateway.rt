@@ -24,7 +24,7 @@ use talker::{Sent, Turn};
 /// The maximum number of bytes of a frame.
 const LONGEST_FRAME: usize = 1518;
 
-/// The last batch that was not skipped, with its stream and the number of packets before its first packet.
+/// The last batch that was not skipped, the stream of this batch, and the number of packets before its first packet.
 #[derive(Drop)]
 pub(crate) struct Current {
     pub stream: Stream,

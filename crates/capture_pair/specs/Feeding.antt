@@ -26,8 +26,8 @@ abbrev pub bytes_of : Which → List ℕ → List ℕ → List ℕ
 bytes_of A bytes others = bytes
 bytes_of B bytes others = others
 
--- The side that must be fed or ended next. This is a side that has not ended and has no next batch. If this is true of
--- both sides, the result is A; if it is true of neither, the result is `None`.
+-- The side that must be fed or ended next. A side qualifies if it has not ended and has no next batch. If both sides
+-- qualify, the result is A. If no side qualifies, the result is `None`.
 abbrev pub wanted_by : FedPair → Option Which
 wanted_by pair = wanted pair.matching
 

@@ -28,8 +28,8 @@ abbrev pub other_of : Which → Which
 other_of A = B
 other_of B = A
 
--- The side that must be given a record or closed next. This is a side that has not ended and has no next batch. If this
--- is true of both sides, the result is A; if it is true of neither, the result is `None`.
+-- The side that must be given a record or closed next. A side qualifies if it has not ended and has no next batch. If
+-- both sides qualify, the result is A. If no side qualifies, the result is `None`.
 abbrev pub wanted_by : PairState → Option Which
 wanted_by pair = wanted pair.matching
 

@@ -63,8 +63,8 @@ impl Pair {
         Ok(Pair { a, b, matching })
     }
 
-    /// The capture that must be fed or ended next. This is a capture that has not ended and has no next batch. If this
-    /// is true of both captures, returns A; if it is true of neither, returns `None`.
+    /// The capture that must be fed or ended next. A capture qualifies if it has not ended and has no next batch. If
+    /// both captures qualify, returns A. If no capture qualifies, returns `None`.
     pub fn wants(&self) -> Option<Which>
         ensures wanted { result ≡ wanted_by self.now }
         ensures open { (which : Which) → result ≡ Some which → is_ended (fed_of which self.now) ≡ false }

@@ -30,8 +30,8 @@ lacks true next = false
 lacks false None = true
 lacks false (Some batch) = false
 
--- The side that must present its next batch or end. This is a side that lacks its next batch. If both sides lack it,
--- the result is A; if neither side lacks it, the result is `None`.
+-- The side that must present its next batch or end. A side qualifies if it lacks its next batch. If both sides qualify,
+-- the result is A. If no side qualifies, the result is `None`.
 abbrev pub wanted : MatchingState → Option Which
 wanted m = if lacks m.ended_a m.next_a then Some A else if lacks m.ended_b m.next_b then Some B else None
 

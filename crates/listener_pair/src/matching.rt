@@ -65,8 +65,8 @@ impl Matching {
         })
     }
 
-    /// The side for which `take` or `end` must be called next. This is a side that has not ended and has no next batch.
-    /// If this is true of both sides, returns A; if it is true of neither, returns `None`.
+    /// The side for which `take` or `end` must be called next. A side qualifies if it has not ended and has no next
+    /// batch. If both sides qualify, returns A. If no side qualifies, returns `None`.
     pub fn wants(&self) -> Option<Which>
         ensures { result ≡ wanted self.now }
     {

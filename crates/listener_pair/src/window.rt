@@ -46,7 +46,7 @@ impl Waiting {
     ghost use Rattle.listener_pair.specs.Pairs.{without_first};
     ghost use Rattle.listener_pair.specs.state.Window.{takes_by, without_passed};
 
-    /// No batch waits yet. All memory is reserved.
+    /// No batch waits yet. Reserves all memory that is needed.
     pub fn begin(alloc: Global) -> Result<Self, NoMemory>
         ensures { IfOk result (λ waiting. waiting ≡ []) }
     {

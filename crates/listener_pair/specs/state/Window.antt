@@ -71,7 +71,7 @@ abbrev pub risen_if : Bool → ℕ → ℕ
 risen_if true n = risen n
 risen_if false n = n
 
--- the counts after one more batch of a side that is in no pair
+-- the counts after one more batch of a side; this batch is in no pair
 abbrev pub with_alone : Which → PairCounts → PairCounts
 with_alone A counts = record counts { only_a = risen counts.only_a }
 with_alone B counts = record counts { only_b = risen counts.only_b }
