@@ -1,4 +1,4 @@
--- Kept for proofs alone: no clause of a public call rests on anything here.
+-- Kept for proofs alone. No clause of a public call uses these definitions.
 pub mod Contents
 pub mod Pieces
 pub mod Reader

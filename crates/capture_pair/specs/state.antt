@@ -1,4 +1,4 @@
--- Kept for proofs: what the code's own parts hold and do. No clause of a public call rests on it.
+-- Kept for proofs alone. No clause of a public call uses these definitions.
 pub mod Sides
 pub mod Taking
 pub mod Fed

@@ -1,5 +1,4 @@
--- Kept for proofs: what the code's own parts hold and do. No clause of a public call rests on it.
--- How a batch is cut.
+-- Kept for proofs alone. No clause of a public call uses these definitions. How a batch is cut.
 use Rattle.std.specs.Prelude.{◌≡◌, ℕ, ◌+◌, ◌-◌, ◌<◌, ◌≤◌, Bool, min, pos, List, length}
 use Rattle.std.specs.List.{list_any}
 use Rattle.sample_schedule.specs.Batches.{Presented}

@@ -1,4 +1,4 @@
--- Kept for proofs: what the code's own parts hold and do. No clause of a public call rests on it. The invariant of a gateway.
+-- Kept for proofs alone. No clause of a public call uses these definitions. The invariant of a gateway.
 use Rattle.std.specs.Prelude.{◌≡◌, ℕ, ◌+◌, ◌*◌, ◌^◌, ◌≤◌, false, List, [], length, Option, Some, None, IfSome, vec_capacity}
 use Rattle.std.specs.List.{AllByRecursion}
 use Rattle.sample_schedule.specs.Batches.{IsPresentable, Presented}

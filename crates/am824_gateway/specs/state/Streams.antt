@@ -1,5 +1,5 @@
--- Kept for proofs: what the code's own parts hold and do. No clause of a public call rests on it.
--- What the packets of a stream have in common.
+-- Kept for proofs alone. No clause of a public call uses these definitions. What the packets of a stream have in
+-- common.
 use Rattle.std.specs.Prelude.{◌≡◌, ℕ, ◌+◌, ◌*◌, ◌≤◌, pos, List, [], take}
 use Rattle.talk_plan.specs.Ethernet.{packet_bytes}
 use Rattle.am824_gateway.specs.declared.packet.Stream.{Stream}

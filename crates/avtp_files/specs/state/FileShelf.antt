@@ -1,5 +1,5 @@
--- Kept for proofs: what the code's own parts hold and do. No clause of a public call rests on it. What contracts see of
--- a shelf of real files.
+-- Kept for proofs alone. No clause of a public call uses these definitions. What contracts see of a shelf of real
+-- files.
 use Rattle.std.specs.Prelude.{ℕ, None}
 use Rattle.avtp_base.specs.Files as files
 use Rattle.avtp_base.specs.States.{ShelfState}

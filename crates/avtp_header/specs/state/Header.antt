@@ -1,5 +1,5 @@
--- Kept for proofs: what the code's own parts hold and do. No clause of a public call rests on it.
--- The common stream header (IEEE 1722-2016, 4.4.4).
+-- Kept for proofs alone. No clause of a public call uses these definitions. The common stream header (IEEE 1722-2016,
+-- 4.4.4).
 use Rattle.std.specs.Prelude.{ℕ, [], ◌∷◌}
 use Rattle.avtp_base.specs.declared.field.Field.TheVariants.{FormatData, FormatFlags}
 use Rattle.avtp_base.specs.Layout.{Layout, part, holds}

@@ -1,5 +1,5 @@
--- Kept for proofs: what the code's own parts hold and do. No clause of a public call rests on it.
--- Files in memory, as a list of names with their bytes.
+-- Kept for proofs alone. No clause of a public call uses these definitions. Files in memory, as a list of names with
+-- their bytes.
 use Rattle.std.specs.Prelude.{◌≡◌, ◌≢◌, ◌↔◌, ◌≤◌, ℕ, Bool, IsTrue, List, ◌++◌, Some, option_map, unwrap_or, find, String, vec_capacity}
 use Rattle.std.specs.Global.{Vec, Global}
 use Rattle.avtp_memory.specs.Room.{kept_within, FitsRoom}

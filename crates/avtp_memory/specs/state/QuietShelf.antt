@@ -1,5 +1,4 @@
--- Kept for proofs: what the code's own parts hold and do. No clause of a public call rests on it. What contracts see of
--- a quiet shelf.
+-- Kept for proofs alone. No clause of a public call uses these definitions. What contracts see of a quiet shelf.
 use Rattle.std.specs.Prelude.{Some}
 use Rattle.avtp_memory.specs.declared.quiet_shelf.QuietShelf.{QuietShelf}
 use Rattle.avtp_memory.specs.state.Asked.{account_of}

@@ -1,5 +1,5 @@
--- Kept for proofs alone: definitions about private code. No clause of a public call rests on them. The line of an AAF
--- packet. The line's end is reused for the next packet.
+-- Kept for proofs alone. No clause of a public call uses these definitions. The line of an AAF packet. The line's end
+-- is reused for the next packet.
 use Rattle.std.specs.Prelude.{◌≡◌, List, ℕ, ◌++◌, codes, decimal}
 use Rattle.aaf_format.specs.Aaf.{Aaf}
 use Rattle.avtp_text.specs.declared.aaf_line.AafEnd.{AafEnd}

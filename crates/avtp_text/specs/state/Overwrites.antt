@@ -1,5 +1,4 @@
--- Kept for proofs alone: definitions about private code. No clause of a public call rests on them. A piece of a text
--- that is overwritten.
+-- Kept for proofs alone. No clause of a public call uses these definitions. A piece of a text that is overwritten.
 use Rattle.std.specs.Prelude.{◌≡◌, ℕ, List, ◌++◌, length}
 
 -- After `piece` replaces equally many bytes of the text `old`, the text is `new`. The number of bytes after the piece

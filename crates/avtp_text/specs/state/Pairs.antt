@@ -1,5 +1,4 @@
--- Kept for proofs alone: definitions about private code. No clause of a public call rests on them. Digits that are
--- written two at a time.
+-- Kept for proofs alone. No clause of a public call uses these definitions. Digits that are written two at a time.
 use Rattle.std.specs.Prelude.{ℕ, ◌+◌, ◌/◌, ◌%◌, List, [], ◌∷◌, ◌++◌}
 
 -- the two decimal digits of a number below 100

@@ -1,5 +1,4 @@
--- Kept for proofs: what private code holds and does. No clause of a public call uses it.
--- How `agree` ends.
+-- Kept for proofs alone. No clause of a public call uses these definitions. How `agree` ends.
 use Rattle.std.specs.Prelude.{◌≡◌, ℕ, ◌^◌, ◌≤◌, List, [], Result, IfOk, MatchResult}
 use Rattle.avtp_base.specs.declared.failed.Failed.{Failed}
 use Rattle.avtp_base.specs.Files.{Files}

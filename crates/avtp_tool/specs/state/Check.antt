@@ -1,5 +1,5 @@
--- Kept for proofs: what private code holds and does. No clause of a public call uses it. What `check` prints and how it
--- ends. The rules of `check` are this project's own.
+-- Kept for proofs alone. No clause of a public call uses these definitions. What `check` prints and how it ends. The
+-- rules of `check` are this project's own.
 use Rattle.std.specs.Prelude.{◌≡◌, ◌≤◌, ℕ, List, ◌++◌, length, take, Option, MatchResult, IfOk, Result, Ok, Err}
 use Rattle.avtp_base.specs.declared.failed.Failed.{Failed}
 use Rattle.avtp_base.specs.Told.{Appends, Keeps}

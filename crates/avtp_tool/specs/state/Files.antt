@@ -1,5 +1,5 @@
--- Kept for proofs: what private code holds and does. No clause of a public call uses it.
--- What a command does with each file, if it reads several files.
+-- Kept for proofs alone. No clause of a public call uses these definitions. What a command does with each file, if it
+-- reads several files.
 use Rattle.std.specs.Prelude.{ℕ, ◌^◌, ◌≤◌, Bool, true, false, List}
 use Rattle.avtp_words.specs.Grammar.{listening_of}
 use Rattle.avtp_tool.specs.declared.files.Reading.{Reading}

@@ -1,5 +1,5 @@
--- Kept for proofs: what private code holds and does. No clause of a public call uses it.
--- A run of `gateway` after its scan: OUT is made, and IN is read again.
+-- Kept for proofs alone. No clause of a public call uses these definitions. A run of `gateway` after its scan: OUT is
+-- made, and IN is read again.
 use Rattle.std.specs.Prelude.{◌≡◌, ◌≢◌, ◌⊎◌, ℕ, ◌-◌, ◌^◌, ◌≤◌, Bool, true, false, List, [], ◌∷◌, length, Option, Some, IfOk, IsErr, IsSome, Result, Ok, Err}
 use Rattle.avtp_base.specs.declared.failed.Failed.{Failed}
 use Rattle.avtp_base.specs.declared.failed.OpenFault.{OpenFault}

@@ -1,5 +1,5 @@
--- Kept for proofs: what private code holds and does. No clause of a public call uses it.
--- A capture that is heard item by item, and what was shown of it so far.
+-- Kept for proofs alone. No clause of a public call uses these definitions. A capture that is heard item by item, and
+-- what was shown of it so far.
 use Rattle.std.specs.Prelude.{◌≡◌, ℕ, ◌+◌, ◌-◌, ◌^◌, ◌≤◌, Bool, true, false, List, [], ◌++◌, length, take, Option, None, Some, IsSome, is_some, ⊤}
 use mathlib.Core.List.{IsPrefix}
 use Rattle.avtp_base.specs.Faults.{Rose}

@@ -1,5 +1,5 @@
--- Kept for proofs: what private code holds and does. No clause of a public call uses it. What a command does to the
--- files of a shelf: it writes one file, or none.
+-- Kept for proofs alone. No clause of a public call uses these definitions. What a command does to the files of a
+-- shelf: it writes one file, or none.
 use Rattle.std.specs.Prelude.{◌≡◌, ◌≢◌, ℕ, ◌≤◌, List, [], ◌∷◌, ◌++◌, map, take, Option, None, Some, Result, Ok, IfOk, IsErrOf, IsOk, OnErr, OnOk}
 use Rattle.avtp_base.specs.declared.failed.OpenFault.{OpenFault}
 use Rattle.avtp_base.specs.declared.failed.OpenFault.TheVariants as open_fault

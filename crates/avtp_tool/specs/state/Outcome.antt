@@ -1,5 +1,5 @@
--- Kept for proofs: what private code holds and does. No clause of a public call uses it. The possible outcomes of a
--- command's run: its status, and what it yields. A run that was cut short gave out only a part of what it yields.
+-- Kept for proofs alone. No clause of a public call uses these definitions. The possible outcomes of a command's run:
+-- its status, and what it yields. A run that was cut short gave out only a part of what it yields.
 use Rattle.std.specs.Prelude.{◌≡◌, ◌≢◌, ◌⊎◌, ℕ, ◌≤◌, List, [], Option, Result, Ok, Err, IfOk, true, IsErr, MatchResult}
 use Rattle.avtp_base.specs.declared.failed.Failed.{Failed}
 use Rattle.avtp_base.specs.declared.failed.OpenFault.{OpenFault}

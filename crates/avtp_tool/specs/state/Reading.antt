@@ -1,5 +1,5 @@
--- Kept for proofs: what private code holds and does. No clause of a public call uses it. Files that a command reads in
--- order: the possible outcomes of one file, and of all files.
+-- Kept for proofs alone. No clause of a public call uses these definitions. Files that a command reads in order: the
+-- possible outcomes of one file, and of all files.
 use Rattle.std.specs.Prelude.{◌≡◌, ℕ, ◌^◌, ◌≤◌, List, [], ◌∷◌, length, take, Option, Some, None, IfOk, IsSome, OnErr, Result, Ok, Err, Bool, true, false}
 use Rattle.avtp_base.specs.declared.failed.Failed.{Failed}
 use Rattle.avtp_base.specs.Faults.{Rose}

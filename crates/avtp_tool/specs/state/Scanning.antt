@@ -1,5 +1,5 @@
--- Kept for proofs: what private code holds and does. No clause of a public call uses it. A capture that is scanned for
--- records that cannot be converted.
+-- Kept for proofs alone. No clause of a public call uses these definitions. A capture that is scanned for records that
+-- cannot be converted.
 use Rattle.std.specs.Prelude.{◌≡◌, ◌≢◌, ℕ, List, [], ◌∷◌, take, Option, Some, None, Result, Ok, Err, IfErr, IfOk, IfSome, IsErrOf}
 use Rattle.avtp_base.specs.declared.failed.OpenFault.{OpenFault}
 use Rattle.avtp_base.specs.declared.failed.OpenFault.TheVariants as open_fault

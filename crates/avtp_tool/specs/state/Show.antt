@@ -1,5 +1,4 @@
--- Kept for proofs: what private code holds and does. No clause of a public call uses it.
--- What `show` prints and how it ends.
+-- Kept for proofs alone. No clause of a public call uses these definitions. What `show` prints and how it ends.
 use Rattle.std.specs.Prelude.{◌≡◌, ℕ, List, length, take, Option, Result, Ok, Err}
 use Rattle.pcap_frames.specs.Capture.{Record}
 use Rattle.capture_io.specs.Formats.{records_in}

@@ -1,5 +1,4 @@
--- Kept for proofs: what private code holds and does. No clause of a public call uses it.
--- What `talk` prints and how it ends.
+-- Kept for proofs alone. No clause of a public call uses these definitions. What `talk` prints and how it ends.
 use Rattle.std.specs.Prelude.{◌≡◌, ◌≢◌, ℕ, List, [], ◌∷◌, Option, Some, Result, Ok, IfOk, if◌then◌else◌, slice_get}
 use Rattle.avtp_base.specs.declared.failed.Failed.{Failed}
 use Rattle.avtp_base.specs.Files.{Files, KeepsFiles}

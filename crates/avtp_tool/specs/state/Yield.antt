@@ -1,5 +1,5 @@
--- Kept for proofs: what private code holds and does. No clause of a public call uses it. What a run yields: the text
--- that it prints, and the items that it gives to devices.
+-- Kept for proofs alone. No clause of a public call uses these definitions. What a run yields: the text that it prints,
+-- and the items that it gives to devices.
 use Rattle.std.specs.Prelude.{◌≡◌, ℕ, List, [], Option}
 use mathlib.Core.List.{IsPrefix}
 use Rattle.avtp_base.specs.Told.{Appends}

@@ -1,5 +1,5 @@
--- Kept for proofs alone: definitions about private code. No clause of a public call rests on them. The operands of a
--- command: the words after its options.
+-- Kept for proofs alone. No clause of a public call uses these definitions. The operands of a command: the words after
+-- its options.
 use Rattle.std.specs.Prelude.{◌≡◌, ℕ, List, [], ◌∷◌, Bool, true, false}
 use Rattle.avtp_words.specs.declared.operand.Operand.{Operand}
 use Rattle.avtp_words.specs.declared.operand.Operand.TheVariants.{Id, Name, Names, Packets}

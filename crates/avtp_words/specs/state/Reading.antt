@@ -1,5 +1,5 @@
--- Kept for proofs alone: definitions about private code. No clause of a public call rests on them. What the steps of
--- reading the words return, for the options of any command.
+-- Kept for proofs alone. No clause of a public call uses these definitions. What the steps of reading the words return,
+-- for the options of any command.
 use Rattle.std.specs.Prelude.{◌≡◌, ◌≢◌, ℕ, ℤ, ◌+◌, ◌*◌, ◌^◌, ◌<◌, ◌≤◌, List, [], ◌∷◌, ◌++◌, map, flat_map, length, decimal, Bool, true, false, nat_le, nat_lt, ◌&&◌, Option, None, Some, option_to_list, if◌then◌else◌, IfSome, IfNone, ⊤, slice_get, get_or, take, All, IsSomeAnd, pos, codes, nat_eq, unsigned_abs}
 use Rattle.std.specs.List.{list_all}
 use Rattle.std.specs.Fmt.{signed_decimal}

@@ -1,5 +1,5 @@
--- Kept for proofs: what the code's own parts hold and do. No clause of a public call rests on it.
--- A file that is read in pieces, up to a limit.
+-- Kept for proofs alone. No clause of a public call uses these definitions. A file that is read in pieces, up to a
+-- limit.
 use Rattle.std.specs.Prelude.{◌≡◌, ◌+◌, ◌<◌, ◌≤◌, ℕ, List, [], length, Option, Some, None, IfOk, IfSome, IsSome, Result}
 use Rattle.avtp_base.specs.declared.failed.NoMemory.{NoMemory}
 use Rattle.avtp_base.specs.declared.failed.OpenFault.{OpenFault}

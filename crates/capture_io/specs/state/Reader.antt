@@ -1,5 +1,5 @@
--- Kept for proofs: what the code's own parts hold and do. No clause of a public call rests on it. What the state of a reader of
--- captures in either layout means.
+-- Kept for proofs alone. No clause of a public call uses these definitions. What the state of a reader of captures in
+-- either layout means.
 use Rattle.std.specs.Prelude.{◌≡◌, ℕ, ◌+◌, ◌<◌, ◌≤◌, List, [], ◌++◌, length, take, Result, IfOk, IfErr, IfSome, OnOk, Option, None, Some, option_to_list}
 use Rattle.avtp_base.specs.declared.refusal.Refusal.{Refusal}
 use Rattle.pcap_frames.specs.Capture.{Record}

@@ -1,5 +1,5 @@
--- Kept for proofs: what the code's own parts hold and do. No clause of a public call rests on it.
--- The records of a capture, one after the other.
+-- Kept for proofs alone. No clause of a public call uses these definitions. The records of a capture, one after the
+-- other.
 use Rattle.std.specs.Prelude.{◌≡◌, ◌<◌, ◌≤◌, ⊤, ℕ, List, length, take, drop, IfSome, IsSome, Option, Some, None}
 use Rattle.avtp_base.specs.Faults.{Rose}
 use Rattle.avtp_base.specs.Files.{Slots}

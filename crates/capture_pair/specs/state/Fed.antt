@@ -1,5 +1,5 @@
--- Kept for proofs: what the code's own parts hold and do. No clause of a public call rests on it.
--- A listener of bytes that is fed a piece, or ended.
+-- Kept for proofs alone. No clause of a public call uses these definitions. A listener of bytes that is fed a piece, or
+-- ended.
 use Rattle.std.specs.Prelude.{◌≡◌, ◌↔◌, ℕ, ◌+◌, ◌^◌, ◌≤◌, true, false, List, [], ◌++◌, length, take, Option, Some, None, option_map, Result, Err, IfOk}
 use Rattle.avtp_base.specs.declared.refusal.Refusal.{Refusal}
 use Rattle.pcap_frames.specs.Capture.{first_refusal}

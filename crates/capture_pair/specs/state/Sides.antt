@@ -1,5 +1,5 @@
--- Kept for proofs: what the code's own parts hold and do. No clause of a public call rests on it.
--- Two listeners, of records or of bytes, and the matching of what they show.
+-- Kept for proofs alone. No clause of a public call uses these definitions. Two listeners, of records or of bytes, and
+-- the matching of what they show.
 use Rattle.std.specs.Prelude.{◌≡◌, ℕ, ◌+◌, ◌≤◌, ◌^◌, Bool, true, false, if◌then◌else◌, List, length, Option, None, Some}
 use Rattle.sample_schedule.specs.declared.shown.Shown.{Shown}
 use Rattle.sample_schedule.specs.declared.shown.Shown.TheVariants.{Present, Flag}

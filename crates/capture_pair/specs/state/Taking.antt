@@ -1,5 +1,5 @@
--- Kept for proofs: what the code's own parts hold and do. No clause of a public call rests on it.
--- A listener of records that is given a record, or closed.
+-- Kept for proofs alone. No clause of a public call uses these definitions. A listener of records that is given a
+-- record, or closed.
 use Rattle.std.specs.Prelude.{◌≡◌, ℕ, ◌+◌, ◌^◌, ◌<◌, false, true, List, [], ◌∷◌, ◌++◌}
 use Rattle.pcap_frames.specs.Capture.{Record}
 use Rattle.listener.specs.declared.plan.ListenPlan.{ListenPlan}

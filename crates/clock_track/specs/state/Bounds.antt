@@ -1,4 +1,4 @@
--- Kept for proofs only: no clause of a public call rests on these definitions. Bounds of the instants that a packet's
+-- Kept for proofs alone. No clause of a public call uses these definitions. Bounds of the instants that a packet's
 -- pairs can cover.
 use Rattle.std.specs.Prelude.{◌≡◌, ◌⊎◌, List, Some, slice_get, ℕ, ◌+◌, ◌-◌, ◌*◌, ◌<◌, ◌≤◌, ℤ, pos, ◌+ℤ◌, ◌≤ℤ◌, ◌<ℤ◌, IfSome}
 use Rattle.clock_track.specs.declared.bounds.Bounds.{Bounds}

@@ -1,5 +1,5 @@
--- Kept for proofs only: no clause of a public call rests on these definitions. What a search for a clock's line looks
--- for, and what it finds.
+-- Kept for proofs alone. No clause of a public call uses these definitions. What a search for a clock's line looks for,
+-- and what it finds.
 use Rattle.std.specs.Prelude.{Bool, if◌then◌else◌, Option, Some, None}
 use Rattle.clock_track.specs.declared.pair.Pair.{Pair}
 use Rattle.clock_track.specs.declared.search.Query.{Query}

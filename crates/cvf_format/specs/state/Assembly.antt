@@ -1,5 +1,5 @@
--- Kept for proofs only: no clause of a public call rests on these definitions. How the state of an assembler changes
--- with a packet.
+-- Kept for proofs alone. No clause of a public call uses these definitions. How the state of an assembler changes with
+-- a packet.
 use Rattle.std.specs.Prelude.{◌≡◌, ℕ, ◌+◌, ◌%◌, ◌==◌, nat_le, nat_lt, Bool, true, false, not, ◌&&◌, if◌then◌else◌, ℤ, List, [], ◌∷◌, ◌++◌, length, Option, None, Some}
 use Rattle.std.specs.Ordering.{int_eq}
 use Rattle.cvf_format.specs.declared.cvf.NalPart.{NalPart}

@@ -1,5 +1,4 @@
--- Kept for proofs: what the code's own parts hold and do. No clause of a public call rests on it.
--- What a device in memory shows.
+-- Kept for proofs alone. No clause of a public call uses these definitions. What a device in memory shows.
 use Rattle.std.specs.Prelude.{◌≡◌, List, MatchBool}
 use mathlib.Core.List.{IsPrefix}
 use Rattle.device_rack.specs.declared.memory_device.MemoryDevice.{MemoryDevice}

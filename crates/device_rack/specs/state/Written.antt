@@ -1,5 +1,4 @@
--- Kept for proofs: what the code's own parts hold and do. No clause of a public call rests on it.
--- What a device leaves in its sink.
+-- Kept for proofs alone. No clause of a public call uses these definitions. What a device leaves in its sink.
 use Rattle.std.specs.Prelude.{ℕ, List, Option, Result, OnOk, OnErr}
 use mathlib.Core.List.{IsPrefix}
 use Rattle.avtp_base.specs.declared.failed.Failed.{Failed}

@@ -1,5 +1,5 @@
--- Kept for proofs: what the code's own parts hold and do. No clause of a public call rests on it.
--- A listener that is fed a capture's bytes, in pieces of any length.
+-- Kept for proofs alone. No clause of a public call uses these definitions. A listener that is fed a capture's bytes,
+-- in pieces of any length.
 use Rattle.std.specs.Prelude.{◌≡◌, ◌≤◌, ℕ, true, List, length, None}
 use mathlib.Core.List.{IsPrefix}
 use Rattle.pcap_frames.specs.Capture.{Record}

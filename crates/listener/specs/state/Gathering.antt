@@ -1,5 +1,5 @@
--- Kept for proofs: what the code's own parts hold and do. No clause of a public call rests on it. The units of a stream between
--- two deliveries, and the items that wait to be judged.
+-- Kept for proofs alone. No clause of a public call uses these definitions. The units of a stream between two
+-- deliveries, and the items that wait to be judged.
 use Rattle.std.specs.Prelude.{◌≡◌, ℕ, ℤ, ⊤, List, [], ◌∷◌, ◌++◌, All, map, Option, Some, None, IfSome}
 use Rattle.std.specs.Option.{option_to_list}
 use Rattle.cvf_format.specs.Assembly.{StandsFor}

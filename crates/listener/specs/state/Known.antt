@@ -1,5 +1,5 @@
--- Kept for proofs: what the code's own parts hold and do. No clause of a public call rests on it. What a listener's own search
--- finds for an item.
+-- Kept for proofs alone. No clause of a public call uses these definitions. What a listener's own search finds for an
+-- item.
 use Rattle.std.specs.Prelude.{Bool, true, false, List, Option, is_some, option_and_then}
 use Rattle.clock_track.specs.Pairs.{Spot}
 use Rattle.clock_track.specs.Rows.{clock_spot}

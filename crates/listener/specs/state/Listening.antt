@@ -1,5 +1,5 @@
--- Kept for proofs: what the code's own parts hold and do. No clause of a public call rests on it. A listener that was given a
--- capture's records one at a time, and what it has shown of them.
+-- Kept for proofs alone. No clause of a public call uses these definitions. A listener that was given a capture's
+-- records one at a time, and what it has shown of them.
 use Rattle.std.specs.Prelude.{◌≡◌, ◌<◌, ◌≤◌, ℕ, ◌+◌, ◌-◌, ◌^◌, Bool, true, false, cond, if◌then◌else◌, List, [], length}
 use Rattle.clock_track.specs.Rows.{clock_spot}
 use Rattle.pcap_frames.specs.Capture.{Record}

@@ -1,5 +1,4 @@
--- Kept for proofs: what the code's own parts hold and do. No clause of a public call rests on it.
--- A delivery as the code holds it.
+-- Kept for proofs alone. No clause of a public call uses these definitions. A delivery as the code holds it.
 use Rattle.std.specs.Prelude.{ℕ, Bool, false, List, Option, Some, None}
 use Rattle.avtp_header.specs.declared.header.Peeked.{Peeked}
 use Rattle.packet_journal.specs.Deliveries.{Delivery, clock_kinds, is_wanted}

@@ -1,5 +1,5 @@
--- Kept for proofs: what the code's own parts hold and do. No clause of a public call rests on it. The batches that wait
--- for a partner, and what the next batch changes.
+-- Kept for proofs alone. No clause of a public call uses these definitions. The batches that wait for a partner, and
+-- what the next batch changes.
 use Rattle.std.specs.Prelude.{◌≡◌, ℕ, ◌+◌, ◌-◌, ◌^◌, ◌<◌, nat_le, min, Bool, true, false, if◌then◌else◌, List, [], ◌∷◌, ◌++◌, length, Option, None, Some, option_map, is_some, int_lt}
 use Rattle.std.specs.List.{find}
 use Rattle.sample_schedule.specs.Batches.{Presented}

@@ -1,5 +1,5 @@
--- Kept for proofs: what the code's own parts hold and do. No clause of a public call rests on it. What the steps of feeding
--- have in common, whatever the layout of the capture.
+-- Kept for proofs alone. No clause of a public call uses these definitions. What the steps of feeding have in common,
+-- whatever the layout of the capture.
 use Rattle.std.specs.Prelude.{◌≡◌, ◌↔◌, ◌⊎◌, ℕ, ◌+◌, ◌<◌, ◌≤◌, ◌^◌, List, ◌++◌, length, take, Result, IfOk, IfErr, OnOk, OnErr, IsSome, Some, None}
 use Rattle.avtp_base.specs.declared.refusal.Refusal.{Refusal}
 use Rattle.pcap_frames.specs.Capture.{Record}

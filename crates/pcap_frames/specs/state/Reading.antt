@@ -1,5 +1,5 @@
--- Kept for proofs: what the code's own parts hold and do. No clause of a public call rests on it.
--- What a reader of a classic capture holds, and what is added to it.
+-- Kept for proofs alone. No clause of a public call uses these definitions. What a reader of a classic capture holds,
+-- and what is added to it.
 use Rattle.std.specs.Prelude.{◌≡◌, ℕ, ◌+◌, ◌<◌, ◌≤◌, ◌^◌, false, List, [], ◌∷◌, ◌++◌, length, take, Result, IfOk, IfErr, OnOk, Option, Some, None}
 use Rattle.avtp_base.specs.declared.refusal.Refusal.{Refusal}
 use Rattle.pcap_frames.specs.declared.style.Order.{Order}

@@ -1,6 +1,6 @@
--- Kept for proofs: what the code's own parts hold and do. No clause of a public call rests on it. What a pcapng capture
--- holds: blocks one after the other. Each block has a type, a total length, a body and the total length again
--- (draft-ietf-opsawg-pcapng, section 3).
+-- Kept for proofs alone. No clause of a public call uses these definitions. What a pcapng capture holds: blocks one
+-- after the other. Each block has a type, a total length, a body and the total length again (draft-ietf-opsawg-pcapng,
+-- section 3).
 use Rattle.std.specs.Prelude.{List, []}
 use Rattle.pcapng_frames.specs.declared.block.Kind.{Kind}
 use Rattle.pcapng_frames.specs.declared.block.Kind.TheVariants as kind

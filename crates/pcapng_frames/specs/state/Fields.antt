@@ -1,5 +1,5 @@
--- Kept for proofs: what the code's own parts hold and do. No clause of a public call rests on it. The fields of a pcapng
--- capture's blocks, their offsets, and which values are refused (draft-ietf-opsawg-pcapng, sections 3 and 4).
+-- Kept for proofs alone. No clause of a public call uses these definitions. The fields of a pcapng capture's blocks,
+-- their offsets, and which values are refused (draft-ietf-opsawg-pcapng, sections 3 and 4).
 use Rattle.std.specs.Prelude.{◌≡◌, ℕ, true, List}
 use Rattle.std.specs.List.{All}
 use Rattle.pcapng_frames.specs.declared.block.Kind.{Kind}

@@ -1,4 +1,4 @@
--- Kept for proofs: what the code's own parts hold and do. No clause of a public call rests on it. The state of a reader.
+-- Kept for proofs alone. No clause of a public call uses these definitions. The state of a reader.
 use Rattle.std.specs.Prelude.{◌≡◌, ℕ, ◌+◌, ◌-◌, ◌<◌, ◌≤◌, ◌^◌, ◌%◌, pos, ⊤, Bool, true, false, is_some, IfSome, nat_lt, nat_eq, if◌then◌else◌, List, ◌++◌, length, drop, Option, Some, None}
 use Rattle.avtp_base.specs.declared.refusal.Refusal.{Refusal}
 use Rattle.pcap_frames.specs.Capture.{Record}

@@ -1,5 +1,4 @@
--- Kept for proofs: what the code's own parts hold and do. No clause of a public call rests on it.
--- The receiver's side of a ring.
+-- Kept for proofs alone. No clause of a public call uses these definitions. The receiver's side of a ring.
 use Rattle.std.specs.Prelude.{◌≡◌, ℕ, ◌+◌, ◌≤◌, ◌++◌, Bool, cond, false, List, [], ◌∷◌, length, Option, None, IsSome, MatchOption}
 use Rattle.std.specs.Option.{option_to_list}
 use Rattle.rtrb.specs.Ring.{sent, known_free, SameProducer}

@@ -1,5 +1,5 @@
--- Kept for proofs: what the code's own parts hold and do. No clause of a public call rests on it. A ring between two
--- threads, the item in `hand` that waits for a slot of the ring, and what a round does.
+-- Kept for proofs alone. No clause of a public call uses these definitions. A ring between two threads, the item in
+-- `hand` that waits for a slot of the ring, and what a round does.
 use Rattle.std.specs.Prelude.{◌≡◌, ◌+◌, ◌<◌, [], length}
 use Rattle.presenter_ring.specs.declared.pipe.Pipe.{Pipe}
 use Rattle.presenter_ring.specs.state.Fronts.{IsStuck}

@@ -1,5 +1,5 @@
--- Kept for proofs: what the code's own parts hold and do. No clause of a public call rests on it. Accepted items, sorted by their
--- first instants.
+-- Kept for proofs alone. No clause of a public call uses these definitions. Accepted items, sorted by their first
+-- instants.
 use Rattle.std.specs.Prelude.{Bool, false, ℤ, int_lt, List, [], ◌∷◌}
 use Rattle.sample_schedule.specs.declared.accepted.Accepted.{Accepted}
 

@@ -1,5 +1,5 @@
--- Kept for proofs: what the code's own parts hold and do. No clause of a public call rests on it. The batches that wait for
--- their instant, and their keys.
+-- Kept for proofs alone. No clause of a public call uses these definitions. The batches that wait for their instant,
+-- and their keys.
 use Rattle.std.specs.Prelude.{◌≡◌, ◌≢◌, ⊤, ℕ, List, [], ◌∷◌, length, Option, Some}
 use Rattle.std.specs.List.{AllByRecursion, filter_map}
 use Rattle.slab.specs.Slab.{Slab, get, slab_len}

@@ -1,5 +1,5 @@
--- Kept for proofs: what the code's own parts hold and do. No clause of a public call rests on it. A listener that hears
--- deliveries one by one, and how far it has come.
+-- Kept for proofs alone. No clause of a public call uses these definitions. A listener that hears deliveries one by
+-- one, and how far it has come.
 use Rattle.std.specs.Prelude.{◌≡◌, ◌<◌, ℕ, ◌+◌, ◌-◌, ◌^◌, ℤ, Bool, true, false, List, [], ◌∷◌, ◌++◌, length, map, take, Option, Some, None, Result, OnOk, OnErr}
 use Rattle.avtp_base.specs.declared.failed.NoMemory.{NoMemory as WantOfMemory}
 use Rattle.time_unfold.specs.Time.{IsArrival}

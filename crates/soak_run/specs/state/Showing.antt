@@ -1,5 +1,5 @@
--- Kept for proofs: what the code's own parts hold and do. No clause of a public call rests on it.
--- What was shown of deliveries since their hearing began.
+-- Kept for proofs alone. No clause of a public call uses these definitions. What was shown of deliveries since their
+-- hearing began.
 use Rattle.std.specs.Prelude.{◌≡◌, ◌≤◌, List, length, true}
 use Rattle.sample_schedule.specs.declared.shown.Shown.{Shown}
 use Rattle.listener.specs.Listening.{out}

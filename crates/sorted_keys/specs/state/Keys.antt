@@ -1,5 +1,5 @@
--- Kept for proofs: what the code's own parts hold and do. No clause of a public call rests on it.
--- Sorted keys, and the blocks in which they are kept.
+-- Kept for proofs alone. No clause of a public call uses these definitions. Sorted keys, and the blocks in which they
+-- are kept.
 use Rattle.std.specs.Prelude.{◌≡◌, ⊤, ℕ, ◌+◌, ◌*◌, ◌-◌, ◌==◌, ◌≤◌, zero, suc, Bool, true, false, if◌then◌else◌, ℤ, int_le, int_lt, ◌≤ℤ◌, ◌<ℤ◌, ◌<◌, List, [], ◌∷◌, length, take, drop, slice_index_or, slice_set}
 use Rattle.std.specs.List.{AllByRecursion, flat_map}
 use Rattle.sorted_keys.specs.declared.key.Key.{Key}

@@ -1,5 +1,5 @@
--- Kept for proofs alone: definitions about private code. No clause of a public call rests on them. The bits of a
--- window: bit `i` says whether the newest number minus `i` has arrived.
+-- Kept for proofs alone. No clause of a public call uses these definitions. The bits of a window: bit `i` says whether
+-- the newest number minus `i` has arrived.
 use Rattle.std.specs.Prelude.{◌≡◌, ◌≢◌, ℕ, ◌+◌, ◌<◌}
 use Rattle.std.specs.Int.{bit_at}
 

@@ -1,5 +1,5 @@
--- Kept for proofs: what the code's own parts hold and do. No clause of a public call rests on it.
--- The packets of a plan, each with its samples.
+-- Kept for proofs alone. No clause of a public call uses these definitions. The packets of a plan, each with its
+-- samples.
 use Rattle.std.specs.Prelude.{◌≡◌, ◌-◌, length, ℕ, ℤ, ◌+◌, ◌*◌, List, [], ◌∷◌, ◌++◌, take, drop}
 use Rattle.avtp_base.specs.Octets.{flag}
 use Rattle.avtp_header.specs.declared.header.StreamHeader.{StreamHeader}

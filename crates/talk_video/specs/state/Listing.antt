@@ -1,5 +1,4 @@
--- Kept for proofs: what the code's own parts hold and do. No clause of a public call rests on it. A walk over the NAL units of
--- a byte stream.
+-- Kept for proofs alone. No clause of a public call uses these definitions. A walk over the NAL units of a byte stream.
 use Rattle.std.specs.Prelude.{◌≡◌, ℕ, zero, suc, ◌+◌, ◌-◌, ◌<◌, ◌≤◌, Bool, false, not, ◌&&◌, ◌||◌, nat_lt, if◌then◌else◌, List, length, drop}
 use Rattle.cvf_format.specs.AnnexB.{nal_units, units_from}
 use Rattle.talk_video.specs.declared.units.NalUnit.{NalUnit}

@@ -1,5 +1,5 @@
--- Kept for proofs: what the code's own parts hold and do. No clause of a public call rests on it.
--- The frames of a plan, and the capture that they make.
+-- Kept for proofs alone. No clause of a public call uses these definitions. The frames of a plan, and the capture that
+-- they make.
 use Rattle.std.specs.Prelude.{ℕ, ◌-◌, List, ◌++◌, map}
 use Rattle.std.specs.List.{range_with_len}
 use Rattle.talker.specs.Journal.{Stream}

@@ -1,4 +1,4 @@
--- Kept for proofs: what the code's own parts hold and do. No clause of a public call rests on it. The invariant of a talker.
+-- Kept for proofs alone. No clause of a public call uses these definitions. The invariant of a talker.
 use Rattle.std.specs.Prelude.{◌≡◌, ◌+◌, ◌≤◌, drop, length}
 use Rattle.talker.specs.declared.talker.Talker.TheInside.{Inside}
 use Rattle.talker.specs.Frames.{frames}

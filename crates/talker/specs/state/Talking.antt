@@ -1,5 +1,4 @@
--- Kept for proofs: what the code's own parts hold and do. No clause of a public call rests on it. The source and the clock of a
--- talker.
+-- Kept for proofs alone. No clause of a public call uses these definitions. The source and the clock of a talker.
 use Rattle.std.specs.Prelude.{◌≡◌, ◌⊎◌, ℕ, ◌<◌, ◌≤◌, List, length, Option, Some, None, IfSome, Result, Err, IfErr, IfOk, OnOk}
 use Rattle.talk_clock.specs.declared.clock.ClockStream.{ClockStream}
 use Rattle.talk_plan.specs.declared.fault.TalkFault.{TalkFault}

@@ -1,5 +1,5 @@
--- Kept for proofs: what the code's own parts hold and do. No clause of a public call rests on it. What a talker sends next,
--- before its frame is built.
+-- Kept for proofs alone. No clause of a public call uses these definitions. What a talker sends next, before its frame
+-- is built.
 use Rattle.std.specs.Prelude.{◌≡◌, ℕ, ◌<◌, Bool, true, false, Option, length}
 use Rattle.talker.specs.declared.turn.Turn.{Turn}
 use Rattle.talker.specs.Frames.{SentFrame, clock_frame_of, frame_of}
