@@ -16,7 +16,7 @@ pub record NumberOption : Type 0 where
 abbrev pub option : List ℕ → ℕ → ℕ → Option ℕ → NumberOption
 option name low high default = record { name = name; low = low; high = high; default = default }
 
--- the same option, but with `default` as its default
+-- the option `given`, but with `default` as its default
 abbrev pub with_default : NumberOption → ℕ → NumberOption
 with_default given default = option given.name given.low given.high (Some default)
 

@@ -15,15 +15,15 @@ use Rattle.soak_run.specs.Soak.{deliveries_of, soak_plan}
 abbrev pub sample_frame : ℕ → List ℕ
 sample_frame k = big_bytes 2 (k % 65536) ++ big_bytes 2 (65535 - k % 65536)
 
--- this many sample frames, from sample frame 0 on
+-- sample frames 0 to `number` - 1, in order
 abbrev pub sample_frames : ℕ → List ℕ
 sample_frames number = flat_map sample_frame (range_with_len 0 number)
 
--- the samples of this many packets, six sample frames in each
+-- the samples of `packets` packets, six sample frames in each
 unfoldable pub soak_input : ℕ → List ℕ
 soak_input packets = sample_frames (6 * packets)
 
--- the stream of this many packets
+-- the stream of `packets` packets
 unfoldable pub soak_stream : ℕ → Stream
 soak_stream packets = stream_of soak_plan (soak_input packets)
 
