@@ -49,7 +49,7 @@ shifted s m k whole front rest e below within =
     let places : 8 * (s + m) - k ≡ 8 * m + (8 * s - k) = omega arith in
     rw (places, ← shr-shr whole (8 * m) (8 * s - k), high) refl
 
--- The number in bits that lie within n bytes can be cut out of the number that the n bytes form.
+-- If some bits lie within n bytes, the number in these bits can be cut out of the number that the n bytes form.
 pub bits-wide : (n at first width : ℕ) (xs : List ℕ) → AreBytesAt at n xs → first + width ≤ 8 * n
     → bits at first width xs ≡ big_from at n xs / 2 ^ (8 * n - (first + width)) % 2 ^ width
 unfolding bits

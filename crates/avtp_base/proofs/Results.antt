@@ -1,4 +1,4 @@
--- Which branch of a match a result takes. An option that is not `Some` is `None`.
+-- The branch of a `match` that is taken for a given result. An option that is not `Some` is `None`.
 use Rattle.std.proofs.Common.{◌≡◌, true, false, Option, Some, None, Result, Ok, Err, refl}
 use Rattle.std.specs.Prelude.{is_err, is_some, MatchResult}
 

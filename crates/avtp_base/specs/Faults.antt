@@ -17,15 +17,16 @@ Rose before after = min (before + 1) last_count ≤ after
 abbrev pub IsQuiet : ℕ → ℕ → Type 0
 IsQuiet before after = after < min (before + 1) last_count
 
--- How a call with this result changes the count of faults. At `Ok` the count is unchanged; at a failure it rose. The
--- count never falls.
+-- How a call with this result changes the count of faults. With `Ok` the count is unchanged. With `Err` the count rose,
+-- or has reached its greatest value. The count never falls.
 pub record IsCounted {T : Type 0} (before after : ℕ) (result : Result T Failed) : Type 0 where
   pub never_falls : before ≤ after
   pub ok : OnOk result (after ≡ before)
   pub failed : OnErr result (Rose before after)
 
--- How a call that opens or makes a file changes the count of faults, if the call has this result. At `Ok` the count is
--- unchanged; at `Failed` it rose. A missing file and missing memory are not counted. The count never falls.
+-- How a call that opens or makes a file changes the count of faults, if the call has this result. With `Ok` the count
+-- is unchanged. With `Failed` the count rose, or has reached its greatest value. A missing file and missing memory are
+-- not counted. The count never falls.
 pub record IsOpenCounted {T : Type 0} (before after : ℕ) (result : Result T OpenFault) : Type 0 where
   pub never_falls : before ≤ after
   pub ok : OnOk result (after ≡ before)

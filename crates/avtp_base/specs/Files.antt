@@ -1,6 +1,6 @@
--- What the calls of a shelf do to its files and to its open files, if the shelf shows them. A shelf may stop showing
--- its files, and then never shows them again. A statement about files holds if they are shown before and after. A name
--- is a list of bytes.
+-- What the calls of a shelf do to its files and to its open files, if the shelf shows them. If a shelf stops showing
+-- its files, it never shows them again. A statement about files applies only if the files are shown both before and
+-- after the call. A name is a list of bytes.
 use Rattle.std.specs.Prelude.{◌≡◌, ◌≢◌, ℕ, Bool, true, false, List, ◌++◌, Option, Some, None, option_map, option_and_then, IsSome, IsSomeAnd, ⊤}
 
 -- files by name: the bytes of the file, or `None` if no file has the name
@@ -58,8 +58,8 @@ KeepsOthers old new k = (j : ℕ) → j ≢ k → new j ≡ old j
 abbrev pub KeepsSlots : Slots → Slots → Type 0
 KeepsSlots old new = (j : ℕ) → new j ≡ old j
 
--- The slot was opened for reading. If the shelf shows its files, a file has this name, and all its bytes are left to
--- read.
+-- The slot was opened for reading. If the shelf shows its files, the slot holds the file with this name, and all bytes
+-- of that file are left to read.
 abbrev pub IsOpened : Option Files → Option Open → List ℕ → Type 0
 IsOpened None slot name = IsSomeAnd slot (λ o. o.made ≡ false)
 IsOpened (Some files) slot name =

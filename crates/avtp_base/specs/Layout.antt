@@ -26,8 +26,8 @@ pub record Part (V : Type 0) : Type 0 where
 abbrev pub Layout : Type 0 → Type 0
 Layout V = List (Part V)
 
--- The part of a table with these bits from byte `at` on. If a packet ends before the last of these bits, the refusal
--- names this field.
+-- A part of a header's table: these bits, from byte `at` on. If a packet ends before the last of these bits, the
+-- refusal names this field.
 abbrev pub part : {V : Type 0} → Field → ℕ → List (Bits V) → Part V
 part field at bits = record { field = field; at = at; bits = bits }
 
@@ -87,7 +87,8 @@ abbrev pub short_row : {V : Type 0} → ℕ → Part V → Row
 short_row n p =
     record { refusal = record { field = p.field; at = p.at; short = true }; holds = nat_lt n (p.at + size_of p) }
 
--- the refusal of a packet of n bytes: at the first of the header's parts that is cut off, if any
+-- the refusal of a packet of n bytes at the first part of the header that the packet cuts off; `None` if it cuts off no
+-- part
 abbrev pub first_short : {V : Type 0} → Layout V → ℕ → Option Refusal
 first_short layout n = first_row (map (short_row n) layout)
 

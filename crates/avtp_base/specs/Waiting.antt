@@ -1,4 +1,4 @@
--- A buffer that lends its bytes to be changed.
+-- A buffer whose bytes can be borrowed and changed.
 use Rattle.std.specs.Prelude.{ℕ, List, length}
 use Rattle.std.specs.List.{refill}
 use Rattle.std.specs.Borrow.{Lends, MutBor, Fml, Array, u8}

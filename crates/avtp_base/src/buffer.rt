@@ -103,7 +103,7 @@ impl Buffer {
         self.bytes.slice_mut(0..self.len)
     }
 
-    /// Drops the first `count` bytes after they were written.
+    /// Drops the first `count` bytes, which have been written.
     pub fn drop_front(&mut self, count: usize)
         requires { count ≤ length self.old }
         ensures { self.new ≡ drop count self.old }

@@ -1,4 +1,4 @@
-//! Reads numbers and bits of a packet, highest first.
+//! Reads big-endian numbers and single bits of a packet.
 
 ghost use Rattle.std.specs.Prelude.{◌≡◌, ◌+◌, ◌-◌, ◌≤◌, ◌<◌, ◌++◌, length};
 ghost use Rattle.avtp_base.specs.Octets.{bits, is_set};

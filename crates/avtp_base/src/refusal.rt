@@ -8,7 +8,7 @@ pub struct Refusal {
     pub field: Field,
     /// The offset of the field's first byte in the bytes that were read.
     pub at: u64,
-    /// Whether the part that should hold the field is too short for it.
+    /// Whether the field is refused because it is cut off, and not because of its value.
     pub short: bool,
 }
 

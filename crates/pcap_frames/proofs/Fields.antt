@@ -15,7 +15,7 @@ pub record_whole : (order : Order) (start : ℕ) (bytes : List ℕ) → record_r
 unfolding record_refusal
 record_whole order start bytes h = grind (arith, nat_tests)
 
--- if the field of a record's captured length was taken and is not refused, the captured length is at most 262,144
+-- if the captured-length field of a record was taken and is not refused, the captured length is at most 262,144
 pub record_limit : (order : Order) (start : ℕ) (bytes : List ℕ) → 12 ≤ length bytes → certain (record_refusal order start bytes) ≡ None → number_at order 8 4 bytes ≤ 262144
 unfolding record_refusal
 record_limit order start bytes long h = grind (arith, nat_tests)

@@ -46,7 +46,7 @@ filled order start part more p long size =
     let stays : number_at order 8 4 (part ++ more) ≡ number_at order 8 4 part = number_stays order 8 4 part more (omega arith) in
     record_fits order start (part ++ more) (omega arith) (omega arith)
 
--- a refusal of a complete field still holds after more bytes
+-- appending bytes does not change the refusal of a complete field
 pub refused_stays : (bytes more : List ℕ) (records : List Record) (r : Refusal) → r.short ≡ false → IsRefused bytes records r → IsRefused (bytes ++ more) records r
 refused_stays bytes more records r long (inl h) = inl (h.0, file_stays bytes more (Some r) h.1 long)
 refused_stays bytes more records r long (inr h) = inr (record {

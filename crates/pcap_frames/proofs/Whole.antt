@@ -1,4 +1,4 @@
--- The whole records of any bytes, and their first refusal.
+-- The whole records in any list of bytes, and the first refusal of these bytes.
 use Rattle.std.proofs.Common.{◌≡◌, ℕ, zero, suc, ◌+◌, ◌-◌, ◌<◌, ◌≤◌, Bool, true, false, cond, List, [], ◌∷◌, ◌++◌, length, take, drop, Option, Some, None, refl, sym, ap, subst, ◌∙◌, arith, is_none, inl, inr, append_assoc, length-append, length-drop}
 use Rattle.std.proofs.lemmas.List.{append-nil, take-append-drop, length-take-le}
 use Rattle.avtp_base.specs.declared.refusal.Refusal.{Refusal}

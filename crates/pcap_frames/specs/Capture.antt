@@ -134,8 +134,8 @@ record_spelling style r =
     ++ number_bytes style.order 4 r.orig_len
     ++ r.bytes
 
--- A record that can be written in the canonical spelling. The record's instant has 32 bits of seconds, and the fraction
--- is a whole number of the style's units. The length on the wire has 32 bits. There are at most 262,144 captured bytes.
+-- A record that can be written in the canonical spelling. The record's instant is from 0 to below 2^32 seconds, and is
+-- a whole number of the style's units. The length on the wire fits 32 bits. There are at most 262,144 captured bytes.
 pub record HasSpelling (style : Style) (r : Record) : Type 0 where
   pub begun : pos 0 ≤ℤ r.arrival
   pub ended : r.arrival <ℤ pos (2 ^ 32 * 1000000000)

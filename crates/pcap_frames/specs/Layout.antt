@@ -108,7 +108,7 @@ unfoldable pub record_refusal : Order → ℕ → List ℕ → Option Refusal
 record_refusal order start bytes =
     option_or (first_refused order start record_header bytes) (first_refused order start (packet_bytes (number_at order 8 4 bytes)) bytes)
 
--- the refusal, if no later bytes can change it because its field is complete
+-- the refusal, if its field is complete, so that no later bytes can change the refusal
 abbrev pub certain : Option Refusal → Option Refusal
 certain None = None
 certain (Some refusal) = cond refusal.short None (Some refusal)

@@ -1,5 +1,5 @@
--- What the readers of captures in each layout have in common: what the bytes mean, what the state of a reader is, and
--- what the calls of a reader do.
+-- What the readers of all capture layouts have in common: what the bytes mean, what the state of a reader is, and what
+-- the calls of a reader do.
 use Rattle.std.specs.Prelude.{◌≡◌, ◌↔◌, ◌⊎◌, ℕ, ◌+◌, ◌<◌, ◌≤◌, List, ◌++◌, length, take, Option, None, Some, IfSome, IsSome, Result, Err, IfOk, IfErr, OnOk, OnErr, option_map, option_to_list}
 use Rattle.std.specs.Result.{result_err}
 use Rattle.avtp_base.specs.declared.refusal.Refusal.{Refusal}
@@ -8,7 +8,8 @@ use Rattle.pcap_frames.specs.Capture.{Record}
 use Rattle.pcap_frames.specs.Layout.{IsRecordTime}
 
 -- What the bytes of a capture mean in one layout. `records` are the whole records before the first refusal. `refusal`
--- is the first refusal of the bytes as they are. `certain` is that refusal, if no later bytes can change it.
+-- is the first refusal if the capture ends with these bytes. `certain` is that refusal, if no later bytes can change
+-- it.
 pub record Meaning : Type 0 where
   pub records : List ℕ → List Record
   pub refusal : List ℕ → Option Refusal
@@ -33,8 +34,9 @@ pub record IsRefusedAfter (meaning : Meaning) (bytes : List ℕ) (records : List
   pub certain : meaning.certain bytes ≡ Some refusal
 
 -- What feeding a piece does. The reader takes bytes from the front of the piece, up to the end of one record or of the
--- piece. The reader takes no byte exactly if the piece is empty or a record is held. As soon as the bytes so far show
--- the first refusal, the call returns this refusal instead, and every later call returns it again.
+-- piece. The reader takes no byte exactly if the piece is empty or a record is held. As soon as the bytes so far
+-- determine the capture's first refusal, the call takes the whole piece and returns this refusal, and every later call
+-- returns it again.
 pub record Feeds (meaning : Meaning) (old : Progress) (piece : List ℕ) (result : Result ℕ Refusal) (new : Progress) : Type 0 where
   pub within : IfOk result (λ n. n ≤ length piece)
   pub nothing : IfOk result (λ n. (n ≡ 0) ↔ ((length piece ≡ 0) ⊎ IsSome old.held))
@@ -56,8 +58,8 @@ pub record Releases (old new : Progress) : Type 0 where
   pub counted : new.taken ≡ old.taken
   pub refusal : new.refusal ≡ old.refusal
 
--- The result if the capture ends with the bytes so far. The released records and the held record are all records of the
--- capture. The result is the capture's first refusal, or `Ok` if there is none.
+-- The result if the capture ends with the bytes taken so far. The released records and the held record are all records
+-- of the capture. The result is the capture's first refusal, or `Ok` if there is none.
 pub record Ends (meaning : Meaning) (reader : Progress) (result : Result Unit Refusal) : Type 0 where
   pub records : (bytes : List ℕ) (records : List Record) → reader.has_read bytes records → records ++ option_to_list reader.held ≡ meaning.records bytes
   pub refusal : (bytes : List ℕ) (records : List Record) → reader.has_read bytes records → result_err result ≡ meaning.refusal bytes

@@ -9,9 +9,9 @@ use Rattle.pcap_frames.specs.Readers as readers
 use Rattle.pcap_frames.specs.Readers.{Meaning, Progress}
 pub use Rattle.pcap_frames.specs.Readers.{shown}
 
--- The state of a reader. `style` is the style, once the file header was accepted. `start` is the offset of the file
--- header or record that is being read, and `part` are the bytes taken of that header or record. `refusal` is the
--- refusal that the reader has returned, if any.
+-- The state of a reader. `style` is the capture's style, or `None` until the file header is accepted. `start` is the
+-- offset of the file header or record that is being read, and `part` are the bytes taken of that header or record.
+-- `refusal` is the refusal that the reader has returned, if any.
 pub record Reading : Type 0 where
   pub style : Option Style
   pub start : ℕ

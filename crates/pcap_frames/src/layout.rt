@@ -26,7 +26,7 @@ pub const MAGIC_MICRO: u32 = 0xA1B2_C3D4;
 /// The magic number of a capture that counts nanoseconds.
 pub const MAGIC_NANO: u32 = 0xA1B2_3C4D;
 
-/// The two magic numbers with their bytes swapped, as they appear in a capture of the other byte order.
+/// The two magic numbers as they read in little-endian order if the capture is big-endian: with their bytes swapped.
 const SWAPPED_MICRO: u32 = 0xD4C3_B2A1;
 
 const SWAPPED_NANO: u32 = 0x4D3C_B2A1;
@@ -140,7 +140,7 @@ pub fn whole_size(order: Order, bytes: &[u8]) -> Option<usize>
     Some(size)
 }
 
-/// The refusal, if no later bytes can change it because its field is complete.
+/// The refusal, if its field is complete, so that no later bytes can change the refusal.
 pub fn certain(refusal: Option<Refusal>) -> Option<Refusal>
     ensures { result ≡ certain_of refusal }
 {
@@ -150,7 +150,7 @@ pub fn certain(refusal: Option<Refusal>) -> Option<Refusal>
     }
 }
 
-/// The instant of a record in nanoseconds: the seconds plus the fraction, which may be one second or more.
+/// The instant of a record in nanoseconds: the seconds plus the fraction, even if the fraction is one second or more.
 pub fn arrival_of(unit: Unit, seconds: u32, fraction: u32) -> i64
     ensures instant { result ≡ pos (instant unit seconds fraction) }
     ensures time { IsRecordTime result }

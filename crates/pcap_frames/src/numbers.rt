@@ -6,7 +6,7 @@ ghost use Rattle.pcap_frames.specs.Layout.{number_at, number_bytes};
 use crate::style::Order;
 use byteorder::{BigEndian, ByteOrder, LittleEndian};
 
-/// The number of 16 bits at an offset.
+/// The 16-bit number at an offset.
 #[tactic(auto, unfolding(crate::specs::Layout::number_at))]
 pub fn u16_at(order: Order, bytes: &[u8], offset: usize) -> u16
     requires { offset + 2 ≤ length bytes.now }
@@ -18,7 +18,7 @@ pub fn u16_at(order: Order, bytes: &[u8], offset: usize) -> u16
     }
 }
 
-/// The number of 32 bits at an offset.
+/// The 32-bit number at an offset.
 #[tactic(auto, unfolding(crate::specs::Layout::number_at))]
 pub fn u32_at(order: Order, bytes: &[u8], offset: usize) -> u32
     requires { offset + 4 ≤ length bytes.now }
@@ -30,7 +30,7 @@ pub fn u32_at(order: Order, bytes: &[u8], offset: usize) -> u32
     }
 }
 
-/// Writes a number of 16 bits at an offset.
+/// Writes a 16-bit number at an offset.
 #[tactic(auto, using(std::proofs::lemmas::Slice::overwrites), unfolding(crate::specs::Layout::number_bytes))]
 pub fn put_u16(order: Order, out: &mut [u8], offset: usize, number: u16)
     requires { offset + 2 ≤ length out.old }
@@ -43,7 +43,7 @@ pub fn put_u16(order: Order, out: &mut [u8], offset: usize, number: u16)
     }
 }
 
-/// Writes a number of 32 bits at an offset.
+/// Writes a 32-bit number at an offset.
 #[tactic(auto, using(std::proofs::lemmas::Slice::overwrites), unfolding(crate::specs::Layout::number_bytes))]
 pub fn put_u32(order: Order, out: &mut [u8], offset: usize, number: u32)
     requires { offset + 4 ≤ length out.old }

@@ -168,7 +168,7 @@ impl Reader {
         }
     }
 
-    /// The record that was taken last, if it is whole and was not released.
+    /// The held record: the most recent record, if it was taken whole and was not released.
     #[tactic(auto, using(crate::proofs::Fields::record_whole))]
     pub fn held(&self) -> Option<RecordView<'_>>
         ensures { Views (held self.now) result }
@@ -239,9 +239,9 @@ impl Reader {
 
     /// Whether the bytes so far are a whole capture: a file header and whole records.
     ///
-    /// If the capture is not whole, the call returns the earlier refusal. Without an earlier refusal, the call refuses
-    /// the first field that misses a byte, with `short` set. A held record counts as whole. The call changes nothing,
-    /// and more bytes may follow.
+    /// If the capture is not whole, the call returns the refusal that an earlier `feed` returned, if there is one.
+    /// Otherwise the call refuses the first field of which a byte is missing, with `short` set. A held record counts as
+    /// whole. The call changes nothing, and more bytes can be fed afterwards.
     pub fn finish(&self) -> Result<(), Refusal>
         ensures exact { (bytes : List ℕ) (records : List Record) → HasRead self.now bytes records → Holds bytes (records ++ option_to_list (held self.now)) (result_err result) }
         ensures ends { Ends meaning (progress self.now) result }

@@ -24,7 +24,8 @@ pub struct Style {
 /// A record of a capture.
 #[derive(Clone, Copy, Debug)]
 pub struct RecordView<'a> {
-    /// When the frame was captured, in nanoseconds: the seconds plus the fraction, which may be one second or more.
+    /// When the frame was captured, in nanoseconds: the seconds plus the fraction, even if the fraction is one second
+    /// or more.
     pub arrival: i64,
     /// The length in bytes of the frame on the wire.
     pub orig_len: u32,

@@ -46,10 +46,9 @@ pub fn write_header(out: &mut [u8], style: Style) -> Result<usize, Room>
 /// Writes a record (draft-ietf-opsawg-pcap, section 5): its header, with a fraction below one second, and its bytes.
 /// Returns the record's length.
 ///
-/// `arrival` is in nanoseconds, with at most 32 bits of seconds. In a capture that counts microseconds, it is a
-/// multiple of 1000. `orig_len` is the frame's length on the wire, and there are at most 262,144 `bytes`. The call
-/// returns `Room` exactly if `out` is shorter than the 16-byte header and `bytes` together. In that case nothing is
-/// written.
+/// `arrival` is in nanoseconds, from 0 to below 2^32 seconds. In a capture that counts microseconds, it is a multiple
+/// of 1000. `orig_len` is the frame's length on the wire, and there are at most 262,144 `bytes`. The call returns
+/// `Room` exactly if `out` is shorter than the 16-byte header and `bytes` together. In that case nothing is written.
 pub fn write_record(
     out: &mut [u8],
     style: Style,
@@ -75,8 +74,8 @@ pub fn write_record(
 /// The header of a record (draft-ietf-opsawg-pcap, section 5), with a fraction below one second. The whole record is
 /// these 16 bytes followed by its `incl_len` captured bytes.
 ///
-/// `arrival` is in nanoseconds, with at most 32 bits of seconds. In a capture that counts microseconds, it is a
-/// multiple of 1000. `orig_len` is the frame's length on the wire.
+/// `arrival` is in nanoseconds, from 0 to below 2^32 seconds. In a capture that counts microseconds, it is a multiple
+/// of 1000. `orig_len` is the frame's length on the wire.
 #[inline(always)]
 pub fn record_header(style: Style, arrival: i64, incl_len: u32, orig_len: u32) -> [u8; 16]
     requires begun { pos 0 ≤ℤ arrival }

@@ -1,4 +1,4 @@
--- A choice between two values by a test.
+-- A test that chooses between two values.
 use Rattle.std.proofs.Common.{◌≡◌, ℕ, ◌≤◌, Bool, true, false, nat_lt, if◌then◌else◌, Option, Some, arith}
 use Rattle.std.proofs.lemmas.Bool.Decides.{nat_tests}
 use Rattle.avtp_base.specs.declared.refusal.Refusal.{Refusal}

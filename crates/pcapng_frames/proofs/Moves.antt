@@ -38,11 +38,11 @@ no_less n = grind (arith, nat_tests)
 pub past_none : (p : Place) (part more : List ℕ) → contents_past 0 p part more ≡ contents_at p (part ++ more)
 past_none p part more = rw no_less refl
 
--- moving `front` to the bytes taken does not change the contents
+-- moving `front` from the following bytes to the bytes taken does not change the contents
 pub gathered : (p : Place) (part front more : List ℕ) → contents_past 0 p part (front ++ more) ≡ contents_past 0 p (part ++ front) more
 gathered p part front more = past_none p part (front ++ more) ∙ (ap (contents_at p) (sym (append_assoc part front more)) ∙ sym (past_none p (part ++ front) more))
 
--- if all that is read at a place was taken and nothing in it is refused, the reader moves to the next place
+-- if all bytes that are read at a place were taken and nothing in them is refused, the reader moves to the next place
 pub moves : (p q : Place) (part more : List ℕ) (skip : ℕ) → refusal_here p (part ++ more) ≡ None → size_here p (part ++ more) ≡ length part + skip → next_place p (part ++ more) ≡ q
     → packet_by p.stage p.packet ≡ None → cut_short p (part ++ more) ≡ ends (Some (short_at BlockBody (q.start + 8)))
     → contents_past 0 p part more ≡ contents_past skip q [] more

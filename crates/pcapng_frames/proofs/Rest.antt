@@ -45,7 +45,7 @@ cut_stage stage.Block p bytes = cut_is (nat_lt (length bytes) 4) (nat_lt (length
 cut_stage stage.Option p bytes = refl
 cut_stage stage.Trailer p bytes = refl
 
--- if bytes are missing, later bytes may still change the ending
+-- if bytes are missing, later bytes can still change the ending
 settled_cut : (p : Place) (bytes : List ℕ) → settled (cut_short p bytes).ending ≡ None
 settled_cut p bytes = settled_if (ends_at p.stage p.order p.start (length bytes)) (cut_by p.stage p bytes) (cut_stage p.stage p bytes)
 
@@ -93,7 +93,7 @@ settled_by None false p skip part none h =
     settled_past (nat_lt 0 skip) _ (contents_at p (part ++ drop skip [])) refl
     (ap (λ (x : Contents). settled x.ending) (none_follow p skip part ∙ cut_at p part h.accepted (lacks_some p skip part h)) ∙ settled_cut p part)
 
--- if a reader has no refusal, later bytes may still change the ending of the bytes taken
+-- if a reader has no refusal, later bytes can still change the ending of the bytes taken
 uncertain : (r : Reading) (bytes : List ℕ) (records : List Record) → r.refusal ≡ None → IsReading r.refusal r.whole r.place r.skip r.part → HasRead r bytes records → settled (contents bytes).ending ≡ None
 uncertain r bytes records none keeps h =
     ap (λ (b : List ℕ). settled (contents b).ending) (sym (append-nil bytes))
