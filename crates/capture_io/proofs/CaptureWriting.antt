@@ -41,8 +41,7 @@ beside_then {a = a} {b} {c} {k} {name} first second = record {
 
 -- ---- a file that is written
 
--- A state that the shelf may have had before the file was made: the given state, but with these files and with slot k
--- free.
+-- A possible state of the shelf before the file was made: the given state, but with these files and with slot k free.
 abbrev before_it : Option Files → ShelfState → ℕ → ShelfState
 before_it files s k = record s { files = files; slots = without s.slots k }
 

@@ -90,7 +90,7 @@ accepted_classic bytes none = elim (cases_Bool (is_pcapng bytes)) [
   | inr is ↦ is
 ]
 
--- ---- a refusal that no later bytes can change is the first one
+-- ---- a refusal that no later bytes can change is the first refusal
 
 settled_first : (x : Option ng.Ending) (r : Refusal) → ng.settled x ≡ Some r → ng.refusal_of x ≡ Some r
 settled_first None r e = absurd cc

@@ -35,8 +35,8 @@ pub record IsRefusedAfter (meaning : Meaning) (bytes : List ℕ) (records : List
 
 -- What feeding a piece does. The reader takes bytes from the front of the piece, up to the end of one record or of the
 -- piece. The reader takes no byte exactly if the piece is empty or a record is held. As soon as the bytes so far
--- determine the capture's first refusal, the call takes the whole piece and returns this refusal, and every later call
--- returns it again.
+-- determine the capture's first refusal, the call returns this refusal instead of a number of bytes, and every later
+-- call returns it again.
 pub record Feeds (meaning : Meaning) (old : Progress) (piece : List ℕ) (result : Result ℕ Refusal) (new : Progress) : Type 0 where
   pub within : IfOk result (λ n. n ≤ length piece)
   pub nothing : IfOk result (λ n. (n ≡ 0) ↔ ((length piece ≡ 0) ⊎ IsSome old.held))

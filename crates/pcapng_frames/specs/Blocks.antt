@@ -94,7 +94,8 @@ option_refused order at left bytes = first_refused at (length bytes) (option_row
 abbrev pub trailer_rows : Order → ℕ → List ℕ → List Row
 trailer_rows order total bytes = row BlockTrailer 0 4 (not (nat_eq (number_at order 0 4 bytes) total)) ∷ []
 
--- The refusal of a trailer that the bytes contain, if the trailer does not repeat the block's total length.
+-- If the bytes contain the whole trailer of a block and it does not repeat the block's total length, the refusal of the
+-- trailer.
 unfoldable pub trailer_refused : Order → ℕ → ℕ → List ℕ → Option Refusal
 trailer_refused order at total bytes = first_refused at (length bytes) (trailer_rows order total bytes)
 
@@ -123,8 +124,8 @@ size_of_any order bytes =
     let k = kind_at order bytes in
     block_size k (number_at (order_at k order bytes) 4 4 bytes)
 
--- The size in bytes of the option that the bytes begin with: its header and its padded value. The option that ends the
--- options takes up all remaining bytes of options.
+-- The size in bytes of the option that the bytes begin with: its header and its padded value. An end-of-options option
+-- takes up all remaining bytes of options.
 abbrev pub size_of_option : Order → ℕ → List ℕ → ℕ
 size_of_option order left bytes = if nat_eq (option_code order bytes) 0 then 4 + (left - 4) else 4 + padded (option_length order bytes)
 
@@ -195,7 +196,8 @@ after_trailer p = record {
   packet = None;
 }
 
--- The place after what begins at this place: the head of a block, an option or a trailer.
+-- A block, an option or a trailer begins at this place. The result is the place after the block's fixed fields or body,
+-- after the option, or after the trailer.
 abbrev pub next_by : Stage → Place → List ℕ → Place
 next_by stage.Block p bytes = after_any p bytes
 next_by stage.Option p bytes =
@@ -203,7 +205,8 @@ next_by stage.Option p bytes =
     in_block p p.order p.interfaces (described order (option_code order bytes) p.interface bytes) p.total (p.left - size_by stage.Option p bytes) None
 next_by stage.Trailer p bytes = after_trailer p
 
--- The place after what begins at this place: the head of a block, an option or a trailer.
+-- A block, an option or a trailer begins at this place. The result is the place after the block's fixed fields or body,
+-- after the option, or after the trailer.
 unfoldable pub next_place : Place → List ℕ → Place
 next_place p bytes = next_by p.stage p bytes
 
@@ -213,8 +216,8 @@ packet_by stage.Block packet = None
 packet_by stage.Option packet = None
 packet_by stage.Trailer packet = packet
 
--- How the bytes of a capture end: the first refusal, and whether bytes are missing. If bytes are missing, more bytes
--- may change the refusal.
+-- How the bytes of a capture end: the first refusal, and whether bytes are missing. If bytes are missing, later bytes
+-- can change the refusal.
 pub record Ending : Type 0 where
   pub refusal : Refusal
   pub cut : Bool
@@ -239,8 +242,8 @@ cut_by stage.Block p bytes = cut_block p bytes
 cut_by stage.Option p bytes = short_at BlockBody (p.start + 8)
 cut_by stage.Trailer p bytes = short_at BlockBody (p.start + 8)
 
--- the capture may end at this place: a section was begun, a block would begin here, and no byte of that block is
--- present
+-- a capture that ends at this place is whole: a section was begun, a block would begin here, and no byte of that block
+-- is present
 abbrev pub ends_at : Stage → Option Order → ℕ → ℕ → Bool
 ends_at stage.Block (Some order) start zero = true
 ends_at stage.Block (Some order) start (suc n) = false
@@ -261,8 +264,8 @@ ends ending = record { records = []; ending = ending }
 abbrev pub and_then : Option Record → Contents → Contents
 and_then packet rest = record { records = option_to_list packet ++ rest.records; ending = rest.ending }
 
--- The contents of bytes that begin at this place and end before the next place: no packet, and a refusal unless the
--- capture may end at this place.
+-- The contents of bytes that begin at this place and end before the next place: no packet, and a refusal unless
+-- `ends_at` says that the capture is whole.
 abbrev pub cut_short : Place → List ℕ → Contents
 cut_short p bytes = if ends_at p.stage p.order p.start (length bytes) then ends None else ends (Some (cut_by p.stage p bytes))
 

@@ -126,7 +126,7 @@ option_rows code len left bytes =
     ∷ row IfTsresol 0 5 (nat_eq code 9 && not (is_resolution (slice_index bytes 4)))
     ∷ []
 
--- The interface after the option that the bytes begin with. If an option occurs twice, the last one counts.
+-- The interface after the option that the bytes begin with. If an option occurs twice, the later one counts.
 abbrev pub with_option : Order → ℕ → Interface → List ℕ → Interface
 with_option order code interface bytes =
     if nat_eq code 9 then record interface { resolution = slice_index bytes 4 }

@@ -13,8 +13,8 @@ use Rattle.pcapng_frames.specs.Fields.{first_refused, kind_of, number_at, packet
 use Rattle.pcapng_frames.specs.Blocks.{Place, Contents, after_block, order_or_little, contents, contents_from, whole_records, first_refusal, settled, ends, and_then, first_place, after_trailer, short_at}
 
 -- The state of a reader. `place` is the place at which the reader reads, once it has skipped `skip` further bytes.
--- `part` are the bytes taken from that place on. `whole` tells whether the block's packet is whole. `refusal` is what
--- the reader refused, if anything.
+-- `part` are the bytes taken from that place on. `whole` tells whether the block's packet is whole. `refusal` is the
+-- refusal that the reader has returned, if any.
 pub record Reading : Type 0 where
   pub place : Place
   pub skip : ℕ
@@ -54,7 +54,7 @@ rest_of r more = rest_by r.refusal r.whole r more
 abbrev pub after_all : List Record → Contents → Contents
 after_all records rest = record { records = records ++ rest.records; ending = rest.ending }
 
--- The reader has taken these bytes and released these packets, in order. Whatever bytes `more` follow, the contents of
+-- The reader has taken these bytes and released these packets, in order. For any further bytes `more`, the contents of
 -- the capture are these packets, followed by `rest_of r more`.
 pub record HasRead (r : Reading) (bytes : List ℕ) (records : List Record) : Type 0 where
   pub read : (more : List ℕ) → contents (bytes ++ more) ≡ after_all records (rest_of r more)
@@ -97,8 +97,8 @@ refused_after records refusal = record { records = records; ending = Some (recor
 
 -- ---- a packet that is borrowed
 
--- The bytes are the whole block of an enhanced packet, in a section with this byte order and these interfaces. Nothing
--- in the block is refused.
+-- The bytes are a whole enhanced packet block, in a section with this byte order and these interfaces. Nothing in the
+-- block is refused.
 pub record IsPacketBlock (order : Order) (interfaces : List Interface) (block : List ℕ) : Type 0 where
   pub kind : kind_of (number_at order 0 4 block) ≡ kind.Packet
   pub accepted : first_refused 0 (length block) (packet_rows order interfaces block) ≡ None

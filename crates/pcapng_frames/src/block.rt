@@ -10,7 +10,7 @@ pub enum Kind {
     Section,
     /// An interface description.
     Interface,
-    /// An enhanced packet.
+    /// An enhanced packet block.
     Packet,
     /// A block that is skipped.
     Other,

@@ -93,7 +93,8 @@ fn any_arrival(interface: Interface, timestamp: u64) -> Option<u64>
     Some(instant as u64)
 }
 
-/// The arrival of a packet, in nanoseconds. `None` if it is before the epoch, or at least 2^32 seconds after it.
+/// The arrival of a packet, in nanoseconds. `None` if the arrival is before the epoch, or at least 2^32 seconds after
+/// the epoch.
 ///
 /// Most clocks count nanoseconds or microseconds from the epoch. For such a clock, one multiplication is enough.
 #[tactic(auto, using(crate::proofs::Numbers::nanosecond_arrival, crate::proofs::Numbers::microsecond_arrival, crate::proofs::Numbers::nanosecond_late, crate::proofs::Numbers::microsecond_late))]

@@ -25,7 +25,7 @@ pub const INTERFACE_DESCRIPTION: u32 = 1;
 
 pub const ENHANCED_PACKET: u32 = 6;
 
-/// The magic number of a section: in the section's byte order, and with its bytes swapped.
+/// The magic number of a section, and the same number with its bytes swapped, as it reads in the other byte order.
 const MAGIC: u32 = 0x1A2B_3C4D;
 
 const SWAPPED_MAGIC: u32 = 0x4D3C_2B1A;
@@ -46,7 +46,7 @@ pub const IF_TSRESOL: u16 = 9;
 
 pub const IF_TSOFFSET: u16 = 14;
 
-/// The signed number of 64 bits at an offset.
+/// The signed 64-bit number at an offset.
 #[tactic(auto, unfolding(crate::specs::Fields::number_at))]
 pub fn i64_at(order: Order, bytes: &[u8], offset: usize) -> i64
     requires { offset + 8 ≤ length bytes.now }

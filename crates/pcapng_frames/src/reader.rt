@@ -160,8 +160,8 @@ impl Ng {
     /// The size of the next packet's block, if the piece begins with the whole block and no byte of the block was taken
     /// yet.
     ///
-    /// The result is `None` if another block is first, some bytes of the block were taken, a field is refused, or the
-    /// block continues after the piece. At `None` the piece must be fed.
+    /// The result is `None` if a block of another kind comes first, some bytes of the block were taken, a field is
+    /// refused, or the block continues after the piece. At `None` the piece must be fed.
     #[inline(always)]
     pub fn whole_ahead(&self, piece: &[u8]) -> Option<usize>
         ensures within { IfSome result (λ size. size ≤ length piece.now) }
@@ -205,8 +205,10 @@ impl Ng {
 
     /// Whether the bytes so far are a whole capture: whole blocks, the first of which is a section header.
     ///
-    /// If the capture is not whole, the call returns the earlier refusal. Without an earlier refusal, the call refuses
-    /// the field that the bytes lack, usually with `short` set. The call changes nothing, and more bytes may follow.
+    /// If the capture is not whole, the call returns the refusal that an earlier `feed` returned, if there is one.
+    /// Otherwise the call refuses the first field of which a byte is missing, with `short` set; or it refuses the 257th
+    /// interface of a section, if only the type of its block is present. The call changes nothing, and more bytes can
+    /// be fed afterwards.
     pub fn finish(&self) -> Result<(), Refusal>
         ensures { Ends meaning (progress self.now) result }
     {
@@ -352,7 +354,7 @@ impl Ng {
         }
     }
 
-    /// The packet that was taken last, if its block is whole and the packet was not released.
+    /// The held packet: the most recent packet, if its block was taken whole and the packet was not released.
     pub fn held(&self) -> Option<RecordView<'_>>
         ensures { Views (held self.now) result }
     {

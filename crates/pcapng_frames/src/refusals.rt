@@ -230,7 +230,7 @@ pub fn trailer_refusal(order: Order, at: u64, total: u32, tail: &[u8]) -> Option
 }
 
 /// What is missing of a block that is cut off at the end of the bytes, in a section with `count` interfaces. After the
-/// first section header, an empty `part` lacks nothing: the capture may end there.
+/// first section header, an empty `part` lacks nothing: a capture that ends there is whole.
 pub fn missing_of_block(
     order: Option<Order>,
     count: usize,

@@ -48,7 +48,7 @@ fn packet_need(order: Order, part: &[u8]) -> usize
     PACKET_HEAD + u32_at(order, part, 20) as usize
 }
 
-/// The cursor after the head of a section header.
+/// The cursor after the fixed fields of a section header.
 fn after_section(cursor: Cursor, part: &[u8]) -> Cursor
     requires whole { length part.now ≡ 16 }
     requires accepted { first_refused cursor.start (length part.now) (kind_rows kind.Section (order_in kind.Section None part.now) [] part.now) ≡ None }
@@ -101,7 +101,7 @@ fn after_interface(cursor: Cursor, order: Order, count: usize, part: &[u8]) -> C
     }
 }
 
-/// The cursor after the head of a skipped block.
+/// The cursor after the fixed fields of a skipped block.
 fn after_other(cursor: Cursor, order: Order, part: &[u8]) -> Cursor
     requires whole { length part.now ≡ 8 }
     requires order { order ≡ order_or cursor.order }
@@ -273,8 +273,8 @@ pub fn option_need(order: Order, tail: &[u8]) -> usize
     }
 }
 
-/// The length of an option, with its header and the padding of its value. The code 0 ends the options. The length of
-/// that option is the number of all remaining bytes of options.
+/// The length of an option, with its header and the padding of its value. An option with code 0 ends the options, and
+/// its length is the number of all remaining bytes of options.
 #[tactic(auto, unfolding(crate::specs::Blocks::option_refused))]
 fn option_size(order: Order, at: u64, left: u32, tail: &[u8]) -> u32
     requires long { 4 ≤ length tail.now }

@@ -28,8 +28,8 @@ pub record Advances (old : Progress) (piece : List ℕ) (result : Result ℕ Ref
   pub nothing : IfOk result (λ n. (n ≡ 0) ↔ ((length piece ≡ 0) ⊎ IsSome old.held))
   pub end : IfOk result (λ n. n < length piece → IsSome new.held)
 
--- If a reader has no refusal, no complete field of the bytes taken is refused. If a reader has a refusal, that refusal
--- is the first refusal of the capture, whatever bytes follow.
+-- If a reader has no refusal, `certain` is `None` for the bytes taken. If a reader has a refusal, that refusal is the
+-- first refusal of the capture, whatever bytes follow.
 pub record IsSure (meaning : Meaning) (reader : Progress) : Type 0 where
   pub uncertain : reader.refusal ≡ None → (bytes : List ℕ) (records : List Record) → reader.has_read bytes records → meaning.certain bytes ≡ None
   pub refused : (why : Refusal) → reader.refusal ≡ Some why → (bytes more : List ℕ) (records : List Record) → reader.has_read bytes records

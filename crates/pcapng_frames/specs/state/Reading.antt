@@ -146,7 +146,8 @@ pub record IsGoing (r : Reading) (piece : List ℕ) : Type 0 where
   pub more : 0 < length piece
   pub bounded : taken r + length piece ≤ 2 ^ 62
 
--- A reader before a block, an option or a trailer can take the bytes of a piece, and has nothing to skip.
+-- A reader at a place where a block, an option or a trailer begins has nothing to skip and can take the bytes of a
+-- piece.
 pub record IsAt (next : Stage) (r : Reading) (piece : List ℕ) : Type 0 where
   pub going : IsGoing r piece
   pub stage : r.place.stage ≡ next
