@@ -9,7 +9,7 @@ use Rattle.avtp_base.proofs.Files.{KeepsOtherFiles-trans, PutsFile-appends, Puts
 use Rattle.avtp_files.specs.ShelfCalls.{IsMadeIn}
 use Rattle.capture_io.specs.Writing.{IsWriting, PutsPrefix, WritesSlot, Writing}
 
--- ---- what is left of a slot
+-- ---- two successive calls on a slot
 
 pub writes_then : {s t u : ShelfState} {v v' v'' : Writing} {ok : Unit} {result : Result Unit Failed} → WritesSlot s t v v' (Ok ok) → WritesSlot t u v' v'' result → WritesSlot s u v v'' result
 writes_then {s} {t} {u} {v = v} {result = result} first second = record {

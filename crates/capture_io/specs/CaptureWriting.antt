@@ -62,15 +62,15 @@ pub record BeginsCapture (before after : ShelfState) (name : List ℕ) (result :
   pub counted : IsOpenCounted before.writing_faults after.writing_faults result
   pub asked : Asks (name ∷ []) before after
 
--- The record `r` was appended to the capture. If the shelf failed, the capture is unchanged. In either case some
--- buffered bytes may have been written to the file.
+-- With `Ok` the record `r` was appended to the capture. With `Err` the shelf failed, and the capture is unchanged. In
+-- either case it is possible that buffered bytes were written to the file.
 pub record AddsRecord (before after : ShelfState) (old new : Writing) (r : Record) (result : Result Unit Failed) : Type 0 where
   pub added : OnOk result ((files : Option Files) (name : List ℕ) (records : List Record) → HoldsCapture files before old name records → HoldsCapture files after new name (records ++ r ∷ []))
   pub kept : OnErr result ((files : Option Files) (name : List ℕ) (records : List Record) → HoldsCapture files before old name records → HoldsCapture files after new name records)
   pub writes : WritesSlot before after old new result
 
--- The file was closed, and has a prefix of the capture. The writer's slot is free. If the shelf failed, the count of
--- writing faults rose. No reading fault was counted, and no name was asked for.
+-- The file was closed, and contains a prefix of the capture. The writer's slot is free. If the shelf failed, the count
+-- of writing faults rose. No reading fault was counted, and no name was asked for.
 pub record ClosesCapture (before after : ShelfState) (writer : Writing) (result : Result Unit Failed) : Type 0 where
   pub prefix : (files : Option Files) (name : List ℕ) (records : List Record) → HoldsCapture files before writer name records → PutsPrefix files after.files name (capture_bytes records)
   pub free : (files : Option Files) (name : List ℕ) (records : List Record) → HoldsCapture files before writer name records → after.slots writer.slot ≡ None
@@ -79,7 +79,7 @@ pub record ClosesCapture (before after : ShelfState) (writer : Writing) (result 
   pub counted : IsCounted before.writing_faults after.writing_faults result
   pub asked : AsksNothing before after
 
--- The capture was finished: its file was closed. If nothing failed, the file has the whole capture.
+-- The capture was finished: its file was closed. If nothing failed, the file contains the whole capture.
 pub record FinishesCapture (before after : ShelfState) (writer : Writing) (result : Result Unit Failed) : Type 0 where
   pub put : OnOk result ((files : Option Files) (name : List ℕ) (records : List Record) → HoldsCapture files before writer name records → PutsFile files after.files name (capture_bytes records))
   pub closes : ClosesCapture before after writer result

@@ -12,8 +12,8 @@ use Rattle.capture_io.specs.Ends.{CountsStop}
 use Rattle.capture_io.specs.Reads.{OnlyReads}
 
 -- Which prefix of a file with these bytes was read. If the reading stopped at the end of the file, the prefix is the
--- whole file. If the reading stopped at a fault, the prefix is any prefix within the limit. If the reading stopped at
--- the limit, the prefix is the first `limit` bytes of a longer file.
+-- whole file. If the reading stopped at a fault, any prefix within the limit is possible. If the reading stopped at the
+-- limit, the prefix is the first `limit` bytes of a longer file.
 abbrev pub IsContents : ℕ → List ℕ → Stop → List ℕ → Type 0
 IsContents limit bytes stop.End prefix = (bytes ≡ prefix) × (length prefix ≤ limit)
 IsContents limit bytes stop.Fault prefix = (rest : List ℕ) × (bytes ≡ prefix ++ rest) × (length prefix ≤ limit)
@@ -28,8 +28,9 @@ pub record IsReadCounted (before after : ℕ) (result : Result Contents OpenFaul
   pub memory : IsErrOf result open_fault.Memory → after ≡ before
   pub failed : IsErrOf result open_fault.Failed → Rose before after
 
--- At `Ok` the file `name` was opened, read up to its end, a fault or the limit, and closed again. At `Err` the file was
--- not opened, or memory ran out. Nothing else was done.
+-- With `Ok` the file `name` was opened, read until its end, a fault or the limit was reached, and closed again. With
+-- `Err` the file could not be opened, or memory ran out. In either case the call only reads, and asks for exactly this
+-- name.
 pub record ReadsContents (before after : ShelfState) (limit : ℕ) (name : List ℕ) (result : Result Contents OpenFault) : Type 0 where
   -- if the shelf shows its files, the bytes are a prefix of the file, as `IsContents` says
   pub read : IfOk result (λ contents. (files : Files) → before.files ≡ Some files → (bytes : List ℕ) × (files name ≡ Some bytes) × IsContents limit bytes contents.stop contents.bytes.items)

@@ -27,9 +27,9 @@ end_of limit bytes =
     else at_limit (certain_in (take limit bytes))
 
 -- How the reading of a file ends if at most `limit` of its bytes may be read, and which prefix of the file precedes
--- that end. The first option is the file's contents. `None` means that no file has the name, which counts as a fault of
+-- that end. The `Option` is the file's contents. `None` means that no file has the name, which counts as a fault of
 -- reading before the first byte. If the file exists, the reading ends at a fault only if `fault` holds. In that case
--- the prefix is within the limit, and later bytes may still change the prefix's first refusal, if there is one.
+-- the prefix is within the limit, and `certain_in` is `None` for the prefix.
 abbrev pub EndsAt : ℕ → Option (List ℕ) → Type 0 → End → List ℕ → Type 0
 EndsAt limit None fault how prefix = (how ≡ end.ReadFault) × (prefix ≡ [])
 EndsAt limit (Some bytes) fault end.ReadFault prefix =

@@ -24,7 +24,7 @@ abbrev pub progress_by : Format → classic.Reading → ng.Reading → Progress
 progress_by Classic c n = classic.progress c
 progress_by Pcapng c n = ng.progress n
 
--- the refusal of a reader that has found this layout, if any
+-- the refusal, if any, of a reader that has found this layout
 abbrev pub refusal_by : Option Format → CaptureReading → Option Refusal
 refusal_by None r = None
 refusal_by (Some format) r = (progress_by format r.classic r.ng).refusal
@@ -50,8 +50,8 @@ StandsFor None r bytes records = (bytes ≡ r.front) × (length bytes < 4) × (r
 StandsFor (Some format) r bytes records =
     (progress_by format r.classic r.ng).has_read bytes records × (4 ≤ length bytes) × (format_in bytes ≡ format)
 
--- The reader has taken these bytes and released these records, in order. If the reader has no refusal, later bytes may
--- still change the first refusal of these bytes, if there is one.
+-- The reader has taken these bytes and released these records, in order. If the reader has no refusal, `certain_in` is
+-- `None` for these bytes.
 pub record HasRead (r : CaptureReading) (bytes : List ℕ) (records : List Record) : Type 0 where
   pub stands : StandsFor r.format r bytes records
   pub uncertain : refusal_of r ≡ None → certain_in bytes ≡ None

@@ -18,7 +18,7 @@ pub record OnlyReads (before after : ShelfState) (names : List (List ℕ)) : Typ
 -- ---- while the file of one slot is open
 
 -- The file in slot k was read, and is still open there. `now` is the slot's number after the call, and equals k. No
--- name was asked for. Only slot k and the count of reading faults may have changed.
+-- name was asked for. Nothing is changed except slot k and the count of reading faults.
 pub record ReadsSlot (before after : ShelfState) (k now : ℕ) : Type 0 where
   pub slot : now ≡ k
   pub files : KeepsFiles before.files after.files
@@ -29,8 +29,9 @@ pub record ReadsSlot (before after : ShelfState) (k now : ℕ) : Type 0 where
   pub writing : after.writing_faults ≡ before.writing_faults
   pub asked : AsksNothing before after
 
--- The name was asked for, its file was opened in the free slot k, and some of it may have been read. Only slot k and
--- the count of reading faults may have changed. If the shelf shows its files, the slot has the name.
+-- The name was asked for, its file was opened in slot k, which was free, and possibly some of the file was read. All
+-- files, all other slots and the count of writing faults are unchanged. If the shelf shows its files, the slot has the
+-- name.
 pub record OpensSlot (before after : ShelfState) (name : List ℕ) (k : ℕ) : Type 0 where
   pub free : before.slots k ≡ None
   pub files : KeepsFiles before.files after.files

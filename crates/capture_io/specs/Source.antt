@@ -40,7 +40,8 @@ pub record HasFed (limit : ℕ) (bytes : List ℕ) (remains : Option (List ℕ))
   pub read : HasRead source.reader prefix records
 
 -- The source has delivered these records from a file with these bytes. At most `limit` bytes of the file may be read.
--- `remains` is what is left to read. The source may still hold the last record. The reading has not ended.
+-- `remains` is what is left to read. If the source holds a record, that is the last of these records. The reading has
+-- not ended.
 pub record HasGiven (limit : ℕ) (bytes : List ℕ) (remains : Option (List ℕ)) (source : Sourcing) (records : List Record) : Type 0 where
   pub going : source.ended ≡ None
   pub before : List Record
@@ -65,7 +66,7 @@ to_do source = 2 * source.pieces.left + length source.pieces.waiting
 -- At `Ok` the capture `name` was opened, at most `limit` of its bytes may be read, and no record was delivered yet. At
 -- `Err` the capture was not opened.
 pub record OpensSource (before after : ShelfState) (limit : ℕ) (name : List ℕ) (result : Result Sourcing OpenFault) : Type 0 where
-  -- if the shelf shows the file's bytes, no record of them was delivered yet
+  -- if the shelf shows the file's bytes, no record in these bytes was delivered yet
   pub begun : IfOk result (λ source. (files : Files) → before.files ≡ Some files → (bytes : List ℕ) × (files name ≡ Some bytes) × HasGivenOf limit bytes after source [])
   pub going : IfOk result (λ source. (source.ended ≡ None) × (to_do source ≤ 2 * limit))
   pub tries : TriesOpen slot_of before after name result

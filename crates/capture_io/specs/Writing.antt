@@ -15,7 +15,7 @@ pub record Writing : Type 0 where
 
 -- Since the state `before`, the file `name` was made and opened in the writer's slot, which was free. `bytes` are the
 -- bytes of the file followed by the buffered bytes. All other files are unchanged, if the shelf shows them. All other
--- slots are unchanged, except that slots of this file may have other bytes left to read.
+-- slots are unchanged, except for what is left to read in slots of this file.
 pub record IsWriting (before after : ShelfState) (writer : Writing) (name bytes : List ℕ) : Type 0 where
   pub held : List ℕ
   pub split : bytes ≡ held ++ writer.waiting
@@ -27,7 +27,7 @@ pub record IsWriting (before after : ShelfState) (writer : Writing) (name bytes 
   pub left : IsSome before.files → (j : ℕ) → j ≢ writer.slot → name_in before.slots j ≢ Some name → left_in after.slots j ≡ left_in before.slots j
   pub reading : after.reading_faults ≡ before.reading_faults
 
--- The writer's file is still open, and some buffered bytes may have been written to it. If the shelf failed, the count
+-- The writer's file is still open, and possibly some buffered bytes were written to it. If the shelf failed, the count
 -- of writing faults rose. No reading fault was counted, and no name was asked for.
 pub record WritesSlot (before after : ShelfState) (old new : Writing) (result : Result Unit Failed) : Type 0 where
   pub slot : new.slot ≡ old.slot
@@ -37,7 +37,7 @@ pub record WritesSlot (before after : ShelfState) (old new : Writing) (result : 
   pub counted : IsCounted before.writing_faults after.writing_faults result
   pub asked : AsksNothing before after
 
--- `bytes` were added to the writer's file, or nothing was added if the shelf failed.
+-- With `Ok` the bytes `bytes` were added to the writer's file. With `Err` the shelf failed, and nothing was added.
 pub record AddsBytes (before after : ShelfState) (old new : Writing) (bytes : List ℕ) (result : Result Unit Failed) : Type 0 where
   pub added : OnOk result ((begun : ShelfState) (name all : List ℕ) → IsWriting begun before old name all → IsWriting begun after new name (all ++ bytes))
   pub kept : OnErr result ((begun : ShelfState) (name all : List ℕ) → IsWriting begun before old name all → IsWriting begun after new name all)
@@ -51,8 +51,8 @@ pub record NotMade (before after : ShelfState) : Type 0 where
   pub slots : KeepsSlots before.slots after.slots
   pub reading : after.reading_faults ≡ before.reading_faults
 
--- At `Ok` the file `name` was made, and is written through an empty buffer. At `Err` the file was not made. At `Failed`
--- the count of writing faults rose. In each case the name was asked for.
+-- At `Ok` the file `name` was made, and its buffer is empty. At `Err` the file was not made. At `Failed` the count of
+-- writing faults rose. In each case the name was asked for.
 pub record CreatesFile (before after : ShelfState) (name : List ℕ) (result : Result Writing OpenFault) : Type 0 where
   pub begun : IfOk result (λ writer. IsWriting before after writer name [])
   pub not_made : OnErr result (NotMade before after)
@@ -60,15 +60,15 @@ pub record CreatesFile (before after : ShelfState) (name : List ℕ) (result : R
   pub counted : IsOpenCounted before.writing_faults after.writing_faults result
   pub asked : Asks (name ∷ []) before after
 
--- The file `name` now has a prefix of `bytes`. All other files are unchanged, if the shelf shows them.
+-- The file `name` now contains a prefix of `bytes`. All other files are unchanged, if the shelf shows them.
 pub record PutsPrefix (old new : Option Files) (name bytes : List ℕ) : Type 0 where
   pub prefix : List ℕ
   pub rest : List ℕ
   pub split : bytes ≡ prefix ++ rest
   pub put : PutsFile old new name prefix
 
--- The file `name` is unchanged, or now has a prefix of the given bytes. All other files are unchanged, if the shelf
--- shows them.
+-- The file `name` is unchanged, or now contains a prefix of the given bytes. All other files are unchanged, if the
+-- shelf shows them.
 abbrev pub MakesPrefix : Option Files → Option Files → List ℕ → List ℕ → Type 0
 MakesPrefix old new name bytes = KeepsFiles old new ⊎ PutsPrefix old new name bytes
 
@@ -78,8 +78,10 @@ pub record KeepsSlotsBut (files : Option Files) (old new : Slots) (name : List �
   pub same : (j : ℕ) → option_map file_of (new j) ≡ option_map file_of (old j)
   pub left : IsSome files → (j : ℕ) → name_in old j ≢ Some name → left_in new j ≡ left_in old j
 
--- The writer's file was closed, and has a prefix of all bytes that were added. Every other file and slot is unchanged.
--- If the shelf failed, the count of writing faults rose. No reading fault was counted, and no name was asked for.
+-- The writer's file was closed, and contains a prefix of all bytes that were added. Since the file was made, no other
+-- file changed, the writer's slot became free again, and the other slots changed at most in what is left to read of
+-- this file. If the shelf failed, the count of writing faults rose. No reading fault was counted, and no name was asked
+-- for.
 pub record ClosesFile (before after : ShelfState) (writer : Writing) (result : Result Unit Failed) : Type 0 where
   pub prefix : (begun : ShelfState) (name all : List ℕ) → IsWriting begun before writer name all → PutsPrefix begun.files after.files name all
   pub slots : (begun : ShelfState) (name all : List ℕ) → IsWriting begun before writer name all → KeepsSlotsBut begun.files begun.slots after.slots name
@@ -87,7 +89,7 @@ pub record ClosesFile (before after : ShelfState) (writer : Writing) (result : R
   pub counted : IsCounted before.writing_faults after.writing_faults result
   pub asked : AsksNothing before after
 
--- The writer's file was closed. If nothing failed, the file has all bytes that were added.
+-- The writer's file was closed. If nothing failed, the file contains all bytes that were added.
 pub record FinishesFile (before after : ShelfState) (writer : Writing) (result : Result Unit Failed) : Type 0 where
   pub put : OnOk result ((begun : ShelfState) (name all : List ℕ) → IsWriting begun before writer name all → PutsFile begun.files after.files name all)
   pub closes : ClosesFile before after writer result

@@ -108,7 +108,7 @@ impl CaptureReader {
         Ok(taken)
     }
 
-    /// The record that was taken last, if it is whole and was not released.
+    /// The held record: the most recent record, if it was taken whole and was not released.
     pub fn held(&self) -> Option<RecordView<'_>>
         ensures { Views (held self.now) result }
     {
@@ -185,7 +185,8 @@ impl CaptureReader {
     }
 
     /// Whether the bytes so far are a whole capture; if not, returns their first refusal. The call changes nothing, and
-    /// more bytes may follow. With fewer than four bytes, the refusal is at the magic number of a classic capture.
+    /// more bytes can be fed afterwards. With fewer than four bytes, the refusal is at the magic number of a classic
+    /// capture.
     pub fn finish(&self) -> Result<(), Refusal>
         ensures { (bytes : List ℕ) (records : List Record) → HasRead self.now bytes records → EndsHere self.now bytes records (result_err result) }
     {

@@ -26,8 +26,8 @@ const RECORD_HEADER: usize = 16;
 /// A classic capture, little-endian with nanoseconds (draft-ietf-opsawg-pcap), that is written to a file of a shelf.
 ///
 /// The bytes of the file, followed by the buffered bytes, are the file header and one record for each added frame. If
-/// the shelf fails, the file has a prefix of these bytes. Nothing is lost or written twice. Therefore a failed call may
-/// be repeated. Between the calls, other files of the shelf may be read.
+/// the shelf fails, the file contains a prefix of these bytes. Nothing is lost or written twice. Therefore a failed
+/// call can be repeated. Between the calls, other files of the shelf may be read.
 #[derive(Drop)]
 pub struct CaptureWriter {
     file: FileWriter,
@@ -90,8 +90,8 @@ impl CaptureWriter {
         Ok(())
     }
 
-    /// Writes the buffered bytes, and closes the file. At `Ok` the file has the whole capture; otherwise it has a
-    /// prefix of the capture.
+    /// Writes the buffered bytes, and closes the file. With `Ok` the file contains the whole capture; with `Err` it
+    /// contains a prefix of the capture.
     pub fn finish<F: Shelf>(self, shelf: &mut F) -> Result<(), Failed>
         requires { IsMadeIn (F.state shelf.old).slots self.slot }
         ensures { FinishesCapture (F.state shelf.old) (F.state shelf.new) self result }
@@ -99,7 +99,7 @@ impl CaptureWriter {
         self.file.finish(shelf)
     }
 
-    /// Closes the file, which has a prefix of the capture.
+    /// Closes the file, which then contains a prefix of the capture.
     pub fn abandon<F: Shelf>(self, shelf: &mut F)
         requires { IsMadeIn (F.state shelf.old).slots self.slot }
         ensures { ClosesCapture (F.state shelf.old) (F.state shelf.new) self (Ok tt) }

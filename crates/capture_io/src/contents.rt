@@ -18,7 +18,8 @@ pub struct Contents {
     pub stop: Stop,
 }
 
-/// Opens a file, reads it up to its end, a fault or `limit` bytes, and closes it.
+/// Opens a file, reads until the end of the file, a fault or the limit of `limit` bytes is reached, and closes the
+/// file.
 ///
 /// `Missing` is returned only if the shelf shows its files and none has the name. `Failed` means that the file could
 /// not be opened, and that the reading count rose. `Memory` means that memory ran out.

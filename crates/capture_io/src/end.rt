@@ -14,7 +14,7 @@ pub enum End {
     Refused(Refusal),
     /// At a fault of reading, possibly before the first byte.
     ReadFault,
-    /// After the last byte that may be read; the file has more bytes.
+    /// At the limit: no more bytes may be read, although the file has more.
     Limit,
 }
 
@@ -25,7 +25,7 @@ pub enum Stop {
     End,
     /// At a fault of reading.
     Fault,
-    /// After the last byte that may be read; the file has more bytes.
+    /// At the limit: no more bytes may be read, although the file has more.
     Limit,
 }
 

@@ -11,8 +11,8 @@ use std::marker::Model;
 
 /// A file of a shelf that is made and written through a buffer.
 ///
-/// Each added byte is in the file, or in the buffer to be written next. If the shelf fails, the file has a prefix of
-/// the added bytes. Nothing is lost or written twice. Therefore a failed call may be repeated.
+/// Each added byte is in the file, or still in the buffer. If the shelf fails, the file contains a prefix of the added
+/// bytes. Nothing is lost or written twice. Therefore a failed call can be repeated.
 #[derive(Drop)]
 pub struct FileWriter {
     slot: Slot,
@@ -98,8 +98,8 @@ impl FileWriter {
         Ok(())
     }
 
-    /// Writes the buffered bytes, and closes the file. At `Ok` the file has all bytes that were added; otherwise it has
-    /// a prefix of the bytes that were added.
+    /// Writes the buffered bytes, and closes the file. With `Ok` the file contains all bytes that were added; with
+    /// `Err` it contains a prefix of the bytes that were added.
     pub fn finish<F: Shelf>(self, shelf: &mut F) -> Result<(), Failed>
         requires { IsMadeIn (F.state shelf.old).slots self.slot }
         ensures { FinishesFile (F.state shelf.old) (F.state shelf.new) self result }
@@ -110,7 +110,7 @@ impl FileWriter {
         written
     }
 
-    /// Closes the file, which has a prefix of the bytes that were added.
+    /// Closes the file, which then contains a prefix of the bytes that were added.
     pub fn abandon<F: Shelf>(self, shelf: &mut F)
         requires { IsMadeIn (F.state shelf.old).slots self.slot }
         ensures { ClosesFile (F.state shelf.old) (F.state shelf.new) self (Ok tt) }

@@ -84,8 +84,8 @@ impl Source {
     }
 
     /// Drops the held record. If the next record is complete in the bytes that were read, holds that record and returns
-    /// `true`. Otherwise returns `false`. In that case `next` reads on, and may wait for the program that writes the
-    /// file.
+    /// `true`. Otherwise returns `false`. In that case `next` reads on, and possibly has to wait for the program that
+    /// writes the file.
     #[inline(always)]
     pub fn advance(&mut self) -> bool
         ensures { Advances self.old self.new result }
@@ -95,9 +95,9 @@ impl Source {
         self.lent.is_some()
     }
 
-    /// Whether `next` will read from the file, judging by the bytes that were read. `next` may then wait for the
-    /// program that writes the file, so a caller should first print what is known so far. The answer is a hint: no
-    /// clause states anything about it.
+    /// Whether `next` will read from the file, judging by the bytes that were read. If it will, it possibly has to wait
+    /// for the program that writes the file, so a caller should first print what is known so far. The answer is a hint:
+    /// no clause states anything about it.
     #[inline(always)]
     pub fn must_read(&self) -> bool {
         self.feed.must_read(self.lent.unwrap_or(0))

@@ -136,7 +136,7 @@ fn a_real_file_is_made_and_read_back(rt: HostRuntime) -> Result<(), Fail> {
     Ok(())
 }
 
-/// A sink over the file at `path` that never writes to a file at one of the paths in `apart`.
+/// A sink over the file at `path`; the sink never writes to a file at one of the paths in `apart`.
 fn named(rt: HostRuntime, path: &str, apart: &[&str]) -> Result<FileSink<HostRuntime>, Fail> {
     let mut others = Vec::new(rt.alloc());
     for other in apart {

@@ -27,14 +27,14 @@ taken r = taken_by r.format r
 abbrev pub progress : CaptureReading → Progress
 progress r = record { has_read = HasRead r; held = held r; taken = taken r; refusal = refusal_of r }
 
--- Before the layout is known, the reader holds back fewer than four bytes. The reader of a layout that the capture does
--- not have has taken nothing.
+-- Before the layout is known, fewer than four bytes are held back, and the readers of both layouts have taken nothing.
+-- Once the layout is known, the reader of the other layout has taken nothing.
 abbrev pub IsFront : Option Format → List ℕ → classic.Reading → ng.Reading → Type 0
 IsFront None front c n = (length front < 4) × (c ≡ classic.nothing_read) × (n ≡ ng.nothing_read)
 IsFront (Some Classic) front c n = n ≡ ng.nothing_read
 IsFront (Some Pcapng) front c n = c ≡ classic.nothing_read
 
--- the reader of the layout other than this one is unchanged
+-- the reader of the other layout is unchanged
 abbrev pub KeepsOther : Format → classic.Reading → classic.Reading → ng.Reading → ng.Reading → Type 0
 KeepsOther Classic c c' n n' = n' ≡ n
 KeepsOther Pcapng c c' n n' = c' ≡ c

@@ -4,13 +4,14 @@ use Rattle.avtp_base.specs.declared.failed.Failed.{Failed}
 use Rattle.avtp_base.specs.States.{ShelfState}
 use Rattle.capture_io.specs.Writing.{Writing, IsWriting, WritesSlot}
 
--- All buffered bytes were written. If the shelf failed, only some of them may have been written.
+-- With `Ok` all buffered bytes were written. With `Err` the shelf failed, and possibly only some of them were written.
 pub record WritesOut (before after : ShelfState) (old new : Writing) (result : Result Unit Failed) : Type 0 where
   pub none_waits : OnOk result (new.waiting ≡ [])
   pub kept : (begun : ShelfState) (name all : List ℕ) → IsWriting begun before old name all → IsWriting begun after new name all
   pub writes : WritesSlot before after old new result
 
--- There is room for `size` more bytes, or the shelf failed. To make room, buffered bytes may have been written.
+-- With `Ok` there is room for `size` more bytes. With `Err` the shelf failed. In either case it is possible that
+-- buffered bytes were written.
 pub record MakesRoom (before after : ShelfState) (old new : Writing) (size : ℕ) (result : Result Unit Failed) : Type 0 where
   pub room : OnOk result (length new.waiting + size ≤ 65536)
   pub kept : (begun : ShelfState) (name all : List ℕ) → IsWriting begun before old name all → IsWriting begun after new name all
