@@ -1,4 +1,5 @@
-//! The highest 16-bit sample in the packets of a capture: an example of `pcap_frames` and `aaf_format` as libraries.
+//! The greatest absolute value of the 16-bit samples in the packets of a capture: an example of `pcap_frames` and
+//! `aaf_format` as libraries.
 #![tactic(auto)]
 
 use aaf_format::{AafFormat, AafView, read_aaf};
@@ -10,7 +11,7 @@ use std::{env, fs};
 /// The EtherType of AVTP (IEEE 1722-2016, 4.2).
 const AVTP: u16 = 0x22f0;
 
-/// The maximum number of bytes of a capture that are read.
+/// The greatest length in bytes of a capture that is accepted.
 const MOST_BYTES: usize = 1 << 30;
 
 fn main(rt: HostRuntime) -> ExitCode {
@@ -23,7 +24,7 @@ fn main(rt: HostRuntime) -> ExitCode {
     }
 }
 
-/// The peak of the capture that the first argument names. `None` if the capture cannot be read.
+/// The peak of the capture that the first argument names. `None` if the capture cannot be read or is too long.
 fn peak_of_file(rt: &HostRuntime) -> Option<u16> {
     let words: Vec<String> = env::args(rt).ok()?.skip(1).collect(rt.alloc()).ok()?;
     let bytes = fs::read(rt, words.get(0)?.as_str()).ok()?;

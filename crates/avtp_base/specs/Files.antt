@@ -3,7 +3,7 @@
 -- after the call. A name is a list of bytes.
 use Rattle.std.specs.Prelude.{◌≡◌, ◌≢◌, ℕ, Bool, true, false, List, ◌++◌, Option, Some, None, option_map, option_and_then, IsSome, IsSomeAnd, ⊤}
 
--- files by name: the bytes of the file, or `None` if no file has the name
+-- the bytes of each file, by the file's name; `None` if no file has the name
 abbrev pub Files : Type 0
 Files = List ℕ → Option (List ℕ)
 

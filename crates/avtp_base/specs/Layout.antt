@@ -15,7 +15,7 @@ pub record Bits (V : Type 0) : Type 0 where
   pub shown : Option (V → ℕ)
   pub free : Bool
 
--- Whole bytes of a header from byte `at` on. If a packet ends before the last of these bytes, the refusal names
+-- Whole bytes of a header from byte `at` on. If a packet does not contain all of these bytes, the refusal names
 -- `field`.
 pub record Part (V : Type 0) : Type 0 where
   pub field : Field
@@ -26,7 +26,7 @@ pub record Part (V : Type 0) : Type 0 where
 abbrev pub Layout : Type 0 → Type 0
 Layout V = List (Part V)
 
--- A part of a header's table: these bits, from byte `at` on. If a packet ends before the last of these bits, the
+-- A part of a header's table: these bits, from byte `at` on. If a packet does not contain all of these bits, the
 -- refusal names this field.
 abbrev pub part : {V : Type 0} → Field → ℕ → List (Bits V) → Part V
 part field at bits = record { field = field; at = at; bits = bits }
@@ -45,7 +45,7 @@ reserved_shown width value = record { width = width; shown = Some value; free = 
 
 -- ---- what a table says of bytes
 
--- the number is the value that the view shows for these bits; if the view shows none, it is any number
+-- the number is the value that the view shows for these bits; if the view shows none, the number can be any
 abbrev pub Shows : {V : Type 0} → Option (V → ℕ) → V → ℕ → Type 0
 Shows None v n = ⊤
 Shows (Some value) v n = n ≡ value v

@@ -1,4 +1,4 @@
-//! The fields of captures, frames and packets that can be refused.
+//! All fields that can be refused, in captures, frames and packets.
 
 ghost use Rattle.std.specs.Prelude.{◌≡◌};
 ghost use Rattle.avtp_base.specs.Field.{name_of};

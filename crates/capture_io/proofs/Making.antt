@@ -42,7 +42,7 @@ writing_more begun s t w name all n is more made keeps same = record {
 
 -- ---- closing
 
--- if the buffer is empty when the file is closed, the file has all bytes that were added
+-- if the buffer is empty when the file is closed, the file contains all bytes that were added
 pub puts_all : (begun s : ShelfState) (files : Option Files) (w : Writing) (name all : List ℕ) → IsWriting begun s w name all → w.waiting ≡ [] → KeepsFiles s.files files → PutsFile begun.files files name all
 puts_all begun s files w name all is none keeps =
     let whole : is.held ≡ all = sym (is.split ∙ (ap (λ (l : List ℕ). is.held ++ l) none ∙ append-nil is.held)) in

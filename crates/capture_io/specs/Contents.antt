@@ -32,7 +32,7 @@ pub record IsReadCounted (before after : ℕ) (result : Result Contents OpenFaul
 -- `Err` the file could not be opened, or memory ran out. In either case the call only reads, and asks for exactly this
 -- name.
 pub record ReadsContents (before after : ShelfState) (limit : ℕ) (name : List ℕ) (result : Result Contents OpenFault) : Type 0 where
-  -- if the shelf shows its files, the bytes are a prefix of the file, as `IsContents` says
+  -- if the shelf shows its files, the bytes that were read are the prefix of the file that `IsContents` describes
   pub read : IfOk result (λ contents. (files : Files) → before.files ≡ Some files → (bytes : List ℕ) × (files name ≡ Some bytes) × IsContents limit bytes contents.stop contents.bytes.items)
   pub bounded : IfOk result (λ contents. length contents.bytes.items ≤ limit)
   -- the shelf shows its files, and none has the name

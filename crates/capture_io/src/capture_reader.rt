@@ -31,8 +31,8 @@ const SECTION_HEADER: u32 = 0x0A0D_0D0A;
 /// The number of bytes that show the layout.
 const FRONT: usize = 4;
 
-/// Reads a capture in either layout, with the calls of [`Reader`]. The first four bytes show the layout, and are held
-/// back until all four have arrived.
+/// Reads a capture in either layout, with the same calls as [`Reader`]. The first four bytes show the layout, and are
+/// held back until all four have arrived.
 #[derive(Drop)]
 pub struct CaptureReader {
     format: Option<Format>,

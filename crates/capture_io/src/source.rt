@@ -95,7 +95,7 @@ impl Source {
         self.lent.is_some()
     }
 
-    /// Whether `next` will read from the file, judging by the bytes that were read. If it will, it possibly has to wait
+    /// Whether `next` will read from the file, judging by the bytes that were read. If so, `next` possibly has to wait
     /// for the program that writes the file, so a caller should first print what is known so far. The answer is a hint:
     /// no clause states anything about it.
     #[inline(always)]

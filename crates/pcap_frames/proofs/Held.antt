@@ -30,7 +30,7 @@ held_is refusal style s start part none is h = held_none (record_refusal s.order
 pub is_held_by : (refusal : Option Refusal) (style : Option Style) (s : Style) (start : ℕ) (part : List ℕ) → refusal ≡ None → style ≡ Some s → record_refusal s.order start part ≡ None → IsSome (held_by refusal style start part)
 is_held_by refusal style s start part none is e = rw (none, is, e) refl
 
--- if `part` is a whole record, it ends with the last byte of the record
+-- if `part` is a whole record, it consists of 16 header bytes and the captured bytes, and nothing else
 pub held_ends : (order : Order) (start : ℕ) (part : List ℕ) → IsPart order start part → record_refusal order start part ≡ None → length part ≡ 16 + number_at order 8 4 part
 held_ends order start part p e =
     let whole = record_whole order start part e in

@@ -79,7 +79,7 @@ record_of style bytes = record {
 abbrev pub record_size : Style → List ℕ → ℕ
 record_size style bytes = 16 + number_at style.order 8 4 bytes
 
--- the first n whole records at the front of the bytes, or all whole records there if they are fewer than n
+-- the first n whole records at the front of the bytes, or all of them if there are fewer than n
 abbrev pub records_from : ℕ → Style → List ℕ → List Record
 records_from zero style bytes = []
 records_from (suc n) style bytes =

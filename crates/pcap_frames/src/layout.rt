@@ -49,7 +49,8 @@ pub fn style_at(header: &[u8]) -> Option<Style>
     Some(Style { order, unit })
 }
 
-/// The first refused field of the file header. A field is refused if these bytes cut it off, or because of its value.
+/// The first refused field of the file header. A field is refused if these bytes cut it off, or if its value is not
+/// accepted.
 #[tactic(auto, unfolding(crate::specs::Layout::file_refusal, crate::specs::Layout::style_at))]
 pub fn file_refusal(header: &[u8]) -> Option<Refusal>
     ensures { result ≡ refusal_of_file header.now }
@@ -64,7 +65,7 @@ pub fn file_refusal(header: &[u8]) -> Option<Refusal>
 }
 
 /// The first refused field of the file header after the magic number. A field is refused if these bytes cut it off, or
-/// because of its value.
+/// if its value is not accepted.
 fn rest_refusal(order: Order, header: &[u8]) -> Option<Refusal>
     ensures { result ≡ first_refused order 0 file_header header.now }
 {
@@ -90,8 +91,8 @@ fn rest_refusal(order: Order, header: &[u8]) -> Option<Refusal>
     }
 }
 
-/// The first refused field of a record. A field is refused if these bytes cut it off, or because of its value. The
-/// record begins at offset `start` of the capture.
+/// The first refused field of a record. A field is refused if these bytes cut it off, or if its value is not accepted.
+/// The record begins at offset `start` of the capture.
 #[tactic(auto, unfolding(crate::specs::Layout::record_refusal))]
 pub fn record_refusal(order: Order, start: u64, bytes: &[u8]) -> Option<Refusal>
     requires { start < 2 ^ 63 }
@@ -163,7 +164,7 @@ pub fn arrival_of(unit: Unit, seconds: u32, fraction: u32) -> i64
     nanoseconds as i64
 }
 
-/// The record that these bytes encode, including its header.
+/// The record that these bytes encode. The bytes begin with the record's header.
 pub fn view(style: Style, bytes: &[u8]) -> RecordView<'_>
     requires { 16 ≤ length bytes.now }
     ensures exact { shown result ≡ record_of style bytes.now }

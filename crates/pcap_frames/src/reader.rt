@@ -70,8 +70,8 @@ impl Reader {
     ///
     /// While nothing is refused, the call returns `Ok(0)` exactly if the piece is empty or a whole record is held. As
     /// soon as the bytes so far show the first refusal of the capture, the call returns that refusal. From then on
-    /// every `feed` and every `finish` returns the same refusal, no more bytes are taken, and the whole piece counts as
-    /// taken.
+    /// every `feed` and every `finish` returns the same refusal without looking at further bytes, and each fed piece
+    /// counts as read.
     ///
     /// At most 2^62 bytes may be taken in all, including the piece.
     pub fn feed(&mut self, piece: &[u8]) -> Result<usize, Refusal>

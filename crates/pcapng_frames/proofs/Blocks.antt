@@ -77,8 +77,8 @@ block_stays_by k order interfaces start bytes more x long e h =
     (sym (long_enough (length bytes) 4 _ _ long) ∙ e)
     (λ f. kind_rows_stay k order interfaces start bytes more x f h)
 
--- If a block is refused, further bytes do not change the refusal. If the head of a block is complete and nothing is
--- refused, further bytes cause no refusal in the block.
+-- If a block is refused, further bytes do not change the refusal. If the fixed fields of a block are complete and
+-- nothing is refused, further bytes cause no refusal in the block.
 pub block_stays : (order : Option Order) (interfaces : List Interface) (start : ℕ) (bytes more : List ℕ) (x : Option Refusal) → first_refused start (length bytes) (block_rows (kind_at order bytes) order interfaces bytes) ≡ x
     → (x ≡ None → head_size (kind_at order bytes) ≤ length bytes) → first_refused start (length (bytes ++ more)) (block_rows (kind_at order (bytes ++ more)) order interfaces (bytes ++ more)) ≡ x
 block_stays order interfaces start bytes more x e h = elim (cases_lt (length bytes) 4) [
@@ -116,14 +116,15 @@ after_stays kind.Packet p total bytes more h packet =
     ∙ record_stays (packet_arrival (order_or_little p.order) p.interfaces bytes) (order_or_little p.order) bytes more (packet refl))
 after_stays kind.Other p total bytes more h packet = refl
 
--- if the head of a block and all captured bytes of a packet are present, further bytes do not change the next place
+-- if the fixed fields of a block are present, and in a packet's block also all captured bytes, further bytes do not
+-- change the next place
 pub place_stays : (p : Place) (bytes more : List ℕ) → head_size (kind_at p.order bytes) ≤ length bytes → (kind_at p.order bytes ≡ kind.Packet → 28 + number_at (order_or_little p.order) 20 4 bytes ≤ length bytes) → after_any p (bytes ++ more) ≡ after_any p bytes
 place_stays p bytes more h packet =
     ap (λ (k : Kind). after_block k p (number_at (order_at k p.order (bytes ++ more)) 4 4 (bytes ++ more)) (bytes ++ more)) (kind_stays p.order bytes more (omega (arith, rows_long (kind_at p.order bytes))))
     ∙ (ap (λ (n : ℕ). after_block (kind_at p.order bytes) p n (bytes ++ more)) (total_stays (kind_at p.order bytes) p.order bytes more h)
     ∙ after_stays (kind_at p.order bytes) p _ bytes more h packet)
 
--- if the head of a block is complete, further bytes do not change the number of bytes to the next place
+-- if the fixed fields of a block are complete, further bytes do not change the number of bytes to the next place
 pub size_stays : (order : Option Order) (bytes more : List ℕ) → head_size (kind_at order bytes) ≤ length bytes → size_of_any order (bytes ++ more) ≡ size_of_any order bytes
 size_stays order bytes more h =
     ap (λ (k : Kind). block_size k (number_at (order_at k order (bytes ++ more)) 4 4 (bytes ++ more))) (kind_stays order bytes more (omega (arith, rows_long (kind_at order bytes))))
@@ -171,7 +172,7 @@ head_long kind.Interface order bytes e = omega arith
 head_long kind.Packet order bytes e = grind (arith, nat_tests)
 head_long kind.Other order bytes e = omega arith
 
--- if the head of a block was taken and nothing in it is refused, the reader moves to the next place
+-- if all bytes that are needed of a block were taken and nothing in them is refused, the reader moves to the next place
 pub block_moves : (p q : Place) (part more : List ℕ) (skip : ℕ) → p.stage ≡ stage.Block → 8 ≤ length part → length part ≡ block_need p.order part → refusal_here p part ≡ None
     → after_any p part ≡ q → size_of_any p.order part ≡ length part + skip → contents_past 0 p part more ≡ contents_past skip q [] more
 block_moves p q part more skip is long whole accepted next size =
@@ -187,7 +188,7 @@ block_moves p q part more skip is long whole accepted next size =
     (none_in_block p.stage p.packet is)
     (cut_body p (part ++ more) is (omega (arith, length-append part more)) ∙ ap (λ (n : ℕ). ends (Some (short_at BlockBody (n + 8)))) (sym start))
 
--- if a field of a block is refused, the capture ends there
+-- if a field of a block is refused, the contents end at that refusal
 pub block_stops : (p : Place) (part more : List ℕ) (r : Refusal) → p.stage ≡ stage.Block → refusal_here p part ≡ Some r → contents_past 0 p part more ≡ ends (Some (record { refusal = r; cut = false }))
 block_stops p part more r is e =
     stops p part more r (at_block_rows p (part ++ more) is ∙ block_stays p.order p.interfaces p.start part more (Some r) (sym (at_block_rows p part is) ∙ e) (λ h. absurd (cc)))

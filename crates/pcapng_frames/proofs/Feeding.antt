@@ -183,7 +183,7 @@ block_ends c d interfaces others part tail front next clear whole refusal none p
       ∙ sym (going (place_of d others next) d.skip (part_at d.stage next clear) whole refusal more none partial))));
 }
 
--- if the head of a block was taken, the reader is before an option or a trailer of which no byte was taken
+-- after the needed bytes of a block, the reader is before an option or a trailer of which no byte was taken
 pub inside_part : (d : Cursor) (others : List Interface) (next clear front : List ℕ) (passed : ℕ) → HasEntered d front passed → IfSome d.interface (λ i. length others < 256) → clear ≡ []
     → IsPart (place_of d others next) d.skip (part_at d.stage next clear)
 inside_part d others next clear front passed entered room empty =
@@ -241,7 +241,7 @@ ends_more p q skip skip' part front next clear whole refusal none partial zero e
 pub holding : (p : Place) (skip : ℕ) (part : List ℕ) (held : Bool) (refusal : Option Refusal) (more : List ℕ) → refusal ≡ None → held ≡ true → rest_of (reading p skip part held refusal) more ≡ and_then p.packet (contents_at (after_trailer p) more)
 holding p skip part held refusal more none is = rw (none, is) refl
 
--- if the last bytes of the trailer of a packet's block are taken, the reader holds the packet
+-- once the trailer of a packet's block is complete, the reader holds the packet
 pub holds_more : (p : Place) (skip : ℕ) (part front next : List ℕ) (whole held : Bool) (refusal : Option Refusal) → refusal ≡ None → whole ≡ false → held ≡ true → skip ≡ 0 → next ≡ part ++ front
     → ((more : List ℕ) → contents_past 0 p next more ≡ and_then p.packet (contents_at (after_trailer p) more)) → Takes (reading p skip part whole refusal) front (reading p skip next held refusal)
 holds_more p skip part front next whole held refusal none partial is zero e moved = record {

@@ -1,4 +1,4 @@
--- What is known if the head of a block is whole and nothing in it is refused.
+-- What is known if all needed bytes of a block were taken and nothing in them is refused.
 use Rattle.std.proofs.Common.{◌≡◌, ℕ, ◌+◌, ◌≤◌, true, nat_lt, if◌then◌else◌, List, length, Option, Some, None, is_some, subst, refl, arith}
 use Rattle.std.proofs.lemmas.Bool.Decides.{nat_tests}
 use Rattle.pcap_frames.specs.declared.style.Order.{Order}
@@ -14,7 +14,7 @@ kind_rows_accepted : (k : Kind) (order : Option Order) (interfaces : List Interf
     → first_refused start (length bytes) (kind_rows k (order_at k order bytes) interfaces bytes) ≡ None
 kind_rows_accepted k order interfaces start bytes long h = grind (arith, nat_tests)
 
--- the head of a block has as many bytes as its kind needs
+-- if no more bytes of a block are needed, as many bytes were taken as `head_need` says for its kind
 pub head_known : (k : Kind) (order : Option Order) (bytes : List ℕ) → 8 ≤ length bytes → length bytes ≡ block_need order bytes → kind_at order bytes ≡ k → length bytes ≡ head_need k (order_or_little order) bytes
 unfolding block_need
 head_known k order bytes long need is = rw (← is) (grind (arith, nat_tests))
@@ -22,7 +22,7 @@ head_known k order bytes long need is = rw (← is) (grind (arith, nat_tests))
 not_below : (n m : ℕ) → n ≡ (if nat_lt n 28 then 28 else 28 + m) → n ≡ 28 + m
 not_below n m h = grind (arith, nat_tests)
 
--- the head of a packet's block has its fixed fields and all its captured bytes
+-- if no more bytes of a packet's block are needed, the fixed fields and all captured bytes were taken
 pub packet_known : (order : Option Order) (bytes : List ℕ) → 8 ≤ length bytes → length bytes ≡ block_need order bytes → kind_at order bytes ≡ kind.Packet → length bytes ≡ 28 + number_at (order_or_little order) 20 4 bytes
 packet_known order bytes long need is = not_below _ _ (head_known kind.Packet order bytes long need is)
 

@@ -56,7 +56,7 @@ moves p q part more skip accepted size next none short =
     (ap (λ (x : Option Record). and_then x (contents_at (next_place p (part ++ more)) (drop (size_here p (part ++ more)) (part ++ more)))) none
     ∙ (ap (λ (x : Place). contents_at x (drop (size_here p (part ++ more)) (part ++ more))) next ∙ ap (contents_at q) rest))))
 
--- if a field at a place is refused, the capture ends there
+-- if a field at a place is refused, the contents end at that refusal
 pub stops : (p : Place) (part more : List ℕ) (r : Refusal) → refusal_here p (part ++ more) ≡ Some r → contents_past 0 p part more ≡ ends (Some (record { refusal = r; cut = false }))
 stops p part more r e = past_none p part more ∙ (unroll p (part ++ more)
     ∙ ap (λ (x : Option Refusal). refused_or x (if nat_lt (length (part ++ more)) (size_here p (part ++ more)) then cut_short p (part ++ more) else and_then (packet_by p.stage p.packet) (contents_at (next_place p (part ++ more)) (drop (size_here p (part ++ more)) (part ++ more))))) e)

@@ -158,7 +158,7 @@ option_moves p q part more skip is long whole accepted next size =
     (none_in_option p.stage p.packet is)
     (cut_option p (part ++ more) is ∙ ap (λ (n : ℕ). ends (Some (short_at BlockBody (n + 8)))) (sym start))
 
--- if a field of an option is refused, the capture ends there
+-- if a field of an option is refused, the contents end at that refusal
 pub option_stops : (p : Place) (part more : List ℕ) (r : Refusal) → p.stage ≡ stage.Option → refusal_here p part ≡ Some r → contents_past 0 p part more ≡ ends (Some (record { refusal = r; cut = false }))
 option_stops p part more r is e =
     stops p part more r (at_option p (part ++ more) is ∙ option_stays (order_or_little p.order) p.left _ part more (Some r) (sym (at_option p part is) ∙ e) (λ h. absurd (cc)))
@@ -176,7 +176,7 @@ pub at_trailer_place : (p : Place) (bytes : List ℕ) → p.stage ≡ stage.Trai
 unfolding refusal_here
 at_trailer_place p bytes is = rw is refl
 
--- if a trailer is refused, the capture ends there
+-- if a trailer is refused, the contents end at that refusal
 pub trailer_stops : (p : Place) (part more : List ℕ) (r : Refusal) → p.stage ≡ stage.Trailer → refusal_here p part ≡ Some r → contents_past 0 p part more ≡ ends (Some (record { refusal = r; cut = false }))
 trailer_stops p part more r is e =
     stops p part more r (at_trailer p (part ++ more) is ∙ trailer_stays (order_or_little p.order) p.total _ part more (Some r) (sym (at_trailer p part is) ∙ e) (λ h. absurd (cc)))

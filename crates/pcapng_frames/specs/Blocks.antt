@@ -296,7 +296,7 @@ first_place = record {
 }
 
 -- The contents of a capture: the packets before its first refusal, and that refusal. Each place takes at least four
--- bytes. Therefore there are at most as many places as bytes.
+-- bytes, so `contents_from` never runs out of places here.
 unfoldable pub contents : List ℕ → Contents
 contents bytes = contents_from (suc (length bytes)) first_place bytes
 

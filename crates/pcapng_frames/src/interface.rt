@@ -50,7 +50,7 @@ fn units_in(resolution: u8) -> u64
     }
 }
 
-/// The nanoseconds of a timestamp, rounded down.
+/// A timestamp converted to nanoseconds, rounded down.
 ///
 /// Decimal units need no long division. If a unit is at least a nanosecond, it is a whole number of nanoseconds;
 /// otherwise a nanosecond is a whole number of units.

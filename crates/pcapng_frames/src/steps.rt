@@ -348,7 +348,7 @@ pub fn after_option(cursor: Cursor, at: u64, tail: &[u8]) -> Cursor
     }
 }
 
-/// Updates the interfaces of the section after the head of a block: a section header begins a section without
+/// Updates the interfaces of the section after the fixed fields of a block: a section header begins a section without
 /// interfaces.
 pub fn settle(kind: Kind, interfaces: &mut Vec<Interface>)
     requires resolved { AllResolved interfaces.old.items }

@@ -44,8 +44,8 @@ need_by stage.Block order part = block_need order part
 need_by stage.Option order part = option_need (order_or_little order) part
 need_by stage.Trailer order part = 4
 
--- How far a reader is in a block. Before a block, nothing is to be skipped. Within a block, three things together fit
--- the total length: the bytes to be skipped, the remaining bytes of options, and the trailer.
+-- How far a reader is in a block. Before a block, nothing is to be skipped. Within a block, the bytes to be skipped,
+-- the remaining bytes of options and the trailer together fit the total length.
 abbrev pub IsAhead : Stage → ℕ → ℕ → ℕ → Type 0
 IsAhead stage.Block skip left total = skip ≡ 0
 IsAhead stage.Option skip left total = (0 < left) × (left % 4 ≡ 0) × (skip + left + 4 ≤ total)
@@ -130,7 +130,7 @@ IsUnpacked stage.Option packet = packet ≡ None
 IsUnpacked stage.Trailer packet = ⊤
 
 -- A cursor has entered a block, or moved on in a block: the cursor is before an option or the trailer. `front` are the
--- bytes held of the block's head, and `count` bytes of the block were taken.
+-- bytes held of the block, and `count` bytes of the block were taken.
 pub record HasEntered (c : Cursor) (front : List ℕ) (count : ℕ) : Type 0 where
   pub head : HasHead c.order c.packet front
   pub resolved : IsResolved c.interface
