@@ -85,7 +85,8 @@ format_of bytes = unwrap_or (named_format (bits 16 0 8 bytes)) Int16
 abbrev pub frame_size : ℕ → AafFormat → ℕ
 frame_size channels format = channels * width_of format
 
--- The table of a PCM packet. The two format bits of the stream header are reserved, and a view shows them.
+-- The table of a PCM packet. The two format bits of the stream header are reserved in this format, but a view shows
+-- them.
 abbrev pub aaf_layout : Layout Aaf
 aaf_layout = stream_layout (λ v. v.header)
     (reserved_shown 2 (λ v. v.header.format_bits) ∷ [])

@@ -8,8 +8,8 @@ use Rattle.avtp_base.specs.Layout.{Bits, Layout, part, holds, reserved, Spells, 
 use Rattle.avtp_header.specs.declared.header.StreamHeader.{StreamHeader}
 use Rattle.avtp_header.specs.declared.header.Peeked.{Peeked}
 
--- The table of the stream header, for a view that contains a header. Each format defines the meaning of three parts:
--- two bits of byte 1; bytes 16 to 19; and bytes 22 and 23.
+-- The table of the stream header in packets of a format whose view contains that header. Each format defines the
+-- meaning of three parts: two bits of byte 1; bytes 16 to 19; and bytes 22 and 23.
 abbrev pub stream_layout : {V : Type 0} → (V → StreamHeader) → List (Bits V) → Layout V → Layout V → Layout V
 stream_layout header format_bits format_data format_flags =
     part Subtype 0 (holds 8 (λ v. (header v).subtype) ∷ []) ∷
@@ -27,8 +27,8 @@ stream_layout header format_bits format_data format_flags =
     part StreamDataLength 20 (holds 16 (λ v. (header v).data_length) ∷ []) ∷
     format_flags)
 
--- The table of the stream header alone. The table shows the two format bits, and leaves bytes 16 to 19, 22 and 23 to
--- the format.
+-- The table of the stream header alone. The table gives the two format bits. Bytes 16 to 19, 22 and 23 count as
+-- reserved in it, because each format defines them.
 abbrev pub header_layout : Layout StreamHeader
 header_layout = stream_layout (λ h. h)
     (holds 2 (λ h. h.format_bits) ∷ [])

@@ -10,7 +10,7 @@ use crate::header::StreamHeader;
 use avtp_base::Room;
 use avtp_base::octets::write_front;
 
-/// The 24 bytes of a header, with these numbers in the bits that each format defines.
+/// The 24 bytes of a header, with these numbers in the bits whose meaning depends on the format.
 pub fn header_bytes(
     header: &StreamHeader,
     format_bits: u8,

@@ -213,7 +213,7 @@ pub format_given : (default format : AafFormat) (v : Option (List ℕ)) → IfSo
 format_given default format None is reads = reads.absent
 format_given default format (Some word) (named, is) reads = is ∙ ap format_name (sym (reads.read named is))
 
--- if `default` is in the range of `option`, `n` is in that range
+-- if `default` is in the range of `option`, so is the number `n` that is read for the option
 pub within : (option : NumberOption) (default n : ℕ) (gs : List Setting) → option.default ≡ Some default → option.low ≤ default → default ≤ option.high → IsGiven option gs n → (option.low ≤ n) × (n ≤ option.high)
 within option default n gs has least most given = go (value_in option.name gs) given where
   go : (v : Option (List ℕ)) → MatchOption v (IsSomeAnd option.default (λ default. n ≡ default)) (λ word. IsNumber option.low option.high word n) → (option.low ≤ n) × (n ≤ option.high)

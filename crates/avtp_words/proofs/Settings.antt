@@ -99,7 +99,7 @@ setting-value rows s value sound is valued = setting_value (row_named rows s.nam
   setting_value None e taken dashes = taken
   setting_value (Some row) e taken dashes = value-dashes row.takes value (found-sound rows s.name row sound e) taken dashes
 
--- a name that is not among the words of the options is not the name of an option
+-- if `name` is not among the words of the options, none of these options has this name
 pub fresh : (gs : List Setting) (name : List ℕ) → (Contains (flat_map words_of gs) name → ⊥) → All (λ s. s.name ≢ name) gs
 fresh [] name absent = All-nil (λ s. s.name ≢ name)
 fresh (g ∷ gs) name absent = All-cons (λ s. s.name ≢ name) g gs (λ e. absent (0, omega arith, e)) (fresh gs name (λ within. absent (Contains-append_right (words_of g) (flat_map words_of gs) name within)))
@@ -148,8 +148,8 @@ same_first rows g h xs ys g_is h_is e = go (row_named rows h.name) g.value h.val
           let values : value ≡ other = cc in
           (same_setting g h names (v_is ∙ ap Some values ∙ sym w_is), cc)
 
--- The list `hs` consists of `gs`, the option named `word`, and the options `more`. The list `rest` consists of the
--- value of that option, if any, the words of the options `more`, and `names`.
+-- `hs` is `gs`, then an option that `word` names, then `more`. `rest` is that option's value, if it has one, then the
+-- words of `more`, then `names`.
 pub record Next (rows : List Row) (gs hs : List Setting) (word : List ℕ) (rest names : List (List ℕ)) : Type 0 where
   pub setting : Setting
   pub more : List Setting

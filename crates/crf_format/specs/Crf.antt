@@ -60,7 +60,7 @@ crf_layout =
     part CrfDataLength 16 (holds 16 (λ v. length v.payload) ∷ []) ∷
     part TimestampInterval 18 (holds 16 (λ v. v.interval) ∷ []) ∷ []
 
--- a reserved bit of a clock reference packet is set
+-- the reserved bit of a clock reference packet is set
 abbrev pub sets_reserved : List ℕ → Bool
 sets_reserved bytes = any_set (reserved_ranges crf_layout) bytes
 
@@ -134,10 +134,10 @@ pub record IsWritableCrf (v : Crf) : Type 0 where
   pub whole_points : length v.payload % 8 ≡ 0
   pub data_length : length v.payload < 2 ^ 16
 
--- a clock reference packet with every reserved bit 0
+-- a clock reference packet with the reserved bit 0
 abbrev pub plain_crf : Crf → Crf
 plain_crf v = record v { reserved = false }
 
--- the bytes that are written for a clock reference packet: every reserved bit is 0, and nothing follows the stated length
+-- the bytes that are written for a clock reference packet: the reserved bit is 0, and nothing follows the stated length
 abbrev pub crf_spelling : Crf → List ℕ
 crf_spelling v = spelling crf_layout v ++ v.payload

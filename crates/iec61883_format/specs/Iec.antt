@@ -1,5 +1,5 @@
--- IEC 61883-6 packets in AVTP: the encapsulation of IEEE 1722-2016, 5, and the CIP header of IEC 61883-1, which is two
--- quadlets after the stream header. This project's profile accepts no-data packets, and packets of audio blocks that
+-- IEC 61883-6 packets in AVTP: the encapsulation of IEEE 1722-2016, 5, and the CIP header of IEC 61883-1, whose two
+-- quadlets follow the stream header. This project's profile accepts no-data packets, and packets of audio blocks that
 -- are neither split nor packed.
 use Rattle.std.specs.Prelude.{◌≡◌, ◌⊎◌, ℕ, ◌+◌, ◌-◌, ◌*◌, ◌/◌, ◌%◌, ◌==◌, ◌^◌, ◌<◌, ◌≤◌, Bool, false, not, ◌&&◌, ◌||◌, nat_lt, if◌then◌else◌, List, [], ◌∷◌, ◌++◌, length, take, drop, Option, Some, None}
 use Rattle.time_unfold.specs.declared.head_rule.HeadRule.TheVariants.{Blocks}
@@ -47,7 +47,8 @@ iec_shape v = record {
 abbrev pub cip_tag : ℕ
 cip_tag = 1
 
--- the two bits that mark the second quadlet of the CIP header; the same bits of the first quadlet are 0 (IEC 61883-1)
+-- the value of the two bits that mark the second quadlet of the CIP header; in the first quadlet these bits are 0 (IEC
+-- 61883-1)
 abbrev pub second_mark : ℕ
 second_mark = 2
 
@@ -122,8 +123,8 @@ cip_layout cip =
     part StreamDataLength 29 (holds 8 (λ v. (cip v).fdf) ∷ []) ∷
     part StreamDataLength 30 (holds 16 (λ v. (cip v).syt) ∷ []) ∷ []
 
--- The table of an IEC 61883-6 packet. The first of the two format bits of the stream header is reserved, and a view
--- shows it. The second says whether `gateway_info` is valid.
+-- The table of an IEC 61883-6 packet. The first of the two format bits of the stream header is reserved in this format,
+-- but a view shows it. The second says whether `gateway_info` is valid.
 abbrev pub iec_layout : Layout Iec
 iec_layout = stream_layout (λ v. v.header)
     (reserved_shown 1 (λ v. v.header.format_bits / 2) ∷ holds 1 (λ v. v.header.format_bits % 2) ∷ [])

@@ -33,8 +33,8 @@ pub struct IecView<'a> {
     pub cip: Cip,
     /// The number of data blocks; 0 in a no-data packet, whatever follows the CIP header.
     pub count: u32,
-    /// The bytes after the CIP header: the data blocks, each of `cip.dbs` quadlets. A quadlet is a label byte and 24
-    /// bits.
+    /// The bytes after the CIP header. Except in a no-data packet they are the data blocks, each of `cip.dbs` quadlets.
+    /// A quadlet is a label byte and 24 bits.
     pub payload: &'a [u8],
     /// A reserved bit is set.
     pub reserved: bool,

@@ -30,7 +30,7 @@ fn data_size(fdf: u8, size: u32) -> u32
     if fdf == NO_DATA { 0 } else { size }
 }
 
-/// The refusal of the tag or of the stated length, which must reach the end of the CIP header.
+/// The refusal of the tag, or of a stated length that is shorter than a CIP header or exceeds the packet.
 fn refused_by_carrier(pdu: &[u8], stated: u16) -> Option<Refusal>
     requires whole { 24 ≤ length pdu.now }
     requires stated { stated ≡ bits 20 0 16 pdu.now }
@@ -167,10 +167,10 @@ fn read_packet(pdu: &[u8]) -> Result<IecView<'_>, Refusal>
 ///
 /// Checks the fields in the order given here, and refuses the packet at the first one that fails. The slice must hold
 /// the whole stream header. The subtype must be IEC 61883, the version 0, and the tag 1. The stated length must be at
-/// least that of a CIP header, and at most the number of bytes after the stream header. In the CIP header, `qi_1`,
-/// `fn`, `qpc` and `sph` must be 0, `qi_2` must be 2, and the format must be audio. The FDF must be that of a rate, or
-/// 255, which marks a no-data packet. In any other packet, the bytes from the CIP header to the end of the stated
-/// length must be whole data blocks.
+/// least the 8 bytes of a CIP header, and at most the number of bytes after the stream header. In the CIP header,
+/// `qi_1`, `fn`, `qpc` and `sph` must be 0, `qi_2` must be 2, and the format must be audio. The FDF must be that of a
+/// rate, or 255, which marks a no-data packet. In any other packet, the bytes from the CIP header to the end of the
+/// stated length must be whole data blocks.
 ///
 /// Reserved bits may be set, and bytes after the stated length are ignored.
 #[inline(always)]

@@ -49,7 +49,7 @@ step_after [] seen = None
 step_after (previous ∷ older) seen =
     if step_from previous.seq seen.seq == 1 then None else Some (step_from previous.seq seen.seq)
 
--- how many of the newest packets in a row have this value of the media clock restart bit
+-- how many packets in a row, counted back from the newest, have this value of the media clock restart bit
 abbrev pub stood : Bool → List Seen → ℕ
 stood mr notes = prefix_len (λ note. beq note.mr mr) notes
 
@@ -57,9 +57,9 @@ stood mr notes = prefix_len (λ note. beq note.mr mr) notes
 abbrev pub least_hold : ℕ
 least_hold = 8
 
--- `all` is the number of the stream's packets. The newest packets in a row have the same media clock restart bit, and
--- `packets` is their number. If `packets` is less than 8 and less than `all`, the answer is `packets`. Otherwise the
--- answer is `None`. If `packets` equals `all`, the value of the bit did not begin with a change.
+-- `all` is the number of the stream's packets. `packets` is how many of them in a row, counted back from the newest,
+-- have the same media clock restart bit. If `packets` is less than 8 and less than `all`, the answer is `packets`.
+-- Otherwise the answer is `None`. If `packets` equals `all`, the value of the bit did not begin with a change.
 abbrev pub early : ℕ → ℕ → Option ℕ
 early packets all = if nat_lt packets all && nat_lt packets least_hold then Some packets else None
 

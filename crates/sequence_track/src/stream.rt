@@ -32,9 +32,9 @@ impl Seen {
 /// The state of a stream after at least one packet.
 #[derive(Clone, Copy, Debug)]
 pub struct StreamState {
-    /// The sequence number of the last packet.
+    /// The sequence number of the newest packet.
     seq: u8,
-    /// The media clock restart bit of the last packet.
+    /// The media clock restart bit of the newest packet.
     mr: bool,
     /// For how many packets, counted up to 8, the media clock restart bit has kept its value. `None` if the value did
     /// not begin with a change.
@@ -70,7 +70,7 @@ impl StreamState {
         }
     }
 
-    /// The step from the last sequence number to the next packet's sequence number, if the step is not 1.
+    /// The step from the newest packet's sequence number to that of the next packet, if the step is not 1.
     fn step(&self, seen: &Seen) -> Option<u8>
         ensures { (recent : List SeenValue) → state_of recent ≡ Some self.now → result ≡ step_after recent seen.now }
     {
@@ -78,7 +78,8 @@ impl StreamState {
         if step == 1 { None } else { Some(step) }
     }
 
-    /// For how many packets the media clock restart bit kept its value, if the bit changes again too early.
+    /// If the media clock restart bit changes again too early at the next packet: for how many packets it kept its
+    /// previous value.
     fn hold(&self, seen: &Seen) -> Option<u32>
         ensures { (recent : List SeenValue) → state_of recent ≡ Some self.now → result ≡ hold_after recent seen.now }
     {
