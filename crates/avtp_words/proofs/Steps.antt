@@ -222,7 +222,7 @@ row_is rows name row e = found rows name ∙ ap (option_map row_of) e
 pub stands : (words : List (String Global)) (place : ℕ) (word : List ℕ) → slice_get (texts words) place ≡ Some word → place < length words
 stands words place word e = omega (arith, slice_get_within (texts words) place word e, length-map {A = String Global} {B = List ℕ} words string_bytes)
 
--- an option and its value end within the words
+-- neither an option nor its value extends past the last word
 pub within : (takes : Takes) (words : List (String Global)) (place len : ℕ) → place < length words → IsTakenAt takes (texts words) (place + 1) len → place + (1 + len) ≤ length words
 within takes words place len lt t = go t.value t.size t.here where
   go : (value : Option (List ℕ)) → len ≡ length (option_to_list value) → IfSome value (λ word. slice_get (texts words) (place + 1) ≡ Some word) → place + (1 + len) ≤ length words

@@ -8,8 +8,8 @@ use Rattle.avtp_words.specs.Limits.{NumberOption, SignedOption}
 use Rattle.avtp_words.specs.Word.{IsId}
 use Rattle.avtp_words.specs.Options.{Setting, value_in, format_name}
 
--- If the option is given, its value spells `n`, which is in the option's range. Otherwise the option has the default
--- `n`.
+-- If the option is given, its value spells `n`, which is in the option's range. Otherwise the option has a default,
+-- which is `n`.
 abbrev pub IsGiven : NumberOption → List Setting → ℕ → Type 0
 IsGiven option settings n = MatchOption (value_in option.name settings) (IsSomeAnd option.default (λ default. n ≡ default)) (λ word. IsNumber option.low option.high word n)
 

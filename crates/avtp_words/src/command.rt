@@ -30,7 +30,8 @@ pub enum Command<'a> {
     Soak { packets: u32 },
     /// Listen to a stream in each of two captures. Print where the presented samples differ.
     Agree(Agree<'a>),
-    /// Write a capture of a stream in the other audio format, with the same samples at the same times.
+    /// Convert an audio stream of a capture to the other audio format, with the same samples at the same times, and
+    /// write it as a capture.
     Gateway(Gateway<'a>),
 }
 
@@ -43,7 +44,7 @@ pub struct Offence {
 }
 
 impl Offence {
-    /// The offence of the word at index `place` among the words after the command.
+    /// The offence at the word with index `place` among the words after the command.
     pub(crate) fn after_command(place: usize) -> Offence
         requires { place < 2 ^ 64 - 2 }
         ensures { result.position ≡ place + 2 }

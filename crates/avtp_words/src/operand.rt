@@ -23,8 +23,8 @@ pub enum Operand {
     Name,
     /// The number of packets of `soak`. If the number is out of range, the offence is at the number.
     Packets,
-    /// The names of files: all remaining words, at least one. No option can follow the first name. A file may be named
-    /// twice.
+    /// The names of files: all remaining words, at least one. No option can follow the first name. The same file can be
+    /// named more than once.
     Names,
 }
 

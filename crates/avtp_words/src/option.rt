@@ -129,7 +129,7 @@ fn has_one(words: &[String], options: &[OptionRow]) -> bool
     options.iter().any(|option| contains(words, option.name))
 }
 
-/// Whether `words` contain the option `needed` or none of `options`.
+/// Whether `words` contain the option `needed`, or else contain none of `options`.
 pub fn have_needed(words: &[String], needed: &str, options: &[OptionRow]) -> bool
     ensures { IsTrue result ↔ Need (texts words.now) needed.now (names_of options.now) }
 {
