@@ -1,4 +1,4 @@
--- The lines that any command may write at its end.
+-- The lines that a command can write at its end, whichever command it is.
 use Rattle.std.specs.Prelude.{List, ℕ, ◌++◌, codes, decimal}
 use Rattle.avtp_base.specs.declared.refusal.Refusal.{Refusal}
 use Rattle.avtp_text.specs.Pieces.{newline, refusal_text}

@@ -1,4 +1,4 @@
--- The line of a sample, which is reused for the next samples.
+-- The line of a sample. The line is reused for the next samples.
 use Rattle.std.specs.Prelude.{ℕ}
 
 -- the packet whose samples a line shows: the number of the packet's frame, the packet's sequence number, and the size

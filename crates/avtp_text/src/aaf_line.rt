@@ -115,8 +115,9 @@ fn prepend_start(line: &mut Line, id: &IdText, view: &AafView<'_>)
     line.prepend("aaf ");
 }
 
-/// The line of an AAF packet. The end of the line is kept for the next packet. If the next packet has the same end,
-/// only the part before the end is written. If the next packet has the same stream ID, the digits of the ID are copied.
+/// The line of an AAF packet. The end of the line is kept for the next packet. If the next packet's line has the same
+/// end, only the part before the end is written. If the next packet has the same stream ID, the digits of the ID are
+/// copied.
 #[derive(Drop)]
 pub struct AafLine {
     line: Line,

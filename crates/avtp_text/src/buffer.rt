@@ -16,16 +16,16 @@ use avtp_files::Sink;
 use std::alloc::Global;
 use std::marker::Model;
 
-/// The maximum number of bytes in a [`Text`]. A piece that is printed at once has at most this many bytes.
+/// The maximum number of bytes in a [`Text`]. A piece of text that is printed as a whole has at most this many bytes.
 pub const ROOM: usize = Buffer::ROOM;
 
 /// Text that is buffered until it is written to a sink. Contracts see it as the list of its bytes, which has at most
 /// 65,536 bytes. Memory for this many bytes is reserved once.
 ///
-/// Each call that may write takes the sink. All text that was written so far is what the sink holds, followed by what
-/// is buffered. A call that prints a text of bounded length appends all of it, or nothing if the sink fails. After such
-/// a failure the call can be repeated, and no text is lost or written twice. A call that prints a text of any length
-/// may append a prefix if the sink fails.
+/// Each call that can write to the sink takes the sink as an argument. All text that was written so far is what the
+/// sink holds, followed by what is buffered. A call that prints a text of bounded length appends all of it, or nothing
+/// if the sink fails. After such a failure the call can be repeated, and no text is lost or written twice. A call that
+/// prints a text of any length can append only a prefix if the sink fails.
 #[derive(Drop)]
 pub struct Text {
     pub(crate) buffer: Buffer,

@@ -13,7 +13,7 @@ use sequence_track::Findings;
 /// The room for the line of a finding in a packet, in bytes.
 const FINDING: usize = 80;
 
-/// The room for the lines of the five findings that a packet may have, in bytes.
+/// The room, in bytes, for the lines of the five findings that a packet can have.
 const FINDINGS: usize = 5 * FINDING;
 
 /// Prepends the number of a finding's frame to the line.

@@ -12,8 +12,8 @@ use std::marker::Model;
 /// The maximum number of bytes in a line.
 pub const LONGEST: usize = 256;
 
-/// A line of bounded length. Contracts see it as the list of its bytes. It is built from its end, because the digits of a
-/// number are found from the last to the first.
+/// A line of bounded length. Contracts see it as the list of its bytes. It is built backwards from its end, because the
+/// digits of a number are found from the last to the first.
 #[derive(Drop)]
 pub struct Line {
     scratch: [u8; LONGEST],
@@ -55,7 +55,7 @@ impl Line {
         }
     }
 
-    /// Makes the line only a newline.
+    /// Removes everything but the newline from the line.
     #[inline(always)]
     pub fn restart(&mut self)
         ensures { self.new ≡ newline }

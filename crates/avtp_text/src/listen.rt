@@ -195,7 +195,7 @@ impl Text {
         self.print(out, line.as_slice())
     }
 
-    /// Prints sample `j` of a batch. `bytes` are its bytes.
+    /// Prints sample `j` of a batch. `bytes` are the sample's bytes.
     fn sample<S: Sink>(
         &mut self,
         out: &mut S,
@@ -230,7 +230,7 @@ impl Text {
         self.print(out, b"\n")
     }
 
-    /// Prints the samples of a batch. A sample may have any length.
+    /// Prints the samples of a batch. The samples can have any length.
     fn long_samples<S: Sink>(
         &mut self,
         out: &mut S,

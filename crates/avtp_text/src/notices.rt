@@ -1,4 +1,4 @@
-//! The lines that any command may write at its end.
+//! The lines that a command can write at its end, whichever command it is.
 
 ghost use Rattle.avtp_text.specs.Notices.{capture_refused_line, read_fault_line, device_fault_line, limit_line, words_line};
 ghost use Rattle.avtp_text.specs.Written.{Prints};

@@ -1,4 +1,4 @@
-//! The line of a sample, which is reused for the next samples.
+//! The line of a sample. The line is reused for the next samples.
 
 ghost use Rattle.std.specs.Prelude.{◌≡◌, ◌+◌, ◌^◌, ◌<◌, ◌≤◌, ℕ, ◌++◌, length, decimal, IfSome, IsTrue};
 ghost use Rattle.hex.specs.Hex.{encode_lower};
@@ -117,7 +117,7 @@ fn low_of(from: i64, numbers: Numbers, instant: i64, j: u32) -> Option<u32>
     if instant < from {
         return None;
     }
-    // If the difference overflows 64 bits, it is negative here.
+    // A difference that overflows 64 bits wraps to a negative number.
     let low = instant.wrapping_sub(from);
     if low < 0 || low >= INSTANTS {
         return None;

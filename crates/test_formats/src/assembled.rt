@@ -7,7 +7,8 @@ use std::alloc::Global;
 use std::test::Fail;
 use vectors_avtp::{bytes_of, row_of};
 
-/// Pushes a packet, if it may be pushed. The instant of the packet is its own timestamp.
+/// Pushes a packet. `None` if the packet cannot be read or does not meet the conditions of `Assembler::push`. The
+/// instant of the packet is its own timestamp.
 fn push(assembler: &mut Assembler, frame: u64, packet: &[u8]) -> Option<Pushed>
     ensures { IfSome result (λ pushed. pushed.lost ≡ length assembler.new.lost) }
 {
@@ -30,7 +31,7 @@ fn push(assembler: &mut Assembler, frame: u64, packet: &[u8]) -> Option<Pushed>
     Some(assembler.push(mark, instant, &view))
 }
 
-/// The numbers of the frames that were given up last. `lost` is the number of these frames.
+/// The numbers of the frames that the latest push or cut gave up. `lost` is the number of these frames.
 fn given_up(alloc: Global, assembler: &Assembler, lost: u32) -> Result<String, Fail>
     requires { lost ≤ length assembler.now.lost }
 {
@@ -118,7 +119,8 @@ fn push_long(
     push(assembler, fragments, last)
 }
 
-/// How many fragments a unit has, a fragment before the last, the last fragment, and what becomes of the last fragment.
+/// For each unit: how many fragments it has, a fragment other than its last, its last fragment, and what becomes of the
+/// last fragment.
 const LONG: [(u64, &str, &str, &str); 5] = [
     (
         4_096,

@@ -4,8 +4,8 @@ use cvf_format::{next_unit, split_annex_b};
 use std::test::Fail;
 use vectors_avtp::{bytes_of, row_of};
 
-/// Byte streams. For each unit in a stream, the index of the unit's first byte and the index after the unit's last
-/// byte.
+/// Byte streams. Each stream is followed by the index of the first byte and the index after the last byte of each of
+/// its units.
 const STREAMS: &str = "\
  => []
 01 => []

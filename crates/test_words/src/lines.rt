@@ -193,7 +193,8 @@ fn print_talk(text: &mut Text, out: &mut MemorySink) -> Result<(), Failed> {
     text.soak(out, 1_000, &counts)
 }
 
-/// Prints each finding alone, no finding, and all findings with the longest numbers.
+/// Prints the lines for a packet without findings, for packets with one finding each, and for a packet with all
+/// findings and the longest numbers. Then prints the other lines of `check`.
 fn print_findings(text: &mut Text, out: &mut MemorySink) -> Result<(), Failed> {
     let alone = [
         NOTHING,

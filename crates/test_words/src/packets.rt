@@ -104,7 +104,7 @@ pub const CRF: CrfView<'static> = CrfView {
     reserved: true,
 };
 
-/// A frame of another EtherType.
+/// A frame whose EtherType is not that of AVTP.
 pub const OTHER: FrameView<'static> = FrameView {
     dst: 0,
     src: 0,

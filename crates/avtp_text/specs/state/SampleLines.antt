@@ -1,5 +1,5 @@
--- Kept for proofs alone. No clause of a public call uses these definitions. The line of a sample, which is reused for
--- the next samples.
+-- Kept for proofs alone. No clause of a public call uses these definitions. The line of a sample. The line is reused
+-- for the next samples.
 use Rattle.std.specs.Prelude.{◌≡◌, ℕ, ◌+◌, ◌*◌, ◌^◌, ◌<◌, ◌≤◌, ℤ, pos, ◌+ℤ◌, List, ◌++◌, length, take, codes, decimal}
 use Rattle.sample_schedule.specs.Batches.{Presented}
 use Rattle.avtp_text.specs.declared.sample_line.Numbers.{Numbers}
