@@ -29,15 +29,15 @@ pub record Grows (before now : Option (List ℕ)) : Type 0 where
   pub more : List ℕ
   pub appends : Appends before now more
 
--- A call printed `text` whole, or printed nothing if the sink failed. The sink still holds what it held before the
--- call. The sink's count of faults rose exactly if the call failed.
+-- A call printed `text` whole, or printed nothing if the sink failed. What the sink holds begins with what it held
+-- before the call. The sink's count of faults rose exactly if the call failed.
 pub record Prints (before after : SinkState) (waits waits' : List ℕ) (result : Result Unit Failed) (text : List ℕ) : Type 0 where
   pub written : Writes (written before.held waits) (written after.held waits') result text
   pub grows : Grows before.held after.held
   pub counted : IsCounted before.faults after.faults result
 
--- A call printed `text`, which may be long: all of it, or a prefix if the sink failed. The sink still holds what it
--- held before the call. The sink's count of faults rose exactly if the call failed.
+-- A call printed `text`, which may be long: all of it, or a prefix if the sink failed. What the sink holds begins with
+-- what it held before the call. The sink's count of faults rose exactly if the call failed.
 pub record PrintsPart (before after : SinkState) (waits waits' : List ℕ) (result : Result Unit Failed) (text : List ℕ) : Type 0 where
   pub written : WritesPrefix (written before.held waits) (written after.held waits') result text
   pub grows : Grows before.held after.held

@@ -95,7 +95,7 @@ pub(crate) fn make_room<S: Sink>(buffer: &mut Buffer, out: &mut S, len: usize) -
 }
 
 impl Text {
-    /// An empty text, for which all memory is reserved.
+    /// An empty text. All the memory that it will ever need is reserved here.
     pub fn new(alloc: Global) -> Result<Self, NoMemory>
         ensures { IfOk result (λ text. text ≡ []) }
     {

@@ -367,7 +367,7 @@ pub record SaysAaf (words : List (List ℕ)) (settings : List Setting) (format :
   pub format_given : IsGivenFormat (codes "--format") Int16 settings format
   pub sparse_given : IsTrue sparse ↔ Contains words (codes "--sparse")
 
--- `words` ask for an H.264 stream. If `last_stamp` is true, only the last fragment of a NAL unit has a timestamp.
+-- `words` ask for an H.264 stream. If `last_stamp` is true, only the last packet of each NAL unit has a timestamp.
 -- Otherwise each packet has one.
 pub record SaysVideo (words : List (List ℕ)) (settings : List Setting) (last_stamp : Bool) : Type 0 where
   pub kind : value_in (codes "--kind") settings ≡ Some (codes "h264")
@@ -538,7 +538,7 @@ pub record IsLine (words : List (List ℕ)) : Type 0 where
   pub names : List (List ℕ)
   pub line : IsOf form words settings names
 
--- `words` begin a line of `L`: the list `words ++ more` is a line of `L`; `more` may be empty
+-- `words` begin a line of `L`: for some list `more`, which can be empty, `words ++ more` is a line of `L`
 pub record Begins (L : List (List ℕ) → Type 0) (words : List (List ℕ)) : Type 0 where
   pub more : List (List ℕ)
   pub whole : L (words ++ more)

@@ -12,7 +12,7 @@ pub record NumberOption : Type 0 where
   pub high : ℕ
   pub default : Option ℕ
 
--- the option named `name`, with a number from `low` to `high`, and its default, if any
+-- the option named `name`, which takes a number from `low` to `high`, with its default, if any
 abbrev pub option : List ℕ → ℕ → ℕ → Option ℕ → NumberOption
 option name low high default = record { name = name; low = low; high = high; default = default }
 

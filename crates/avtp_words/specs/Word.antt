@@ -18,7 +18,7 @@ abbrev pub IsName : List ℕ → Type 0
 IsName [] = ⊥
 IsName (first ∷ _) = first ≢ 45
 
--- `word` is a stream ID: sixteen hexadecimal digits in lower or upper case, the most significant first
+-- `word` spells the stream ID `id` in sixteen hexadecimal digits, in lower or upper case, the most significant first
 pub record IsId (word : List ℕ) (id : ℕ) : Type 0 where
   pub fits : id < 2 ^ 64
   pub digits : decode_sized word 8 ≡ Ok (to_be_bytes w64 id)

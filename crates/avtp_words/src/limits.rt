@@ -199,9 +199,10 @@ pub const H264_LACKS: [OptionRow; 11] = [
     CRF_PULL,
 ];
 
-/// The options that need `--restart`. `CLOCK_OPTIONS` are the options that need `--crf`.
+/// The options that need `--restart`.
 pub const RESTART_OPTIONS: [OptionRow; 1] = [JUMP];
 
+/// The options that need `--crf`.
 pub const CLOCK_OPTIONS: [OptionRow; 4] = [CRF_INTERVAL, CRF_POINTS, CRF_RATE, CRF_PULL];
 
 pub const KIND: OptionRow = OptionRow {
@@ -278,7 +279,7 @@ pub const SPARSE: OptionRow = OptionRow {
     takes: Takes::Nothing,
 };
 
-/// Only the last fragment of each H.264 NAL unit has a timestamp.
+/// Only the last packet of each H.264 NAL unit has a timestamp.
 pub const LAST_STAMP: OptionRow = OptionRow {
     name: "--last-stamp",
     takes: Takes::Nothing,

@@ -20,28 +20,28 @@ pub fn number_after(options: &[String], name: &str, default: u64) -> u64
     }
 }
 
-/// The number of at most 32 bits after the option `name`, or `default` if the option is not given.
+/// The 32-bit number after the option `name`, or `default` if the option is not given.
 pub fn small_number_after(options: &[String], name: &str, default: u32) -> u32
     ensures { IsRead (2 ^ 32) default (value_after name.now (texts options.now)) result }
 {
     u32::try_from(number_after(options, name, u64::from(default))).unwrap_or(default)
 }
 
-/// The number of at most 16 bits after the option `name`, or `default` if the option is not given.
+/// The 16-bit number after the option `name`, or `default` if the option is not given.
 pub fn short_number_after(options: &[String], name: &str, default: u16) -> u16
     ensures { IsRead (2 ^ 16) default (value_after name.now (texts options.now)) result }
 {
     u16::try_from(number_after(options, name, u64::from(default))).unwrap_or(default)
 }
 
-/// The number of at most 8 bits after the option `name`, or `default` if the option is not given.
+/// The 8-bit number after the option `name`, or `default` if the option is not given.
 pub fn byte_after(options: &[String], name: &str, default: u8) -> u8
     ensures { IsRead (2 ^ 8) default (value_after name.now (texts options.now)) result }
 {
     u8::try_from(number_after(options, name, u64::from(default))).unwrap_or(default)
 }
 
-/// The number of at most 32 bits after the option `name`, if that option is given.
+/// The 32-bit number after the option `name`, if that option is given.
 pub fn small_number_if(options: &[String], name: &str) -> Option<u32>
     ensures { IsReadIf (2 ^ 32) (value_after name.now (texts options.now)) result }
 {

@@ -26,6 +26,6 @@ pub struct CrfView<'a> {
     pub interval: u16,
     /// The timestamps in order, each of 8 bytes, as `point` reads them. There is at least one.
     pub payload: &'a [u8],
-    /// A reserved bit is set.
+    /// The reserved bit is set.
     pub reserved: bool,
 }

@@ -229,8 +229,8 @@ iec_of bytes = record {
 abbrev pub IsFdf : ℕ → Type 0
 IsFdf fdf = (fdf ≤ 6) ⊎ (fdf ≡ no_data)
 
--- an IEC 61883-6 packet that can be written: no row refuses it, and its count and its stated length are those of its
--- payload
+-- an IEC 61883-6 packet that can be written: no row refuses it, its stated length is that of the CIP header and the
+-- payload, and its count is the number of data blocks in the payload, or 0 in a no-data packet
 pub record IsWritableIec (v : Iec) : Type 0 where
   pub subtype : v.header.subtype ≡ iec_subtype
   pub channel : v.channel < 2 ^ 6

@@ -70,8 +70,9 @@ fn whole_header(view: &IecView<'_>) -> [u8; 32]
 ///
 /// The view must be one that `read_iec` could return. In such a view the subtype is IEC 61883, the channel and the SID
 /// at most 63, and `tcode` and `sy` at most 15. The data blocks have 1 to 256 quadlets, and the FDF is at most 6, or
-/// 255. `count` and `data_length` must be those of the payload. The higher format bit of the header and `reserved` are
-/// not read.
+/// 255. `count` must be the number of data blocks in the payload, or 0 in a no-data packet. `data_length` must be the
+/// payload's length plus the 8 bytes of the CIP header. The higher format bit of the header and `reserved` are not
+/// read.
 pub fn write_iec(out: &mut [u8], view: &IecView<'_>) -> Result<usize, Room>
     requires { IsWritableIec (iec_shape view.now) }
     ensures written { Writes (iec_spelling (iec_shape view.now)) out.old out.new result }

@@ -16,7 +16,7 @@ stream_of seen = record { subtype = seen.subtype; id = seen.id }
 abbrev pub same_stream : StreamKey → StreamKey → Bool
 same_stream a b = a.subtype == b.subtype && a.id == b.id
 
--- the streams of a list without repeats, in the order in which they first occur
+-- the streams of a list, each of them once, in the order in which they first occur
 abbrev pub distinct : List StreamKey → List StreamKey
 distinct [] = []
 distinct (stream ∷ streams) = stream ∷ filter (λ other. not (same_stream stream other)) (distinct streams)
@@ -63,7 +63,7 @@ least_hold = 8
 abbrev pub early : ℕ → ℕ → Option ℕ
 early packets all = if nat_lt packets all && nat_lt packets least_hold then Some packets else None
 
--- for how many packets the media clock restart bit kept its previous value, if the bit changes too early
+-- if the media clock restart bit changes too early at this packet: for how many packets it kept its previous value
 abbrev pub hold_after : List Seen → Seen → Option ℕ
 hold_after [] seen = None
 hold_after (previous ∷ older) seen =
