@@ -25,7 +25,7 @@ pub const ROOM: usize = Buffer::ROOM;
 /// Each call that can write to the sink takes the sink as an argument. All text that was written so far is what the
 /// sink holds, followed by what is buffered. A call that prints a text of bounded length appends all of it, or nothing
 /// if the sink fails. After such a failure the call can be repeated, and no text is lost or written twice. A call that
-/// prints a text of any length can append only a prefix if the sink fails.
+/// prints a text of any length appends all of it, or a prefix if the sink fails.
 #[derive(Drop)]
 pub struct Text {
     pub(crate) buffer: Buffer,

@@ -169,7 +169,7 @@ fn read_packet(pdu: &[u8]) -> Result<IecView<'_>, Refusal>
 /// the whole stream header. The subtype must be IEC 61883, the version 0, and the tag 1. The stated length must be at
 /// least the 8 bytes of a CIP header, and at most the number of bytes after the stream header. In the CIP header,
 /// `qi_1`, `fn`, `qpc` and `sph` must be 0, `qi_2` must be 2, and the format must be audio. The FDF must be that of a
-/// rate, or 255, which marks a no-data packet. In any other packet, the bytes from the CIP header to the end of the
+/// rate, or 255, which marks a no-data packet. In any other packet, the bytes between the CIP header and the end of the
 /// stated length must be whole data blocks.
 ///
 /// Reserved bits may be set, and bytes after the stated length are ignored.
