@@ -8,6 +8,6 @@ use Rattle.avtp_base.specs.States.{AreNames}
 abbrev pub names_kept : AskedNames → List (List ℕ)
 names_kept asked = map (λ (name : String Global). string_bytes name) asked.names.items
 
--- according to the names kept, the shelf may have been asked for these names, in this order
+-- the kept names are consistent with the shelf having been asked for these names, in this order
 abbrev pub StandsForNames : AskedNames → List (List ℕ) → Type 0
 StandsForNames asked names = AreNames asked.all (names_kept asked) names

@@ -18,11 +18,11 @@ files_of shelf = files_in shelf.held
 abbrev pub slots_of : MemoryShelf → Slots
 slots_of shelf = slots_in shelf.held
 
--- the shelf may have been asked for these names
+-- the kept names are consistent with the shelf having been asked for these names, in this order
 abbrev pub asked_of : MemoryShelf → List (List ℕ) → Type 0
 asked_of shelf = StandsForNames shelf.asked
 
--- the number of the last call, counted from 1
+-- the number of calls counted so far; it stops at the greatest 64-bit number
 abbrev pub calls : MemoryShelf → ℕ
 calls shelf = shelf.calls.count
 
@@ -69,7 +69,8 @@ pub record ReadsByNumber (old new : MemoryShelf) (k room : ℕ) (result : Result
   pub call : CountsCall old new
 
 -- A write of `piece`. If the number of the write is one of `failing_calls`, the write failed. At `Ok` the write took
--- the whole piece, or as much of the piece as a call may move. The call was counted.
+-- the whole piece, or, if the piece is longer than the greatest number of bytes that a call moves, that number of
+-- bytes. The call was counted.
 pub record WritesByNumber (old new : MemoryShelf) (piece : List ℕ) (result : Result ℕ Failed) : Type 0 where
   pub whole : IfOk result (λ n. n ≡ min (length piece) (most old))
   pub failed : IsToFail old → IsErr result

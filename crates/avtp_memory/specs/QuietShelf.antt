@@ -29,7 +29,7 @@ files_of shelf = told_while (keeps_all shelf) (kept_files shelf)
 abbrev pub slots_of : QuietShelf → Slots
 slots_of shelf = slots_in shelf.held
 
--- the shelf may have been asked for these names
+-- the kept names are consistent with the shelf having been asked for these names, in this order
 abbrev pub asked_of : QuietShelf → List (List ℕ) → Type 0
 asked_of shelf = StandsForNames shelf.asked
 
@@ -41,7 +41,7 @@ KeepsPiece old new name piece =
 
 -- ---- what a call adds to what it does on every shelf
 
--- The kept bytes, `keeps_all` and the room of files that are made are unchanged.
+-- Three things are unchanged: the kept bytes, `keeps_all`, and the room that each file gets when it is made.
 pub record KeepsKept (old new : QuietShelf) : Type 0 where
   pub kept : KeepsFiles (Some (kept_files old)) (Some (kept_files new))
   pub all : keeps_all new ≡ keeps_all old
@@ -60,7 +60,8 @@ pub record MakesQuietly (old new : QuietShelf) (name : List ℕ) (result : Resul
   pub all : keeps_all new ≡ keeps_all old
   pub room : room_of new ≡ room_of old
 
--- A read of slot k into a buffer of `room` bytes moved all bytes that are left to read, but at most `room`.
+-- A read of slot k into a buffer of `room` bytes moved all bytes that were left to read, or `room` bytes if more were
+-- left.
 pub record ReadsQuietly (old new : QuietShelf) (k room : ℕ) (result : Result ℕ Failed) : Type 0 where
   pub whole : IfSome (left_in (slots_of old) k) (λ left. result ≡ Ok (min (length left) room))
   pub keeps : KeepsKept old new

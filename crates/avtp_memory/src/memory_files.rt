@@ -1,4 +1,4 @@
-//! Files in memory, and which of them are open. Each shelf in memory is built on this.
+//! Files in memory, and which of them are open. Each shelf in memory is built on `MemoryFiles`.
 
 ghost use Rattle.std.specs.Prelude.{◌≤◌};
 ghost use Rattle.avtp_memory.specs.state.OpenFile.{AreNamed, HaveRoom};
@@ -74,7 +74,8 @@ impl MemoryFiles {
         Ok(slot)
     }
 
-    /// Makes a file, or empties it. The file gets memory for its room.
+    /// Opens an empty file for writing: empties the file with the name, or makes one. The file gets memory for `room`
+    /// bytes.
     pub fn create(&mut self, name: &str) -> Result<Slot, NoMemory>
         ensures made { IfOk result (λ slot. IsMade (Some (files_in self.old)) (slots_in self.new slot.0) name.now) }
         ensures fresh { IfOk result (λ slot. slots_in self.old slot.0 ≡ None) }

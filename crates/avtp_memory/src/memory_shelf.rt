@@ -138,8 +138,8 @@ impl Shelf for MemoryShelf {
         Ok(slot)
     }
 
-    /// Fails exactly if this call was chosen to fail. Otherwise moves as many bytes as are left to read and fit the
-    /// buffer, but at most the limit of a call.
+    /// Fails exactly if this call was chosen to fail. Otherwise moves all bytes that are left to read, or fewer if the
+    /// buffer or the limit of a call is smaller.
     fn read(&mut self, slot: Slot, buf: &mut [u8]) -> Result<usize, Failed> {
         if self.calls.next_fails() {
             self.reading_faults = self.reading_faults.saturating_add(1);
@@ -149,7 +149,7 @@ impl Shelf for MemoryShelf {
     }
 
     /// Fails if this call was chosen to fail, or if there is no memory to keep the piece. Otherwise takes the whole
-    /// piece, or as much of the piece as the limit of a call allows.
+    /// piece, or as many bytes as the limit of a call if the piece is longer.
     fn write(&mut self, slot: Slot, piece: &[u8]) -> Result<usize, Failed> {
         if self.calls.next_fails() {
             self.writing_faults = self.writing_faults.saturating_add(1);

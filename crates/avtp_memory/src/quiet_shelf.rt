@@ -7,7 +7,7 @@ use avtp_files::{Shelf, Slot};
 use std::alloc::Global;
 
 /// A shelf that keeps as much of each written file as fits its room, and takes all further bytes without keeping them.
-/// The shelf shows its files while everything that was written fits, and never again after that.
+/// The shelf shows its files as long as it has kept all written bytes, and never again once it has dropped some.
 #[derive(Debug, Drop)]
 pub struct QuietShelf {
     held: MemoryFiles,
@@ -84,7 +84,7 @@ impl Shelf for QuietShelf {
         }
     }
 
-    /// Never fails. Moves as many bytes as are left to read and fit the buffer.
+    /// Never fails. Moves all bytes that are left to read, or as many as fill the buffer if more are left.
     fn read(&mut self, slot: Slot, buf: &mut [u8]) -> Result<usize, Failed> {
         Ok(self.held.read(slot, usize::MAX, buf))
     }

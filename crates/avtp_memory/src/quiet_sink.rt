@@ -8,7 +8,7 @@ use avtp_files::Sink;
 use std::alloc::Global;
 
 /// A sink that keeps as many bytes as fit its room, and takes all further bytes without keeping them. The sink shows
-/// its bytes while all written bytes fit, and never again after that.
+/// its bytes as long as it has kept all written bytes, and never again once it has dropped some.
 #[derive(Debug, Drop)]
 pub struct QuietSink {
     bytes: Vec<u8>,

@@ -5,8 +5,8 @@ ghost use Rattle.avtp_memory.specs.Room.{kept_within, FitsRoom};
 
 use avtp_base::NoMemory;
 
-/// Appends as much of a piece as fits the room, and returns whether it appended all of the piece. The memory was
-/// reserved before.
+/// Appends as much of a piece as fits the room, and returns whether it appended all of the piece. Memory for `room`
+/// bytes must have been reserved before.
 pub fn keep_within(bytes: &mut Vec<u8>, room: usize, piece: &[u8]) -> bool
     requires { room ≤ vec_capacity bytes.old }
     ensures kept { bytes.new.items ≡ kept_within room bytes.old.items piece.now }

@@ -94,7 +94,7 @@ pub presented-timely : (clock : Clock) (plan : SchedulePlan) (entries : List Ent
 presented-timely clock plan entries =
     subst AllTimely (sym (accepted-presented clock plan entries)) (sorted-timely (accepted clock plan entries (length entries)) (accepted-timely clock plan entries (length entries)))
 
--- ---- the order is that of the batches
+-- ---- if item `a` is before item `b`, the batch of `a` does not begin after the batch of `b`
 
 before-le : (a b : Accepted) → Timely a → Timely b → IsBefore a b → first_instant a.batch ≤ℤ first_instant b.batch
 before-le a b ta tb (inl h) = le (first_instant a.batch) (first_instant b.batch) (subst (λ (x : ℤ). x <ℤ first_instant b.batch) ta (subst (λ (x : ℤ). a.instant <ℤ x) tb h))

@@ -63,7 +63,7 @@ own-here : (e : Bool) (r : Bool) → (e || (true || r)) ≡ true
 own-here true r = refl
 own-here false r = refl
 
--- If the list `done` ends with x, and `is_settled` is true for both sides and the list of x and `ys`, all of `done` is
+-- If the list `done` ends with x, and `is_settled` is true for both sides and the list `x ∷ ys`, all of `done` is
 -- known.
 known-ends : (ea eb : Bool) (done front ys : List Sided) (x : Sided) → done ≡ front ++ x ∷ [] → is_settled ea A (x ∷ ys) ≡ true → is_settled eb B (x ∷ ys) ≡ true → known ea eb (done ++ ys) ≡ done ++ known ea eb ys
 known-ends ea eb done front ys x e a b =
@@ -86,7 +86,7 @@ ends-b ea eb done ys (inl none) a = none-done ea eb done ys none
 ends-b ea eb done ys (inr (front, z, e)) a = known-ends ea eb done front ys (of_side B z) e (settled-more ea A (of_side B z ∷ []) ys a) (own-here eb (list_any (λ y. is_side B y.side) ys))
 
 -- All batches of the list `done` are known if each side that lacks its next batch has presented the last batch of
--- `done`. If both sides lack their next batch, `done` must be empty.
+-- `done`. If both sides lack their next batch, `done` is required to be empty.
 pub known-done : (ea eb : Bool) (na nb : Option Presented) (done : List Sided) (la lb : Bool) → lacks ea na ≡ la → lacks eb nb ≡ lb → (lacks ea na ≡ true → EndsOn A done) → (lacks eb nb ≡ true → EndsOn B done)
     → (lacks ea na ≡ true → lacks eb nb ≡ true → done ≡ []) → known ea eb (done ++ nexts na nb) ≡ done ++ known ea eb (nexts na nb)
 known-done ea eb na nb done true true e f a b none = none-done ea eb done (nexts na nb) (none e f)

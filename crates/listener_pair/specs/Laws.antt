@@ -3,8 +3,8 @@ use Rattle.std.specs.Prelude.{◌≡◌, ℕ, ◌+◌, ◌==◌, ◌<◌, ◌≤
 use Rattle.listener_pair.specs.Merged.{Sided, is_side}
 use Rattle.listener_pair.specs.Pairs.{Paired, fits, pairs}
 
--- The batches of a pair are of different sides and may present the same packet or unit. The earlier batch is one of the
--- 512 batches directly before the later batch.
+-- The batches of a pair are of different sides, have the same sequence number, and are within reach. The earlier batch
+-- is one of the 512 batches directly before the later batch.
 pub record IsPair (pair : Paired) : Type 0 where
   pub sides : is_side pair.later.side pair.earlier.side ≡ false
   pub before : pair.earlier.place < pair.later.place

@@ -97,8 +97,9 @@ is_within side place y = is_side side y.side && nat_le place (y.place + 512)
 abbrev pub window : Which → ℕ → List Placed → List Placed
 window side place list = filter (is_within side place) list
 
--- The matching was given the batches `xs` of A and `ys` of B, each list in order. It has returned as many differences
--- as `given` says. The list `done` is the prefix of the merged list that the matching has worked through.
+-- The matching was given the batches `xs` of A and `ys` of B, each list in order. It has returned the first `given`
+-- differences of the merged list. The list `done` is the prefix of the merged list that the matching has worked
+-- through.
 pub record StandsFor (xs ys : List Presented) (given : ℕ) (m : MatchingState) : Type 0 where
   pub few : length xs + length ys < 2 ^ 63
   pub done : List Sided

@@ -15,8 +15,8 @@ use Rattle.listener_pair.specs.Merged.{Sided, is_side}
 abbrev pub are_near : Presented → Presented → Bool
 are_near a b = nat_le (unsigned_abs (first_instant a -ℤ first_instant b) * a.line.den) (64 * a.count * a.line.num)
 
--- A batch of A and a batch of B may present the same packet or unit. If neither batch is a unit of H.264, they are near
--- each other. If one is a unit, both are units with the same instant.
+-- A batch of A and a batch of B are close enough in time to present the same packet or unit. If neither batch is a unit
+-- of H.264, `are_near` is true of them. If one is a unit, both are units with the same instant.
 unfoldable pub within_reach : Presented → Presented → Bool
 within_reach a b =
     if is_unit a || is_unit b
@@ -58,7 +58,7 @@ at_place place x = record { place = place; side = x.side; batch = x.batch }
 abbrev pub partner_of : Placed → List Placed → Option Placed
 partner_of x unpaired = find (may_pair x) unpaired
 
--- The unpaired batches after x is added. If x has a partner, these are the earlier unpaired batches without the
+-- The unpaired batches after x is added. If x has a partner, these are the earlier unpaired batches except that
 -- partner. Otherwise, these are the earlier unpaired batches and x.
 abbrev pub left_by : Placed → List Placed → Option Placed → List Placed
 left_by x unpaired None = unpaired ++ x ∷ []

@@ -19,7 +19,8 @@ use std::alloc::Global;
 use std::marker::Model;
 
 /// Matches what two listeners present. It takes the batches of each listener, one at a time, and returns the difference
-/// of each pair that differs. A difference is returned as soon as all earlier batches of the merged list are known.
+/// of each pair that differs. A difference is returned as soon as both batches of its pair are in the known part of the
+/// merged list.
 ///
 /// Memory is reserved when the matching is made. A batch is dropped when it is paired, or when none of the 512 batches
 /// after it was its partner.
@@ -122,8 +123,8 @@ impl Matching {
         }
     }
 
-    /// The counts of the known part, if `next_difference` has returned `None` and nothing was taken or ended after
-    /// that. A batch that is not paired yet counts as in no pair.
+    /// The counts of the known part, if `next_difference` has returned `None` and neither `take` nor `end` was called
+    /// after that. A batch that is not paired yet counts as in no pair.
     pub fn counts(&self) -> PairCounts
         ensures { IsIdle self.now → (xs ys : List Presented) (given : ℕ) → StandsFor xs ys given self.now → result ≡ counts_of (known_of self.now xs ys) }
     {

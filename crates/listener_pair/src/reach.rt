@@ -20,7 +20,7 @@ fn are_near(a: &Timed, b: &Timed) -> bool
     u128::from(distance) * u128::from(line.den) <= u128::from(samples) * u128::from(line.num)
 }
 
-/// Whether a batch of A and a batch of B may present the same packet or unit.
+/// Whether a batch of A and a batch of B are close enough in time to present the same packet or unit.
 #[tactic(auto, unfolding(crate::specs::Pairs::within_reach))]
 fn within_reach(a: &Timed, b: &Timed) -> bool
     ensures { result ≡ within_reach_of a.now b.now }

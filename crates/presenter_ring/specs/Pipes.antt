@@ -61,7 +61,7 @@ pub record HasMoved {R P : Type 0} (gave : R → R → List Shown → Type 0) (l
   pub works : work (left receiver') after + (length (pushed_by after) + length presented) ≤ work (left receiver) before + length (pushed_by before)
 
 -- What one round did. If the producer knew a free slot when the round began, each presented item went through the ring.
--- If work is left, at least one item was pushed or presented.
+-- If the pipe is not drained after the round, at least one item was pushed or presented.
 pub record IsRound {R P : Type 0} (gave : R → R → List Shown → Type 0) (left : R → ℕ) (handed : P → P → List Shown → Type 0) (receiver receiver' : R) (presenter presenter' : P) (before after : Pipe) : Type 0 where
   pub moved : HasMoved gave left handed receiver receiver' presenter presenter' before after
   pub through_ring : 0 < known_free_of before → popped_by after ≡ popped_by before ++ moved.presented

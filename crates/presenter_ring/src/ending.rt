@@ -16,7 +16,7 @@ pub enum Ending {
     Memory,
 }
 
-/// If the receiver's answer is not an item, why the receiver gives no more items.
+/// Why the receiver gives no more items, or `None` if its answer is an item.
 pub fn end_of(pull: Pull) -> Option<Ending>
     ensures { option_map pull_of result ≡ ending_of pull }
 {

@@ -178,9 +178,10 @@ impl Pipe {
     }
 
     /// Runs one round, in which each side takes its turn in a thread of its own. The receiver's side pulls items and
-    /// pushes them while there is a free slot, at most as many as the ring has room for. The receiver's side keeps an
-    /// item for which there is no free slot. The presenter's side pops and presents items, at most as many as the ring
-    /// has room for, until a presentation fails. The gate is called after each push and each pop.
+    /// pushes them while there is a free slot, but not more items than the ring can hold in all. The receiver's side
+    /// keeps an item for which there is no free slot. The presenter's side pops and presents items until the ring is
+    /// empty or a presentation fails, but not more items than the ring can hold in all. The gate is called after each
+    /// push and each pop.
     ///
     /// If `ended` is `None`, the receiver must not have ended. In all rounds together, the receiver may give at most
     /// 2^62 items.

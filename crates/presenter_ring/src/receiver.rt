@@ -52,7 +52,7 @@ pub trait Receiver: Send {
         false
     }
 
-    /// Gets back the samples of a presented item. Their memory may be used again.
+    /// Gets back the samples of a presented item. The receiver is free to reuse their memory.
     fn take_back(&mut self, samples: Bytes)
         ensures gave { (begun : Self) (items : List ShownValue) → gave begun self.old items → gave begun self.new items }
         ensures left { left self.new ≡ left self.old }

@@ -6,7 +6,7 @@ use Rattle.rtrb.specs.Ring.{received, known_items, SameConsumer}
 use Rattle.sample_schedule.specs.declared.shown.Shown.{Shown}
 use Rattle.presenter_ring.specs.declared.back.Back.{Back}
 
--- What the presenter's side did. A presenter is known by the items that it got.
+-- What the presenter's side did. `handed` tells which items a presenter got.
 pub record HasPresented {P : Type 0} (handed : P → P → List Shown → Type 0) (presenter presenter' : P) (before after : Back) : Type 0 where
   pub presented : List Shown
   pub hands : (begun : P) (items : List Shown) → handed begun presenter items → handed begun presenter' (items ++ presented)
@@ -23,7 +23,7 @@ pub record IsIdle (before after : Back) : Type 0 where
   pub empty : known_items before.consumer ≡ []
 
 -- The presenter's side took a turn, and presented items. If the presenter's side popped no item, it knew of no item in
--- the ring. The presenter failed only after a pop, and then a fault was counted.
+-- the ring. If the presenter failed, at least one item was popped, and the fault was counted.
 pub record TakesBackTurn {P : Type 0} (handed : P → P → List Shown → Type 0) (faults : P → ℕ) (presenter presenter' : P) (before after : Back) (result : Result Unit Failed) : Type 0 where
   pub presented : HasPresented handed presenter presenter' before after
   pub idle : length (received after.consumer) ≡ length (received before.consumer) → IsIdle before after
