@@ -131,8 +131,8 @@ further-goes list other n k given xs ys ended_a ended_b m h f = record {
   is_over_b = f.over_b;
 }
 
--- Merge the batches that are not in the list `done`. The known part of all batches is `done`, followed by the known
--- part of that merged list.
+-- The known part of all batches is the list `done`, followed by the known part of the merged list of the batches that
+-- are not in `done`.
 pub further-known : (list other : List Shown) (n k given : ℕ) (xs ys : List Presented) (ended_a ended_b : Bool) (m : MatchingState)
     → (h : Matches list other n k given m) → (f : Further list other xs ys ended_a ended_b m)
     → known ended_a ended_b (merged xs ys)
@@ -449,7 +449,7 @@ fault-b plan records others more given pair s plans ends w opened none =
     (is_closed pair.a) (is_closed pair.b) m s.matches (further-now records others pair ends) w (s.filled_b w) refl opened
     ∙ sym (known-done-b list other s.shown_a s.shown_b given xs ys true false m s.matches f w (s.filled_b w) refl refl)
 
--- if both captures are closed, all that both listeners present is known
+-- if both captures are closed, all batches of both listeners are known
 pub all-known : (plan : ListenPlan) (records others : List Record) (pair : PairState) → HavePlan plan pair → is_closed pair.a ≡ true → is_closed pair.b ≡ true
     → known_by pair records others ≡ merged (presented_of (shown_of plan records)) (presented_of (shown_of plan others))
 all-known plan records others pair plans a b =

@@ -41,7 +41,7 @@ more-b list other longer n k given m first opened h = record {
 }
 
 -- `new` is the listener `old` after it took more records or was closed. `new` has shown as many items as `old`, and the
--- list of `new` begins with the list of `old`.
+-- list that `new` shows begins with the list that `old` shows.
 pub record Extends (records then : List Record) (old new : ListenState) : Type 0 where
   pub stands : (n : ℕ) → IsGiven records n old → IsGiven then n new
   pub longer : IsPrefix (out old records) (out new then)

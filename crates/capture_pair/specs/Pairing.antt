@@ -23,7 +23,7 @@ abbrev pub listener_of : Which → PairState → ListenState
 listener_of A pair = pair.a
 listener_of B pair = pair.b
 
--- B for A, and A for B
+-- the side other than this one: B for A, and A for B
 abbrev pub other_of : Which → Which
 other_of A = B
 other_of B = A

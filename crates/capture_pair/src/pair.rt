@@ -27,7 +27,7 @@ use std::marker::Model;
 /// what the listeners present. The bytes of each capture are fed in their order, and only when `wants` asks for them.
 ///
 /// The differences are those that a `RecordPair` returns for the records of both captures. Items that a listener flags
-/// are dropped, and do not end a side. Each capture has at most 2^62 bytes.
+/// are dropped, and do not end a side. Each capture must have at most 2^62 bytes.
 #[derive(Drop)]
 pub struct Pair {
     a: ByteSource,
@@ -77,9 +77,10 @@ impl Pair {
     /// `piece`. Returns the number of bytes taken. At most 2^62 bytes of each capture may be taken.
     ///
     /// Without a fault, returns `Ok(0)` exactly if `piece` is empty. `Refused` is the capture's first refusal, and is
-    /// returned as soon as the bytes taken so far are certain to be refused. The records before the refusal are still
-    /// compared, and `end` ends that side. `Memory` is returned if there is no memory for the samples of a record.
-    /// After `Memory` was returned, every `feed` and `end` of that side returns `Memory`.
+    /// returned as soon as the bytes taken so far are certain to be refused. A refusal does not end the side: the
+    /// records before the refusal are still compared, and `end` ends the side. `Memory` is returned if there is no
+    /// memory for the samples of a record. After `Memory` was returned, every `feed` and `end` of that side returns
+    /// `Memory`.
     pub fn feed(&mut self, alloc: Global, which: Which, piece: &[u8]) -> Result<usize, ListenFault>
         requires wanted { wanted_by self.old ≡ Some which }
         requires bounded { taken (fed_of which self.old).reader + length piece.now ≤ 2 ^ 62 }
@@ -129,8 +130,8 @@ impl Pair {
         next_difference(&mut self.a, &mut self.b, &mut self.matching)
     }
 
-    /// The counts of the known part, if `next_difference` has returned `None` and nothing was fed or ended after that.
-    /// A batch that is not paired yet counts as presented by one side only.
+    /// The counts of the known part, if `next_difference` has returned `None` and neither `feed` nor `end` was called
+    /// after that. A batch that is not paired yet counts as presented by one side only.
     pub fn counts(&self) -> PairCounts
         ensures { IsThrough self.now → (bytes others : List ℕ) (given : ℕ) → AreShort bytes others → StandsFor bytes others given self.now → result ≡ counts_of (known_by self.now bytes others) }
     {

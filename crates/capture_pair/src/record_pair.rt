@@ -25,9 +25,9 @@ use std::marker::Model;
 /// between what the listeners present. The records of each capture are given in their order, and only when `wants` asks
 /// for them.
 ///
-/// A difference is returned as soon as all earlier batches of the merged list are known. Items that a listener flags
-/// are dropped, and do not end a side. Memory is reserved when the pair is made. After that, the samples of each packet
-/// and each whole unit are copied once.
+/// A difference is returned as soon as both batches of its pair are in the known part of the merged list. Items that a
+/// listener flags are dropped, and do not end a side. Memory is reserved when the pair is made. After that, the samples
+/// of each packet and each whole unit are copied once.
 #[derive(Drop)]
 pub struct RecordPair {
     a: RecordSource,
@@ -77,9 +77,9 @@ impl RecordPair {
         self.matching.wants()
     }
 
-    /// Takes the next record of the capture that is wanted. Fewer than 2^61 records of that capture may have been taken
-    /// before. The record's time is from 0 to 2^62 ns. If there is no memory for the packet's samples or the unit,
-    /// returns `NoMemory`, and the pair is unchanged.
+    /// Takes the next record of the capture that is wanted. This requires that fewer than 2^61 records of that capture
+    /// were taken before. The record's time must be from 0 to 2^62 ns. If there is no memory for the packet's samples
+    /// or the unit, returns `NoMemory`, and the pair is unchanged.
     pub fn take_record(
         &mut self,
         alloc: Global,
@@ -123,8 +123,8 @@ impl RecordPair {
         next_difference(&mut self.a, &mut self.b, &mut self.matching)
     }
 
-    /// The counts of the known part, if `next_difference` has returned `None` and nothing was taken or closed after
-    /// that. A batch that is not paired yet counts as presented by one side only.
+    /// The counts of the known part, if `next_difference` has returned `None` and neither `take_record` nor `close` was
+    /// called after that. A batch that is not paired yet counts as presented by one side only.
     pub fn counts(&self) -> PairCounts
         ensures { IsThrough self.now → (records others : List Record) (given : ℕ) → StandsFor records others given self.now → result ≡ counts_of (known_by self.now records others) }
     {

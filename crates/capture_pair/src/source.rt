@@ -28,7 +28,7 @@ pub trait Source {
     ghost work: { Self → ℕ };
 
     /// Returns the next item that the listener shows of what it took so far; `None` exactly if the listener has shown
-    /// all of these items. The listener uses the memory of `spent` again.
+    /// all of these items. The listener reuses the memory of `spent`.
     fn next_out(&mut self, spent: Option<Bytes>) -> Option<Shown>
         ensures given { (taken : Taken) (list : List ShownValue) (n : ℕ) → shows self.old taken list n → result ≡ slice_get list n }
         ensures shows { (taken : Taken) (list : List ShownValue) (n : ℕ) → shows self.old taken list n → shows self.new taken list (n + length (option_to_list result)) }

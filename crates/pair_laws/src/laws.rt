@@ -30,8 +30,8 @@ pub fn a_capture_beside_itself_never_differs()
 ///
 /// The captures never differ. Each pair is of one packet or unit of the talker, and no pair differs. If both captures
 /// present the same packet or unit, the two batches are a pair. So the pairs are exactly the packets and units that
-/// both captures present. Both listeners use the clock, or neither does. The two listeners may have different buffers,
-/// look-ahead and max transit times.
+/// both captures present. This requires that both listeners use the clock or neither does. The two listeners may have
+/// different buffers, look-ahead and max transit times.
 pub fn captures_of_one_talker_never_differ()
     ensures differ { (shift : ℤ) (p : PacketJournal) (plan other : ListenPlan) (records others : List Record) → HearsTalker shift p plan records → HearsTalker shift p other others → by_clock other ≡ by_clock plan
         → differences (merged (presented_of (shown_of plan records)) (presented_of (shown_of other others))) ≡ [] }
@@ -62,10 +62,10 @@ pub fn what_was_given_stays()
         → take given (differences (known_by new (records ++ more) (others ++ more_others))) ≡ take given (differences (known_by old records others)) }
 {}
 
-/// A pair may want more of one capture, for example because that capture cannot be read any further. Then the known
-/// part of the merged list depends on two lists. One list has the batches of that capture that are certain to be
-/// presented, whatever follows. The other list has all batches of the other capture. Reading more of the other capture
-/// does not change the known part. After both captures are closed, all that both listeners show is known.
+/// A pair can be left wanting more of one capture, for example because that capture cannot be read any further. Then
+/// the known part of the merged list depends on two lists. One list has the batches of that capture that are certain to
+/// be presented, whatever follows. The other list has all batches of the other capture. Reading more of the other
+/// capture does not change the known part. After both captures are closed, all that both listeners show is known.
 pub fn what_a_fault_leaves_is_known()
     ensures a { (plan : ListenPlan) (records others more : List Record) (given : ℕ) (pair : PairState) → StandsFor records others given pair → HavePlan plan pair → EndsAreClosed pair → wanted_by pair ≡ Some A → is_closed pair.a ≡ false → (is_closed pair.b ≡ true → more ≡ [])
         → known_by pair records others ≡ known false true (merged (presented_of (due_of plan records)) (presented_of (shown_of plan (others ++ more)))) }

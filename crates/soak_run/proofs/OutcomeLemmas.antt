@@ -54,7 +54,7 @@ pub record IsSoundEntry (e : Entry) : Type 0 where
   pub is : e ≡ OfItem (OfPacket packet)
   pub sound : IsSound packet
 
--- ---- a verdict has one of the counted reasons
+-- ---- a verdict that rejects an item has one of the counted reasons
 
 abbrev ErrsSo : Result Accepted Reason → Type 0
 ErrsSo (Ok a) = Unit {0}
@@ -91,7 +91,7 @@ unfolding verdict
 verdict_so plan now earlier place (Ok batch) so = decided_so _ _ _ place batch
 verdict_so plan now earlier place (Err reason) so = subst IsCountedReason (sym so) tt
 
--- ---- each item is shown for one of the counted reasons
+-- ---- an item that is flagged is flagged for one of the counted reasons
 
 flag_so : (i : ℕ) (item : Item) (r : Result Accepted Reason) → ErrsSo r → AllByRecursion IsCountedGiven (flag_by i (Some (OfItem item)) (Some r))
 flag_so i item (Ok a) so = tt

@@ -17,7 +17,7 @@ state-more : (seed draws more noise next : ℕ) → suc draws ≡ more → noise
 unfolding state_after
 state-more seed draws more noise next e s n = n ∙ ap next_state s ∙ ap (state_after seed) e
 
--- after the number for the packet itself is drawn, no copy of the packet is delivered yet
+-- when only the number for the packet itself has been drawn, no copy of the packet is delivered yet
 pub delivering-none : (seed number noise next : ℕ) (old : List (ℤ × ℕ)) → noise ≡ state_after seed (draws_before seed number) → next ≡ next_state noise
     → Delivering seed number 0 next old old
 delivering-none seed number noise next old s n = record {
@@ -40,7 +40,7 @@ delivering-more seed number count noise next arrival old new so n a = record {
     here : (arrival, number) ≡ copy_of seed number count
     here = ap (λ (x : ℤ). (x, number)) (a ∙ ap (λ (x : ℕ). pos (arrival_of soak_plan number + delay_by (drawn x))) (n ∙ ap next_state so.state))
 
--- the number for the packet itself says how many copies of the packet are delivered
+-- the number that was drawn for the packet itself says how many copies of the packet are delivered
 pub delivering-all : (seed number count noise first start : ℕ) (old new : List (ℤ × ℕ)) → Delivering seed number count noise old new
     → start ≡ state_after seed (draws_before seed number) → first ≡ next_state start → count ≡ copies_by (drawn first) → count ≡ copies_of seed number
 delivering-all seed number count noise first start old new so s f e = e ∙ ap (λ (x : ℕ). copies_by (drawn x)) (f ∙ ap next_state s)

@@ -112,7 +112,7 @@ module _ {X : Type 0} (lt : X → X → Bool) (o : IsStrictWeakOrder lt) where
       let first : y ≡ z = first-same y z ys zs up_y.0 up_z.0 same in
       ap (λ (x : X). x ∷ ys) first ∙ ap (λ (l : List X). z ∷ l) (unique ys zs up_y.1 up_z.1 (λ x. rest-same x y z ys zs first (same x)))
 
-  -- ---- the sort by insertion rises
+  -- ---- the result of sorting by insertion rises
 
   least-put : (y x : X) (ys : List X) → lt x y ≡ false → Least y ys → Least y (put lt x ys)
   unfolding Least

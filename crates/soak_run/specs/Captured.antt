@@ -11,7 +11,7 @@ use Rattle.soak_run.specs.Soak.{deliveries_of, soak_plan}
 
 -- ---- what is talked
 
--- sample frame k: two samples of 16 bits, one rising and one falling
+-- sample frame k: two samples of 16 bits, one that rises with k and one that falls with k
 abbrev pub sample_frame : ℕ → List ℕ
 sample_frame k = big_bytes 2 (k % 65536) ++ big_bytes 2 (65535 - k % 65536)
 

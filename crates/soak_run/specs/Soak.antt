@@ -1,5 +1,5 @@
--- The deliveries of a stream over a bad network. Drawn numbers decide which packets are lost, copied or late. The
--- network is this project's own.
+-- The deliveries of a stream over a bad network. Drawn numbers decide which packets are lost, copied or late. This
+-- project defines the network; no standard does.
 use Rattle.std.specs.Prelude.{ℕ, ℤ, pos, zero, suc, ◌+◌, ◌*◌, ◌%◌, ◌==◌, true, int_lt, if◌then◌else◌, List, [], ◌∷◌, map, None}
 use Rattle.std.specs.List.{flat_map, range_with_len}
 use Rattle.aaf_format.specs.declared.aaf.AafFormat.TheVariants.{Int16}

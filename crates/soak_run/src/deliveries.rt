@@ -51,7 +51,7 @@ fn delay_drawn(draw: u32) -> u32
     draw % 64 * DELAY_STEP
 }
 
-/// When a copy of packet `number` arrives, in nanoseconds of gPTP, if `draw` is drawn for the copy.
+/// The instant, in nanoseconds of gPTP, at which a copy of packet `number` arrives if `draw` is drawn for the copy.
 #[tactic(auto, using(crate::proofs::SoakLemmas::sent_soon))]
 fn copy_arrival(number: u64, draw: u32) -> i64
     requires { number < 1000000 }
@@ -86,9 +86,9 @@ fn copies_of_all(alloc: Global, packets: u32) -> Result<Vec<(i64, u64)>, NoMemor
     Ok(copies)
 }
 
-/// The deliveries of the first `n` packets of the stream over a bad network. `n` is at most 1,000,000. Each delivery
-/// consists of its arrival, in nanoseconds of gPTP, and the number of its packet. The list is sorted by arrival, then
-/// by number, then by copy. `NoMemory` if the list cannot be allocated.
+/// The deliveries of the first `n` packets of the stream over a bad network. `n` must be at most 1,000,000. Each
+/// delivery consists of its arrival, in nanoseconds of gPTP, and the number of its packet. The list is sorted by
+/// arrival, then by number, then by copy. Returns `NoMemory` if the list cannot be allocated.
 pub fn soak_deliveries(alloc: Global, n: u32) -> Result<Vec<(i64, u64)>, NoMemory>
     requires { n ≤ 1000000 }
     ensures { IfOk result (λ deliveries. deliveries.items ≡ deliveries_of n) }

@@ -26,7 +26,7 @@ pub fn deliveries_are_heard()
     packet_again();
 }
 
-/// What is shown of the deliveries keeps the headline (`KeepsHeadline`).
+/// `KeepsHeadline` is true of what is shown of the deliveries.
 pub fn deliveries_keep_headline()
     ensures { (packets : ℕ) → packets ≤ 1000000 → KeepsHeadline (pos 0) (soak_stream packets).journal soak_listener (soak_records packets) (soak_shown packets) }
 {

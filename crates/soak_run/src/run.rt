@@ -24,7 +24,7 @@ use talker::{TalkFault, Talker};
 /// The maximum number of items that wait between the thread that hears the stream and the thread that counts.
 const RING: u32 = 64;
 
-/// What becomes of deliveries of a talker's packets: one thread hears them, and another counts what is shown.
+/// Counts what becomes of deliveries of a talker's packets: one thread hears them, and another counts what is shown.
 fn hear<T: Threads + Sync>(
     rt: &T,
     alloc: Global,
@@ -71,15 +71,16 @@ fn want_of_memory(_fault: TalkFault) -> NoMemory
 }
 
 /// Sends a stream over a bad network, has a listener hear what arrives, and returns what became of the packets.
-/// `packets` is the number of packets that are sent, at most 1,000,000. `NoMemory` if memory cannot be allocated.
+/// `packets` is the number of packets that are sent, at most 1,000,000. Returns `NoMemory` if memory cannot be
+/// allocated.
 ///
 /// The stream is sparse PCM of two channels at 48 kHz, with six sample frames in a packet. One packet in 16 is lost,
-/// one in 16 arrives twice, and each copy arrives up to 2.52 ms late. The listener looks 32 items ahead, and hears the
-/// deliveries in the order in which they arrive, as the records of a capture. Each delivery has one outcome, so the
-/// counts add up.
+/// one in 16 arrives twice, and each copy arrives at most 2.52 ms after the packet is sent. The listener looks 32 items
+/// ahead, and hears the deliveries in the order in which they arrive, as the records of a capture. Each delivery has
+/// one outcome, so the counts add up.
 ///
-/// One thread talks and hears, and another thread counts what is shown. A ring is between the two threads. The counts
-/// do not depend on how the threads interleave.
+/// One thread talks and hears, and another thread counts what is shown. A ring carries the shown items from one thread
+/// to the other. The counts do not depend on how the threads interleave.
 pub fn soak<T: Threads + Sync>(rt: &T, alloc: Global, packets: u32) -> Result<SoakCounts, NoMemory>
     requires { packets ≤ 1000000 }
     ensures exact { IfOk result (λ counts. counts ≡ soak_counts packets) }

@@ -7,7 +7,7 @@ use crate::deliveries::SOAK_PLAN;
 use avtp_base::NoMemory;
 use std::alloc::Global;
 
-/// Appends sample frame `number`: two samples of 16 bits, one rising and one falling with `number`.
+/// Appends sample frame `number`: two samples of 16 bits, one that rises with `number` and one that falls with it.
 fn put_sample_frame(samples: &mut Vec<u8>, number: u32) -> Result<(), NoMemory>
     ensures { OnOk result (samples.new.items ≡ samples.old.items ++ sample_frame number) }
 {

@@ -1,4 +1,4 @@
-//! Files of devices, and calls of them that fail.
+//! Devices that write to sinks and files, and calls of sinks that fail.
 
 use crate::items::{PACKET, Samples, late, shown, taken, unit};
 use avtp_files::FileSink;

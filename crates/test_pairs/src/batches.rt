@@ -72,8 +72,8 @@ fn batch_of(frame: u64, seq: u8, samples: Samples, bytes: Bytes) -> Result<Batch
     })
 }
 
-/// The batch that a word states: the sequence number, `@`, and the samples. After `=` are the bytes of the samples.
-/// Without bytes, each sample has one byte, 0.
+/// The batch that a word states: the sequence number, `@`, and the samples. If `=` follows, the bytes of the samples
+/// come after it. Without bytes, each sample has one byte, 0.
 fn batch(alloc: Global, frame: u64, word: &str) -> Result<Batch, Fail> {
     let (seq, rest) = split(word, '@', "");
     let (rest, digits) = split(rest, '=', "");
@@ -86,7 +86,7 @@ fn batch(alloc: Global, frame: u64, word: &str) -> Result<Batch, Fail> {
     batch_of(frame, byte(seq), samples, Bytes::over(bytes))
 }
 
-/// The batches of a listener, in frames numbered from 1. If `9x` is before a word, the word stands for nine equal
+/// The batches of a listener, in frames numbered from 1. With a prefix such as `9x`, a word stands for nine equal
 /// batches.
 pub fn batches_of(alloc: Global, words: &str) -> Result<VecDeque<Batch>, Fail> {
     let mut batches = VecDeque::new(alloc);

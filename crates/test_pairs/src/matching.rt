@@ -20,7 +20,7 @@ const ROWS: &str = "\
 0@0 | 0@0 => matched 1 only 0 0 differ 0
 0@0 | 1@0 => matched 0 only 1 1 differ 0
 0@5 1@5 2@5 | 1@5 => matched 1 only 2 0 differ 0
-// The two batches are 512 and 513 positions apart.
+// In these four rows, the two batches with sequence number 0 are 512 or 513 positions apart.
 0@0 511x1@0 | 0@0 => matched 1 only 511 0 differ 0
 0@0 512x1@0 | 0@0 => matched 0 only 513 1 differ 0
 0@1 | 0@0 511x1@0 => 1 1 seq 0 At { sample: 0, a: 1, b: 0 }, matched 1 only 0 511 differ 1
@@ -55,7 +55,7 @@ const ROWS: &str = "\
 0@5u=65 | 0@5u=65 => matched 1 only 0 0 differ 0
 0@5u=65 | 0@5u=6501 => 1 1 seq 0 Bytes { sample: 0 }, matched 1 only 0 0 differ 1
 0@5u=65 | 0@6u=65 => matched 0 only 1 1 differ 0
-// The first sample that differs does so in its instant or, if not, in its bytes.
+// For the first sample that differs, its instants are reported, or its bytes if the instants are equal.
 0@0=000000000100 | 0@0=000000000000 => 1 1 seq 0 Bytes { sample: 4 }, matched 1 only 0 0 differ 1
 0@0=010000000000 | 0@1=000000000000 => 1 1 seq 0 At { sample: 0, a: 0, b: 1 }, matched 1 only 0 0 differ 1
 0@0 | 0@0/44100 => 1 1 seq 0 At { sample: 1, a: 20833, b: 22675 }, matched 1 only 0 0 differ 1

@@ -22,17 +22,17 @@ pub record IsBegun (wanted : ListenPlan) (source : ByteSource) : Type 0 where
   pub none : taken source.listener.reader ≡ 0
   pub memory : source.listener.out_of_memory ≡ false
 
--- A listener may be fed or ended.
+-- A listener is open and quiet, so feeding and ending it are permitted.
 pub record IsOpen (fed : Feeding) : Type 0 where
   pub opened : is_ended fed ≡ false
   pub quiet : IsQuiet fed
 
--- the listener of side `which` may be fed or ended
+-- the listener of side `which` is open and quiet, so feeding and ending it are permitted
 abbrev pub IsOpenOn : Which → Feeding → Feeding → Type 0
 IsOpenOn A a b = IsOpen a
 IsOpenOn B a b = IsOpen b
 
--- the listener of side `which` may be fed n more bytes
+-- after n more bytes, the listener of side `which` has taken at most 2^62 bytes
 abbrev pub IsBoundedOn : Which → ℕ → Feeding → Feeding → Type 0
 IsBoundedOn A n a b = taken a.reader + n ≤ 2 ^ 62
 IsBoundedOn B n a b = taken b.reader + n ≤ 2 ^ 62

@@ -40,7 +40,7 @@ pub record IsHeard (list : List Shown) : Type 0 where
   pub few : length list ≤ 2 ^ 61
   pub order : IsInOrder (presented_of list)
 
--- The matching wants a batch of side `which`. This is the matching after it was given the side's next item. If there is
+-- For a matching that wants a batch of side `which`: the matching after it was given the side's next item. If there is
 -- no item and the side's listener has ended, the side ends.
 abbrev pub handed : Which → Option Shown → Bool → MatchingState → MatchingState
 handed which (Some (Present batch)) ended m = given_to which batch m

@@ -16,23 +16,23 @@ pub record IsBegun (wanted : ListenPlan) (source : RecordSource) : Type 0 where
   pub idle : IsIdle source.listener
   pub none : source.listener.counts.frames ≡ 0
 
--- A listener may be closed.
+-- A listener is open and idle, so closing it is permitted.
 pub record IsQuiet (listener : ListenState) : Type 0 where
   pub opened : is_closed listener ≡ false
   pub idle : IsIdle listener
 
--- A listener may be given a record.
+-- A listener is open and idle, and took fewer than 2^61 records, so giving it a record is permitted.
 pub record IsReady (listener : ListenState) : Type 0 where
   pub opened : is_closed listener ≡ false
   pub idle : IsIdle listener
   pub few : listener.counts.frames < 2 ^ 61
 
--- the listener of side `which` may be given a record
+-- the listener of side `which` is ready: giving it a record is permitted
 abbrev pub IsReadyOn : Which → ListenState → ListenState → Type 0
 IsReadyOn A a b = IsReady a
 IsReadyOn B a b = IsReady b
 
--- the listener of side `which` may be closed
+-- the listener of side `which` is open and idle, so closing it is permitted
 abbrev pub IsQuietOn : Which → ListenState → ListenState → Type 0
 IsQuietOn A a b = IsQuiet a
 IsQuietOn B a b = IsQuiet b
