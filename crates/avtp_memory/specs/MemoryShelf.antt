@@ -52,7 +52,7 @@ pub record CountsCall (old new : MemoryShelf) : Type 0 where
   pub fails : failing_calls new ≡ failing_calls old
   pub most : most new ≡ most old
 
--- ---- what a call adds to what it does on every shelf
+-- ---- what a call does in addition to what it does on every shelf
 
 -- A call to open or make a file. The call returned `Failed` exactly if its number is one of `failing_calls`. The call
 -- was counted.

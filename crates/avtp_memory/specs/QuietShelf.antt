@@ -39,7 +39,7 @@ abbrev pub KeepsPiece : QuietShelf → QuietShelf → Option (List ℕ) → List
 KeepsPiece old new name piece =
     (fits : Bool) × KeepsPart (kept_files old) (kept_files new) name (room_of old) piece fits × (keeps_all new ≡ (keeps_all old && fits))
 
--- ---- what a call adds to what it does on every shelf
+-- ---- what a call does in addition to what it does on every shelf
 
 -- Three things are unchanged: the kept bytes, `keeps_all`, and the room that each file gets when it is made.
 pub record KeepsKept (old new : QuietShelf) : Type 0 where
@@ -47,7 +47,8 @@ pub record KeepsKept (old new : QuietShelf) : Type 0 where
   pub all : keeps_all new ≡ keeps_all old
   pub room : room_of new ≡ room_of old
 
--- At `Ok` a kept file with this name was opened, and all its kept bytes are left to read. Nothing that is kept changed.
+-- At `Ok` a kept file with this name was opened, and all its kept bytes are left to read. What the shelf keeps is
+-- unchanged.
 pub record OpensQuietly (old new : QuietShelf) (name : List ℕ) (result : Result Slot OpenFault) : Type 0 where
   pub found : IfOk result (λ slot. IsOpened (Some (kept_files old)) (slots_of new slot.0) name)
   pub keeps : KeepsKept old new

@@ -1,4 +1,4 @@
-//! Counts the calls of an object in memory, some of which fail on purpose.
+//! Counts the calls to an object in memory, and tells which of the calls fail on purpose.
 
 ghost use Rattle.std.specs.Prelude.{◌≡◌, ◌↔◌, Contains, IsTrue};
 ghost use Rattle.avtp_memory.specs.Calls.{next_number};

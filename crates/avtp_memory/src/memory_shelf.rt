@@ -9,8 +9,8 @@ use avtp_base::{Failed, NoMemory, OpenFault};
 use avtp_files::{Shelf, Slot};
 use std::alloc::Global;
 
-/// A shelf that keeps its files in memory. All calls except `close_file` are numbered from 1, and the calls with the
-/// given numbers fail.
+/// A shelf that keeps its files in memory. All calls except `close_file` are numbered from 1, and the calls whose
+/// numbers were chosen in `over` fail.
 #[derive(Debug, Drop)]
 pub struct MemoryShelf {
     held: MemoryFiles,
@@ -27,8 +27,8 @@ impl MemoryShelf {
     ghost use Rattle.avtp_memory.specs.NamedFiles.{bytes_under};
     ghost use Rattle.avtp_memory.specs.MemoryShelf.{files_of, slots_of, asked_of, calls, failing_calls, most, reading_count, writing_count};
 
-    /// A shelf of these files, each under its name. The calls with the numbers `fails` fail. If two files have the same
-    /// name, the first counts.
+    /// A shelf of these files, each under its name. The calls whose numbers are in `fails` fail. If two files have the
+    /// same name, the first counts.
     pub fn over(alloc: Global, files: Vec<(String, Vec<u8>)>, fails: Vec<u64>) -> Self
         ensures files { files_of result ≡ bytes_under files.items }
         ensures closed { (k : ℕ) → slots_of result k ≡ None }

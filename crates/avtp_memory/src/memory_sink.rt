@@ -7,8 +7,8 @@ use avtp_base::Failed;
 use avtp_files::Sink;
 use std::alloc::Global;
 
-/// A sink that keeps all written bytes. The calls of the sink are numbered from 1, and the calls with the given numbers
-/// fail.
+/// A sink that keeps all written bytes. The calls of the sink are numbered from 1, and the calls whose numbers were
+/// chosen in `over` fail.
 #[derive(Debug, Drop)]
 pub struct MemorySink {
     bytes: Vec<u8>,
@@ -22,7 +22,7 @@ impl MemorySink {
     ghost use Rattle.std.specs.Prelude.{◌≡◌, ◌^◌, ◌-◌, []};
     ghost use Rattle.avtp_memory.specs.MemorySink.{kept, calls, failing_calls, most, fault_count};
 
-    /// An empty sink. The calls with the numbers `fails` fail.
+    /// An empty sink. The calls whose numbers are in `fails` fail.
     pub fn over(alloc: Global, fails: Vec<u64>) -> Self
         ensures empty { kept result ≡ [] }
         ensures fails { failing_calls result ≡ fails.items }

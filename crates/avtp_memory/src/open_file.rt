@@ -18,7 +18,7 @@ pub struct OpenFile {
 }
 
 impl OpenFile {
-    /// The file with the name, of which nothing was read yet.
+    /// The file with the name, before any of its bytes are read.
     pub fn start(alloc: Global, name: &str, made: bool) -> Result<Self, NoMemory>
         ensures name { IfOk result (λ file. string_bytes file.name ≡ name.now) }
         ensures place { IfOk result (λ file. file.place ≡ 0) }
@@ -33,7 +33,7 @@ impl OpenFile {
     }
 }
 
-/// Counts `by` more bytes of the file in a live slot as read.
+/// Adds `by` to the number of bytes that were read of the open file in `slot`.
 pub fn advance(live: &mut Slots<OpenFile>, slot: Slot, by: usize)
     requires live { IsSome (entry_at live.old.entries.items slot.0) }
     requires fits { IfSome (entry_at live.old.entries.items slot.0) (λ file. file.place + by < 2 ^ 64) }

@@ -18,7 +18,7 @@ use Rattle.listener_pair.specs.state.Window.{counted, difference_by_pair, paired
 use Rattle.listener_pair.proofs.Sorting.{length-of}
 use Rattle.listener_pair.proofs.Windows.{IsAscending, ascending-filter, ascending-length, ascending-with, fewer, find-passes, filter-no, filter-yes, other_side, partner-side, side-of, without-apart}
 
--- ---- one batch after the others
+-- ---- one more batch at the end of a list
 
 unpaired-more : (place n : ℕ) (u : List Placed) (xs : List Sided) (x : Sided) → n ≡ place + length xs → unpaired_from place u (xs ++ x ∷ []) ≡ unpaired_with (at_place n x) (unpaired_from place u xs)
 unfolding unpaired_from

@@ -63,9 +63,9 @@ pub fn what_was_given_stays()
 {}
 
 /// A pair can be left wanting more of one capture, for example because that capture cannot be read any further. Then
-/// the known part of the merged list depends on two lists. One list has the batches of that capture that are certain to
-/// be presented, whatever follows. The other list has all batches of the other capture. Reading more of the other
-/// capture does not change the known part. After both captures are closed, all that both listeners show is known.
+/// the known part of the merged list depends on two lists only. One list has the batches of that capture that are
+/// certain to be presented, whatever follows. The other list has all batches of the other capture. Reading more of the
+/// other capture does not change the known part. After both captures are closed, all that both listeners show is known.
 pub fn what_a_fault_leaves_is_known()
     ensures a { (plan : ListenPlan) (records others more : List Record) (given : ℕ) (pair : PairState) → StandsFor records others given pair → HavePlan plan pair → EndsAreClosed pair → wanted_by pair ≡ Some A → is_closed pair.a ≡ false → (is_closed pair.b ≡ true → more ≡ [])
         → known_by pair records others ≡ known false true (merged (presented_of (due_of plan records)) (presented_of (shown_of plan (others ++ more)))) }

@@ -11,15 +11,15 @@ ghost use Rattle.soak_run.specs.Outcomes.{soak_counts, soak_shown, total};
 use cvf_format::laws::packet_again;
 
 /// The records that are read from the capture of the deliveries are exactly the records that were captured. So a
-/// listener that reads the capture's bytes shows what is shown of the records.
+/// listener that reads the capture's bytes shows the same as a listener that is given the records.
 pub fn capture_is_heard()
     ensures records { (packets : ℕ) → packets ≤ 1000000 → whole_records (soak_capture packets) ≡ soak_records packets }
     ensures refusal { (packets : ℕ) → packets ≤ 1000000 → first_refusal (soak_capture packets) ≡ None }
     ensures shown { (packets : ℕ) → packets ≤ 1000000 → (heard_of soak_listener (soak_capture packets)).shown ≡ soak_shown packets }
 {}
 
-/// The deliveries meet the whole premise of the headline (`HearsTalker`): no copy is so late that it could be taken for
-/// another packet.
+/// `HearsTalker`, the premise of the headline, is true of the deliveries. In particular, no copy is so late that it
+/// could be taken for another packet.
 pub fn deliveries_are_heard()
     ensures { (packets : ℕ) → packets ≤ 1000000 → HearsTalker (pos 0) (soak_stream packets).journal soak_listener (soak_records packets) }
 {

@@ -31,7 +31,7 @@ impl Model for Noise {
 }
 
 impl Noise {
-    /// The generator with the seed `n`, modulo 2^31.
+    /// The generator whose seed is `n` modulo 2^31.
     pub fn new(n: u64) -> Self
         ensures { result ≡ first_state n }
     {

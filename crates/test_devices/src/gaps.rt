@@ -24,8 +24,8 @@ struct Gap {
 }
 
 const GAPS: [Gap; 8] = [
-    // In these three rows, one packet is missing, no packet is missing, and the next packet begins at the same instant
-    // as the packet before it.
+    // In the first of these three rows, one packet is missing. In the second, no packet is missing. In the third, the
+    // next packet begins at the same instant as the packet before it.
     Gap {
         before: PACKET,
         next: 1_002_250_000,
@@ -41,7 +41,7 @@ const GAPS: [Gap; 8] = [
         next: 1_002_000_000,
         silent: 0,
     },
-    // In these two rows, half a sample is missing, and less than half a sample is missing.
+    // In the first of these two rows, half a sample is missing; in the second, less than half a sample.
     Gap {
         before: SHORT,
         next: 6,

@@ -1,4 +1,4 @@
-//! Flags through a ring, counted on either side.
+//! Flags that go through a ring, counted on both sides.
 
 ghost use Rattle.std.specs.Prelude.{◌≡◌, ◌+◌, ◌≤◌, ◌^◌, false, None};
 ghost use Rattle.presenter_ring.specs.Pipes.{ended_with, given_to};

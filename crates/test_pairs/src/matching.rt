@@ -25,7 +25,7 @@ const ROWS: &str = "\
 0@0 512x1@0 | 0@0 => matched 0 only 513 1 differ 0
 0@1 | 0@0 511x1@0 => 1 1 seq 0 At { sample: 0, a: 1, b: 0 }, matched 1 only 0 511 differ 1
 0@1 | 0@0 512x1@0 => matched 0 only 1 513 differ 0
-// Positions of paired batches count, too.
+// The positions of batches that are already paired count, too.
 0@0 255x1@0 | 255x1@0 0@0 => matched 256 only 0 0 differ 0
 0@0 256x1@0 | 256x1@0 0@0 => matched 256 only 1 1 differ 0
 // The reach is 64 times the duration of A's six samples. One nanosecond more is too much.

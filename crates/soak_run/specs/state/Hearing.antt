@@ -17,7 +17,7 @@ use Rattle.soak_run.specs.Captured.{captured}
 
 -- ---- stages
 
--- whether the listener gets no further delivery at this stage
+-- whether the listener is closed at this stage
 abbrev pub closed_at : Stage → Bool
 closed_at Giving = false
 closed_at Showing = true
@@ -31,7 +31,8 @@ pull_at Showing = None
 pull_at Ended = Some pull.Done
 pull_at NoMemory = Some pull.Memory
 
--- how many steps are left: one for each delivery that was not given, and one for the end
+-- how many steps are left at stage `Giving`: one for each delivery that was not given yet, and one for the end; at any
+-- other stage, no step is left
 abbrev pub steps_left : Stage → List (ℤ × ℕ) → ℕ → ℕ
 steps_left Giving deliveries given = (length deliveries - given) + 1
 steps_left stage deliveries given = 0
@@ -47,7 +48,7 @@ pub record IsDeliverable (talker : Talking) (delivery : ℤ × ℕ) : Type 0 whe
 abbrev pub records_of : Talking → List (ℤ × ℕ) → ℕ → List Record
 records_of talker deliveries given = map (captured (stream_of talker.plan talker.input)) (take given deliveries)
 
--- a record can be given to the listener
+-- the listener is open and idle, and took fewer than 2^62 records, so giving it a record is permitted
 pub record IsReady (listener : ListenState) : Type 0 where
   pub opened : is_closed listener ≡ false
   pub idle : IsIdle listener
