@@ -13,7 +13,7 @@ use Rattle.avtp_memory.specs.Room.{told_while}
 abbrev pub kept_files : QuietShelf → Files
 kept_files shelf = files_in shelf.held
 
--- how many bytes the shelf keeps of each file that is made
+-- the greatest number of bytes that the shelf keeps of a file that is made
 abbrev pub room_of : QuietShelf → ℕ
 room_of shelf = room_in shelf.held
 

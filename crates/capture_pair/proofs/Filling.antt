@@ -161,7 +161,7 @@ pub counts-all : (ShowsA ShowsB : List Shown → ℕ → Type 0) (QuietA QuietB 
 counts-all ShowsA ShowsB QuietA QuietB list other given over_a over_b m hl ho p s idle =
     p.matches.matched.counts ∙ ap counts_of (sym (idle-all ShowsA ShowsB QuietA QuietB list other given over_a over_b m hl ho p s idle))
 
--- a matching that wants a batch of a side has no next difference
+-- a matching that wants a batch of a side is idle
 pub waits-idle : (m : MatchingState) → is_some (wanted m) ≡ true → IsIdle m
 waits-idle m h = no-next m (ap (λ v. cond v None (first_side m.next_a m.next_b)) h)
 

@@ -44,7 +44,7 @@ outcomes delivered shown = record {
   full = count_by is_full shown;
 }
 
--- the number of all items that were presented or flagged
+-- the number of items that were presented, or flagged for one of the counted reasons
 abbrev pub total : SoakCounts → ℕ
 total counts = counts.presented + counts.late + counts.repeat + counts.untimed + counts.full
 

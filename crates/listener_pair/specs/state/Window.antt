@@ -50,8 +50,8 @@ kept x None = x ∷ []
 kept x (Some pair) = []
 
 -- Batch x was added; `pair` is the pair that x made, if any. Before x was added, `own` were the waiting batches of the
--- side of x, and `other` those of the other side. After x was added, these are `own_then` and `other_then`. `next` is
--- the position of the batch after x.
+-- side of x, and `other` those of the other side. After x was added, the waiting batches of these two sides are
+-- `own_then` and `other_then`. `next` is the position of the batch after x.
 pub record Enters (x : Placed) (next : ℕ) (own other own_then other_then : List Placed) (pair : Option Paired) : Type 0 where
   pub made : pair ≡ made x other
   pub others : other_then ≡ without_passed next (without_first (takes x) other)
