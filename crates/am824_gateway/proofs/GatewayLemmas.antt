@@ -43,7 +43,7 @@ either : (a b : Bool) → (a || b) ≡ false → (a ≡ false) × (b ≡ false)
 either false b e = (refl, e)
 either true b e = absurd cc
 
--- the piece of a batch that begins with this sample
+-- the piece that begins with this sample of a batch
 abbrev piece_at : To → Shape → Presented → ℕ → ℕ → Piece
 piece_at to shape batch first block = record { first = first; count = piece_count to shape batch first; block = block }
 

@@ -47,7 +47,7 @@ given_batches to shape given (batch ∷ batches) =
     (batch ∷ given_batches to shape (given_with to shape given batch) batches)
     (given_batches to shape given batches)
 
--- ---- what holds for them
+-- ---- what holds for batches, instants and frames
 
 -- the batch has at least one sample, and each sample is presented after the sample before it
 pub record HasRisingInstants (batch : Presented) : Type 0 where

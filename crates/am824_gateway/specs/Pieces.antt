@@ -1,4 +1,5 @@
--- How the batches that a listener presents are cut into pieces. One packet of the other format carries each piece.
+-- How the batches that a listener presents are cut into pieces. Each piece is carried by one packet of the other
+-- format.
 use Rattle.std.specs.Prelude.{ℕ, zero, suc, ◌+◌, ◌-◌, ◌*◌, ◌/◌, ◌%◌, ◌^◌, ◌==◌, min, Bool, true, false, not, ◌&&◌, nat_lt, if◌then◌else◌, ℤ, pos, ◌+ℤ◌, ◌-ℤ◌, int_le, List, [], ◌∷◌, length, Option, Some, None}
 use Rattle.std.specs.Int.{div_ceil, int_max}
 use Rattle.std.specs.List.{list_any}
@@ -28,7 +29,8 @@ most_frames to channels = most_bytes to / (value_out to * channels)
 -- ---- where a batch is cut
 
 -- A piece begins with sample `first` of a batch. Sample k of this piece is at its nominal instant, counted from the
--- piece's first sample. This is how listeners count the samples of a packet from its timestamp.
+-- piece's first sample. Listeners compute the instants of a packet's samples from the packet's timestamp in the same
+-- way.
 abbrev pub is_nominal : ℕ → Presented → ℕ → ℕ → Bool
 is_nominal rate batch first k =
     int_eq (sample_instant batch (first + k)) (sample_instant batch first +ℤ pos (nominal_offset rate k))

@@ -1,4 +1,4 @@
--- The samples of a stream, apart from the packets that carry them.
+-- The samples of a stream, whatever packets carry them.
 use Rattle.std.specs.Prelude.{ℕ, zero, suc, ◌*◌, ℤ, pos, ◌+ℤ◌, List, [], ◌∷◌, take, drop}
 use Rattle.sample_schedule.specs.Batches.{Presented, sample_instant}
 use Rattle.talk_plan.specs.Timing.{nominal_offset}

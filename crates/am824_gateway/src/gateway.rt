@@ -1,4 +1,4 @@
-//! Converts the batches that are presented to packets of the other format.
+//! Converts the batches that a listener presents into packets of the other format.
 
 ghost use Rattle.std.specs.Prelude.{◌≡◌, ◌+◌, ◌*◌, ◌^◌, ◌<◌, ◌≤◌, ◌||◌, ◌∷◌, [], length, slice_get, take, Some, None, IfOk, IfErr, IfSome, OnOk, OnErr};
 ghost use Rattle.talker.specs.Frames.{sent_frame};
@@ -24,7 +24,8 @@ use talker::{Sent, Turn};
 /// The maximum number of bytes of a frame.
 const LONGEST_FRAME: usize = 1518;
 
-/// The last batch that was not skipped, the stream of this batch, and the number of packets before its first packet.
+/// The last batch that was not skipped, the stream of this batch, and the number of packets before the first packet of
+/// this batch.
 #[derive(Drop)]
 pub(crate) struct Current {
     pub stream: Stream,
@@ -179,8 +180,8 @@ impl Gateway {
         })
     }
 
-    /// Cuts the next batch that is presented into pieces, and returns their number. `put` may be called while `batches`
-    /// is below 2^44. A skipped batch changes nothing. The call allocates nothing.
+    /// Cuts the next batch that is presented into pieces, and returns their number. `put` must be called only while
+    /// `batches` is below 2^44. A skipped batch changes nothing. The call allocates nothing.
     ///
     /// A batch is skipped for the first of these reasons that holds: `ShapeOff`: there is no shape, the batch is a unit
     /// of H.264, it does not have one value of 24 bits for each channel of each sample, or a value has a label other

@@ -45,8 +45,8 @@ pub fn frames_are_short_enough()
         AllByRecursion IsFrame (frames_after to shape id given batches) }
 {}
 
-/// No value and no instant changes. Count the samples of each packet from its timestamp at the nominal rate. Then the
-/// samples of all packets are those of the batches that are not skipped: in order, with the same values at the same
+/// No value and no instant changes. If the samples of each packet are counted from its timestamp at the nominal rate,
+/// the samples of all packets are those of the batches that are not skipped: in order, with the same values at the same
 /// instants.
 pub fn samples_are_kept()
     ensures { (to : ToValue) (shape : ShapeValue) (given : Given) (batches : List Presented) → IsShape shape →
@@ -58,8 +58,8 @@ pub fn scanned_shapes_can_be_turned()
     ensures { (to : ToValue) (stream : ℕ) (records : List Record) → first_fault to stream records ≡ None → IfSome (shape_in stream records) IsShape }
 {}
 
-/// If a scan finds no fault in the records, each batch that a listener presents of these records has the shape that the
-/// scan finds. So a gateway never skips a batch for its shape. If the stream has no shape, nothing is presented.
+/// If a scan finds no fault in the records, each batch that a listener presents from these records has the shape that
+/// the scan finds. So a gateway never skips a batch for its shape. If the stream has no shape, nothing is presented.
 pub fn presented_batches_have_the_shape()
     ensures shown { (to : ToValue) (plan : ListenPlan) (records : List Record) → first_fault to plan.stream records ≡ None → AllByRecursion (IsShapedAs to (shape_in plan.stream records)) (presented_of (shown_of plan records)) }
     ensures due { (to : ToValue) (plan : ListenPlan) (records : List Record) → first_fault to plan.stream records ≡ None → AllByRecursion (IsShapedAs to (shape_in plan.stream records)) (presented_of (due_of plan records)) }

@@ -13,7 +13,7 @@ use crate::rates::interval_of;
 use crate::scan::{Shape, To};
 use sample_schedule::{Batch, Instant};
 
-/// A piece of a batch. One packet carries each piece.
+/// A piece of a batch. Each piece is carried by one packet.
 #[derive(Clone, Copy, Debug, PartialEq, Eq)]
 pub struct Piece {
     /// The number of the piece's first sample. The samples of a batch are numbered from 0.

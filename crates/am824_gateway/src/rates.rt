@@ -20,7 +20,7 @@ pub(crate) fn fdf_of(rate: u32) -> Option<u8>
     })
 }
 
-/// SYT_INTERVAL at a sample rate that IEC 61883-6 has. Of this many data blocks, one has a timestamp.
+/// SYT_INTERVAL at a sample rate that IEC 61883-6 has. One in this many data blocks has a timestamp.
 pub(crate) fn interval_of(rate: u32) -> u32
     requires { IsSome (fdf_by rate) }
     ensures value { result ≡ interval_by rate }

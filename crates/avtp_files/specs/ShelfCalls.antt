@@ -1,5 +1,5 @@
--- What each call of a shelf does, depending on the result of the call. Statements about names, files and what is left
--- to read hold if the shelf shows them.
+-- What each call of a shelf does, depending on the result of the call. A statement about names, files or what is left
+-- to read applies only if the shelf shows them.
 use Rattle.std.specs.Prelude.{◌≡◌, ℕ, ◌≤◌, ◌<◌, true, List, [], ◌∷◌, length, take, None, Some, IfOk, IsErrOf, OnErr, OnOk, Result, option_map}
 use Rattle.std.specs.Io.KnownBytes.{ReadConsumes}
 use Rattle.avtp_base.specs.declared.failed.Failed.{Failed}

@@ -7,8 +7,8 @@ use std::{fs, io};
 /// The path of standard output.
 pub const STANDARD_OUTPUT: &str = "/dev/stdout";
 
-/// The identity of a regular file: its device, and its inode number on that device. The identity is the same under each
-/// path of the file.
+/// The identity of a regular file: its device, and its inode number on that device. Every path to the file gives the
+/// same identity.
 #[derive(Clone, Copy, Debug, PartialEq, Eq)]
 pub struct FileIdentity {
     device: u64,

@@ -12,7 +12,7 @@ pub trait Sink {
     ghost use Rattle.avtp_base.specs.States.{SinkState};
 
     /// The bytes that the sink holds, if it shows them, and its count of faults, which stops at the largest 64-bit
-    /// number. A sink may stop showing its bytes, and then never shows them again.
+    /// number. If a sink stops showing its bytes, it never shows them again.
     ghost state: { Self → SinkState };
 
     /// What a write to this kind of sink does in addition to what it does to every sink.

@@ -1,4 +1,4 @@
--- What is presented of the packets that carry pieces.
+-- What is presented from the packets that carry pieces.
 use Rattle.std.proofs.Common.{◌≡◌, ℕ, zero, suc, ◌*◌, ◌/◌, ◌≤◌, ℤ, pos, ◌≤ℤ◌, ◌<ℤ◌, List, [], ◌∷◌, ◌++◌, map, false, refl, ap, ◌∙◌, arith}
 use Rattle.std.specs.Prelude.{◌*ℤ◌, ◌+ℤ◌, neg_ℤ, flat_map}
 use Rattle.std.specs.List.{AllByRecursion}

@@ -132,7 +132,7 @@ has_room clock plan entries i b earlier is room same copy =
     by true e not_full = absurd (not_full refl)
     by false e not_full = e
 
--- ---- all of them
+-- ---- all items
 
 within : (xs : List Presented) (k : ℕ) → k < length xs → slice_get xs k ≡ None → ⊥
 within [] k below e = absurd (omega arith)

@@ -1,4 +1,4 @@
--- What listeners present of a gateway's capture, and what `check` finds in it.
+-- What listeners present from a gateway's capture, and what `check` finds in it.
 use Rattle.std.proofs.Common.{◌≡◌, ℕ, ◌%◌, ◌^◌, ◌<◌, ◌≤◌, Bool, true, false, inl, inr, nat_abs, List, [], ◌∷◌, ◌++◌, length, map, Option, Some, None, refl, sym, ap, subst, ◌∙◌, arith, append_assoc}
 use Rattle.std.specs.Prelude.{◌&&◌, flat_map, nat_lt, IfSome}
 use Rattle.std.specs.List.{AllByRecursion}
@@ -131,7 +131,7 @@ checked_from to shape id batches earlier (c ∷ cs) is small e fine sound =
       subst (λ (notes : List Seen). FindsNothingAfter notes (map record_of (map (cut_frame to shape id) cs))) (map-append (cut_seen to id) earlier (c ∷ [])) rest,
     )
 
--- ---- all of it
+-- ---- the whole capture and what is presented
 
 pub all_rising : (batches : List Presented) → AllByRecursion BeginsInTime batches → AllByRecursion HasRisingInstants batches
 all_rising [] all = tt
@@ -142,7 +142,7 @@ no_rest interval (inl e) = rw e refl
 no_rest interval (inr (inl e)) = rw e refl
 no_rest interval (inr (inr e)) = rw e refl
 
--- the samples that are presented of the frames of all pieces are exactly those of the batches that were not skipped
+-- the samples that are presented from the frames of all pieces are exactly those of the batches that were not skipped
 heard_of_cuts : (to : To) (shape : Shape) (id : ℕ) (batches : List Presented) (records : List Record) (plan : ListenPlan) → IsShape shape → id < 2 ^ 64 → AllByRecursion BeginsInTime batches
     → records ≡ map record_of (map (cut_frame to shape id) (cuts_after to shape nothing_given batches)) → Hears id plan records → Presents to (Some shape) batches (presented_of (shown_of plan records))
 heard_of_cuts to shape id batches records plan is small begins e hears =

@@ -111,7 +111,8 @@ header_fits subtype id n instant long kind small size = (
   ),
 )
 
--- IEC 61883-6 has a code for this rate, at most 6. Readers get the rate and its SYT_INTERVAL from the code.
+-- IEC 61883-6 has a code for this rate, and the code is at most 6. Readers get the rate and its SYT_INTERVAL from the
+-- code.
 pub record IsNamed (rate : ℕ) : Type 0 where
   pub named : rate_of_fdf (unwrap_or (fdf_of rate) 0) ≡ Some rate
   pub few : unwrap_or (fdf_of rate) 0 ≤ 6
@@ -127,7 +128,7 @@ named_by rate (Some fdf) e some =
 pub is_named : (shape : Shape) → IsShape shape → IsNamed shape.rate
 is_named shape is = named_by shape.rate (fdf_of shape.rate) refl is.rate
 
--- AAF has a code for this rate, at most 10. Readers get the rate from the code.
+-- AAF has a code for this rate, and the code is at most 10. Readers get the rate from the code.
 pub record IsPcmRate (rate : ℕ) : Type 0 where
   pub named : rate_of (unwrap_or (rate_code rate) 0) ≡ Some rate
   pub few : unwrap_or (rate_code rate) 0 ≤ 10

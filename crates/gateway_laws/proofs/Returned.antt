@@ -215,7 +215,7 @@ come_back to shape given i (c ∷ cs) is fine room apart over =
 
 -- ---- all that is heard
 
--- the batches that a listener presents of a gateway's frames
+-- the batches that a listener presents from a gateway's frames
 abbrev presented_again : ListenPlan → To → Shape → ℕ → List Presented → List Presented
 presented_again plan to shape id batches = presented_of (shown_of plan (gateway_records to (Some shape) id batches))
 

@@ -45,7 +45,7 @@ timed_so clock plan prefix p x without is =
     let has : nat_lt (stamped_index p.rule) p.count ≡ true = rw index (grind (arith, nat_tests)) in
     rw (is.certain, count, rate, has, is.stamp, without, is.index, is.means) refl
 
--- ---- all of them
+-- ---- all packets
 
 -- Packet i is stamped with this instant, and b is its batch.
 pub record At (ps : List Packet) (xs : List ℤ) (i : ℕ) (b : Presented) : Type 0 where

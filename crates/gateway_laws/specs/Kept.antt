@@ -1,4 +1,4 @@
--- What listeners present of a gateway's capture, and what `check` finds in it.
+-- What listeners present from a gateway's capture, and what `check` finds in it.
 use Rattle.std.specs.Prelude.{◌≡◌, ℕ, true, List, [], ◌∷◌, ◌++◌, map, Option, Some, None, ⊤}
 use Rattle.std.specs.List.{AllByRecursion, flat_map}
 use Rattle.pcap_frames.specs.Capture.{Record, first_refusal, whole_records}
@@ -32,8 +32,9 @@ pub record Hears (id : ℕ) (plan : ListenPlan) (records : List Record) : Type 0
   pub clock : plan.clock ≡ None
   pub room : AllByRecursion IsNotFull (shown_of plan records)
 
--- The samples that are presented of a gateway's capture are exactly those of the batches that the gateway did not skip:
--- in order, each once, with the same values at the same instants. If the stream has no shape, nothing is presented.
+-- The samples that are presented from a gateway's capture are exactly those of the batches that the gateway did not
+-- skip: in order, each once, with the same values at the same instants. If the stream has no shape, nothing is
+-- presented.
 abbrev pub Presents : To → Option Shape → List Presented → List Presented → Type 0
 Presents to None batches heard = heard ≡ []
 Presents to (Some shape) batches heard = flat_map (samples_heard to shape) heard ≡ flat_map (samples_presented to shape) (given_batches to shape nothing_given batches)

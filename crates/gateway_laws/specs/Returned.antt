@@ -1,4 +1,4 @@
--- What a gateway makes of a capture. Another gateway may have made that capture.
+-- What a gateway makes of a capture. The capture can itself come from a gateway.
 use Rattle.std.specs.Prelude.{ℕ, List, map, Option}
 use Rattle.sample_schedule.specs.Batches.{Presented}
 use Rattle.talker.specs.Frames.{SentFrame, record_of}
@@ -21,7 +21,7 @@ other Aaf = Am824
 abbrev pub gateway_records : To → Option Shape → ℕ → List Presented → List Record
 gateway_records to shape id batches = map record_of (gateway_frames to shape id batches)
 
--- The frames that a gateway sends under this stream ID, if it converts what a listener presents of `records`. The
+-- The frames that a gateway sends under this stream ID, if it converts what a listener presents from `records`. The
 -- gateway's shape is the one that a scan finds in `records`.
 abbrev pub frames_made : To → ListenPlan → ℕ → List Record → List SentFrame
 frames_made to plan id records = gateway_frames to (shape_in plan.stream records) id (presented_of (shown_of plan records))

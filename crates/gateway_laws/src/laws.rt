@@ -1,5 +1,5 @@
-//! Laws of what listeners present of the captures that a gateway makes. Each is a function whose contract states the
-//! law; a call does nothing.
+//! Laws about what listeners present from the captures that a gateway makes. Each is a function whose contract states
+//! the law; a call does nothing.
 
 ghost use Rattle.std.specs.Prelude.{◌≡◌, ◌%◌, ◌^◌, ◌<◌, ◌≤◌, ◌∷◌, ◌++◌, ℕ, ℤ, IfSome, List, None, Option, Some, false, length, map};
 ghost use Rattle.am824_gateway.specs.Laws.{Cut};
@@ -92,7 +92,7 @@ pub fn default_buffers_are_never_full()
 {}
 
 /// Each batch that a listener presents begins at 0 or later, and its instants rise. This holds for any records, with or
-/// without a clock. It also holds for the batches that are certain to be presented while more records may follow.
+/// without a clock. It also holds for the batches that are already certain to be presented, whatever records follow.
 pub fn presented_batches_begin_in_time()
     ensures shown { (plan : ListenPlan) (records : List Record) → AllByRecursion BeginsInTime (presented_of (shown_of plan records)) }
     ensures due { (plan : ListenPlan) (records : List Record) → AllByRecursion BeginsInTime (presented_of (due_of plan records)) }

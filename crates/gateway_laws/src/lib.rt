@@ -1,4 +1,4 @@
-//! Laws of what listeners present of the captures that a gateway makes.
+//! Laws about what listeners present from the captures that a gateway makes.
 #![tactic(auto)]
 
 pub mod laws;

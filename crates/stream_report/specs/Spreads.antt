@@ -14,8 +14,8 @@ abbrev pub number_up_to : ℤ → List ℤ → ℕ
 number_up_to limit [] = 0
 number_up_to limit (value ∷ values) = number_up_to limit values + (if int_le value limit then 1 else 0)
 
--- The rank of a percentile of `count` values: the least number of values that must be at most the percentile. The rank
--- is at least 1.
+-- The rank of a percentile of `count` values: at least this many of the values must be less than or equal to the
+-- percentile. The rank is at least 1.
 abbrev pub rank : ℕ → ℕ → ℕ
 rank count hundredths = max 1 (div_ceil (count * hundredths) 100)
 

@@ -1,4 +1,4 @@
-//! What is counted for each AVTP stream of a capture, and what is wrong with it.
+//! What is counted for each AVTP stream of a capture, and what is wrong with the stream.
 #![tactic(auto)]
 
 mod facts;

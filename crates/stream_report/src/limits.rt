@@ -27,7 +27,7 @@ pub const LEAST_DRIFT: u64 = 10_000;
 pub const LEAST_DRIFT_TIME: u64 = 500_000_000;
 
 /// A drift is reported only if it changes the lead, over the whole capture, by at least a quarter of the range of the
-/// leads. A smaller drift may be jitter.
+/// leads. What looks like a smaller drift can be jitter.
 pub const DRIFT_PART: u64 = 4;
 
 /// An arrival is uneven if the time since the previous arrival differs from the previous packet's duration by more than
@@ -38,5 +38,6 @@ pub const LEAST_UNEVEN: u64 = 50_000;
 /// If more than one in `UNEVEN_PART` arrivals is uneven, the stream has jitter.
 pub const UNEVEN_PART: u64 = 100;
 
-/// If a lead changes by more than 100 ms from one packet to the next, the timestamps step. Such a step is not drift.
+/// If a lead changes by more than 100 ms from one packet to the next, the timestamps have a step. Such a step is not
+/// drift.
 pub const LEAST_STEP: u64 = 100_000_000;

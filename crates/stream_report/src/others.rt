@@ -27,7 +27,7 @@ pub enum Other {
     NoStream(u8),
     /// A frame that is cut off, or an AVTP packet that is refused before its stream is known.
     Malformed(Field),
-    /// A packet of a stream that is not tracked, because 1,024 other streams are.
+    /// A packet of a stream that is not tracked, because 1,024 other streams are tracked already.
     Untracked,
 }
 

@@ -3,9 +3,9 @@
 use crate::rate::Beat;
 use crate::tally::At;
 
-/// A timestamp may be off by 1 / `PART_OF_PACKET` of a packet's duration, plus 1 / `PART_OF_ADVANCE` of the time since
-/// the previous timestamp. The reasons are that a talker rounds timestamps, and that a media clock does not run exactly
-/// at its nominal speed.
+/// A timestamp is allowed to be off by 1 / `PART_OF_PACKET` of a packet's duration, plus 1 / `PART_OF_ADVANCE` of the
+/// time since the previous timestamp. The reasons are that a talker rounds timestamps, and that a media clock does not
+/// run exactly at its nominal speed.
 const PART_OF_PACKET: u64 = 8;
 
 const PART_OF_ADVANCE: u64 = 1024;
@@ -75,7 +75,7 @@ pub struct Stamped {
     pub stamp: Stamp,
     /// The index, among the stream's events, of the packet's first event. Events of missing packets are not counted.
     pub first: u64,
-    /// The index, among the packet's events, of the event that the timestamp belongs to by the standard.
+    /// The index, among the packet's events, of the event that the timestamp belongs to according to the standard.
     pub anchor: u32,
     /// The number of the packet's events.
     pub count: u32,
@@ -125,8 +125,8 @@ pub struct Pace {
     last: Option<Stamped>,
     /// The number of timestamps that were compared with the previous one.
     pub compared: u64,
-    /// The total advance of all timestamps that advanced as they should: in `nominal` as the nominal rate gives it, and
-    /// in `told` as the timestamps give it.
+    /// The total advance of all timestamps that advanced as they should. `nominal` is the advance that the nominal rate
+    /// gives, and `told` is the advance that the timestamps give.
     pub nominal: u64,
     pub told: u64,
     /// The misses, on the assumption that each timestamp belongs to the event that the standard names.
@@ -261,7 +261,7 @@ impl Pace {
         Advance::Missed
     }
 
-    /// Notes a timestamp of a stream without a rate. The timestamp may equal the previous timestamp or advance by a
+    /// Notes a timestamp of a stream without a rate. The timestamp must equal the previous timestamp or advance by a
     /// limited amount.
     fn note_unpaced(&mut self, last: &Stamped, stamped: &Stamped, is_first: bool) -> Advance {
         let plain = stamped.stamp.since(last.stamp);

@@ -1,4 +1,4 @@
--- The batches that a listener without a clock presents of an audio plan. Each batch is one packet.
+-- The batches that a listener without a clock presents from the packets of an audio plan. Each batch is one packet.
 use Rattle.std.proofs.Common.{◌≡◌, ℕ, ◌+◌, ◌-◌, ◌*◌, ◌<◌, ◌≤◌, true, false, ℤ, pos, ◌+ℤ◌, ◌≤ℤ◌, List, length, Some, refl, sym, ap, subst, ◌∙◌, arith}
 use Rattle.std.proofs.lemmas.Int.{ints}
 use Rattle.stream_journal.specs.Conforming.{Conforms}
@@ -89,7 +89,7 @@ begins_by first due x from is = omega (arith, ints, from, is)
 ends_by : (first due offset last : ℕ) (x y : ℤ) → due ≤ first + 1 → y ≡ pos due → x ≤ℤ (y +ℤ pos (offset + 1)) → offset ≤ last → x ≤ℤ pos (first + last + 2)
 ends_by first due offset last x y to is soon within = omega (arith, ints, to, is, soon, within)
 
--- The instants that the journal gives the samples of packet n.
+-- The instants that the journal states for the samples of packet n.
 module _ (plan : TalkPlan) (p : PacketJournal) (n : ℕ) (plan_is : IsAudioPlan plan) (times : HasTimes plan p.times) (due : IsDue plan p.times n) (conforms : Conforms p.times) where
   at_first : (x : ℤ) → n < p.times.packets → IsAtNominal p.times n 0 x → x ≡ pos (p.times.due n)
   at_first x known at = at.at ∙ sym ((audio p times.audio conforms).first_instants n at.head known at.is_head)

@@ -146,7 +146,7 @@ module _ (plan : TalkPlan) (input : List ℕ) (p : IsAudioPlan plan) (limit : le
           are_apart bs begin.1 rest (λ i j d less within. other (suc i) (suc j) d (omega (arith, less)) (omega (arith, within))) (λ i j d less within. comes (suc i) (suc j) d (omega (arith, less)) (omega (arith, within))),
         )
 
--- the batches that are presented of a capture of the plan are in time, and at least 500 ns apart
+-- the batches that are presented from a capture of the plan are in time, and at least 500 ns apart
 pub shown_apart : (plan : TalkPlan) (input : List ℕ) (listen : ListenPlan) (records : List Record) → IsAudioPlan plan → length input ≤ most_input → IsConforming (pos 0) (journal plan input) → listen.clock ≡ None
     → KeepsHeadline (pos 0) (journal plan input) listen records (shown_of listen records) → AreApart (presented_of (shown_of listen records))
 shown_apart plan input listen records p limit conforms none keeps =

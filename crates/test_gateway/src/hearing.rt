@@ -22,7 +22,7 @@ fn without_labels(alloc: Global, quadlets: &[u8]) -> Result<Vec<u8>, NoMemory> {
     Ok(values)
 }
 
-/// Adds the samples of a batch. Each value may have a label.
+/// Adds the samples of a batch. `labels` says whether the values have labels.
 fn add_samples(
     alloc: Global,
     samples: &mut Vec<Heard>,
@@ -47,7 +47,7 @@ fn add_samples(
     Ok(())
 }
 
-/// The samples that a listener presents of records. The records' values may have labels.
+/// The samples that a listener presents from records. `labels` says whether the values in the records have labels.
 pub fn samples_of(
     alloc: Global,
     records: &[Recorded],

@@ -1,4 +1,4 @@
-//! Tests of the gateway as a library: what a scan finds, where batches are cut, and what a listener presents of the
+//! Tests of the gateway as a library: what a scan finds, where batches are cut, and what a listener presents from the
 //! frames.
 #![tactic(auto)]
 

@@ -66,7 +66,7 @@ fn batches_are_cut_where_they_leave_the_nominal_line(rt: HostRuntime) -> Result<
     Ok(())
 }
 
-/// Shapes for the gateway: a rate and channels, or no shape. A shape may differ from the stream's shape.
+/// Shapes for the gateway: a rate and channels, or no shape. Some of these shapes differ from the stream's shape.
 const SHAPES: &str = "\
 48000 2 | packets=2 => 2 2
 44100 2 | packets=1 => 1 6

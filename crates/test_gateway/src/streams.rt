@@ -12,7 +12,7 @@ use std::process::Abort;
 use std::test::Fail;
 use vectors_avtp::row_of;
 
-/// A stream of PCM, the number of batches that a listener presents of it, and the number of AM824 packets that these
+/// A stream of PCM, the number of batches that a listener presents from it, and the number of AM824 packets that these
 /// batches make. A packet of AM824 has at most 1,468 bytes of quadlets.
 const PCM: &str = "\
 rate=32000 => 3 3
@@ -56,7 +56,7 @@ rate=44100 start=0 packets=40 => 40 40
 start=4294967296000000000 => 3 3
 ";
 
-/// A stream of AM824, the number of batches that a listener presents of it, and the number of PCM packets that these
+/// A stream of AM824, the number of batches that a listener presents from it, and the number of PCM packets that these
 /// batches make. If the timestamp belongs to a later block, the samples before and after that block are not all on the
 /// nominal line of the first sample.
 const AM824: &str = "\

@@ -161,7 +161,7 @@ fn turn_all(
     Ok(())
 }
 
-/// Lets a gateway for streams of this shape convert what a listener presents of these records.
+/// Lets a gateway for streams of this shape convert what a listener presents from these records.
 pub fn turn_as(
     alloc: Global,
     to: To,
@@ -182,7 +182,7 @@ pub fn turn_as(
     Ok(turned)
 }
 
-/// Scans these records, and converts what a listener presents of them.
+/// Scans these records, and converts what a listener presents from them.
 pub fn turn_scanned(
     alloc: Global,
     to: To,

@@ -24,7 +24,8 @@ abbrev pub stated_of : To → Shape → Piece → ℕ
 stated_of Am824 shape p = 8 + p.count * (4 * shape.channels)
 stated_of Aaf shape p = p.count * (3 * shape.channels)
 
--- Both formats can have the shape, and the headers are those of the stream.
+-- The stream's shape can be converted, and `s.headers` begins with the headers of a frame of the stream without
+-- samples.
 pub record IsStream (s : Stream) : Type 0 where
   pub shape : IsShape s.shape
   pub headers : HasHeaders s.to s.shape s.id s.headers

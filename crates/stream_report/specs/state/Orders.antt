@@ -1,5 +1,5 @@
--- Kept for proofs alone. No clause of a public call uses these definitions. What is counted of a packet that is ahead
--- of all others.
+-- Kept for proofs alone. No clause of a public call uses these definitions. How a packet that is ahead of all others is
+-- counted.
 use Rattle.std.specs.Prelude.{◌≡◌, ℕ, ◌+◌, ◌-◌, ◌^◌, max, min}
 use Rattle.stream_report.specs.declared.order.Order.{Order}
 
