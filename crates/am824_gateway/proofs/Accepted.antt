@@ -1,4 +1,4 @@
--- If P holds for each batch that may be presented, P holds for each batch that a listener presents.
+-- If P holds for the batch of each item that is timed and not late, P holds for each batch that a listener presents.
 use Rattle.std.proofs.Common.{◌≡◌, ℕ, zero, suc, Bool, true, false, ℤ, ◌≤ℤ◌, List, [], ◌∷◌, ◌++◌, length, map, Option, Some, None, Result, Ok, Err, refl, sym, subst, arith}
 use Rattle.std.specs.Prelude.{fold, int_lt, option_and_then, slice_get}
 use Rattle.std.specs.List.{AllByRecursion}

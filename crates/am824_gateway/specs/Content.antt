@@ -1,4 +1,4 @@
--- What a gateway reads of a record.
+-- What a gateway reads from a record.
 use Rattle.std.specs.Prelude.{⊤, ℕ, ◌≤◌, ◌==◌, Bool, true, false, ◌&&◌, ◌||◌, if◌then◌else◌, List, Option, Some, None}
 use Rattle.avtp_base.specs.declared.refusal.Refusal.{Refusal}
 use Rattle.aaf_format.specs.declared.aaf.AafFormat.{AafFormat}

@@ -1,4 +1,4 @@
-//! What a gateway reads of a record.
+//! What a gateway reads from a record.
 
 ghost use Rattle.std.specs.Prelude.{◌≡◌, ◌≤◌};
 ghost use Rattle.aaf_format.specs.Aaf.{Aaf, aaf_of, aaf_refusal, aaf_shape};
@@ -13,7 +13,7 @@ use avtp_header::subtype;
 use iec61883_format::{IecView, rate_of_fdf, read_iec};
 use listener::{StreamPacket, packet_of_stream};
 
-/// What a gateway reads of a packet of audio samples.
+/// What a gateway reads from a packet of audio samples.
 #[derive(Clone, Copy, Debug)]
 pub(crate) struct Samples {
     /// The packet's format.
@@ -27,7 +27,7 @@ pub(crate) struct Samples {
     pub linear: bool,
 }
 
-/// What a record holds of a stream.
+/// What a record holds for a stream.
 #[derive(Clone, Copy, Debug)]
 pub(crate) enum Content {
     /// Nothing that can be presented.
@@ -98,7 +98,7 @@ fn packet_content(packet: &StreamPacket<'_>) -> Content
     }
 }
 
-/// What a record with these bytes holds of the stream with this ID.
+/// What a record with these bytes holds for the stream with this ID.
 pub(crate) fn content_of(stream: u64, frame: &[u8]) -> Content
     ensures exact { result ≡ content stream frame.now }
     ensures counted { IsCounted result }

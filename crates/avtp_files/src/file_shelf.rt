@@ -30,7 +30,8 @@ pub struct RealFile<F> {
 /// read or a write moves exactly the bytes that the call reports. A missing file counts as a fault.
 ///
 /// A file that was opened for reading is never made or emptied, under any of its paths. Standard output is not made or
-/// emptied either, if it is a file. In these cases `create_file` returns `Failed`, and the file is unchanged.
+/// emptied either, if it is a file. If `create_file` is called for such a file, it returns `Failed`, and the file is
+/// unchanged.
 #[derive(Drop)]
 pub struct FileShelf<'a, R: Files> {
     rt: &'a R,

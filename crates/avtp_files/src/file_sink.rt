@@ -17,7 +17,8 @@ use std::rt::Files;
 /// bytes that the call reports.
 ///
 /// A file at one of the paths in `apart` is never made or emptied, under any of its paths. Standard output is not made
-/// or emptied either, if it is a file. In these cases `write` returns `Failed`, and the file is unchanged.
+/// or emptied either, if it is a file. If the path of the sink leads to such a file, `write` returns `Failed`, and the
+/// file is unchanged.
 #[derive(Drop)]
 pub struct FileSink<R: Files> {
     rt: R,

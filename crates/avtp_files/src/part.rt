@@ -1,4 +1,4 @@
-//! Writes that may take only a part of a piece.
+//! Writes that can take only a part of a piece.
 
 ghost use Rattle.std.specs.Prelude.{◌≤◌, ◌<◌, length, IfOk};
 ghost use Rattle.std.specs.Io.KnownBytes.{WriteAppends};

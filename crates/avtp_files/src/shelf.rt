@@ -13,8 +13,8 @@ pub struct Slot(pub u32);
 /// and of writing (`create_file` and `write`) separately. A call raises only its own count.
 ///
 /// For each call, one relation says what the call does to every shelf. Each call also has a ghost member: `opens`,
-/// `makes`, `reads`, `writes` or `closes`. The ghost member says what the call does in addition on a shelf of the
-/// implementing type. By default the ghost member says nothing.
+/// `makes`, `reads`, `writes` or `closes`. The ghost member says what else the call does on a shelf of the implementing
+/// type. By default the ghost member says nothing.
 pub trait Shelf {
     ghost use Rattle.std.specs.Prelude.{ℕ, List, Result};
     ghost use Rattle.avtp_base.specs.declared.failed.Failed.{Failed};

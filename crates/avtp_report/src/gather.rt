@@ -21,7 +21,7 @@ pub struct Report {
     /// Whether pictures of the streams are wanted.
     pictured: bool,
     places: HashMap<StreamKey, usize>,
-    /// The index of the last packet's stream.
+    /// The index of the stream of the most recent packet.
     last: usize,
     /// For each stream, the index of its follower: the other stream whose packet most recently followed a packet of
     /// this stream directly. Streams mostly take turns, so the follower is likely to have the next packet.

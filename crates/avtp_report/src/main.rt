@@ -1,5 +1,5 @@
-//! `avtp-report`: what is wrong with each AVTP stream of captures. It prints a table, and can write a page to send to
-//! somebody.
+//! `avtp-report` tells what is wrong with each AVTP stream in captures. It prints a table, and can write a page to send
+//! to somebody.
 #![tactic(auto)]
 
 mod cells;

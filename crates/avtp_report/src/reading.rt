@@ -24,7 +24,7 @@ pub enum Ending {
 #[derive(Drop)]
 pub struct File {
     pub name: String,
-    /// The number of frames that were read of the capture.
+    /// The number of frames that were read from the capture.
     pub frames: u64,
     pub ending: Ending,
 }

@@ -225,7 +225,7 @@ impl Said<'_> {
         self.say_where("in", restarts, f)
     }
 
-    /// Says how many packets there are, and what is wrong with them.
+    /// Says how many packets the verdict is about, and what is wrong with them.
     fn say_plain<W: fmt::Write>(&self, verdict: Verdict, f: &mut fmt::Formatter<W>) -> fmt::Result {
         let (packets, words) = plain(verdict);
         say(packets, f, words)?;
@@ -290,8 +290,8 @@ fn say_first<W: fmt::Write>(found: i64, wanted: u64, f: &mut fmt::Formatter<W>) 
     )
 }
 
-/// This limit is 1,000 ppm, in parts of 10^9. A drift up to the limit is given in ppm, and a greater drift in percent.
-/// No clock drifts by more than the limit.
+/// This limit is 1,000 ppm, in parts of 10^9. A drift up to the limit is given in ppm. A greater drift is given in
+/// percent, because it cannot come from a clock.
 const MOST_DRIFT: u64 = 1_000_000;
 
 fn say_drift<W: fmt::Write>(parts: i64, f: &mut fmt::Formatter<W>) -> fmt::Result {

@@ -46,7 +46,7 @@ SkipsNone to (Some shape) batches = given_batches to shape nothing_given batches
 
 -- ---- what `check` finds
 
--- `seen` is what `check` notes of a record. The record is an Ethernet frame that holds a packet of a stream with a
+-- `seen` is what `check` notes about a record. The record is an Ethernet frame that holds a packet of a stream with a
 -- valid ID.
 pub record IsNotedAs (bytes : List ℕ) (seen : Seen) : Type 0 where
   pub frame : frame_refusal bytes ≡ None

@@ -13,7 +13,7 @@ abbrev pub AreSpread : List ℤ → Type 0
 AreSpread [] = ⊤
 AreSpread (x ∷ xs) = AllByRecursion (λ y. (x +ℤ pos 500) ≤ℤ y) xs × AreSpread xs
 
--- The packets that a gateway makes of these batches are presented at least 500 ns apart. If the stream has no shape,
+-- The packets that a gateway makes from these batches are presented at least 500 ns apart. If the stream has no shape,
 -- there are no packets.
 abbrev pub ArePacketsSpread : To → Option Shape → List Presented → Type 0
 ArePacketsSpread to None batches = ⊤

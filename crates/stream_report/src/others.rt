@@ -1,4 +1,5 @@
-//! What a capture holds besides the packets of supported streams, with names and numbers.
+//! The kinds of frames in a capture other than packets of supported streams: their names, and how often each kind was
+//! seen.
 
 use crate::facts::subtype_name;
 use avtp_base::{Field, NoMemory};

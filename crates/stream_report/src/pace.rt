@@ -189,7 +189,7 @@ impl Pace {
         }
     }
 
-    /// By how many parts of 10^9 the media runs faster than nominal, according to the timestamps.
+    /// By how many parts of 10^9 the stream's events are faster than the nominal rate, according to the timestamps.
     pub fn media_rate(&self) -> Option<i128> {
         i128::from(self.nominal)
             .saturating_sub(i128::from(self.told))

@@ -22,7 +22,7 @@ pub struct StreamKey {
     pub id: u64,
 }
 
-/// The sender and the destination of a stream, from the Ethernet header.
+/// The sender, the destination and the VLAN tag of a stream, from the Ethernet header.
 #[derive(Clone, Copy, PartialEq, Eq)]
 pub struct Sender {
     /// The source address and the destination address, 48 bits each.
@@ -61,8 +61,8 @@ struct Last {
 /// After a restart of the media clock, `mr` keeps its value for at least this many packets (IEEE 1722-2016, 4.4.4).
 const LEAST_HOLD: u64 = 8;
 
-/// If no packet arrives for this many packet durations, the next packet counts as a later packet, whatever its sequence
-/// number is.
+/// If no packet arrives for this many packet durations, the next packet counts as ahead of the newest packet, whatever
+/// its sequence number is.
 const LONG_PAUSE: u64 = 64;
 
 /// What is counted for a stream. The fields that change with each packet are declared first.
@@ -119,8 +119,8 @@ pub struct Stream {
     pub first_label: u8,
     pub malformed: Tally,
     pub fields: Vec<FieldCount>,
-    /// Packets whose sender differs from the first packet's. `formats` are the packets whose format differs from the
-    /// first packet's.
+    /// Packets whose sender, destination or VLAN tag differs from the first packet's. `formats` are the packets whose
+    /// format differs from the first packet's.
     pub senders: Tally,
     pub formats: Tally,
 }
@@ -255,7 +255,7 @@ impl Stream {
         Ok(Some(distance))
     }
 
-    /// Counts what a packet shows by itself.
+    /// Counts what can be seen from this packet alone.
     fn note_kind(&mut self, at: At, sender: &Sender, facts: &Facts) {
         if *sender != self.sender {
             self.senders.note(at);
@@ -455,8 +455,8 @@ impl Stream {
     }
 
     /// Adds to the trend the lead of a packet's first event, which is computed from the packet's timestamp. If the
-    /// timestamps step, the lead counts as unchanged. A timestamp that advances by the packets' durations is not a
-    /// step, however late its packet arrives.
+    /// timestamps have a step, the lead counts as unchanged. A timestamp that advances by the packets' durations is not
+    /// a step, however late its packet arrives.
     fn note_trend(&mut self, arrival: i64, stamped: &Stamped, advance: Advance) {
         let before_anchor = match self.beat {
             Some(beat) => beat.time_of(u64::from(stamped.anchor)),

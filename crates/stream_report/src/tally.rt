@@ -43,7 +43,7 @@ impl Tally {
         }
     }
 
-    /// Subtracts one from the count, because a packet that was counted as missing is only late.
+    /// Subtracts one from the count, because a packet that was counted as missing has arrived late.
     pub fn take_back(&mut self)
         ensures count { self.new.count ≡ self.old.count - 1 }
         ensures first { self.new.first ≡ (if self.new.count == 0 then None else self.old.first) }

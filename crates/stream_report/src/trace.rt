@@ -7,10 +7,10 @@ use std::mem;
 /// The maximum number of columns of a stream. If one more column is needed, each pair of columns is merged into one.
 const MOST_COLUMNS: usize = 512;
 
-/// The first columns are 2^16 ns wide, some 66 microseconds.
+/// At first, each column is 2^16 ns wide, some 66 microseconds.
 const FIRST_SHIFT: u32 = 16;
 
-/// The widest columns are 2^62 ns wide.
+/// Columns become at most 2^62 ns wide.
 const LAST_SHIFT: u32 = 62;
 
 /// The least and the greatest of some values.

@@ -36,7 +36,7 @@ pub enum Verdict {
     Malformed {
         packets: Tally,
     },
-    /// Packets of another sender, or to another destination.
+    /// Packets from another sender, to another destination, or with another VLAN tag.
     Senders {
         packets: Tally,
     },

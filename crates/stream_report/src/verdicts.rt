@@ -91,8 +91,8 @@ fn order_verdict(stream: &Stream) -> Option<Verdict> {
 
 /// The verdict that presentation times are far from the packets' arrivals. The verdict is given if the median lead is
 /// negative or above a quarter of a second. For a media clock, the verdict is given if the median lead is more than a
-/// quarter of a second away from 0. A media clock's timestamps may be in the past, because they are the times of the
-/// clock's events.
+/// quarter of a second away from 0. A median that is slightly negative is normal for a media clock, because its
+/// timestamps are the times of the clock's events, which can be in the past.
 fn clocks_verdict(stream: &Stream) -> Option<Verdict> {
     let lead = stream.leads.percentile(50)?;
     let exact = stream.key.subtype == subtype::CRF;

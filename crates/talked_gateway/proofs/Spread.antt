@@ -1,4 +1,4 @@
--- The packets that a gateway makes of the batches of a plan are presented at least 500 ns apart.
+-- The packets that a gateway makes from the batches of a plan are presented at least 500 ns apart.
 use Rattle.std.proofs.Common.{◌≡◌, ℕ, zero, suc, ◌+◌, ◌-◌, ◌<◌, ◌≤◌, Bool, true, false, ℤ, pos, ◌+ℤ◌, ◌≤ℤ◌, List, [], ◌∷◌, ◌++◌, map, Option, Some, None, refl, arith}
 use Rattle.std.specs.Prelude.{if◌then◌else◌, min, nat_lt}
 use Rattle.std.specs.List.{AllByRecursion}

@@ -1,4 +1,4 @@
-//! Laws of what a gateway makes of a capture of a talker's plan. Each is a function whose contract states the law.
+//! Laws about what a gateway makes from a capture of a talker's plan. Each is a function whose contract states the law.
 
 ghost use Rattle.std.specs.Prelude.{◌≡◌, ◌≤◌, ◌<◌, ◌^◌, Bool, ℕ, IsSome, List, None, map};
 ghost use Rattle.aaf_format.specs.declared.aaf.AafFormat.TheVariants.{Int24};

@@ -1,4 +1,4 @@
-//! Laws of what a gateway makes of the captures of a talker's plans.
+//! Laws about what a gateway makes from captures of talkers' plans.
 #![tactic(auto)]
 
 pub mod laws;

@@ -28,7 +28,7 @@ pub fn plan_of(look: u32) -> ListenPlan
     }
 }
 
-/// What a listener shows of records.
+/// What a listener shows for these records.
 pub fn heard(alloc: Global, records: &[Recorded], look: u32) -> Result<Heard, Fail> {
     let bytes = capture_of(alloc, records)?;
     if bytes.len() > 100_000_000 {
@@ -52,7 +52,8 @@ pub fn scanned(to: To, records: &[Recorded]) -> Result<Option<Shape>, (ScanFault
     Ok(scan.shape())
 }
 
-/// What a gateway made of a capture: the records of its frames, the number of batches, and which batches were skipped.
+/// What a gateway made from a capture: the records of its frames, the number of batches, and which batches were
+/// skipped.
 #[derive(Debug, Drop)]
 pub struct Turned {
     pub records: Vec<Recorded>,
