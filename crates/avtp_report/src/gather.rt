@@ -33,7 +33,7 @@ pub struct Report {
     pub frames: u64,
     /// When the first frame arrived.
     first_arrival: Option<i64>,
-    /// The time from the arrival of the first frame to the arrival of the last frame, in nanoseconds.
+    /// The time from the arrival of the first frame to the latest arrival of a frame, in nanoseconds.
     pub duration: u64,
 }
 

@@ -229,7 +229,7 @@ fn make_page(rt: &HostRuntime, name: &str, told: &Told<'_>) -> io::Result<()> {
     out.flush()
 }
 
-/// The status of a run whose table and page have been written.
+/// The status of a run that has written the table, and the page if one is wanted.
 fn ended(told: &Told<'_>) -> Status {
     for file in told.reading.files.iter() {
         match file.ending {

@@ -48,7 +48,7 @@ fn read_names(words: &[String]) -> Words {
     Words::Report { html }
 }
 
-/// Whether the page would be written to a file that is read as a capture.
+/// Whether the page has the same name as one of the captures.
 fn is_also_read(words: &[String], html: Option<usize>) -> bool {
     let Some(page) = html else {
         return false;

@@ -26,7 +26,7 @@ pub enum Other {
     IecFormat(u8),
     /// A stream packet whose stream ID is not valid, with its subtype.
     NoStream(u8),
-    /// A frame that is cut off, or an AVTP packet that is refused before its stream is known.
+    /// A frame that is cut off, or an AVTP packet that is refused and whose stream is not known.
     Malformed(Field),
     /// A packet of a stream that is not tracked, because 1,024 other streams are tracked already.
     Untracked,

@@ -164,7 +164,7 @@ impl Pace {
     };
 
     /// Keeps the next timestamp from being compared with earlier timestamps. This is needed after a restart of the
-    /// media clock.
+    /// media clock, after missing packets, and after a block count that does not continue.
     pub fn restart(&mut self) {
         self.last = None;
     }

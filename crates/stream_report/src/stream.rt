@@ -255,7 +255,7 @@ impl Stream {
         Ok(Some(distance))
     }
 
-    /// Counts what can be seen from this packet alone.
+    /// Counts what is found without comparing a packet with the packet before it in the stream.
     fn note_kind(&mut self, at: At, sender: &Sender, facts: &Facts) {
         if *sender != self.sender {
             self.senders.note(at);

@@ -78,7 +78,7 @@ impl Trend {
         self.greatest.abs_diff(self.least)
     }
 
-    /// The time from the first packet to the last, in nanoseconds.
+    /// The time from the first packet's arrival to the latest arrival of a packet, in nanoseconds.
     pub fn time(&self) -> u64 {
         self.last_time
     }

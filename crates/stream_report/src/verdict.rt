@@ -17,8 +17,8 @@ pub enum ClockGuess {
 /// A verdict. The kinds are in order, the worst first. Times are in nanoseconds.
 #[derive(Clone, Copy)]
 pub enum Verdict {
-    /// Most timestamps do not advance by their packets' durations. If `swapped` is true, most timestamps would advance
-    /// by these durations if their bytes were swapped.
+    /// Most timestamps do not advance by their packets' durations. `swapped` is true if, with swapped bytes, at most
+    /// one in `FEW` timestamps would not advance by these durations.
     NotInOrder {
         off: u64,
         compared: u64,
@@ -90,7 +90,8 @@ pub enum Verdict {
     Drift {
         parts: i64,
     },
-    /// Uneven arrivals. If `bursts` is true, most packets arrive directly after the previous packet.
+    /// Uneven arrivals. If `bursts` is true, most packets arrive less than half a packet's duration after the previous
+    /// packet.
     Jitter {
         packets: Tally,
         compared: u64,
