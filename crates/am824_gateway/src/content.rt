@@ -23,7 +23,7 @@ pub(crate) struct Samples {
     /// The sample rate in Hz.
     pub rate: u32,
     pub channels: u16,
-    /// Whether each quadlet is linear audio of 24 bits. PCM has no quadlets, and this is true for it.
+    /// Whether each quadlet is linear audio of 24 bits. PCM has no quadlets, so for PCM this field is true.
     pub linear: bool,
 }
 

@@ -180,8 +180,8 @@ impl Gateway {
         })
     }
 
-    /// Cuts the next batch that is presented into pieces, and returns their number. `put` must be called only while
-    /// `batches` is below 2^44. A skipped batch changes nothing. The call allocates nothing.
+    /// Cuts the next batch that is presented into pieces, and returns their number. Call `put` only while `batches` is
+    /// below 2^44. A skipped batch changes nothing. The call allocates nothing.
     ///
     /// A batch is skipped for the first of these reasons that holds: `ShapeOff`: there is no shape, the batch is a unit
     /// of H.264, it does not have one value of 24 bits for each channel of each sample, or a value has a label other

@@ -4,7 +4,7 @@ ghost use Rattle.std.specs.Prelude.{◌≡◌, ◌≤◌, IsSome, unwrap_or};
 ghost use Rattle.iec61883_format.specs.Iec.{IsSytInterval};
 ghost use Rattle.talk_plan.specs.Plan.{fdf_of as fdf_by, interval_of as interval_by, rate_code};
 
-/// The code of a sample rate in Hz (FDF), if IEC 61883-6 has one.
+/// The code (FDF) of a sample rate in Hz, if IEC 61883-6 has one.
 pub(crate) fn fdf_of(rate: u32) -> Option<u8>
     ensures { result ≡ fdf_by rate }
 {

@@ -1,5 +1,5 @@
--- Packets that arrive in time and have exact timestamps: each timestamp belongs to the packet's first sample, and the
--- packet arrives at or before the instant of this sample.
+-- Packets whose timestamps belong to their first samples. Each packet arrives at or before the instant of its first
+-- sample.
 use Rattle.std.specs.Prelude.{◌≡◌, ℕ, ◌≤◌, false, ℤ, pos, neg_ℤ, ◌≤ℤ◌, List, [], ◌∷◌, map, Some, ⊤}
 use Rattle.time_unfold.specs.Heads.{stamped_index}
 use Rattle.time_unfold.specs.Time.{unfolded}

@@ -61,7 +61,8 @@ pub fn packets_of_pieces_are_heard()
 
 /// A listener reads the frames of a gateway as packets that carry the pieces of the batches. Each timestamp belongs to
 /// the packet's first sample. This is true in AM824, too, because block counts are raised to a multiple of
-/// SYT_INTERVAL. From the timestamp of a sample at 0 or later, a listener computes exactly the instant of that sample.
+/// SYT_INTERVAL. If the instant of this sample is 0 or later, a listener computes exactly this instant from the
+/// timestamp.
 pub fn frames_carry_the_pieces()
     ensures { (to : ToValue) (shape : ShapeValue) (given_before : GivenOut) (frame : ℕ) (batches : List Presented) → IsShape shape → given_before.block % interval_of shape.rate ≡ 0 → AllByRecursion BeginsInTime batches
         → CarryCuts to shape (packets_heard to shape frame (cuts_after to shape given_before batches)) (cuts_after to shape given_before batches) }

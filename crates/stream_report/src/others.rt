@@ -1,5 +1,5 @@
-//! The kinds of frames in a capture other than packets of supported streams: their names, and how often each kind was
-//! seen.
+//! The frames of a capture that are not packets of supported streams: the names of their kinds, and how often each kind
+//! was seen.
 
 use crate::facts::subtype_name;
 use avtp_base::{Field, NoMemory};

@@ -30,7 +30,7 @@ fn seen_in(frame: &[u8]) -> Option<Seen> {
     })
 }
 
-/// Whether each record holds a packet of a stream in which `check` finds nothing.
+/// Whether each record holds a packet of a stream, and `check` finds nothing in any of these packets.
 pub fn is_clean(alloc: Global, records: &[Recorded]) -> Result<bool, Fail> {
     let mut tracker = Tracker::begin(alloc)?;
     for record in records {

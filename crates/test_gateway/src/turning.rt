@@ -13,7 +13,7 @@ use sample_schedule::{Batch, Shown};
 use std::alloc::Global;
 use std::test::Fail;
 
-/// A listener of the stream that looks this many items ahead.
+/// The plan of a listener that hears the stream and looks this many items ahead.
 pub fn plan_of(look: u32) -> ListenPlan
     ensures { IsPlan (schedule_plan result) }
 {
@@ -113,7 +113,7 @@ fn check_given_back(gateway: &mut Gateway, batch: &Batch) -> Result<(), Fail>
     }
 }
 
-/// Gives a batch to the gateway, and adds its frames or the reason why it is skipped.
+/// Gives a batch to the gateway, and adds to `turned` the frames of the batch or the reason why the batch is skipped.
 fn turn_batch(
     alloc: Global,
     gateway: &mut Gateway,

@@ -24,8 +24,8 @@ abbrev pub stated_of : To → Shape → Piece → ℕ
 stated_of Am824 shape p = 8 + p.count * (4 * shape.channels)
 stated_of Aaf shape p = p.count * (3 * shape.channels)
 
--- The stream's shape can be converted, and `s.headers` begins with the headers of a frame of the stream without
--- samples.
+-- The stream's shape can be converted, and `s.headers` begins with the headers that a frame of the stream has if it
+-- holds no samples.
 pub record IsStream (s : Stream) : Type 0 where
   pub shape : IsShape s.shape
   pub headers : HasHeaders s.to s.shape s.id s.headers
