@@ -96,7 +96,8 @@ fn units_device<S: Sink + Drop, Y: System<S>>(
     Ok(AnnexBDevice::over(file))
 }
 
-/// The names of the captures that `listen` reads and of the files of its devices, except the device's file `name`.
+/// The names of all files that must differ from the device's file `name`: the captures that `listen` reads, and the
+/// file of its other device, if any.
 fn other_files(alloc: Global, asked: &Listen<'_>, name: &str) -> Result<Vec<String>, NoMemory> {
     let mut others = Vec::new(alloc);
     for file in asked.files {

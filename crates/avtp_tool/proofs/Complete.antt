@@ -170,7 +170,7 @@ all_shown plan records end.Limit all = absurd cc
 whole_first : (plan : ListenPlan) (first others : List Record) → IsPrefix (due_of plan first) (shown_of plan (first ++ others))
 whole_first plan first others = longer_front (due_of plan first) (due_of plan (first ++ others)) (shown_of plan (first ++ others)) (due_stays plan first others) (due_first plan (first ++ others))
 
--- the shown items begin with the due items of the records `first`, however the reading ended
+-- however the reading of `first ++ others` ended, the shown items begin with the items of `first` that are due
 first_shown : (plan : ListenPlan) (first others : List Record) (how : End) → IsPrefix (due_of plan first) (shown_by plan (first ++ others) how)
 first_shown plan first others end.Whole = whole_first plan first others
 first_shown plan first others (end.Refused refusal) = whole_first plan first others
@@ -194,8 +194,8 @@ opened asked name bytes fault ended yields outcome =
       whole = λ shift p all hears. subst (KeepsHeadline shift p plan records) (sym (items ∙ all_shown plan records outcome.how all)) (headline shift p plan records hears);
     }
 
--- What a run yields, in three parts: what the earlier files yield, then what the file `name` yields, and last what the
--- later files yield.
+-- What a run yields, in three parts: first what the earlier files yield, then what the file `name` yields, then what
+-- the later files yield.
 record IsAmong (one : List ℕ → Status → Yield → Type 0) (earlier : List (List ℕ)) (name : List ℕ) (yields : Yield) : Type 0 where
   before : Yield
   done : Status

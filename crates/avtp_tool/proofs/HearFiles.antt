@@ -33,7 +33,7 @@ joins_text handed xs ys first none = subst handed (sym (append-nil xs) ∙ ap (�
 
 -- ---- no device failed, or not everything was done
 
--- the run did not end with `Done`, or no device failed
+-- if the run ended with `Done`, no device failed
 abbrev pub IsPlain : Bool → Result Status Failed → Type 0
 IsPlain failed result = result ≡ Ok status.Done → failed ≡ true → ⊥
 

@@ -1,4 +1,4 @@
--- How a run leaves the file that it makes.
+-- The contents of the file that a run makes, after the run.
 use Rattle.std.proofs.Common.{◌≡◌, ℕ, suc, ◌≤◌, drop, take, take-append-drop, if◌then◌else◌, List, [], ◌∷◌, ◌++◌, Option, Some, None, Result, Ok, Err, true, false, inl, inr, refl, sym, ap, subst, ◌∙◌, append-nil, append_assoc, arith}
 use Rattle.std.specs.Prelude.{◌≢◌, ◌⊎◌, IfOk, IsOk, IsSome, flat_map, option_and_then, option_map}
 use Rattle.std.proofs.lemmas.Bool.Decides.{eqb_tells}
@@ -135,7 +135,7 @@ prefix_further rest split p = record { prefix = p.prefix; rest = p.rest ++ rest;
 pub whole_prefix : (f g : Option Files) (name bytes : List ℕ) → PutsFile f g name bytes → PutsPrefix f g name bytes
 whole_prefix f g name bytes put = record { prefix = bytes; rest = []; split = sym (append-nil bytes); put = put }
 
--- ---- runs that make a file, or do not reach it
+-- ---- runs that make a file, and runs that end before they make one
 
 pub makes_whole : {f g : Option Files} {name bytes : List ℕ} (result : Result Status Failed) → PutsFile f g name bytes → IfOk result (λ s. s ≡ status.Done) → Makes name bytes f g result
 makes_whole {f} {g} {name} {bytes} (Ok s) put is = record { done = λ e. put; part = inr (whole_prefix f g name bytes put); untouched = λ done. absurd (done is) }
@@ -162,7 +162,7 @@ makes_after {a} {b} {c} {name} {bytes} {result} keeps m = record {
   still (Ok s) u = λ done write memory. KeepsFiles-trans a b c keeps (u done write memory)
   still (Err e) u = tt
 
--- ---- all else that a run leaves
+-- ---- files, slots and counts after a run
 
 pub writes_none : {s : ShelfState} (name : List ℕ) (result : Result Status Failed) → (IsDone result → ⊥) → (result ≡ Ok status.WriteFault → ⊥) → WritesOnly s s name result
 writes_none {s} name result not_done not_failed = record {

@@ -51,7 +51,7 @@ split_named files i d name within is = names_split files i d within ∙ ap (λ (
 more_named : (files : List (String Global)) (i : ℕ) (d : String Global) (name : List ℕ) → i < length files → string_bytes (get_or files i d) ≡ name → take i (texts files) ++ name ∷ [] ≡ take (i + 1) (texts files)
 more_named files i d name within is = ap (λ (n : List ℕ). take i (texts files) ++ n ∷ []) (sym is) ∙ names_more files i d within
 
--- ---- what is told
+-- ---- files that a shelf shows
 
 told_still : (b c : Option Files) → KeepsFiles b c → IsSome c → IsSome b
 told_still None None keeps some = some

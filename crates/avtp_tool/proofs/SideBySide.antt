@@ -94,7 +94,7 @@ pair_then a b c p q = record {
   closed_b = q.closed_b ∙ p.closed_b;
 }
 
--- ---- what a step is, for either side
+-- ---- a record that is taken and a reading that ends, for either side
 
 pub takes_by : (which : Which) (r : Record) (old new : PairState) → (which ≡ A → (records others : List Record) (given : ℕ) → StandsFor records others given old → StandsFor (records ++ r ∷ []) others given new)
     → (which ≡ B → (records others : List Record) (given : ℕ) → StandsFor records others given old → StandsFor records (others ++ r ∷ []) given new) → Changes which 1 false old new → Takes which r old new
@@ -368,7 +368,7 @@ told_b {s} {t} {a} {b} {b'} {pair} {pair'} {asked} {x} {y} {before} {mid} {now} 
       printed = subst (λ (l : List Difference). Appends before now (difference_lines l)) (sym stays) (Appends-kept before mid now _ was.printed kept);
     }
 
--- ---- all that a side has
+-- ---- all records of a side
 
 -- `more` are the records of a side that were not given to the pair yet. `more` is empty if the listener of the side is
 -- closed.
@@ -563,7 +563,7 @@ module _ {s t : ShelfState} {first c : Comparing} (amid : IsAmidTwo s t first c)
       let same = r.1 in
       subst (λ (a : Side). IsAmidTwo s u first (record { a = a; b = c'.b; pair = c'.pair })) (sym same) (amid_b to amid (open_by c.b c.pair.b amid.b listens) fault memory reads.steps)
 
-  -- each step lowers what is left to read
+  -- after each step, less is left to read
   pub less_on : {u : ShelfState} {c' : Comparing} {h h' : SinkState} {w w' : List ℕ} (which : Which) (to : Step) → is_closed (listener_of which c.pair) ≡ false → to ≢ step.Fault → to ≢ step.NoMemory → ReadsOn which t u c c' h h' w w' (Ok to) → left_of c'.a + left_of c'.b < left_of c.a + left_of c.b
   less_on {u} {c'} A to listens fault memory on =
       let r = on.in_a refl in

@@ -1,4 +1,4 @@
--- The run of `soak`, which reads and writes no file.
+-- The run of `soak`, which neither reads nor writes a file.
 use Rattle.std.proofs.Common.{false, ◌≡◌, ◌≢◌, ◌⊎◌, inl, inr, ℕ, List, [], Option, Result, Ok, Err, refl, sym, ap, subst, arith}
 use Rattle.std.specs.Prelude.{IfOk}
 use Rattle.std.proofs.lemmas.List.{append-nil}

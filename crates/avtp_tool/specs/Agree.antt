@@ -146,9 +146,9 @@ agree_report asked (Some x) (Some y) = compared_text asked x y
 
 -- ---- two captures of a talker that keeps the rules
 
--- What `agree` prints of two captures of one talker that keeps the rules, whatever each capture lost: the last lines,
--- and no difference. The two batches of each pair are the same packet, or for H.264 the same NAL unit. If both captures
--- present a packet or NAL unit, its two batches form a pair.
+-- If two captures are of one talker that keeps the rules, `agree` finds no difference and prints only the last lines,
+-- whichever packets are missing from each capture. The two batches of each pair are of the same packet, or for H.264 of
+-- the same NAL unit. If a packet or NAL unit is presented from both captures, its two batches form a pair.
 pub record HasAgreement (asked : Agreeing) (p : PacketJournal) (x y : List ℕ) (text : List ℕ) : Type 0 where
   pub printed : text ≡ last_lines asked.listener.limit (counts_of (merged_in asked x y)) (end_of asked.listener.limit x) (end_of asked.listener.limit y)
   pub none : (counts_of (merged_in asked x y)).differ ≡ 0

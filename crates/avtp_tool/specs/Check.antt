@@ -46,7 +46,7 @@ seen_of stream packet = record {
 }
 
 -- What `check` makes of a packet. If its format is not read, the packet is passed over. Otherwise the packet is noted
--- if its stream ID is valid.
+-- if its stream ID is valid, and checked only for reserved bits if its stream ID is not valid.
 abbrev pub checked_stream : Option PacketStream → AnyPacket → Checked
 checked_stream None packet = Passed
 checked_stream (Some stream) packet =

@@ -47,13 +47,13 @@ pub record Reports (request : Request) (files : Files) (failed : Bool) (handed :
   -- the capture that the run makes, if any
   pub made : Option (List ℕ)
   pub outcome : Outcome request files (Rose shelf.reading_faults shelf'.reading_faults) failed came reached yields made
-  -- Unless memory ran out or a write failed, all of the following holds. The run ended with the status `reached`. All
-  -- of the text was written. Each item was given to the devices. The shelf was asked for exactly the names `came`. The
-  -- output has what the run makes.
+  -- The following holds unless memory ran out or a write failed. The run ended with the status `reached`. All of the
+  -- text was written. All items were given to the devices. The shelf was asked for exactly the names `came`. The output
+  -- file has the capture that the run makes, if any.
   pub whole : ended ≢ status.Memory → ended ≢ status.WriteFault →
       (ended ≡ reached) × Appends out.held out'.held yields.text × handed yields.items × Asks came shelf shelf' × MakesOutput (output_of request) made shelf.files shelf'.files
-  -- In any case, a prefix of the text was written, and a prefix of the items was given to the devices. The output is
-  -- unchanged or has a prefix of what the run makes.
+  -- In any case, a prefix of the text was written, and a prefix of the items was given to the devices. The output file
+  -- is unchanged or has a prefix of the capture that the run makes.
   pub written : AppendsPrefix out.held out'.held yields.text
   pub items : List Shown
   pub first : IsPrefix items yields.items

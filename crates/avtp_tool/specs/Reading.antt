@@ -28,8 +28,8 @@ pub record ReadOutcome (report : Report) (limit : ℕ) (bytes : List ℕ) (fault
   pub given : yields ≡ report.yields (records_in prefix) how
 
 -- The possible outcomes of reading a file: the status, and what the command yields. The file is given by its bytes, or
--- by `None` if it is missing. A missing file ends with a read fault. Any other read fault is possible only if `fault`
--- holds.
+-- by `None` if it is missing. Reading a missing file ends with a read fault. Any other read fault is possible only if
+-- `fault` holds.
 abbrev pub FileOutcome : Report → ℕ → Option (List ℕ) → Type 0 → Status → Yield → Type 0
 FileOutcome report limit None fault ended yields = (ended ≡ status.ReadFault) × (yields ≡ says read_fault_line)
 FileOutcome report limit (Some bytes) fault ended yields =

@@ -21,19 +21,19 @@ abbrev pub talk_came : Talking → Status → List (List ℕ)
 talk_came asked ended = asked.input ∷ (if is_done ended then asked.output ∷ [] else [])
 
 -- The status of a run of `listen`, given whether a device failed and the status of reading the files. A failed device
--- counts only if that status is `Done`.
+-- changes the status only if reading the files ended with `Done`.
 abbrev pub device_status : Bool → Status → Status
 device_status true status.Done = status.DeviceFault
 device_status failed ended = ended
 
 -- The last line of a run of `listen`, given whether a device failed and the status of reading the files. The line is
--- empty unless a device failed and that status is `Done`.
+-- empty unless a device failed and reading the files ended with `Done`.
 abbrev pub device_notice : Bool → Status → List ℕ
 device_notice true status.Done = device_fault_line
 device_notice failed ended = []
 
 -- A possible outcome of a run of `listen` over these files. The run reads the files with the status `heard` and the
--- yield `given`. If a device failed, the status and the last line can say so.
+-- yield `given`. If a device failed and `heard` is `Done`, the run's status and its last line say that a device failed.
 pub record ListenOutcome (asked : Listening) (files : Files) (fault : Type 0) (failed : Bool) (came : List (List ℕ)) (ended : Status) (yields : Yield) : Type 0 where
   pub heard : Status
   pub given : Yield

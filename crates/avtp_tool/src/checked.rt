@@ -18,7 +18,7 @@ use sequence_track::{Findings, Seen};
 pub enum Checked {
     /// A frame whose EtherType is not AVTP's, or a packet of a format that is not read.
     Passed,
-    /// A refused frame or packet, with the offset in the frame of the refused field.
+    /// A refused frame or packet; the refused field's offset is counted from the start of the frame.
     Malformed(Refusal),
     /// A packet whose stream ID is not valid.
     Unmarked {

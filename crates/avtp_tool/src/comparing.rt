@@ -21,7 +21,7 @@ use std::alloc::Global;
 /// How far two captures were compared.
 #[derive(Clone, Copy, Debug, PartialEq, Eq)]
 pub enum Compared {
-    /// Both readings ended, as `a` and `b` say. `counts` are the final counts.
+    /// Both readings ended; `a` and `b` say how. `counts` are the final counts.
     Ended { a: End, b: End, counts: PairCounts },
     /// The comparison stopped at a read fault.
     Fault,

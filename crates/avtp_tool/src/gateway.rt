@@ -176,8 +176,8 @@ fn end_output<F: Shelf, S: Sink>(
     }
 }
 
-/// Prints how many batches were presented and skipped and how many packets were written, or why the capture was not
-/// read to its end.
+/// Prints how many batches were presented, how many packets were written and how many batches were skipped, or prints
+/// why the capture was not read to its end.
 fn print_ended<S: Sink>(
     text: &mut Text,
     out: &mut S,

@@ -6,8 +6,8 @@ ghost use Rattle.capture_io.specs.Formats.{AreBytes, as_classic, is_pcapng, reco
 ghost use Rattle.avtp_tool.specs.Reading.{file_status, file_yield, Report};
 
 /// `show`, `check` and `listen` report a pcapng capture like a little-endian classic capture with nanosecond timestamps
-/// and the same records. Only the end of the reading depends on the pcapng file: its first refused field, or the limit
-/// on its bytes.
+/// and the same records. Only how the reading ends depends on the pcapng file itself: on its first refused field, or on
+/// the limit on its bytes.
 pub fn pcapng_reports()
     ensures { (report : Report) (limit : ℕ) (bytes : List ℕ) → AreBytes (take limit bytes) → is_pcapng (take limit bytes) ≡ true →
         (file_status report limit (Some bytes) ≡ report.status (records_in (as_classic (take limit bytes))) (end_of limit bytes))

@@ -51,7 +51,7 @@ pub fn plan(asked: &ListenerOptions) -> ListenPlan
 /// For each packet of a stream in a capture, prints the packet's instant of presentation, or why the packet is not
 /// presented. Each line is printed as soon as it is due. One thread reads the capture and decides what is shown.
 /// Another thread writes the text of each item, and then gives the item to the devices. Memory is allocated for each
-/// packet. If memory runs out, all lines that were due before have been printed.
+/// packet. If memory runs out, all lines that were due by then have been printed.
 pub fn listen<T: Threads + Sync, F: Shelf + Send, S: Sink + Send, G: Gate, D: Devices + Send>(
     rt: &T,
     alloc: Global,
@@ -101,8 +101,8 @@ pub fn listen<T: Threads + Sync, F: Shelf + Send, S: Sink + Send, G: Gate, D: De
     }
 }
 
-/// Prints a capture's name, and each item that is shown of its records as soon as the item is due. The capture is read
-/// as far as possible. At most `ring` items are queued between the two threads.
+/// Prints a capture's name and then the items that are shown of its records, each as soon as it is due. The capture is
+/// read as far as possible. At most `ring` items are queued between the two threads.
 fn hear_records<T: Threads + Sync, F: Shelf + Send, S: Sink + Send, G: Gate, D: Devices + Send>(
     rt: &T,
     alloc: Global,

@@ -22,8 +22,8 @@ impl<'a, F: Shelf + Send> Receiver for Receiving<'a, F> {
 
     ghost left = { λ receiving. left_of receiving.hearing.now.stage receiving.hearing.now.source receiving.hearing.now.listener };
 
-    // A receiver whose file is not open counts as ended by a read fault. The invariant of the receiver cannot say that
-    // the file is open, because a struct with a borrow cannot have such an invariant.
+    // If the receiver's file is not open, the receiver is treated as if a read fault had ended it. The invariant of the
+    // receiver cannot say that the file is open, because a struct with a borrow cannot have such an invariant.
     ghost ended = { λ receiving. ended_at ((F.state receiving.shelf.now).slots (slot_of receiving.hearing.now.source)) receiving.hearing.now.stage };
 
     fn next(&mut self) -> Pull {

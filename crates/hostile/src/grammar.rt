@@ -1,4 +1,4 @@
-//! The grammar of what the commands print, with the status that goes with it.
+//! The grammar of what the commands print, and of the status that goes with each text.
 
 use avtp_base::NoMemory;
 use std::alloc::Global;

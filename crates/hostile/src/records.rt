@@ -111,7 +111,7 @@ pub fn spelled(alloc: Global, draws: &mut Draws, records: &[Record]) -> Result<V
     Ok(bytes)
 }
 
-/// The first records of a capture that `talk` made, `most` at most.
+/// The first records of a capture that `talk` made, at most `most` of them.
 pub fn records_of(alloc: Global, capture: &[u8], most: usize) -> Result<Vec<Record>, NoMemory> {
     let mut records = Vec::new(alloc);
     let mut rest = capture.get(24..).unwrap_or(&[]);

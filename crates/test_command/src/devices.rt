@@ -9,7 +9,7 @@ use std::alloc::Global;
 use std::sync::Arc;
 use std::sync::atomic::{AtomicU64, Ordering};
 
-/// What was done to a device. `frames` has the frames of the items that the device took, as the digits of a number.
+/// What was done to a device. The digits of `frames` are the frame numbers of the items that the device took, in order.
 /// `drops` counts how often the device was dropped.
 #[derive(Drop)]
 pub struct Notes {
@@ -28,7 +28,8 @@ impl Notes {
         )?)
     }
 
-    /// The frames of the taken items, as digits. If the device was not dropped exactly once, the result is `u64::MAX`.
+    /// A number whose digits are the frame numbers of the items that the device took, in order. If the device was not
+    /// dropped exactly once, the result is `u64::MAX`.
     pub fn taken(&self) -> u64 {
         if self.drops.load(Ordering::SeqCst) != 1 {
             return u64::MAX;

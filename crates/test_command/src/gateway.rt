@@ -276,8 +276,8 @@ gateway batches 1 packets 1 skipped 0
     Ok(())
 }
 
-/// One second of each format in 1,000 packets, and then an eighth of a second of AM824 in packets of six blocks. The
-/// timestamp of a packet of six blocks can belong to a block after the first.
+/// For each format, one second of audio in 1,000 packets. Then an eighth of a second of AM824, in packets of six
+/// blocks. The timestamp of a packet of six blocks can belong to a block after the first.
 const SECONDS: &str = "\
 < a.raw noise:96000
 $ talk --format int24 --rate 32000 --channels 1 --count 32 a.raw c
@@ -328,8 +328,8 @@ const TURN: &str = "gateway --to am824 0200000000010001 a.pcap c.pcap";
 
 /// The status for a capture of 106 bytes, and the size of the capture that is made. Call number `call` of the shelf
 /// fails, and each call moves at most `most` bytes. The calls open the input, read it and find its end. Then they
-/// create the capture, and open and read the input again. Last they write the capture's 122 bytes, or only its header
-/// after a failed read.
+/// create the capture, and open and read the input again. Finally they write the capture's 122 bytes or, after a failed
+/// read, only its header.
 fn made(call: usize, most: usize) -> (Status, Option<usize>) {
     let reading = 106usize.div_ceil(most.max(1)).saturating_add(2);
     let create = reading.saturating_add(1);

@@ -183,7 +183,8 @@ struct Heard {
     places: Vec<usize>,
 }
 
-/// What `listen` prints, with these options and this look-ahead, of the complete capture and of the delivered records.
+/// Runs `listen` with these options over the complete capture and over the delivered records. The look-ahead is 64 for
+/// the complete capture and `look` for the delivered records.
 fn hear<T: Threads + Sync>(
     rt: &T,
     alloc: Global,

@@ -167,8 +167,8 @@ fn a_second_beside_a_clock_of_another_rate_is_heard_on_it(rt: HostRuntime) -> Re
     follow(&rt, rt.alloc(), OTHER_CLOCKS)
 }
 
-/// After a lost timestamp or a restart, a sparse stream is timed only from its next packet with a timestamp on. The
-/// timestamp of a packet that was sent 256 packets earlier does not count.
+/// After a lost timestamp or a restart, the packets of a sparse stream are untimed until the next packet that has a
+/// timestamp. The timestamp of a packet that was sent 256 packets earlier does not count.
 const SPARSE: &str = "\
 < a.raw noise:384
 $ talk --sparse a.raw c.pcap

@@ -8,7 +8,8 @@
 //!   `! devices 0 3 0` makes the third call of the second of the three devices fail.
 //! - `$ WORDS` runs the command. The lines after it are the command's text. There, `...` stands for any lines, and `*` at the
 //!   end of a line for any rest of this line.
-//! - `[3]` is the exit status, if it is not 0. `= 12 1 12` are the frames of the items that each device took.
+//! - `[3]` is the exit status, if it is not 0. `= 12 1 12` has a number for each device: its digits are the frame numbers of
+//!   the items that the device took.
 
 use crate::devices::rack_of;
 use crate::recipe::{bytes_of, number};
@@ -190,7 +191,7 @@ fn three_numbers(text: &str) -> [u64; 3] {
     ]
 }
 
-/// The numbers of a text.
+/// The numbers that a text consists of, separated by spaces.
 pub fn numbers_in(alloc: Global, text: &str) -> Result<Vec<usize>, NoMemory> {
     let mut numbers = Vec::new(alloc);
     for word in text.split_ascii_whitespace() {
@@ -256,7 +257,7 @@ fn fits(line: &str, stated: &str) -> bool {
     }
 }
 
-/// The first line of a text that differs from the stated line.
+/// The first line in which a text differs from the stated lines.
 fn other_line<'a>(text: &'a str, stated: &[&str]) -> Option<&'a str> {
     let mut place = 0usize;
     let mut skips = false;

@@ -14,7 +14,7 @@ impl Draws {
         Draws { state: seed }
     }
 
-    /// The next number below `n`, and 0 if `n` is 0.
+    /// The next number: it is below `n`, or 0 if `n` is 0.
     pub fn below(&mut self, n: u32) -> u32
         ensures { result < max n 1 }
     {

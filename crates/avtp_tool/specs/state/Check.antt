@@ -22,8 +22,8 @@ use Rattle.avtp_tool.specs.Check.{noted, notes_of, found_lines, check_lines, joi
 
 -- ---- what is done
 
--- The lines of a record's findings, at most five, were printed and counted. Or the sink failed, and none of these lines
--- was printed.
+-- With `Ok`, the lines of a record's findings, at most five, were printed and counted. With `Err`, the sink failed, and
+-- none of these lines was printed.
 pub record PrintsFound (out out' : SinkState) (waits waits' : List ℕ) (result : Result ℕ Failed) (lines : List (List ℕ)) : Type 0 where
   pub written : MatchResult result (λ _. Appends (written out.held waits) (written out'.held waits') (joined_lines lines)) (λ _. Keeps (written out.held waits) (written out'.held waits'))
   pub counted : IfOk result (λ n. n ≡ length lines)
@@ -47,7 +47,7 @@ pub record HasChecked (limit : ℕ) (name bytes : List ℕ) (fault : Type 0) (to
   pub found : total.findings ≡ length (of_each check_lines records)
   pub lines : Appends before now (capture_line name ++ joined_lines (of_each check_lines records))
 
--- The records were checked. Or the sink failed, and only a prefix of their lines was printed.
+-- With `Ok`, the records were checked. With `Err`, the sink failed, and only a prefix of their lines was printed.
 abbrev pub ChecksRecords : ℕ → List ℕ → List ℕ → Type 0 → Option (List ℕ) → Option (List ℕ) → Result Total Failed → Type 0
 ChecksRecords limit name bytes fault before now (Ok total) = HasChecked limit name bytes fault total before now
 ChecksRecords limit name bytes fault before now (Err e) =

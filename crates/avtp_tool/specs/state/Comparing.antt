@@ -108,8 +108,7 @@ pub record Refuses (before after : ShelfState) (name : List ℕ) (fault : OpenFa
   pub missing : IsErrOf {T = Sourcing} (Err fault) open_fault.Missing → IsMissing before.files name
   pub counted : IsOpenCounted {T = Sourcing} before.reading_faults after.reading_faults (Err fault)
 
--- The first file was not opened. Or the first file was opened, and then the second file was not opened or memory ran
--- out.
+-- Either the first file was not opened, or it was opened and then the second file was not opened or memory ran out.
 pub data RefusesTwo (before after : ShelfState) (a b : List ℕ) (fault : OpenFault) : Type 0 where
   first : OnlyReads before after (a ∷ []) → Refuses before after a fault → RefusesTwo before after a b fault
   second : ((files : Files) → before.files ≡ Some files → IsSome (files a)) → OnlyReads before after (a ∷ b ∷ []) → Refuses before after b fault → RefusesTwo before after a b fault
@@ -133,8 +132,8 @@ PrintedAll records others pair all base (Ok x) now =
 PrintedAll records others pair all base (Err e) now =
     (n : ℕ) × StandsFor records others (n + 1) pair × Appends base now (difference_lines (take n all))
 
--- The known differences that had not been printed were printed. If the sink failed, only a prefix of these differences
--- was printed.
+-- All differences that were known but not yet printed were printed. If the sink failed, only a prefix of these
+-- differences was printed.
 pub record PrintsDifferences (pair pair' : PairState) (out out' : SinkState) (waits waits' : List ℕ) (result : Result Unit Failed) : Type 0 where
   pub printed : (records others : List Record) (given : ℕ) (base : Option (List ℕ)) → StandsFor records others given pair
       → Appends base (written out.held waits) (difference_lines (take given (differences (known_by pair records others))))
@@ -166,13 +165,15 @@ pub record Shuts (which : Which) (old new : PairState) : Type 0 where
   pub stands : (mine theirs : List Record) (given : ℕ) → StandsOn which mine theirs given old → StandsOn which mine theirs given new
   pub changes : Changes which 0 true old new
 
--- The pair took the record `held`. Or there was no memory for the record, and the pair is unchanged.
+-- With `Took`, the pair took the record `held`. With `NoMemory`, there was no memory for the record, and the pair is
+-- unchanged.
 abbrev pub TakesHeld : Which → Option Record → PairState → PairState → Step → Type 0
 TakesHeld which held old new step.Took = (r : Record) × (held ≡ Some r) × Takes which r old new
 TakesHeld which held old new step.NoMemory = new ≡ old
 TakesHeld which held old new other = ⊥
 
--- One step of reading the capture `which` was done: its next record was given to the pair, or its reading ended.
+-- One step of reading the capture `which` was done: its next record was given to the pair, there was no memory for this
+-- record, or the reading ended.
 abbrev pub StepsTo : Which → ShelfState → ShelfState → Side → Side → PairState → PairState → Step → Type 0
 StepsTo which shelf shelf' side side' pair pair' step.Took =
     (side'.end ≡ None) × GivesNext shelf shelf' side.source side'.source None × TakesHeld which (held_in side'.source) pair pair' step.Took
@@ -183,8 +184,8 @@ StepsTo which shelf shelf' side side' pair pair' step.Fault =
 StepsTo which shelf shelf' side side' pair pair' step.NoMemory =
     (side'.end ≡ None) × GivesNext shelf shelf' side.source side'.source None × (pair' ≡ pair)
 
--- The pending text was written, and then one step of reading the capture `which` was done. Or writing failed, and
--- nothing was read.
+-- With `Ok`, the pending text was written, and then one step of reading the capture `which` was done. With `Err`,
+-- writing failed, and nothing was read.
 pub record ReadsSide (which : Which) (shelf shelf' : ShelfState) (side side' : Side) (pair pair' : PairState) (out out' : SinkState) (waits waits' : List ℕ) (result : Result Step Failed) : Type 0 where
   pub steps : IfOk result (StepsTo which shelf shelf' side side' pair pair')
   pub cut : OnErr result ((shelf' ≡ shelf) × (slot_of side'.source ≡ slot_of side.source))

@@ -43,7 +43,8 @@ pub record IsTurning (asked : Turning) : Type 0 where
 
 -- ---- the second reading
 
--- IN was opened again, converted as far as it could be read and written, and closed. Or IN was not opened.
+-- If IN could be opened again, it was converted as far as it could be read and written, and then closed. Otherwise no
+-- batch was presented.
 pub record TurnsInput (asked : Turning) (before after : ShelfState) (listener : ListenState) (old new : Output) (out out' : SinkState) (waits waits' : List ℕ) (result : Result Turned Failed) : Type 0 where
   pub told : (shape : Option Shape) (bytes : List ℕ) (files : Option Files) (all : Files) → before.files ≡ Some all → all asked.input ≡ Some bytes → IsSome after.files → IsFreshOutput asked shape files before old
       → StandsFor [] 0 listener → is_closed listener ≡ false → listener.plan ≡ plan_of asked.listener → end_of asked.listener.limit bytes ≡ end.Whole
@@ -74,7 +75,7 @@ pub record PrintsNothing (out out' : SinkState) (waits waits' : List ℕ) : Type
   pub sink : out' ≡ out
   pub text : waits' ≡ waits
 
--- OUT was finished, and the last line was printed. Or OUT could not be completed.
+-- Either OUT was finished and the last line was printed, or OUT could not be completed and no line was printed.
 pub data FinishesOutput (limit : ℕ) (how : End) (presented : ℕ) (before after : ShelfState) (o : Output) (out out' : SinkState) (waits waits' : List ℕ) (result : Result Status Failed) : Type 0 where
   finished : FinishesCapture before after o.writer (Ok tt) → EndsWith (turned_status (presented - o.gateway.given.batches) how) out out' waits waits' result (ended_line limit presented o.gateway how)
       → FinishesOutput limit how presented before after o out out' waits waits' result

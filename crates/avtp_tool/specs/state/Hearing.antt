@@ -57,8 +57,8 @@ pull_at (Showing how) = None
 pull_at (Ended how) = Some (pull_with how)
 pull_at NoMemory = Some pull.Memory
 
--- What a receiver returned at its end, if it has ended. A receiver whose file is not open counts as ended by a read
--- fault.
+-- What a receiver returned at its end, if it has ended. If the receiver's file is not open, the receiver is treated as
+-- if a read fault had ended it.
 abbrev pub ended_at : Option Open → Stage → Option Pull
 ended_at None stage = Some pull.ReadFault
 ended_at (Some file) stage = pull_at stage
@@ -91,7 +91,7 @@ pub record ClosesAt (how : End) (old new : ListenState) : Type 0 where
 
 -- ---- how much is left
 
--- how much is still to be read; this falls with each record
+-- how much is still to be read; this number falls with each record
 abbrev pub reads_left : Stage → Sourcing → ℕ
 reads_left Reading source = to_do source + 1
 reads_left stage source = 0
@@ -105,8 +105,8 @@ unread stage source = 0
 abbrev pub left_of : Stage → Sourcing → ListenState → ℕ
 left_of stage source listener = (listener.counts.frames + unread stage source) - (listener.counts.presented + listener.counts.flagged)
 
--- Some list of records brings a listener to the state of `listener`. The listener has shown `given` items of these
--- records.
+-- There is a list of records after which a new listener has the state `listener`. The listener has shown the first
+-- `given` items of these records.
 pub record WasGiven (listener : ListenState) : Type 0 where
   pub records : List Record
   pub given : ℕ

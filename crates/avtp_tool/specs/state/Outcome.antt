@@ -61,8 +61,8 @@ pub record WritesWaiting (out out' : SinkState) (waits waits' : List ℕ) (resul
   pub kept : Keeps (written out.held waits) (written out'.held waits')
   pub sink : KeepsSink out out' result
 
--- The last line of a run was printed whole, and the run ends with the status `ended`. Or the sink failed, and nothing
--- of the line was printed.
+-- With `Ok`, the last line of a run was printed whole, and the run ends with the status `ended`. With `Err`, the sink
+-- failed, and nothing of the line was printed.
 pub record EndsWith (ended : Status) (out out' : SinkState) (waits waits' : List ℕ) (result : Result Status Failed) (line : List ℕ) : Type 0 where
   pub status : IfOk result (λ s. s ≡ ended)
   pub written : MatchResult result (λ _. Appends (written out.held waits) (written out'.held waits') line) (λ _. Keeps (written out.held waits) (written out'.held waits'))

@@ -12,7 +12,7 @@ use Rattle.presenter_ring.specs.declared.receiver.Pull.{Pull}
 use Rattle.presenter_ring.specs.Pipes.{ended_with, given_to, waiting_in}
 use Rattle.avtp_base.specs.States.{SinkState}
 
--- the number of failures counted by a presenter that stops at its first failure
+-- how many failures a presenter counted that stops at its first failure, given its result: 0 or 1
 abbrev pub failures : Result Unit Failed → ℕ
 failures (Ok x) = 0
 failures (Err e) = 1
@@ -26,8 +26,8 @@ pub record GivesItems (handed : List Shown → Type 0) (out out' : SinkState) (w
   pub all : OnOk result (front ≡ items)
   pub hands : handed front
 
--- The pipe is empty. The pipe and its receiver have not ended. There is room to count all items that the receiver can
--- still give.
+-- The pipe is empty. The pipe and its receiver have not ended. The counter of the pipe's items has room for all items
+-- that the receiver can still give.
 pub record CanPass (pipe : Pipe) (ended : Option Pull) (left : ℕ) : Type 0 where
   pub empty : waiting_in pipe ≡ []
   pub begun : ended_with pipe ≡ None
@@ -35,7 +35,8 @@ pub record CanPass (pipe : Pipe) (ended : Option Pull) (left : ℕ) : Type 0 whe
   pub room : given_to pipe + left ≤ 2 ^ 62
 
 -- The receiver gave the items `given`, and the presenter got them in this order. If the presenter failed, the presenter
--- got only a prefix of `given`. `gave` and `handed` say what the receiver and the presenter did, as lists of items.
+-- got only a prefix of `given`. `gave` says which items the receiver gave between two of its states, and `handed` says
+-- which items the presenter got between two of its states.
 pub record HasPassed {R P : Type 0} (gave : R → R → List Shown → Type 0) (ended : R → Option Pull) (handed : P → P → List Shown → Type 0) (faults : P → ℕ) (receiver receiver' : R) (presenter presenter' : P) (result : Result Unit Failed) : Type 0 where
   pub given : List Shown
   pub presented : List Shown

@@ -43,8 +43,8 @@ pub record ReadsAhead (shelf shelf' : ShelfState) (old new : Sourcing) (out out'
   pub kept : Keeps (written out.held waits) (written out'.held waits')
   pub sink : KeepsSink out out' result
 
--- The records of the file were read as far as possible, and reported. `Told` is the report. It relates the limit, the
--- bytes of the file, the condition for a read fault, the known text before and after, and the result.
+-- The records of the file were read as far as possible, and reported. `Told` says what was reported. It relates the
+-- limit, the bytes of the file, the condition for a read fault, the known text before and after, and the result.
 pub record ReadsRecords {T : Type 0} (Told : ℕ → List ℕ → Type 0 → Option (List ℕ) → Option (List ℕ) → Result T Failed → Type 0) (ending : T → End)
     (shelf shelf' : ShelfState) (old new : Sourcing) (out out' : SinkState) (waits waits' : List ℕ) (result : Result T Failed) : Type 0 where
   pub told : (limit : ℕ) (bytes : List ℕ) → HasGivenOf limit bytes shelf old [] → Told limit bytes (Rose shelf.reading_faults shelf'.reading_faults) (written out.held waits) (written out'.held waits') result

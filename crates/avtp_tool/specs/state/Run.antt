@@ -39,8 +39,8 @@ pub record TellsDevices (request : Request) (failed : Bool) (result : Result Sta
   pub fault : result ≡ Ok status.DeviceFault → (is_listening request ≡ true) × (failed ≡ true)
   pub quiet : is_listening request ≡ true → result ≡ Ok status.Done → failed ≡ false
 
--- What a run of the request left: the text, the items for the devices, the files, the slots, the counts of faults, and
--- the names asked for. `failed` says whether a device failed.
+-- What a run of the request printed, gave to the devices and asked for, and what the files, the slots and the counts of
+-- faults are after the run. `failed` says whether a device failed.
 pub record Runs (request : Request) (handed : List Shown → Type 0) (failed : Bool) (shelf shelf' : ShelfState)
     (out out' : SinkState) (waits waits' : List ℕ) (result : Result Status Failed) : Type 0 where
   pub tells : (all : Files) → shelf.files ≡ Some all → IsSome shelf'.files → TellsAll request all (Rose shelf.reading_faults shelf'.reading_faults) failed handed shelf shelf' (written out.held waits) (written out'.held waits') result

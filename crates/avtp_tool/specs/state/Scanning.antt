@@ -49,7 +49,7 @@ pub record ScansRecords (to : To) (stream : ℕ) (shelf shelf' : ShelfState) (ol
   pub cut : (how : End) → result ≡ scanned.Cut how → how ≢ end.Whole
   pub sound : (shape : Option Shape) → result ≡ scanned.Clean shape → IfSome shape IsShape
 
--- The capture to convert was opened, scanned and closed. Or the capture was not opened.
+-- With `Ok`, the capture to convert was opened, scanned and closed. With `Err`, the capture was not opened.
 pub record ScansFile (asked : Turning) (shelf shelf' : ShelfState) (result : Result Scanned OpenFault) : Type 0 where
   pub told : IfOk result (λ found. (all : Files) → shelf.files ≡ Some all
       → (bytes : List ℕ) × (all asked.input ≡ Some bytes) × ScansTo (format_of asked.to) asked.listener.stream asked.listener.limit bytes (Rose shelf.reading_faults shelf'.reading_faults) found)

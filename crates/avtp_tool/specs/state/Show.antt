@@ -20,7 +20,7 @@ pub record HasPrinted (limit : ℕ) (bytes : List ℕ) (fault : Type 0) (printed
   pub counted : printed.frames ≡ length records
   pub lines : Appends before now (of_each show_line records)
 
--- The records were printed. Or the sink failed, and only a prefix of their lines was printed.
+-- With `Ok`, the records were printed. With `Err`, the sink failed, and only a prefix of their lines was printed.
 abbrev pub PrintsRecords : ℕ → List ℕ → Type 0 → Option (List ℕ) → Option (List ℕ) → Result Printed Failed → Type 0
 PrintsRecords limit bytes fault before now (Ok printed) = HasPrinted limit bytes fault printed before now
 PrintsRecords limit bytes fault before now (Err e) = AppendsPrefix before now (of_each show_line (records_in (take limit bytes)))

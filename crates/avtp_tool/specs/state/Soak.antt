@@ -8,7 +8,7 @@ use Rattle.avtp_tool.specs.Outcome.{Only}
 use Rattle.avtp_tool.specs.state.Outcome.{KeepsSink, TellsText}
 use Rattle.avtp_base.specs.States.{SinkState}
 
--- A run that reads and writes no file prints this text, or memory runs out.
+-- A run that neither reads nor writes a file prints this text, or memory runs out.
 pub record Says (text : List ℕ) (out out' : SinkState) (waits waits' : List ℕ) (result : Result Status Failed) : Type 0 where
   pub tells : TellsText (Only status.Done text) (written out.held waits) (written out'.held waits') result
   pub own : IfOk result (λ s. (s ≡ status.Done) ⊎ (s ≡ status.Memory))

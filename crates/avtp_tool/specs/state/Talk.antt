@@ -53,8 +53,8 @@ pub record WritesOnly (shelf shelf' : ShelfState) (name : List ℕ) (result : Re
 abbrev pub OutcomeWith : (Status → List ℕ → Type 0) → Option Files → Option Files → Status → List ℕ → Type 0
 OutcomeWith Outcome files files' ended text = Outcome ended text × (ended ≢ status.Done → KeepsFiles files files')
 
--- The call was to make the file `name` with these bytes. The call gave out the text of one of the possible outcomes,
--- and left all else unchanged.
+-- The task of the call was to make the file `name` with these bytes. The call gave out the text of one of the possible
+-- outcomes, and left all else unchanged.
 pub record Talks (Outcome : Status → List ℕ → Type 0) (name bytes : List ℕ) (shelf shelf' : ShelfState)
     (out out' : SinkState) (waits waits' : List ℕ) (result : Result Status Failed) : Type 0 where
   pub tells : TellsText (OutcomeWith Outcome shelf.files shelf'.files) (written out.held waits) (written out'.held waits') result
@@ -62,8 +62,8 @@ pub record Talks (Outcome : Status → List ℕ → Type 0) (name bytes : List �
   pub writes : WritesOnly shelf shelf' name result
   pub sink : KeepsSink out out' result
 
--- The call was to make the capture of an input. The call gave out the text of one of the possible outcomes for the
--- bytes that were read from the input.
+-- The task of the call was to make a capture from an input. The call gave out the text of one of the possible outcomes
+-- for the bytes that were read from the input.
 pub record TalksContents (plan : TalkPlan) (contents : Contents) (name : List ℕ) (shelf shelf' : ShelfState)
     (out out' : SinkState) (waits waits' : List ℕ) (result : Result Status Failed) : Type 0 where
   pub tells : (bytes : List ℕ) → IsContents most_input bytes contents.stop contents.bytes.items → TellsText (OutcomeWith (TalkedOutcome plan bytes (contents.stop ≡ stop.Fault)) shelf.files shelf'.files) (written out.held waits) (written out'.held waits') result

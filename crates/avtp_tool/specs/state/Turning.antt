@@ -161,8 +161,8 @@ pub record AreOpenIn (slots : Slots) (source : Sourcing) (o : Output) : Type 0 w
   pub live : IsSome (slots (slot_of source))
   pub made : IsMadeIn slots o.writer.slot
 
--- A capture was written to a file while another file was read. If the written file was a capture without records
--- before, the file is now a capture of some records. A writing fault was counted exactly if a packet could not be
+-- A capture was written to a file while another file was read. If the written file was at first a capture without
+-- records, it is still a capture and may now have records. A writing fault was counted exactly if a packet could not be
 -- written.
 pub record WritesOutput (before after : ShelfState) (old new : Output) (result : Result Turned Failed) : Type 0 where
   pub slot : new.writer.slot ≡ old.writer.slot
