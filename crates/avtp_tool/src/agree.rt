@@ -1,4 +1,4 @@
-//! The command `agree`: compares the samples of a stream that a listener presents from two captures.
+//! The command `agree`: compares what a listener presents of one stream in two captures.
 
 ghost use Rattle.std.specs.Prelude.{◌≡◌, [], ◌∷◌, ◌++◌};
 ghost use Rattle.avtp_text.specs.Written.{Prints, PrintsPart};
@@ -20,7 +20,7 @@ use capture_io::End;
 use listener_pair::{Difference, PairCounts, Way};
 use std::alloc::Global;
 
-/// Compares the samples of a stream that a listener presents from two captures, and prints each difference. Then prints
+/// Compares the samples that a listener presents of one stream in two captures, and prints each difference. Then prints
 /// how many packets are presented from both captures and how many from only one. If a capture was not read to its end,
 /// prints the reason instead. Each capture is read only as far as the comparison needs. All memory except that of
 /// samples is allocated before the first line is printed.
@@ -149,7 +149,7 @@ pub fn print_side<S: Sink>(text: &mut Text, out: &mut S, limit: u64, end: End) -
     }
 }
 
-/// The status of a run that found `found` differences and whose readings ended as `a` and `b` say.
+/// The status of a run that found `found` differences, given how the readings of A and B ended.
 fn status_of(found: u64, a: End, b: End) -> Status
     ensures { result ≡ agree_status found a b }
 {

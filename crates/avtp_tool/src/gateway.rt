@@ -196,7 +196,7 @@ fn print_ended<S: Sink>(
     Ok(status_after(skipped, end))
 }
 
-/// The status of a run that skipped `skipped` batches and whose reading ended as `end` says.
+/// The status of a run that skipped `skipped` batches, given how the reading ended.
 fn status_after(skipped: u64, end: End) -> Status
     ensures { result ≡ turned_status skipped end }
 {

@@ -48,10 +48,10 @@ pub fn plan(asked: &ListenerOptions) -> ListenPlan
     }
 }
 
-/// For each packet of a stream in a capture, prints the packet's instant of presentation, or why the packet is not
-/// presented. Each line is printed as soon as it is due. One thread reads the capture and decides what is shown.
-/// Another thread writes the text of each item, and then gives the item to the devices. Memory is allocated for each
-/// packet. If memory runs out, all lines that were due by then have been printed.
+/// Prints each sample of a stream in a capture with its presentation time, or why its packet is not presented. Each
+/// line is printed as soon as it is due. One thread reads the capture and decides what is shown. Another thread writes
+/// the text of each item, and then gives the item to the devices. Memory is allocated for each packet. If memory runs
+/// out, all lines that were due by then have been printed.
 pub fn listen<T: Threads + Sync, F: Shelf + Send, S: Sink + Send, G: Gate, D: Devices + Send>(
     rt: &T,
     alloc: Global,

@@ -12,7 +12,8 @@ use presenter_ring::Presenter;
 use sample_schedule::Shown;
 
 /// The text of the shown items, the sink that the text is written to, and the devices, which get each item after its
-/// text. Once the sink has failed, later items are neither written nor given to the devices: no text follows a gap.
+/// text. Once the sink has failed, later items are neither written nor given to the devices, so the written text has no
+/// gap.
 #[derive(Drop)]
 pub struct Presenting<'a, S: Sink + Send, D: Devices + Send> {
     pub text: &'a mut Text,

@@ -15,7 +15,7 @@ use std::alloc::Global;
 use std::thread::Threads;
 
 /// Sends packets over a network that loses, repeats and delays them, and prints what a listener makes of the packets
-/// that arrive. One thread listens, and another counts.
+/// that arrive. One thread listens, and another counts what became of the deliveries.
 pub fn soak<T: Threads + Sync, S: Sink>(
     rt: &T,
     alloc: Global,

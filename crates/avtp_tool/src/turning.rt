@@ -43,7 +43,7 @@ pub enum Put {
     Unwritten,
 }
 
-/// The frame of a packet that carries a piece of the last batch.
+/// The frame of a packet that carries a piece of the last batch that was not skipped.
 #[derive(Drop)]
 pub struct PieceFrame<'a> {
     pub gateway: &'a Gateway,

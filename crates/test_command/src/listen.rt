@@ -331,8 +331,8 @@ fn a_nal_unit_is_heard_only_of_all_its_fragments(rt: HostRuntime) -> Result<(), 
     follow(&rt, rt.alloc(), FRAGMENTS)
 }
 
-/// A timestamp of the clock arrives after the packets that it covers. With the clock of 44.1 kHz in the last run,
-/// samples are 19,140.625 ns apart.
+/// A timestamp of the clock arrives after the packets that it covers. In the last run, the clock states a rate of 44.1
+/// kHz, but its events are 20,833.3 ns apart. Samples of the 48 kHz stream are therefore 19,140.625 ns apart.
 const CLOCKS: &str = "\
 < c.pcap V4 capture:1000000000
 + c.pcap V1/58 ts:1004000000 record:1002000000

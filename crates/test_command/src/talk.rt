@@ -168,7 +168,7 @@ fn a_second_beside_a_clock_of_another_rate_is_heard_on_it(rt: HostRuntime) -> Re
 }
 
 /// After a lost timestamp or a restart, the packets of a sparse stream are untimed until the next packet that has a
-/// timestamp. The timestamp of a packet that was sent 256 packets earlier does not count.
+/// timestamp. The timestamp of a packet that was sent 256 packets earlier is not used.
 const SPARSE: &str = "\
 < a.raw noise:384
 $ talk --sparse a.raw c.pcap

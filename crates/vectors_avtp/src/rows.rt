@@ -14,7 +14,7 @@ const PACKET: usize = 58;
 ///
 /// - `pcap`, `pcapng`, `iec`, `h264` and `crf` add a vector; `frame` and `aaf` add the frame and the packet of the first vector.
 /// - Hexadecimal digits add these bytes.
-/// - `17=53ff` overwrites bytes with these, from offset 17 on.
+/// - `17=53ff` overwrites the bytes from offset 17 on with 53 and ff.
 /// - `len=47` cuts the bytes to this length, or adds zeros up to it.
 pub fn bytes_of(alloc: Global, row: &str) -> Result<Vec<u8>, Fail> {
     let mut bytes = Vec::new(alloc);

@@ -75,7 +75,8 @@ pub record PrintsNothing (out out' : SinkState) (waits waits' : List ℕ) : Type
   pub sink : out' ≡ out
   pub text : waits' ≡ waits
 
--- Either OUT was finished and the last line was printed, or OUT could not be completed and no line was printed.
+-- Either OUT was finished and, unless the sink failed, the last line was printed; or OUT could not be completed, and
+-- nothing was printed.
 pub data FinishesOutput (limit : ℕ) (how : End) (presented : ℕ) (before after : ShelfState) (o : Output) (out out' : SinkState) (waits waits' : List ℕ) (result : Result Status Failed) : Type 0 where
   finished : FinishesCapture before after o.writer (Ok tt) → EndsWith (turned_status (presented - o.gateway.given.batches) how) out out' waits waits' result (ended_line limit presented o.gateway how)
       → FinishesOutput limit how presented before after o out out' waits waits' result
