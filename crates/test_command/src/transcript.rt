@@ -8,8 +8,8 @@
 //!   `! devices 0 3 0` makes the third call of the second of the three devices fail.
 //! - `$ WORDS` runs the command. The lines after it are the command's text. There, `...` stands for any lines, and `*` at the
 //!   end of a line for any rest of this line.
-//! - `[3]` is the exit status, if it is not 0. `= 12 1 12` has a number for each device: its digits are the frame numbers of
-//!   the items that the device took.
+//! - `[3]` is the exit status, if it is not 0. `= 12 1 12` has a number for each device: its digits are the frame
+//!   numbers of the items that the device took.
 
 use crate::devices::rack_of;
 use crate::recipe::{bytes_of, number};
