@@ -35,8 +35,8 @@ does_unopened {T} {s = s} {t} {h} {h'} {l} {l'} {name} report limit fault none t
   sink = ends.sink;
 }
 
--- The records of a file were read until the reading ended as `how`. The report on these records was printed, and its
--- items were given to devices.
+-- The records of a file were read until the reading ended; `how` says how it ended. The report on these records was
+-- printed, and its items were given to devices.
 pub record IsReadAndTold (report : Report) (handed : List Shown → Type 0) (limit : ℕ) (bytes : List ℕ) (fault : Type 0) (how : End) (before now : Option (List ℕ)) (result : Result Status Failed) : Type 0 where
   pub records : List Record
   pub ends : EndsAfter limit bytes fault how records

@@ -217,8 +217,7 @@ presented_count [] = refl
 presented_count (Present batch ∷ items) = omega (arith, count-next is_present (Present batch) items, presented_count items)
 presented_count (Flag frame seq reason ∷ items) = omega (arith, count-next is_present (Flag frame seq reason) items, presented_count items)
 
--- If the reading ends as `how`, the shown items are a prefix of the items that are shown if the capture is read to its
--- end.
+-- However the reading ends, the shown items are a prefix of the items that are shown if the capture is read to its end.
 first_of_whole : (plan : ListenPlan) (records : List Record) (how : End) → IsPrefix (shown_by plan records how) (shown_by plan records end.Whole)
 first_of_whole plan records end.Whole = ([], append-nil (shown_by plan records end.Whole))
 first_of_whole plan records (end.Refused refusal) = ([], append-nil (shown_by plan records end.Whole))

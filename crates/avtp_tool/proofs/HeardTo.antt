@@ -106,7 +106,8 @@ take_all : {X : Type 0} (xs : List X) → take (length xs) xs ≡ xs
 take_all {X} [] = refl
 take_all {X} (x ∷ xs) = ap (λ (l : List X). x ∷ l) (take_all xs)
 
--- The reading of a capture ended as `how` after these records. All items of the capture were shown and counted.
+-- The reading of a capture ended after these records; `how` says how it ended. All items of the capture were shown and
+-- counted.
 pub record IsAllHeard (plan : ListenPlan) (records : List Record) (how : End) (counts : Counts) (items : List Shown) : Type 0 where
   pub items_are : items ≡ shown_by plan records how
   pub counted : counts ≡ counts_of plan records (shown_by plan records how)

@@ -370,8 +370,8 @@ told_b {s} {t} {a} {b} {b'} {pair} {pair'} {asked} {x} {y} {before} {mid} {now} 
 
 -- ---- all records of a side
 
--- `more` are the records of a side that were not given to the pair yet. `more` is empty if the listener of the side is
--- closed.
+-- The list `more` has the records of a side that were not given to the pair yet. This list is empty if the listener of
+-- the side is closed.
 record RestOf (limit : ℕ) (bytes : List ℕ) (records : List Record) (listener : ListenState) : Type 0 where
   pub more : List Record
   pub all : records_in (take limit bytes) ≡ records ++ more

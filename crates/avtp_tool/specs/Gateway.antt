@@ -74,13 +74,14 @@ abbrev pub skipped_at : ℕ → Option Skip → List Skipped
 skipped_at frame None = []
 skipped_at frame (Some why) = record { frame = frame; why = why } ∷ []
 
--- What the gateway has given out after `batch`. Before `batch`, the gateway had given out `given`. A skipped batch
--- changes nothing.
+-- What the gateway has given out after `batch`. `given` is what the gateway had given out before `batch`. A skipped
+-- batch changes nothing.
 abbrev pub given_next : To → Option Shape → Given → Presented → Given
 given_next to None given batch = given
 given_next to (Some shape) given batch = unless (skip_by to shape given batch) (given_with to shape given batch) given
 
--- The skipped batches of a list, in order. Before the first batch of the list, the gateway had given out `given`.
+-- The skipped batches of a list, in order. `given` is what the gateway had given out before the first batch of the
+-- list.
 abbrev pub skips_after : To → Option Shape → Given → List Presented → List Skipped
 skips_after to shape given [] = []
 skips_after to shape given (batch ∷ batches) =
@@ -100,7 +101,7 @@ fault_in asked records = first_fault (format_of asked.to) asked.listener.stream 
 abbrev pub shape_asked : Turning → List Record → Option Shape
 shape_asked asked records = shape_in asked.listener.stream records
 
--- the batches that a listener presents from these records if the reading of their capture ended as `how`
+-- the batches that a listener presents from these records, given how the reading of their capture ended
 abbrev pub batches_by : Turning → List Record → End → List Presented
 batches_by asked records how = presented_of (shown_by (plan_of asked.listener) records how)
 

@@ -2,8 +2,8 @@
 use Rattle.std.specs.Prelude.{List, [], ◌∷◌, ◌++◌}
 use Rattle.pcap_frames.specs.Capture.{Record}
 
--- What `one` makes of each record of `records`, given all records before this record. `earlier` are the records before
--- the first record of `records`.
+-- What `one` makes of each record of the list `records`, given all records before this record. The list `earlier` has
+-- the records before the first record of `records`.
 unfoldable pub after : {A : Type 0} → (List Record → Record → List A) → List Record → List Record → List A
 after one earlier [] = []
 after one earlier (r ∷ records) = one earlier r ++ after one (earlier ++ r ∷ []) records

@@ -28,7 +28,7 @@ use Rattle.avtp_tool.specs.Yield.{says, with_more, Yield}
 abbrev pub plan_of : ListenerOptions → ListenPlan
 plan_of asked = record { stream = asked.stream; clock = asked.clock; buffer = asked.buffer; room = asked.room; look = asked.look; lead = asked.lead; shift = asked.shift }
 
--- What is shown of these records, if the reading of their capture ended as `how`. At the capture's end or at a refused
+-- What is shown of these records, given how the reading of their capture ended. At the capture's end or at a refused
 -- field, everything is shown. If the reading was cut short, only what was due by then is shown.
 abbrev pub shown_by : ListenPlan → List Record → End → List Shown
 shown_by plan records end.Whole = shown_of plan records
@@ -47,8 +47,8 @@ last_line limit counts end.Limit = limit_line limit
 abbrev pub shown_text : List ℕ → List Shown → List ℕ
 shown_text name shown = capture_line name ++ list_lines shown
 
--- What the open capture `name` yields if its reading ends as `how` after these records. The text is the name, the lines
--- of each shown item, and the last line. The devices get the shown items.
+-- What the open capture `name` yields if its reading ends after these records, given how it ends. The text is the name,
+-- the lines of each shown item, and the last line. The devices get the shown items.
 abbrev pub heard_yield : Listening → List ℕ → List Record → End → Yield
 heard_yield asked name records how = record {
   text = shown_text name (shown_by (plan_of asked.listener) records how)
@@ -90,9 +90,9 @@ pub record YieldsHeadline (asked : Listening) (name bytes : List ℕ) (fault : T
   pub whole : (shift : ℤ) (p : PacketJournal) → is_cut_short how ≡ false → HearsTalker shift p (plan_of asked.listener) (records_in read) →
       KeepsHeadline shift p (plan_of asked.listener) (records_in read) yields.items
 
--- What a run yields, in three parts. The earlier files were all read to their ends, and yield `before`. The file `name`
--- yields `here`: a read fault if the file could not be opened, otherwise what the headline says. The later files yield
--- `after`.
+-- What a run yields, in three parts. `before` is what the earlier files yield, all of which were read to their ends.
+-- `here` is what the file `name` yields: the line of a read fault if the file could not be opened, otherwise what the
+-- headline says. `after` is what the later files yield.
 pub record HasHeadline (asked : Listening) (files : Files) (fault : Type 0) (earlier : List (List ℕ)) (name bytes : List ℕ) (yields : Yield) : Type 0 where
   pub before : Yield
   pub done : Status

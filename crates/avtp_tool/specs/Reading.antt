@@ -54,7 +54,7 @@ joined first status.Done = first
 joined first rest = rest
 
 -- Files are read in order. The first file that does not end with `Done` or `Findings` ends the run. `One name` gives
--- the possible outcomes of the file `name`. `read` are the names of the files that the run reached.
+-- the possible outcomes of the file `name`. The list `read` has the names of the files that the run reached.
 unfoldable pub InOrder : (List ℕ → Status → Yield → Type 0) → List (List ℕ) → List (List ℕ) → Status → Yield → Type 0
 InOrder One [] read ended yields = (read ≡ []) × (ended ≡ status.Done) × (yields ≡ says [])
 InOrder One (name ∷ names) read ended yields =

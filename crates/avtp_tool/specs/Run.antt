@@ -32,8 +32,8 @@ abbrev pub device_notice : Bool → Status → List ℕ
 device_notice true status.Done = device_fault_line
 device_notice failed ended = []
 
--- A possible outcome of a run of `listen` over these files. The run reads the files with the status `heard` and the
--- yield `given`. If a device failed and `heard` is `Done`, the run's status and its last line say that a device failed.
+-- A possible outcome of a run of `listen` over these files. `heard` is the status, and `given` the yield, of reading
+-- the files. If a device failed and `heard` is `Done`, the run's status and its last line say that a device failed.
 pub record ListenOutcome (asked : Listening) (files : Files) (fault : Type 0) (failed : Bool) (came : List (List ℕ)) (ended : Status) (yields : Yield) : Type 0 where
   pub heard : Status
   pub given : Yield

@@ -38,7 +38,7 @@ pub record ChecksOne (tracker tracker' : List (StreamKey × StreamState)) (numbe
   pub sink : KeepsSink out out' result
 
 -- The records of a file of these bytes were checked and counted, as far as the file could be read. `total` has the
--- counts and how the reading ended.
+-- counts, and says how the reading ended.
 pub record HasChecked (limit : ℕ) (name bytes : List ℕ) (fault : Type 0) (total : Total) (before now : Option (List ℕ)) : Type 0 where
   pub records : List Record
   pub ends : EndsAfter limit bytes fault total.end records

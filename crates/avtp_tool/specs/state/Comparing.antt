@@ -250,7 +250,7 @@ pub data IsCutIn (asked : Agreeing) (x y : List ℕ) (fault : Type 0) (before no
   in_b : (prefix : List ℕ) → EndsAt asked.listener.limit (Some y) fault end.ReadFault prefix
       → Appends before now (difference_lines (differences (known true false (merged (presented_in asked x) (due_in asked prefix))))) → IsCutIn asked x y fault before now
 
--- the readings of two captures ended as `a` and `b`, and all differences between the captures were printed
+-- All differences between two captures were printed. The readings of both captures ended; `a` and `b` say how.
 pub record HasCompared (asked : Agreeing) (x y : List ℕ) (a b : End) (counts : PairCounts) (before now : Option (List ℕ)) : Type 0 where
   pub end_a : a ≡ end_of asked.listener.limit x
   pub end_b : b ≡ end_of asked.listener.limit y

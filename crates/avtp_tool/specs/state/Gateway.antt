@@ -65,7 +65,7 @@ unread_as fault = turned.Ended end.ReadFault 0
 
 -- ---- the end
 
--- the last line, if the reading ended as `how` and `presented` batches were presented
+-- the last line, given the number of presented batches, the state of the gateway, and how the reading ended
 abbrev pub ended_line : ℕ → ℕ → Gating → End → List ℕ
 ended_line limit presented g end.Whole = gateway_line presented g.given.packets (presented - g.given.batches)
 ended_line limit presented g how = side_line limit how

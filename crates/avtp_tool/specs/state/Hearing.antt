@@ -81,8 +81,8 @@ IsGoing slots source stage = IsSome (slots (slot_of source)) × (pull_at stage �
 abbrev pub IsAtReading : Slots → Sourcing → Stage → Type 0
 IsAtReading slots source stage = IsSome (slots (slot_of source)) × (stage ≡ Reading)
 
--- If all items are shown after a reading that ended as `how`, the listener was closed. Otherwise the listener was left
--- open.
+-- `how` says how the reading ended. If all items are shown after such an end, the listener was closed. Otherwise the
+-- listener was left open.
 pub record ClosesAt (how : End) (old new : ListenState) : Type 0 where
   pub stands : (records : List Record) (given : ℕ) → StandsFor records given old → StandsFor records given new
   pub plan : new.plan ≡ old.plan

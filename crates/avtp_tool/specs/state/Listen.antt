@@ -27,7 +27,7 @@ use Rattle.avtp_tool.specs.Listen.{plan_of, shown_by, shown_text, listen_report}
 
 -- ---- the records of a capture
 
--- The records of a file of these bytes were heard, as far as the file could be read, and its reading ended as `how`.
+-- The records of a file of these bytes were heard, as far as the file could be read; `how` says how its reading ended.
 -- What is shown of the records was printed, given to devices and counted.
 pub record HasHeard (asked : Listening) (handed : List Shown → Type 0) (name bytes : List ℕ) (fault : Type 0) (how : End) (counts : Counts) (before now : Option (List ℕ)) : Type 0 where
   pub records : List Record

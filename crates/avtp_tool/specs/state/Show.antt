@@ -12,8 +12,8 @@ use Rattle.avtp_tool.specs.Show.{show_line}
 
 -- ---- the records of a capture
 
--- The records of a file of these bytes were printed and counted, as far as the file could be read. `printed` has their
--- number and how the reading ended.
+-- The records of a file of these bytes were printed and counted, as far as the file could be read. `printed` has the
+-- number of records, and says how the reading ended.
 pub record HasPrinted (limit : ℕ) (bytes : List ℕ) (fault : Type 0) (printed : Printed) (before now : Option (List ℕ)) : Type 0 where
   pub records : List Record
   pub ends : EndsAfter limit bytes fault printed.end records
