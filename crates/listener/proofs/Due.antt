@@ -1,4 +1,4 @@
--- What is due of a capture's records stays due if more records follow, and is shown first if no record follows.
+-- The due items of a capture's records stay due if more records follow, and are shown first if no record follows.
 use Rattle.std.proofs.Common.{◌≡◌, ℕ, Bool, ◌+◌, ◌-◌, List, [], ◌∷◌, ◌++◌, map, filter, refl, sym, ap, subst, ◌∙◌, append_assoc, arith}
 use Rattle.std.specs.List.{enumerate_from}
 use mathlib.Core.List.{IsPrefix}

@@ -1,4 +1,4 @@
--- If the talker keeps the rules, what is shown keeps the headline.
+-- If the talker keeps the rules, the headline holds for what is shown.
 use Rattle.std.proofs.Common.{◌≡◌, ℕ, ℤ, List, [], ◌∷◌, ap, ◌∙◌}
 use Rattle.std.specs.Prelude.{Result}
 use Rattle.clock_track.specs.Rows.{clock_spot}

@@ -35,7 +35,7 @@ record IsPut (ms : List MadeItem) (a : Accepted) : Type 0 where
   instant : a.instant ≡ first_instant a.batch
   placed : IsPlaced ms (Presents a)
 
--- the items that may be presented have increasing frame numbers
+-- the items that can be presented have increasing frame numbers
 unfoldable RisingItems : List MadeItem → Type 0
 RisingItems ms = (i k : ℕ) (m n : MadeItem) → slice_get ms i ≡ Some m → slice_get ms k ≡ Some n → is_presentable m.entry ≡ true → is_presentable n.entry ≡ true → i < k → m.last.frame < n.last.frame
 
@@ -54,7 +54,7 @@ climbs low (d ∷ ds) rises above = (above 0 d refl, climbs (suc d.frame) ds (λ
 abbrev next_low : Bool → ℕ → ℕ → ℕ
 next_low presentable low frame = if presentable then suc frame else low
 
--- the items that may be presented have increasing frame numbers, all of them at least `low`
+-- the items that can be presented have increasing frame numbers, all of them at least `low`
 Ascends : ℕ → List MadeItem → Type 0
 Ascends low [] = ⊤
 Ascends low (m ∷ ms) = (is_presentable m.entry ≡ true → low ≤ m.last.frame) × Ascends (next_low (is_presentable m.entry) low m.last.frame) ms

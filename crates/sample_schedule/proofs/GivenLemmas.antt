@@ -61,8 +61,8 @@ given-on clock entries list old new h st keeps =
 
 -- ---- the whole list
 
--- The state between two entries. `left` holds the entries that the judge has not taken yet. `list` holds all items that
--- are due of the entries that the judge has taken.
+-- The state between two entries. `left` holds the entries that the judge has not taken yet. `list` holds all due items
+-- of the entries that the judge has taken.
 pub record Between (plan : SchedulePlan) (all left : List Entry) (list : List Shown) (judge : JudgeState) : Type 0 where
   pub same : judge.plan ≡ plan
   pub opened : judge.closed ≡ false

@@ -574,7 +574,7 @@ closes clock entries given s st opened = record {
 pub stands-begin : (clock : Clock) (plan : SchedulePlan) (noted : Noted) (waiting : List Accepted) (ahead : List Pending) → IsClockOf plan clock → HasNoted plan [] noted → waiting ≡ [] → ahead ≡ [] → StandsFor clock [] 0 (record { plan = plan; place = 0; time = pos 0; noted = noted; waiting = waiting; current = None; ahead = ahead; closed = false })
 stands-begin clock plan noted waiting ahead asks notes e f = rw (e, f) (stands-first clock plan noted asks notes)
 
--- ---- the same facts as the code computes them
+-- ---- the same facts, stated for the values that the code computes
 
 pub accepted-as : (clock : Clock) (entries : List Entry) (given : ℕ) (s : JudgeState) (item : Item) (a : Accepted) (waiting : List Accepted) (after : Option Pending) → StandsFor clock entries given s → s.current ≡ Some (PendingItem item) → length s.ahead ≤ s.plan.look → starts_due s.time s.waiting ≡ false
     → Ok a ≡ verdict s.plan s.time (accepted clock s.plan entries s.place) s.place (timed clock s.plan entries item) → s.time ≤ℤ a.instant → waiting ≡ put_behind s.waiting a → after ≡ None

@@ -141,7 +141,7 @@ sound-next s capacity held next now is idle few fits' =
       bytes = is.bytes;
     }
 
--- ---- the same facts as the code computes them
+-- ---- the same facts, stated for the values that the code computes
 
 abbrev next_state : JudgeState → ℤ → Pending → JudgeState
 next_state s time next = record s { time = time; current = Some next }

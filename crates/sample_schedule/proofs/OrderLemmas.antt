@@ -24,7 +24,7 @@ all-put_behind P (b ∷ bs) a p q = elim (int_lt a.instant b.instant) as (λ v. 
   | false ↦ (p.0, all-put_behind P bs a p.1 q)
 ]
 
--- ---- the items of a sorted list whose instants have passed, and those whose instants have not
+-- ---- a sorted list is split into the items whose instants have passed and the items whose instants have not passed
 
 due_of-put_behind : (t : ℤ) (ys : List Accepted) (x : Accepted) → due_of t (put_behind ys x) ≡ cond (int_lt x.instant t) (put_behind (due_of t ys) x) (due_of t ys)
 due_of-put_behind t [] x = by_lt_z x.instant t (λ h. rw (lt_true _ _ h) refl) (λ h. rw (lt_false _ _ h) refl)

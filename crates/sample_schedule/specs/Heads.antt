@@ -73,7 +73,7 @@ head_at p timestamp = record { instant = unfolded timestamp p.arrival; first = n
 abbrev pub own_head : Packet → Option Head
 own_head p = option_map (head_at p) (usable_stamp p)
 
--- the head that another packet's timestamp gives, if one of the last stamps of the prefix fits
+-- the head that another packet's timestamp gives, if one of the last `plan.look` + 16 stamps of `prefix` fits
 abbrev pub head_back : SchedulePlan → List Entry → Packet → Option Head
 head_back plan prefix p =
     option_and_then (λ (far : Distance).

@@ -51,7 +51,7 @@ taken judge = begun judge + length judge.ahead
 abbrev pub work : JudgeState → ℕ
 work judge = 2 * (length (option_to_list judge.current) + length judge.ahead) + length judge.waiting
 
--- There is no current entry: all items that are due of the entries so far were returned.
+-- There is no current entry: all due items of the entries so far were returned.
 abbrev pub IsIdle : JudgeState → Type 0
 IsIdle judge = judge.current ≡ None
 

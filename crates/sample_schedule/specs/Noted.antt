@@ -1,4 +1,5 @@
--- What is noted from a list of entries, because samples of other packets may be counted from it.
+-- What is noted from a list of entries: the stamps and clock packets from which the samples of other packets can be
+-- counted.
 use Rattle.std.specs.Prelude.{◌≡◌, ◌+◌, true, false, List, Option, None, Some}
 use Rattle.std.specs.List.{filter_map}
 use Rattle.clock_track.specs.Window.{ClockState, StandsFor as StandsForRows}

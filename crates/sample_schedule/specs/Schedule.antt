@@ -44,7 +44,7 @@ latest entries = fold int_max (pos 0) (map arrival_of entries)
 
 -- ---- what is accepted
 
--- the entries that are known when entry i is judged: those up to and including entry i, and the next `look`
+-- the entries that are known when entry i is judged: entries 0 to i, and the next `look` entries
 abbrev pub prefix_of : SchedulePlan → List Entry → ℕ → List Entry
 prefix_of plan entries i = take (i + plan.look + 1) entries
 

@@ -29,8 +29,8 @@ pub use Rattle.sorted_keys.specs.Keys.{same_instant}
 abbrev pub Clock : Type 0
 Clock = List ClockRow → ℤ → ℤ → ℕ → Option Spot
 
--- If the plan has a clock, `clock` answers by the clock's packets. If the plan has no clock, `clock` may be any
--- function, because it is not used.
+-- If the plan has a clock, the answers of `clock` are those that follow from the packets of the plan's clock. If the
+-- plan has no clock, `clock` can be any function, because it is not used.
 abbrev pub IsClockOf : SchedulePlan → Clock → Type 0
 IsClockOf plan clock = plan.clock ≡ true → clock ≡ clock_spot
 

@@ -34,9 +34,9 @@ impl Accepted {
             from,
             bytes,
         } = batch;
-        // Copied field by field, so that the fields go through registers. If the batch were copied whole, the pieces
-        // that the processor reads would differ from the pieces that it wrote. The processor would then wait for the
-        // writes, for a fifth of the time that a packet takes.
+        // Copied field by field, so that the fields go through registers. If the batch were copied whole, the processor
+        // would read it in other pieces than it wrote it. It would then have to wait until the writes are done, and the
+        // wait would take a fifth of the time spent on a packet.
         Shown::Present(Batch {
             frame,
             seq,

@@ -5,8 +5,8 @@ use std::marker::Model;
 use time_unfold::Line;
 
 /// A batch of samples, and the line that gives their instants. Sample j of the batch is sample `from + j` of the line.
-/// The limits of the instants are an invariant of the type, so that definitions can mention batches without proofs
-/// inside.
+/// The limits of the instants are an invariant of the type, so that definitions can use batches without also carrying
+/// proofs of these limits.
 #[derive(Debug, Drop)]
 pub struct Batch {
     /// The number of the record in the capture, from 1.

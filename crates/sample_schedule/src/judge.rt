@@ -31,7 +31,7 @@ use std::marker::Model;
 /// A judge takes the entries of a stream one at a time, in capture order. It shows each item of the stream once:
 /// presented, or flagged with the first reason that holds.
 ///
-/// An item is judged once `look` later entries are known, so that the item's samples may be counted from the timestamp
+/// An item is judged as soon as `look` later entries are known, so that its samples can be counted from the timestamp
 /// of a later packet. A stamp is noted when its entry arrives, and the entry is judged when it leaves the delay line.
 /// Before an entry is judged, everything that its arrival makes due is returned. Hence the judge holds only batches
 /// whose instants have not passed. All memory is reserved when the judge is made.
@@ -134,8 +134,8 @@ impl Judge {
         }
     }
 
-    /// Takes the next item of the stream. All items that are due of the entries so far must have been returned, and the
-    /// judge must not be closed. At most 2^62 entries may be taken. Allocates nothing.
+    /// Takes the next item of the stream. All due items of the entries so far must have been returned, and the judge
+    /// must not be closed. At most 2^62 entries may be taken. Allocates nothing.
     #[inline(always)]
     pub fn step(&mut self, item: Item)
         requires open { self.old.closed ≡ false }
@@ -313,8 +313,7 @@ impl Judge {
         }
     }
 
-    /// Ends the list of entries. All items that are due of the entries so far must have been returned. Allocates
-    /// nothing.
+    /// Ends the list of entries. All due items of the entries so far must have been returned. Allocates nothing.
     pub fn close(&mut self)
         requires open { self.old.closed ≡ false }
         requires idle { IsIdle self.old }

@@ -78,7 +78,7 @@ impl Noted {
         }
     }
 
-    /// The last stamp that fits, among the last `look + 16`.
+    /// The last fitting stamp among the last `look + 16` stamps.
     pub fn find(&self, want: &Want) -> Option<Stamp>
         requires { IsWant want.now }
         ensures value { (plan : SchedulePlanValue) (entries : List EntryValue) → HasNoted plan entries self.now → result ≡ found (plan.look + 16) want.now (stamps_of entries) }

@@ -24,7 +24,7 @@ pub enum Reason {
     Repeat,
     /// The buffer had no room for one more batch, or for the item's bytes.
     Full,
-    /// The packet is a fragment of a unit that was not made whole.
+    /// The packet is a fragment of a unit that was not completed.
     Broken,
     /// The packet is a fragment of a unit that was too long.
     Long,

@@ -1,4 +1,4 @@
-//! What can be presented of an item, and from which instant.
+//! Whether an item can be presented, and at which instants.
 
 ghost use Rattle.std.specs.Prelude.{◌≡◌, ◌≤◌, pos, List, Some};
 ghost use Rattle.clock_track.specs.Limits.{IsClockLine};

@@ -50,12 +50,12 @@ pub fn give_all(judge: &mut Judge, list: &mut Vec<Shown>) -> Result<(), NoMemory
 /// with the first reason that holds. A batch is presented as soon as an entry arrives after the batch's first instant.
 /// After the last entry, the remaining batches are presented, sorted by first instant and then by index in the list.
 ///
-/// An item is judged once `look` later entries are known or the list has ended. Hence the item's samples may be counted
-/// from the timestamp of a later packet. A packet without a timestamp is counted from the last usable timestamp that
-/// fits, among the last `look + 16`.
+/// An item is judged as soon as `look` later entries are known or the list has ended. Hence the item's samples can be
+/// counted from the timestamp of a later packet. If a packet has no usable timestamp, its samples are counted from the
+/// last fitting timestamp among the last `look + 16` usable ones.
 ///
 /// If the plan has a clock, samples are on the lines of the clock packets that are known when the item is judged. If
-/// the plan has no clock, only the arrivals of clock packets count.
+/// the plan has no clock, nothing of a clock packet counts except its arrival.
 ///
 /// If there is no memory, returns `NoMemory` and shows nothing.
 pub fn schedule(

@@ -19,7 +19,7 @@ pub const FULL: usize = 512;
 
 pub const HALF: usize = FULL / 2;
 
-/// How many of the sorted keys are at or before the instant. Usually all of them are.
+/// How many of the sorted keys are at or before the instant. Usually all keys are at or before it.
 #[inline(always)]
 fn place_behind(keys: &VecDeque<Key>, instant: i64) -> usize
     requires { KeysAreInOrder keys.now.items }
@@ -192,7 +192,7 @@ impl Block {
         self.keys.pop_front()
     }
 
-    /// Moves the upper half of the keys into `upper`, which has no keys.
+    /// Moves the upper half of the keys into `upper`, which must not have keys.
     pub fn split(&mut self, upper: &mut Block)
         requires full { length self.old ≡ 512 }
         requires empty { upper.old ≡ [] }

@@ -1,5 +1,5 @@
 -- Kept for proofs alone. No clause of a public call uses these definitions. A judge, which takes a stream of entries
--- one at a time and shows what is certain of it.
+-- one at a time and shows items as soon as they are certain.
 use Rattle.std.specs.Prelude.{◌≡◌, ℕ, ◌+◌, ◌^◌, ◌≤◌, ℤ, ◌<◌, List, [], ◌∷◌, ◌++◌, All, length, Option, None, Some, IfSome}
 use mathlib.Core.List.{IsPrefix}
 use Rattle.std.specs.Int.{int_max}

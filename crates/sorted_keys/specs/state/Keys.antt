@@ -72,8 +72,7 @@ IsBlockFor instant [] place = ⊥
 IsBlockFor instant (block ∷ rest) zero = AllByRecursion (λ key. instant <ℤ key.instant) (all_keys rest)
 IsBlockFor instant (block ∷ rest) (suc place) = AllByRecursion (λ key. key.instant ≤ℤ instant) block × IsBlockFor instant rest place
 
--- the number of keys that are certain to fit into this many blocks, if each block except the first has at least 256
--- keys
+-- the number of keys for which this many blocks always suffice, if each block except the first has at least 256 keys
 abbrev pub room_of : ℕ → ℕ
 room_of blocks = 256 * (blocks - 1)
 

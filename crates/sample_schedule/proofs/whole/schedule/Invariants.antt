@@ -4,7 +4,7 @@ use Rattle.sample_schedule.specs.Limits.{IsEntry}
 use Rattle.sample_schedule.proofs.GivenLemmas.{Between}
 use Rattle.sample_schedule.proofs.whole.schedule.Given as goal
 
--- the judge has taken some of the entries, and the list holds all items that are due of these entries
+-- the judge has taken some of the entries, and the list holds all due items of these entries
 abbrev pub invariant-loop-entry : goal.invariant-loop-entry
 invariant-loop-entry l = record {
   proper : All IsEntry l.entries.items;
