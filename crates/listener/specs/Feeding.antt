@@ -56,7 +56,7 @@ is_memory (Ok n) = false
 is_memory (Err (Refused refusal)) = false
 is_memory (Err Memory) = true
 
--- at most this many items may still be returned
+-- at most this many items are still to be returned
 abbrev pub work : Feeding → ℕ
 work fed = listener_work fed.listener + length (option_to_list fed.next)
 

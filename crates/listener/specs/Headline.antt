@@ -15,7 +15,7 @@ use Rattle.listener.specs.Heard.{deliveries_of, entries_in, items_in, schedule_p
 use Rattle.listener.specs.Items.{MadeItem}
 use Rattle.listener.specs.Laws.{Agree, AreOther, HearsTalker, IsFurther, IsHeardFrom, IsInOneItem, IsPresentedOf, IsShownItem, IsWelcome, ComesBefore, by_clock, presented_of, shown_by, shown_of_frame, verdict_of}
 
--- What is shown of the records of a capture keeps the headline.
+-- The headline holds for what is shown of the records of a capture.
 pub record KeepsHeadline (shift : ℤ) (p : PacketJournal) (plan : ListenPlan) (records : List Record) (shown : List Shown) : Type 0 where
   -- Each batch that is presented is the packet that its item was made of, and has that packet's bytes. Each of its
   -- samples is at the talker's own nanosecond.
@@ -30,7 +30,7 @@ pub record KeepsHeadline (shift : ℤ) (p : PacketJournal) (plan : ListenPlan) (
   -- If a copy of a packet was accepted, a further copy is flagged as a repeat. The further copy must have come in time,
   -- and its timestamp or clock reference must be known.
   pub repeats : (place n : ℕ) (made : MadeItem) → IsFurther p plan records place n made → shown_of_frame made.last.frame shown ≡ Flag made.last.frame made.last.seq Repeat ∷ []
-  -- each delivery of the stream and of its clock is in one item
+  -- each delivery of the stream, and each delivery of its clock, is in exactly one item
   pub each_made : All (IsInOneItem (items_in plan records)) (deliveries_of plan records)
   -- each item of the stream is shown once: it is presented, or flagged with the reason of its verdict
   pub each_shown : (place : ℕ) (made : MadeItem) (item : Item) → slice_get (items_in plan records) place ≡ Some made → made.entry ≡ OfItem item

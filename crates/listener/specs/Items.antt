@@ -25,9 +25,9 @@ use Rattle.packet_journal.specs.Deliveries.{Delivery}
 use Rattle.listener.specs.Units.{event_of, events, flaw_of, in_stream, last_ones, waiting}
 use Rattle.packet_journal.specs.Packets.{audio_sample_type}
 
--- The item of an AAF packet (IEEE 1722-2016, 7). The packet's timestamp is used if it is valid. In sparse mode, a
--- packet without a timestamp is counted from the last earlier packet whose sequence number is a multiple of 8. If the
--- rate is user-specified, the item has no rate.
+-- The item of an AAF packet (IEEE 1722-2016, 7). The packet's timestamp is used if it is valid. In sparse mode, the
+-- samples of a packet without a timestamp are counted from the nearest earlier packet whose sequence number is a
+-- multiple of 8. If the rate is user-specified, the item has no rate.
 abbrev pub samples_of : Delivery → Aaf → Item
 samples_of d v = OfPacket (record {
   frame = d.frame;
@@ -48,9 +48,9 @@ abbrev pub block_rule : ℕ → Option ℕ → HeadRule
 block_rule dbc None = Own
 block_rule dbc (Some interval) = Blocks dbc interval
 
--- The item of an IEC 61883-6 packet. Each data block is a sample. The timestamp is used if it is valid, and belongs to
--- the block whose block count is a multiple of the interval. If a packet has no such block, the packet is counted from
--- the last such block in an earlier packet. A no-data packet has no samples.
+-- The item of an IEC 61883-6 packet. Each data block is a sample. The timestamp is used if it is valid. It belongs to
+-- the block whose block count is a multiple of the interval. If a packet has no such block, its samples are counted
+-- from the nearest such block in an earlier packet. A no-data packet has no samples.
 abbrev pub blocks_of : Delivery → Iec → Item
 blocks_of d v = OfPacket (record {
   frame = d.frame;
@@ -121,7 +121,7 @@ clock_row d = points_or_none (crf_refusal d.packet) (crf_of d.packet)
 
 -- ---- items
 
--- The entry of a delivery. A packet of the clock gives its timestamps, whether they are valid or not, and is never
+-- The entry of a delivery. A packet of the clock gives its timestamps, whether they are usable or not, and is never
 -- shown. A packet of audio gives an item.
 abbrev pub entry_of : Delivery → Entry
 entry_of d = if d.subtype == crf_subtype then OfClock d.arrival (clock_row d) else OfItem (item_of d)
@@ -167,7 +167,7 @@ given_up_by before d =
     map (flagged (lost_for (reason (events_to before d)))) (last_ones (length (given_up (events_to before d))) (in_stream before))
 
 -- The unit that a delivery completes. The unit has the frame number, arrival, sequence number and presentation time of
--- that delivery. The unit's earlier deliveries are the stream's last deliveries before that delivery.
+-- that delivery. The unit's earlier deliveries are the deliveries of the stream immediately before that delivery.
 abbrev pub unit_by : List Delivery → Delivery → MadeItem
 unit_by before d = record {
   entry = OfItem (OfUnit (record {

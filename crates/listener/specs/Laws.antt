@@ -34,7 +34,7 @@ FollowsClock shift p added (Some id) = (id ≡ p.clock) × (added ≡ shift)
 -- The records deliver a stream of audio or H.264 to a listener, and the stream's talker keeps the rules. The listener
 -- times samples by their timestamps and the nominal rate, or by the talker's clock. Any packet may be missing, repeated
 -- or out of order. H.264 has one more condition: if two fragments are adjacent and at least one of them has no
--- timestamp, their packets are at most 254 apart.
+-- timestamp, the numbers of their packets differ by at most 254.
 pub record HearsTalker (shift : ℤ) (p : PacketJournal) (plan : ListenPlan) (records : List Record) : Type 0 where
   pub conforming : IsConforming shift p
   pub stream : plan.stream ≡ p.stream
@@ -210,7 +210,7 @@ abbrev pub shown_by : Delivery → Result Accepted Reason → Shown
 shown_by d (Ok a) = Present a.batch
 shown_by d (Err reason) = Flag d.frame d.seq reason
 
--- `s` is what is shown of some item, as the verdict on that item says.
+-- `s` shows some item as the verdict on that item says.
 pub record IsShownItem (plan : ListenPlan) (records : List Record) (s : Shown) : Type 0 where
   pub place : ℕ
   pub made : MadeItem

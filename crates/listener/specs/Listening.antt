@@ -24,7 +24,7 @@ pub record ListenState : Type 0 where
 abbrev pub is_closed : ListenState → Bool
 is_closed listener = listener.ended
 
--- What a listener shows of a list of records. While more records may follow, only items that are due are shown. Once no
+-- What a listener shows of a list of records. While more records may follow, only items that are due are shown. If no
 -- more records follow, all items are shown.
 abbrev pub out : ListenState → List Record → List Shown
 out listener records = if is_closed listener then shown_of listener.plan records else due_of listener.plan records
@@ -33,7 +33,7 @@ out listener records = if is_closed listener then shown_of listener.plan records
 abbrev pub entries_by : Bool → ListenPlan → List Record → List Entry
 entries_by ended plan records = if ended then entries_in plan records else entries_so_far_in plan records
 
--- everything that the listener shows so far was returned
+-- all items that the listener shows of the records so far were returned
 pub record IsIdle (listener : ListenState) : Type 0 where
   pub judge : IsIdleJudge listener.judge
   pub none : left listener.units ≡ []
@@ -56,7 +56,7 @@ pub record StandsFor (records : List Record) (given : ℕ) (listener : ListenSta
   pub within : given ≤ length (out listener records)
   pub counts : listener.counts ≡ counts_of listener.plan records (take given (out listener records))
 
--- at most this many items may still be shown: a listener shows at most one item for each record
+-- at most this many items are still to be shown: a listener shows at most one item for each record
 abbrev pub work : ListenState → ℕ
 work listener = listener.counts.frames - (listener.counts.presented + listener.counts.flagged)
 

@@ -45,14 +45,14 @@ fragment_in d v = record {
 
 -- ---- events
 
--- The effect of a delivery of H.264 on units. A packet without a flaw is added to the current unit or begins one. A
--- packet with a flaw ends the current unit.
+-- The effect of a delivery of H.264 on units. A packet without a flaw is added to the current unit or begins a new one.
+-- A packet with a flaw ends the current unit.
 abbrev pub event_by : Delivery → Option Reason → Event
 event_by d None = packet (fragment_in d (cvf_of d.packet))
 event_by d (Some reason) = cut
 
 -- The effect of a delivery of the stream on units. A packet of H.264 without a flaw is added to the current unit or
--- begins one. Any other delivery ends the current unit.
+-- begins a new one. Any other delivery ends the current unit.
 abbrev pub event_of : Delivery → Event
 event_of d = if d.subtype == cvf_subtype then event_by d (flaw_of d) else cut
 
@@ -68,6 +68,6 @@ events ds = map event_of (in_stream ds)
 abbrev pub last_ones : {X : Type 0} → ℕ → List X → List X
 last_ones n xs = drop (length xs - n) xs
 
--- the stream's last deliveries, whose fragments wait for the rest of their unit
+-- the last deliveries of the stream: those whose fragments wait for the rest of their unit
 abbrev pub waiting : List Delivery → List Delivery
 waiting ds = last_ones (length (held (events ds))) (in_stream ds)

@@ -111,11 +111,11 @@ fn hear(alloc: Global, listener: &mut Listener, bytes: &[u8]) -> Result<Heard, N
 /// no whole unit, it is flagged as broken or too long. Record times are read as nanoseconds of gPTP. The plan must be
 /// within the limits that `ListenPlan` names.
 ///
-/// If the talker keeps the rules, what is shown keeps the headline, whatever packets of the talker and of its clock a
-/// capture loses, repeats or reorders. Each packet that came in time, found room and has a known timestamp or clock
-/// reference is presented once, in order, at the talker's own nanoseconds. Hence any two listeners with the same clock
-/// agree. Every other packet that came is flagged with one reason. If a unit of H.264 is presented, it is one whole
-/// unit of the talker.
+/// If the talker keeps the rules, `KeepsHeadline` holds for what is shown, whatever packets of the talker and of its
+/// clock a capture loses, repeats or reorders. Each packet that came in time, found room and has a known timestamp or
+/// clock reference is presented once, in order, at the talker's own nanoseconds. Hence any two listeners with the same
+/// clock agree. Every other packet that came is flagged with one reason. If a unit of H.264 is presented, it is one
+/// whole unit of the talker.
 ///
 /// The capture has at most 2^62 bytes. If memory runs out, returns `NoMemory` and shows nothing.
 pub fn whole(alloc: Global, plan: &ListenPlan, bytes: &[u8]) -> Result<Heard, NoMemory>

@@ -32,10 +32,10 @@ pub fn each_packet_is_shown_once()
     ensures { (plan : ListenPlan) (records : List Record) → (counts_of plan records (shown_of plan records)).presented + (counts_of plan records (shown_of plan records)).flagged + fragments_in (items_in plan records) ≡ (counts_of plan records (shown_of plan records)).packets }
 {}
 
-/// Each packet of the stream and of its clock is in one item: it is an item by itself, or a fragment of one whole unit.
-/// A whole unit has the frame number of its last fragment. Each item of the stream is shown once, as its verdict says:
-/// it is presented, or flagged with the first reason that applies. Nothing else is shown. Hence, if a frame of the
-/// stream is not presented, the list says why.
+/// Each packet of the stream, and each packet of its clock, is in exactly one item: it is an item by itself, or a
+/// fragment of one whole unit. A whole unit has the frame number of its last fragment. Each item of the stream is shown
+/// once, as its verdict says: it is presented, or flagged with the first reason that applies. Nothing else is shown.
+/// Hence, if a frame of the stream is not presented, the list says why.
 pub fn each_delivery_is_shown()
     ensures in_one_item { (plan : ListenPlan) (records : List Record) → All (IsInOneItem (items_in plan records)) (deliveries_of plan records) }
     ensures shown { (plan : ListenPlan) (records : List Record) (place : ℕ) (made : MadeItem) (item : Item) → slice_get (items_in plan records) place ≡ Some made → made.entry ≡ Entry.Item item
@@ -43,8 +43,8 @@ pub fn each_delivery_is_shown()
     ensures no_other { (plan : ListenPlan) (records : List Record) → All (IsShownItem plan records) (shown_of plan records) }
 {}
 
-/// Items that are due stay due: whatever records follow, what is due of all records begins with what was due before. If
-/// no record follows, what is shown begins with what was due.
+/// Due items stay due: whatever records follow, the due items of all records begin with the items that were due before.
+/// If no record follows, what is shown begins with what was due.
 pub fn what_is_due_stays()
     ensures longer { (plan : ListenPlan) (records others : List Record) → IsPrefix (due_of plan records) (due_of plan (records ++ others)) }
     ensures first { (plan : ListenPlan) (records : List Record) → IsPrefix (due_of plan records) (shown_of plan records) }
@@ -52,8 +52,8 @@ pub fn what_is_due_stays()
 
 /// Records may carry any packets of a talker that keeps the rules, and any packets of the talker's clock, in any order.
 /// Such records meet the whole premise of the laws below, for listeners with the clock and without it. H.264 has one
-/// condition: if two fragments are adjacent and at least one of them has no timestamp, their packets are at most 254
-/// apart.
+/// condition: if two fragments are adjacent and at least one of them has no timestamp, the numbers of their packets
+/// differ by at most 254.
 pub fn carried_packets_are_heard()
     ensures audio { (shift : ℤ) (p : PacketJournal) (plan : ListenPlan) (origins : List Origin) (records : List Record) → IsConforming shift p → IsAudioKind p.times.kind → plan.stream ≡ p.stream → FollowsClock shift p plan.shift plan.clock → AllCarryFrom p plan.lead origins records → HearsTalker shift p plan records }
     ensures h264 { (shift : ℤ) (p : PacketJournal) (plan : ListenPlan) (origins : List Origin) (records : List Record) → IsConforming shift p → plan.stream ≡ p.stream → FollowsClock shift p plan.shift plan.clock → AllCarryFrom p plan.lead origins records → AreNear p.times (stream_numbers origins) → HearsTalker shift p plan records }
