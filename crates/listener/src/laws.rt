@@ -70,9 +70,9 @@ pub fn clocks_are_followed()
 
 /// A capture may lose, repeat or reorder the H.264 packets of a talker that keeps the rules. Each whole unit still
 /// consists of the packets of one unit of the talker: one copy of each packet, in order. The whole unit has the bytes
-/// and the instant of the talker's unit. Sequence numbers alone do not distinguish packets that are 256 apart, but
-/// timestamps do. Fragments without a timestamp are distinguished by the condition that their packets are at most 254
-/// apart.
+/// and the instant of the talker's unit. Sequence numbers alone do not distinguish packets whose numbers differ by 256,
+/// but timestamps do. Fragments without a timestamp are distinguished by the condition that the numbers of adjacent
+/// fragments' packets differ by at most 254.
 pub fn units_are_true()
     ensures { (shift : ℤ) (p : PacketJournal) (plan : ListenPlan) (records : List Record) (place : ℕ) (made : MadeItem) (unit : Unit) (part : ℕ → Part) → HearsTalker shift p plan records → p.times.kind ≡ H264 part → slice_get (items_in plan records) place ≡ Some made → made.entry ≡ Entry.Item (Item.Unit unit)
         → (n : ℕ) × IsUnitFrom p part plan.lead n made unit }
@@ -88,11 +88,12 @@ pub fn units_are_whole()
         → deliveries_of plan records ≡ before ++ last ∷ rest → in_stream before ≡ front ++ earlier → AreOfUnit p part plan.lead from n earlier last → (unit_by before last).earlier ≡ earlier }
 {}
 
-/// What is presented is true. A capture may lose, repeat or reorder the packets of a talker that keeps the rules and of
-/// its clock, and the media clock may restart anywhere. Each batch that is presented is the packet or unit of the
-/// talker that the batch's item was made of, and has the bytes of that packet or unit. Each sample is at the nanosecond
-/// of gPTP that follows from one timestamp of the talker. Without a clock, samples are counted from that timestamp at
-/// the nominal rate. With the clock, they are on the line through the two CRF timestamps that cover that timestamp.
+/// What is presented is true. If a talker keeps the rules, a capture may lose, repeat or reorder the packets of the
+/// talker and of its clock, and the media clock may restart anywhere. Each batch that is presented is the packet or
+/// unit of the talker that the batch's item was made of, and has the bytes of that packet or unit. Each sample is at
+/// the nanosecond of gPTP that follows from one timestamp of the talker. Without a clock, samples are counted from that
+/// timestamp at the nominal rate. With the clock, they are on the line through the two CRF timestamps that cover that
+/// timestamp.
 pub fn presented_are_true()
     ensures origin { (shift : ℤ) (p : PacketJournal) (plan : ListenPlan) (records : List Record) → HearsTalker shift p plan records → All (IsHeardFrom (by_clock plan) (items_in plan records) p plan.lead) (presented_of (shown_of plan records)) }
     ensures packet { (shift : ℤ) (p : PacketJournal) (plan : ListenPlan) (records : List Record) → HearsTalker shift p plan records → All (IsOfJournal (by_clock plan) p) (presented_of (shown_of plan records)) }
@@ -131,8 +132,8 @@ pub fn known_and_in_time_is_presented()
 {}
 
 /// Suppose that the first deliveries of an H.264 stream are all packets of one unit of the talker, in their order. The
-/// last delivery arrives no later than the unit's presentation time. Each packet carries the unit's first byte. The
-/// unit is within the limits of units, and its bytes fit into `room`. Then the unit must be presented.
+/// last delivery must arrive no later than the unit's presentation time. Each packet must carry the unit's first byte.
+/// The unit must be within the limits of units, and its bytes must fit into `room`. Then the unit must be presented.
 pub fn first_fragments_are_welcome()
     ensures { (shift : ℤ) (p : PacketJournal) (plan : ListenPlan) (records : List Record) (from n : ℕ) (part : ℕ → Part) (earlier : List Delivery) (last : Delivery) (rest : List Delivery) → HearsTalker shift p plan records → p.times.kind ≡ H264 part → deliveries_of plan records ≡ earlier ++ last ∷ rest
         → AreOfUnit p part plan.lead from n earlier last → last.arrival ≤ℤ pos (p.times.due n) → 1 ≤ plan.buffer → length (unit_bytes p from n) ≤ plan.room → IsWelcome p plan records 0 n (unit_by earlier last) }
@@ -147,8 +148,9 @@ pub fn further_copies_are_repeats()
 
 /// All that is promised for a talker that keeps the rules, whatever packets a capture loses, repeats or reorders, and
 /// wherever the talker's clock restarts. Each sample is presented at the talker's own nanosecond if its packet came in
-/// time, found room and has a known timestamp or clock reference. Hence any two listeners agree. Every other packet
-/// that came is flagged with one reason. Samples are presented in order, once, within fixed buffers.
+/// time, found room and has a known timestamp or clock reference. Hence any two listeners agree if both have the
+/// talker's clock, or neither has. Every other packet that came is flagged with one reason. Samples are presented in
+/// order, once, within fixed buffers.
 pub fn headline_holds()
     ensures { (shift : ℤ) (p : PacketJournal) (plan : ListenPlan) (records : List Record) → HearsTalker shift p plan records → KeepsHeadline shift p plan records (shown_of plan records) }
 {}

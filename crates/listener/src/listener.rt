@@ -39,9 +39,10 @@ pub enum ListenFault {
 /// A listener that takes a capture's bytes in pieces of any length. The listener shows what a `RecordListener` shows of
 /// the capture's records.
 ///
-/// After each call, the caller calls `next_out` to take all items that are due, and only then feeds more bytes. Memory
-/// for the listener's state is reserved when the listener is made. Later each packet's samples are copied once, into
-/// the batch that is shown. The bytes of a record that is cut between two pieces are copied one more time first.
+/// After each call of `feed` or `end`, the caller calls `next_out` to take all items that are due, and only then feeds
+/// more bytes. Memory for the listener's state is reserved when the listener is made. Later each packet's samples are
+/// copied once, into the batch that is shown. If a record is cut between two pieces, its bytes are first copied one
+/// more time.
 #[derive(Drop)]
 pub struct Listener {
     reader: Reader,
@@ -88,7 +89,7 @@ impl Listener {
     ///
     /// Without a fault, returns `Ok(0)` exactly if the piece is empty or an item is due. `Refused` is the capture's
     /// first refusal, and is returned as soon as the bytes so far show it. The records before the refusal are kept, and
-    /// the listener may still be ended. `Memory` is returned if there is no memory for the samples of the record that
+    /// the listener can still be ended. `Memory` is returned if there is no memory for the samples of the record that
     /// was read. That record makes no item, and every later `feed` and `end` returns `Memory`.
     pub fn feed(&mut self, alloc: Global, piece: &[u8]) -> Result<usize, ListenFault>
         requires open { is_ended self.old ≡ false }
@@ -171,8 +172,8 @@ impl Listener {
         self.listener.give_back(samples);
     }
 
-    /// Ends the capture after the bytes so far, and makes all remaining items due. Nothing may be due before the call,
-    /// and the listener must not have been ended. Allocates nothing.
+    /// Ends the capture after the bytes so far, and makes all remaining items due. Before the call, all due items must
+    /// have been returned, and the listener must not have been ended. Allocates nothing.
     ///
     /// `Refused` is the capture's first field that is cut off or refused, if there is one; only the records before that
     /// field are shown. If `feed` returned `Memory`, `end` returns `Memory` and changes nothing.

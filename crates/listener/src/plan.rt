@@ -10,7 +10,7 @@ use sample_schedule::SchedulePlan;
 pub struct ListenPlan {
     /// The ID of the stream.
     pub stream: u64,
-    /// The ID of the stream's media clock, if the clock's timestamps time the samples.
+    /// The ID of the stream's media clock, if the samples are timed by the clock's timestamps.
     pub clock: Option<u64>,
     /// The maximum number of batches that wait for their presentation time, from 1 to 65,536.
     pub buffer: u32,

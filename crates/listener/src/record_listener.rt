@@ -35,8 +35,8 @@ use std::marker::Model;
 /// once: presented, or flagged with the first reason why not. It shows an item as soon as no later record can change
 /// the result.
 ///
-/// After each record, and after `close`, the caller calls `next_out` to take all items that are due. One record may
-/// yield as many as 4,097 items, because it may end a unit of H.264 that is not whole. `next_out` judges them one after
+/// After each record, and after `close`, the caller calls `next_out` to take all items that are due. One record can
+/// yield as many as 4,097 items, because it can end a unit of H.264 that is not whole. `next_out` judges them one after
 /// another. Memory for the listener's state is reserved when the listener is made. Later each packet's samples, and
 /// each whole unit, are copied once, into the batch that is shown.
 #[derive(Drop)]
@@ -95,9 +95,9 @@ impl RecordListener {
         })
     }
 
-    /// Takes the next record. Before the call, all items that are due of the earlier records must have been returned,
-    /// and fewer than 2^62 records must have been taken. The listener must not be closed. The record's time must be
-    /// from 0 to 2^62 ns.
+    /// Takes the next record. Before the call, all due items of the earlier records must have been returned, and fewer
+    /// than 2^62 records must have been taken. The listener must not be closed. The record's time must be from 0 to
+    /// 2^62 ns.
     ///
     /// A record that belongs neither to the stream nor to its clock is counted and skipped. Returns `NoMemory` if there
     /// is no memory for the packet's samples or the unit; the listener is then unchanged.
@@ -188,8 +188,7 @@ impl RecordListener {
         self.pool.give_back(samples);
     }
 
-    /// Ends the list of records. All items that are due of the records so far must have been returned. Allocates
-    /// nothing.
+    /// Ends the list of records. All due items of the records so far must have been returned. Allocates nothing.
     pub fn close(&mut self)
         requires open { is_closed self.old ≡ false }
         requires idle { IsIdle self.old }
@@ -301,7 +300,7 @@ fn judge_next(units: &mut Units, judge: &mut Judge, ended: bool, closed: &mut bo
     }
 }
 
-/// Closes the judge if no more records follow and the judge is still open. Returns whether it was closed now.
+/// Closes the judge if no more records follow and the judge is still open. Returns whether this call closed it.
 fn close_ended(judge: &mut Judge, ended: bool, closed: &mut bool) -> bool
     requires idle { IsIdleJudge judge.old }
     requires closed { closed.old ≡ judge.old.closed }

@@ -32,7 +32,8 @@ use time_unfold::unfold;
 #[derive(Drop)]
 pub struct Units {
     assembler: Assembler,
-    /// Why the last fragments were given up, how many there are, and how many of them were taken.
+    /// For the fragments that were given up most recently: why they were given up, how many they are, and how many of
+    /// them were taken.
     why: Lost,
     lost: u32,
     taken: u32,
@@ -94,8 +95,8 @@ fn completes_unit(part: NalPart) -> bool
     }
 }
 
-/// Why a packet is in no unit, whatever comes before or after it: its time is uncertain, or it completes a unit and has
-/// no timestamp.
+/// Why a packet cannot be in a unit, whatever comes before or after it: its time is uncertain, or it would complete a
+/// unit but has no timestamp.
 fn flaw(view: &CvfView<'_>) -> Option<Reason>
     ensures { result ≡ flaw_in (cvf_shape view.now) }
 {
@@ -212,8 +213,8 @@ impl Units {
         self.next()
     }
 
-    /// Adds a packet, which begins a unit, continues one, or is lost. Memory for a unit that the packet may complete is
-    /// allocated first. If there is no memory, returns `NoMemory`, and nothing changes.
+    /// Adds a packet, which begins a unit, continues one, or is lost. Memory for a unit that the packet might complete
+    /// is allocated first. If there is no memory, returns `NoMemory`, and nothing changes.
     fn push(
         &mut self,
         alloc: Global,
@@ -239,7 +240,7 @@ impl Units {
     }
 
     /// Takes the next delivery of the stream. All items of the earlier deliveries must have been taken. Returns the
-    /// delivery's first item, if it has any. Only an H.264 delivery has more items; they are queued.
+    /// delivery's first item, if it has any. Only an H.264 delivery can have more items; they are queued.
     ///
     /// Returns `NoMemory` if there is no memory for a packet's samples or for a unit; then nothing changes.
     #[inline(always)]
@@ -313,7 +314,7 @@ impl Units {
         self.own = None;
     }
 
-    /// The next item of the last delivery or of the end of the stream. Allocates nothing.
+    /// The next queued item, which the last delivery or the end of the stream has yielded. Allocates nothing.
     #[inline(always)]
     pub fn next(&mut self) -> Option<Item>
         ensures stands { (ds : List Delivery) → HasUnits ds self.old → HasUnits ds self.new }
