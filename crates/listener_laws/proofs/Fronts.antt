@@ -1,4 +1,4 @@
--- What is due of the first records of a capture stays true, whatever records follow.
+-- The due items of the first records of a capture are as the headline says, whatever records follow.
 use Rattle.std.proofs.Common.{◌≡◌, ℕ, zero, suc, ◌+◌, ◌<◌, Bool, true, false, ℤ, List, [], ◌∷◌, ◌++◌, All, length, map, take, Some, Result, refl, sym, ap, ◌∙◌, subst, arith, append_assoc, length-append}
 use Rattle.std.specs.Prelude.{AllPairs, Any, cond, slice_get, ◌==◌}
 use Rattle.std.specs.List.{slice_index_or}
@@ -61,7 +61,7 @@ front_pairs R xs ys (rest, e) all = pairs_before R xs rest (subst (λ (l : List 
 pub longer_front : (xs ys zs : List Shown) → IsPrefix xs ys → IsPrefix ys zs → IsPrefix xs zs
 longer_front xs ys zs (a, e) (b, f) = (a ++ b, sym (append_assoc xs a b) ∙ (ap (λ (l : List Shown). l ++ b) e ∙ f))
 
--- ---- the items that are judged by the first records
+-- ---- the items that are judged as soon as the first records are read
 
 get_front : {X : Type 0} (n : ℕ) (xs ys zs : List X) → n < length xs → slice_get (xs ++ ys) n ≡ slice_get (xs ++ zs) n
 get_front {X} n [] ys zs lt = absurd (omega arith)

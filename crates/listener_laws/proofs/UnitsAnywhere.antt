@@ -97,8 +97,8 @@ clock_none plan records front d back e clock =
 instant_is : (kind : Kind) (part : ℕ → Part) (by : Bool) (p : PacketJournal) (n : ℕ) (x : ℤ) → kind ≡ H264 part → IsAtBy kind by p.times n 0 x → x ≡ pos (p.times.due n)
 instant_is kind part by p n x e is = (subst (λ (k : Kind). IsAtBy k by p.times n 0 x) e is).1
 
--- Each packet that `d` is a copy of has property `Q`. If such a packet ends a unit that is due at `t` or later, the
--- count grows.
+-- If `d` is a copy of a packet, that packet has property `Q`. If the packet ends a unit that is due at `t` or later,
+-- the count grows.
 pub record IsAsked (p : PacketJournal) (part : ℕ → Part) (lead : ℕ) (Q : ℕ → Type 0) (t : ℤ) (count next : ℕ) (d : Delivery) : Type 0 where
   pub holds : (k : ℕ) → IsCopyOf p lead k d → Q k
   pub counts : (k : ℕ) → IsCopyOf p lead k d → Ends (part k) → t ≤ℤ pos (p.times.due k) → count < next
@@ -136,7 +136,7 @@ unit_more shift p plan records part Q t count next front back before d h kind w 
 
 -- ---- a delivery
 
--- the items that a listener has accepted once it has judged the items of the deliveries `ds`
+-- the items that a listener has accepted after it has judged the items of the deliveries `ds`
 abbrev pub given_to : ListenPlan → List Record → List Delivery → List Accepted
 given_to plan records before = accepted_before plan records (length (items_so_far before))
 

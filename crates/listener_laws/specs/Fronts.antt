@@ -1,4 +1,4 @@
--- What a listener shows of a capture if a talker's records come first in it.
+-- What a listener shows of a capture that begins with a talker's records.
 use Rattle.std.specs.Prelude.{◌≡◌, ◌+◌, ◌<◌, ℕ, List, [], ◌∷◌, ◌++◌, length, All, AllPairs, Any, slice_get, Some}
 use mathlib.Core.List.{IsPrefix}
 use Rattle.pcap_frames.specs.Capture.{Record}
@@ -16,7 +16,7 @@ use Rattle.listener.specs.Laws.{AreOther, ComesBefore, IsFurther, IsHeardFrom, I
 abbrev pub IsSettled : ListenPlan → List Record → ℕ → Type 0
 IsSettled plan records place = place + plan.look < length (items_so_far (deliveries_of plan records))
 
--- Whatever records follow, what is due of the first records is a prefix of what is shown. What is due is as the
+-- Whatever records follow, the due items of the first records are a prefix of what is shown. The due items are as the
 -- headline says. Each batch is the packet of the talker that the batch's item was made of, and has the bytes and the
 -- instants of that packet. No packet is presented twice, and first instants never decrease.
 --

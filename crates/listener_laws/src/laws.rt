@@ -26,9 +26,9 @@ ghost use Rattle.listener_laws.specs.Fronts.{IsTrueFront};
 
 use listener::laws::{headline_holds, units_are_true};
 
-/// If the first records of a capture are a talker's, what is due of these records is as the headline says, whatever
-/// records follow. What is shown of the whole capture begins with what is due of these records. This holds even if the
-/// capture is cut short or records of other talkers follow.
+/// If the first records of a capture are a talker's, the due items of these records are as the headline says, whatever
+/// records follow. What is shown of the whole capture begins with these due items. This holds even if the capture is
+/// cut short or records of other talkers follow.
 pub fn fronts_are_true()
     ensures { (shift : ℤ) (p : PacketJournal) (plan : ListenPlan) (records others : List Record) → HearsTalker shift p plan records → IsTrueFront p plan records others }
 {}
@@ -50,10 +50,10 @@ pub fn records_are_given_truly()
     fronts_are_true();
 }
 
-/// A listener may be fed the bytes of a talker's capture in pieces of any length. What the listener returns is as the
-/// headline says. Before the capture has ended, the listener returns what is due, as `fronts_are_true` says. Once the
-/// capture has ended, the listener returns everything that is shown of the capture. `Listener::next_out` returns
-/// exactly these items, one by one.
+/// Suppose that a listener is fed the bytes of a talker's capture in pieces of any length. Then what the listener
+/// returns is as the headline says. Before the capture has ended, the listener returns what is due, as
+/// `fronts_are_true` says. Once the capture has ended, the listener returns everything that is shown of the capture.
+/// `Listener::next_out` returns exactly these items, one by one.
 pub fn bytes_are_given_truly()
     ensures ended { (shift : ℤ) (p : PacketJournal) (fed : Feeding) (bytes : List ℕ) → is_ended fed ≡ true → HearsTalker shift p fed.listener.plan (whole_records bytes) → KeepsHeadline shift p fed.listener.plan (whole_records bytes) (out_of fed bytes) }
     ensures due { (shift : ℤ) (p : PacketJournal) (fed : Feeding) (bytes : List ℕ) (others : List Record) → is_ended fed ≡ false → HearsTalker shift p fed.listener.plan (whole_records bytes) → (out_of fed bytes ≡ due_of fed.listener.plan (whole_records bytes)) × IsTrueFront p fed.listener.plan (whole_records bytes) others }
@@ -61,27 +61,27 @@ pub fn bytes_are_given_truly()
     records_are_given_truly();
 }
 
-/// A copy of an audio packet must be presented on four conditions. The copy can be timed by the packets that came. No
-/// copy of the packet came before. The buffer has room for the copy. All deliveries up to and including the copy were
-/// captured no later than the packet's first instant. This holds anywhere in a capture, whatever the capture loses,
-/// repeats or reorders, and for listeners with the talker's clock or without it.
+/// A copy of an audio packet must be presented if four conditions hold. The copy can be timed from the packets that
+/// came. No copy of the packet came before. The buffer has room for the copy. All deliveries up to and including the
+/// copy were captured no later than the packet's first instant. This holds anywhere in a capture, whatever the capture
+/// loses, repeats or reorders, and for listeners with the talker's clock or without it.
 pub fn copies_anywhere_are_welcome()
     ensures { (shift : ℤ) (p : PacketJournal) (plan : ListenPlan) (records : List Record) (place n : ℕ) (d : Delivery) → HearsTalker shift p plan records → IsAudioKind p.times.kind → MustBePresented p plan records place n d → IsWelcome p plan records place n (made_of_one d) }
 {}
 
-/// If one copy of an audio packet must be presented, any later copy that is in time must be flagged as a repeat. The
-/// later copy must be one that can be timed by the packets that came. The later copy is in time if all deliveries up to
-/// and including it were captured no later than the packet's first instant.
+/// If one copy of an audio packet must be presented, any later copy that is in time must be flagged as a repeat. It
+/// must be possible to time the later copy from the packets that came. The later copy is in time if all deliveries up
+/// to and including it were captured no later than the packet's first instant.
 pub fn copies_anywhere_are_further()
     ensures { (shift : ℤ) (p : PacketJournal) (plan : ListenPlan) (records : List Record) (earlier place n : ℕ) (made : MadeItem) (d : Delivery) → HearsTalker shift p plan records → IsAudioKind p.times.kind → IsWelcome p plan records earlier n made → earlier < place
         → ComesInTime p plan records place n d → IsFurther p plan records place n (made_of_one d) }
 {}
 
-/// A unit of H.264 must be presented on four conditions. One copy of each of the unit's packets came, in order, with no
-/// other packet of the stream between them. All deliveries up to and including the last copy were captured no later
-/// than the instant at which the unit is due. No copy of the unit's last packet came before. The buffer has room for
-/// the unit. The unit is then made of exactly these copies. This holds anywhere in a capture, whatever the capture
-/// loses, repeats or reorders.
+/// A unit of H.264 must be presented if four conditions hold. One copy of each of the unit's packets came, in order,
+/// with no other packet of the stream between them. All deliveries up to and including the last copy were captured no
+/// later than the instant at which the unit is due. No copy of the unit's last packet came before. The buffer has room
+/// for the unit. If the conditions hold, the unit is made of exactly these copies. This holds anywhere in a capture,
+/// whatever the capture loses, repeats or reorders.
 pub fn units_anywhere_are_welcome()
     ensures { (shift : ℤ) (p : PacketJournal) (plan : ListenPlan) (records : List Record) (part : ℕ → Part) (from n : ℕ) (before : List Delivery) (last : Delivery) → HearsTalker shift p plan records → p.times.kind ≡ H264 part
         → UnitMustBePresented p plan records part from n before last → IsWelcome p plan records (unit_place before last) n (unit_by before last) }

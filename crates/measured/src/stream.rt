@@ -32,7 +32,7 @@ pub struct Stream {
     pub clock: bool,
 }
 
-/// A permutation of the 16-bit numbers that looks random.
+/// A random-looking permutation of the 16-bit numbers.
 fn scrambled(n: u32) -> u32 {
     let first = n.wrapping_mul(40_503) % 65_536;
     let second = (first ^ (first >> 8)).wrapping_mul(46_387) % 65_536;

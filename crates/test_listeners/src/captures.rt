@@ -26,8 +26,8 @@ pub struct Captured {
     pub stamp: Option<u64>,
     /// The bytes of the packet that are changed, as pairs of an offset and a value.
     pub changes: &'static [(usize, u8)],
-    /// The maximum number of bytes of the frame that are captured. `zeros` is the number of zero bytes that follow the
-    /// captured bytes.
+    /// At most this many bytes of the frame are captured. `zeros` is the number of zero bytes that follow the captured
+    /// bytes.
     pub len: usize,
     pub zeros: usize,
 }

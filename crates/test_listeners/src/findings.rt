@@ -26,14 +26,15 @@ const MOST: u64 = 1024;
 
 /// A packet and its findings. The first three values are the packet's sequence number, its restart bit, and whether it
 /// has both a reserved bit and a wrong timestamp. The fourth value is the step of the sequence number, unless that step
-/// is 1. The fifth value is the number of packets for which the restart bit kept its last value, if that number is
-/// below 8.
+/// is 1. If the restart bit changes at this packet, the fifth value is the number of packets for which the bit had kept
+/// its previous value, if that number is below 8. It is `None` if that previous value began with the stream.
 type Noted = (u8, bool, bool, Option<u8>, Option<u32>);
 
 /// Separate streams, each with its packets in order.
 const STREAMS: [&[Noted]; 4] = [
-    // Each finding by itself, and all findings together. The first value of the restart bit is no finding, because that
-    // value began with the stream. The next value is kept for four packets, and the value after that for one packet.
+    // Each finding by itself, and all findings together. The first change of the restart bit is no finding, because the
+    // value before it began with the stream. The bit then keeps its second value for four packets, and its third value
+    // for one packet.
     &[
         (0, false, false, None, None),
         (1, true, false, None, None),

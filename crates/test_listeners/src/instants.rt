@@ -69,7 +69,7 @@ fn instants_of(alloc: Global, shown: &Shown) -> Result<String, NoMemory> {
     Ok(text)
 }
 
-/// Whether each batch has `size` bytes, and these are the last bytes of the vector.
+/// Whether each batch has `size` bytes, which are the last bytes of the vector.
 fn ends_a_vector(list: &[Shown], vector: &[u8], size: usize) -> bool {
     list.iter().all(|shown| match shown {
         Shown::Present(batch) => {

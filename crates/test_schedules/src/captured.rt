@@ -12,9 +12,9 @@ use std::alloc::Global;
 
 #[derive(Clone, Copy)]
 pub enum Captured {
-    /// A packet of a 48 kHz stream that stamps every packet: its sequence number, timestamp and arrival.
+    /// A packet of a 48 kHz stream in which every packet has a timestamp: its sequence number, timestamp and arrival.
     Audio(u8, u32, u64),
-    /// A packet of a 44.1 kHz stream that stamps every packet: its sequence number, timestamp and arrival.
+    /// A packet of a 44.1 kHz stream in which every packet has a timestamp: its sequence number, timestamp and arrival.
     Cd(u8, u32, u64),
     /// A packet of six data blocks: its sequence number, the count of its first block, its timestamp and its arrival.
     Blocks(u8, u8, Option<u32>, u64),

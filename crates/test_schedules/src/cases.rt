@@ -27,8 +27,8 @@ pub enum Seen {
     /// The frame with this number is presented. Its first sample is at this instant, and its other samples are at the
     /// steps of the case.
     At(u64, i64),
-    /// The frame with this number is presented, but the sample with the second number is not at its step. The third
-    /// number is the instant of that sample.
+    /// The frame with this number is presented, but one of its samples is not at its step. The second number is the
+    /// number of that sample, and the third number is its instant.
     Astray(u64, u32, i64),
     Flag(u64, Reason),
 }

@@ -44,7 +44,7 @@ struct Search {
     found: Option<Stamp>,
 }
 
-/// A stamp fits if the packet arrives at most 7,500,000 ns, the time of 60 packets, earlier or later than expected.
+/// A stamp fits if the packet arrives at most 7,500,000 ns (the time of 60 packets) earlier or later than expected.
 /// According to the last two stamps, the packet is expected at about 1,000,125,000. According to the first stamp, which
 /// is no longer kept, the packet is expected at 970,125,000.
 const SEARCHES: [Search; 6] = [
