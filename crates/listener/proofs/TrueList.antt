@@ -1,4 +1,4 @@
--- Each batch that is presented of a capture is a packet of the journal.
+-- Each batch that a listener presents is a packet of the journal.
 use Rattle.std.proofs.Common.{◌≡◌, ◌≢◌, ℕ, zero, suc, ◌+◌, Bool, true, false, cond, ℤ, List, [], ◌∷◌, All, length, Option, Some, None, refl, sym, ap, ◌∙◌, subst, inl, inr, arith}
 use Rattle.std.specs.Prelude.{◌⊎◌, ◌==◌, if◌then◌else◌, Contains, is_some, int_lt, option_and_then, IfSome, Result, Ok, Err, IfOk, map, fold, slice_get}
 use Rattle.std.specs.List.{cons_option, filter_map}
@@ -367,8 +367,8 @@ batches_are [] = refl
 batches_are (Presents a ∷ gs) = ap (λ (l : List Presented). a.batch ∷ l) (batches_are gs)
 batches_are (Flags place item reason ∷ gs) = batches_are gs
 
--- each batch that is presented of a capture is the packet that its item was made of, and the batches are ordered by
--- their first instants
+-- each batch that a listener presents is the packet that its item was made of, and the batches are ordered by their
+-- first instants
 given_heard : (shift : ℤ) (p : PacketJournal) (plan : ListenPlan) (records : List Record) → HearsTalker shift p plan records
     → All (IsHeardAccepted (by_clock plan) (items_in plan records) p plan.lead) (presented (given clock_spot (schedule_plan plan) (entries_in plan records)))
 given_heard shift p plan records h =

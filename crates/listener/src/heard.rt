@@ -55,8 +55,8 @@ pub struct Counts {
 pub struct Heard {
     pub shown: ShownList,
     pub counts: Counts,
-    /// The first field of the capture that is cut off or refused, if there is one. Only the records before that field
-    /// are heard.
+    /// The capture's first field that is cut off or refused, if there is one. Only the records before that field are
+    /// heard.
     pub refused: Option<Refusal>,
 }
 

@@ -47,9 +47,8 @@ pub struct RecordListener {
     ended: bool,
     /// Whether the judge was closed.
     closed: bool,
-    /// True only if all items that are due were returned and, since then, no record of the stream or of its clock was
-    /// taken and the listener was not closed. In this state, for example after a record of another stream, the judge is
-    /// not called.
+    /// True only if, since all due items were returned, no record of the stream or of its clock was taken and the
+    /// listener was not closed. In this state, for example after a record of another stream, the judge is not called.
     idle: bool,
     counts: Counts,
     pool: BufferPool,

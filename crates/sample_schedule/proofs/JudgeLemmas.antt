@@ -184,7 +184,7 @@ now-judged clock entries given s p st e = st.now ∙ ap (λ (n : ℕ). latest (t
 now-rises : (clock : Clock) (entries : List Entry) (given : ℕ) (s : JudgeState) (p : Pending) → StandsFor clock entries given s → s.current ≡ Some p → latest (take s.place entries) ≤ℤ s.time
 now-rises clock entries given s p st e = rw (now-judged clock entries given s p st e) (now-grows entries s.place)
 
--- What is shown begins with the first `n` steps.
+-- What is shown begins with what the first `n` steps show.
 record Begins (clock : Clock) (entries : List Entry) (n : ℕ) (s : JudgeState) : Type 0 where
   rest : List Given
   out : out clock s entries ≡ map shown_of (steps clock s.plan entries n ++ rest)

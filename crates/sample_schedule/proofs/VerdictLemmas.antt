@@ -1,4 +1,4 @@
--- The verdict is the same whether copies are searched among the waiting items or among all accepted items.
+-- The verdict is the same whether copies are looked for among the waiting items or among all accepted items.
 use Rattle.std.proofs.Common.{◌≡◌, ℕ, true, false, ℤ, ◌≤ℤ◌, List, length, Ok, refl, arith}
 use Rattle.std.specs.Prelude.{int_lt, int_le}
 use Rattle.std.specs.List.{list_any}

@@ -7,8 +7,8 @@ ghost use Rattle.sample_schedule.specs.Instants.{IsInstantOf, IsRestOf};
 
 use crate::batch::Batch;
 
-/// The instant of sample `j` of a batch: the whole nanoseconds, and the remainder in units of 1 / `den` ns, for the
-/// line's `den`. The instant of the next sample then needs only an addition, and no division.
+/// The instant of sample `j` of a batch: the whole nanoseconds, and the remainder in units of 1 / `den` ns. `den` is
+/// that of the batch's line. The instant of the next sample then needs only an addition, and no division.
 #[derive(Clone, Copy)]
 pub struct Instant {
     pub j: u32,

@@ -9,7 +9,7 @@ pub struct SchedulePlan {
     pub room: u32,
     /// How many later entries are read before an item is judged, from 0 to 64.
     pub look: u32,
-    /// How long before its presentation time a packet is expected, at most 1,000,000,000 ns.
+    /// A packet is expected this many nanoseconds before its presentation time, at most 1,000,000,000.
     pub lead: u32,
     /// Whether samples are counted on the lines of the stream's clock.
     pub clock: bool,

@@ -13,8 +13,8 @@ use std::alloc::Global;
 use std::collections::VecDeque;
 use std::marker::Model;
 
-/// Keys sorted by instant. Keys with equal instants are in the order in which they were put. All keys are kept in
-/// blocks of fewer than 512 keys, so that few keys are moved if a key is put out of order.
+/// Keys sorted by instant. Keys with equal instants are in the order in which they were put into the list. All keys are
+/// kept in blocks of fewer than 512 keys, so that few keys are moved if a key is put into the list out of order.
 #[derive(Drop)]
 pub struct SortedKeys {
     blocks: VecDeque<Block>,

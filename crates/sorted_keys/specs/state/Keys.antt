@@ -49,7 +49,7 @@ pub record AreBlocks (blocks : List (List Key)) : Type 0 where
   pub filled : AllByRecursion (λ block. 256 ≤ length block) (drop 1 blocks)
   pub short : AllByRecursion (λ block. length block < 512) blocks
 
--- Sorted keys in blocks. The block at index `place` may be full.
+-- Sorted keys in blocks. Only the block at index `place` can be full.
 pub record AreBlocksBut (place : ℕ) (blocks : List (List Key)) : Type 0 where
   pub in_order : KeysAreInOrder (all_keys blocks)
   pub started : IsStarted blocks
@@ -58,7 +58,7 @@ pub record AreBlocksBut (place : ℕ) (blocks : List (List Key)) : Type 0 where
   pub most : length (slice_index_or blocks place []) ≤ 512
   pub others : AllByRecursion (λ block. length block < 512) (slice_set blocks place [])
 
--- Sorted keys in blocks. The first block may have no keys even if there are other blocks.
+-- Sorted keys in blocks. The first block can be without keys even if there are other blocks.
 pub record AreTaken (blocks : List (List Key)) : Type 0 where
   pub in_order : KeysAreInOrder (all_keys blocks)
   pub some : 1 ≤ length blocks

@@ -1,4 +1,4 @@
--- The search goes backwards from the block for the instant. The search covers all blocks that may hold keys with that
+-- The search goes backwards from the block for the instant. The search covers all blocks that can hold keys with that
 -- instant.
 use Rattle.std.proofs.Common.{◌≡◌, ◌+◌, suc, false, true, ap, sym, ◌∙◌, arith, rules, w64, to_z, of_z}
 use Rattle.std.specs.List.{list_any}
