@@ -25,9 +25,9 @@ abbrev pub came_by : ListenPlan → ℕ → List Origin → List Origin
 came_by plan place origins = take (place + plan.look + 1) origins
 
 -- The delivery at index `place` is a copy of an audio packet whose samples can be timed when the delivery is judged.
--- Either the packet has a timestamp, or the packet is counted from one of the last 16 + `look` timestamps that came. If
--- the listener has the clock, two adjacent CRF timestamps cover the timestamp from which the samples are counted. The
--- packets of these two CRF timestamps are among the last 64 clock packets that came.
+-- Either the packet has a timestamp, or its samples are counted from one of the last 16 + `look` timestamps that came.
+-- If the listener has the clock, two adjacent CRF timestamps cover the timestamp from which the samples are counted.
+-- The packets of these two CRF timestamps are among the last 64 clock packets that came.
 pub record IsKnownCopy (p : PacketJournal) (plan : ListenPlan) (records : List Record) (place : ℕ) (c : Copy) : Type 0 where
   pub origins : List Origin
   pub from : AreFrom p plan.lead origins (deliveries_of plan records)

@@ -46,8 +46,8 @@ begun judge = judge.place + length (option_to_list judge.current)
 abbrev pub taken : JudgeState → ℕ
 taken judge = begun judge + length judge.ahead
 
--- an upper bound of the steps that are left: two steps for each entry that is not judged, and one step for each batch
--- that waits
+-- an upper bound for the number of steps that are left: two steps for each entry that is not judged, and one step for
+-- each batch that waits
 abbrev pub work : JudgeState → ℕ
 work judge = 2 * (length (option_to_list judge.current) + length judge.ahead) + length judge.waiting
 

@@ -39,7 +39,7 @@ pub record IsUnit (u : WholeUnit) : Type 0 where
   pub from : neg_ℤ (pos (2 ^ 62)) ≤ℤ u.instant
   pub to : u.instant <ℤ pos (2 ^ 62 + 2 ^ 31)
 
--- an item as the formats yield it: a packet of audio, a unit of H.264, or a packet that could not be read
+-- an item as the formats yield it: a packet of audio, a unit of H.264, or a delivery that is flagged in any case
 abbrev pub IsItem : Item → Type 0
 IsItem (OfPacket p) = IsPacket p
 IsItem (OfUnit u) = IsUnit u

@@ -40,7 +40,8 @@ pub struct Unit {
     pub bytes: Bytes,
 }
 
-/// A delivery that cannot be presented, whatever comes before or after it.
+/// A delivery that a schedule flags with this reason in any case, for example a malformed packet, or a fragment that is
+/// in no whole unit.
 #[derive(Debug, Drop)]
 pub struct Bad {
     /// The number of the record in the capture, from 1.

@@ -192,7 +192,7 @@ impl Block {
         self.keys.pop_front()
     }
 
-    /// Moves the upper half of the keys into `upper`, which must not have keys.
+    /// Moves the upper half of the keys into `upper`, which must be empty.
     pub fn split(&mut self, upper: &mut Block)
         requires full { length self.old ≡ 512 }
         requires empty { upper.old ≡ [] }

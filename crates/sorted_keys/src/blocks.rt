@@ -60,7 +60,7 @@ pub fn insert_block(blocks: &mut VecDeque<Block>, place: usize, block: Block)
     };
 }
 
-/// Splits a full block. Its upper half goes into `upper`, which must not have keys before the call. `upper` is inserted
+/// Splits a full block. Its upper half goes into `upper`, which must be empty before the call. `upper` is inserted
 /// after the block.
 pub fn split(blocks: &mut VecDeque<Block>, place: usize, mut upper: Block)
     requires blocks { AreBlocksBut place blocks.old.items }
