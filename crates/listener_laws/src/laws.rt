@@ -79,9 +79,9 @@ pub fn copies_anywhere_are_further()
 
 /// A unit of H.264 must be presented if four conditions hold. One copy of each of the unit's packets came, in order,
 /// with no other packet of the stream between them. All deliveries up to and including the last copy were captured no
-/// later than the instant at which the unit is due. No copy of the unit's last packet came before. The buffer has room
-/// for the unit. If the conditions hold, the unit is made of exactly these copies. This holds anywhere in a capture,
-/// whatever the capture loses, repeats or reorders.
+/// later than the instant at which the unit is due. No other copy of the unit's last packet came earlier. The buffer
+/// has room for the unit. If the conditions hold, the unit is made of exactly these copies. This holds anywhere in a
+/// capture, whatever the capture loses, repeats or reorders.
 pub fn units_anywhere_are_welcome()
     ensures { (shift : ℤ) (p : PacketJournal) (plan : ListenPlan) (records : List Record) (part : ℕ → Part) (from n : ℕ) (before : List Delivery) (last : Delivery) → HearsTalker shift p plan records → p.times.kind ≡ H264 part
         → UnitMustBePresented p plan records part from n before last → IsWelcome p plan records (unit_place before last) n (unit_by before last) }

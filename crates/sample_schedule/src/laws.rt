@@ -53,8 +53,7 @@ pub fn copies_are_not_presented()
     ensures { (clock : Clock) (plan : SchedulePlan) (entries : List Entry) → Pairwise IsNoCopy (presented (given clock plan entries)) }
 {}
 
-/// The due items do not change when the list grows: the due items of the longer list begin with those of the shorter
-/// list.
+/// Due items stay due when the list grows: the due items of the longer list begin with those of the shorter list.
 pub fn due_stays()
     ensures { (clock : Clock) (plan : SchedulePlan) (entries more : List Entry) → IsPrefix (due clock plan entries) (due clock plan (entries ++ more)) }
 {}

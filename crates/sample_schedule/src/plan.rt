@@ -1,6 +1,6 @@
 //! The plan of a schedule.
 
-/// How a listener listens.
+/// The settings with which a listener makes a schedule.
 #[derive(Clone, Copy, Debug, PartialEq, Eq)]
 pub struct SchedulePlan {
     /// The maximum number of batches that wait for their instants, from 1 to 65,536.
