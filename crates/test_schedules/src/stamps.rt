@@ -1,4 +1,4 @@
-//! Packets with timestamps, and packets that are counted from the timestamps of other packets.
+//! Packets with timestamps, and packets whose samples are counted from the timestamps of other packets.
 
 use crate::captured::Captured;
 use crate::captured::Captured::{Audio, Blocks, Cd, Restarted, Sparse};

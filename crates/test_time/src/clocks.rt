@@ -1,4 +1,4 @@
-//! Tests of the search for the line of a media clock that a sample is on.
+//! Tests of the search for the line that a sample is on, among the lines of a media clock.
 
 ghost use Rattle.std.specs.Prelude.{IfOk};
 ghost use Rattle.clock_track.specs.Limits.{IsNotable};

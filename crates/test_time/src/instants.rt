@@ -10,7 +10,8 @@ struct Unfolded {
 }
 
 /// Four timestamps. The first is the greatest one that is read as later than the arrival. The second is one greater,
-/// and is read as earlier. The third is after a wrap of the 32 bits. The fourth means an instant before the epoch.
+/// and is read as earlier than the arrival. The third is after a wrap of the 32 bits. The fourth means an instant
+/// before the epoch.
 const UNFOLDED: [Unfolded; 4] = [
     Unfolded {
         timestamp: 3_557_549_055,
