@@ -1,4 +1,4 @@
--- The last item of a list that passes a test, found item by item.
+-- A search of a list, item by item, for the last item that passes a test.
 use Rattle.std.proofs.Common.{◌≡◌, is_some, ℕ, zero, suc, ◌+◌, ◌-◌, ◌<◌, ◌≤◌, length, Bool, true, false, ℤ, List, [], ◌∷◌, ◌++◌, All, Option, Some, None, refl, sym, ap, ◌∙◌, subst, arith}
 use Rattle.std.specs.Prelude.{IfSome, if◌then◌else◌, slice_get, take}
 use Rattle.std.specs.List.{cons_option, filter_map, flat_map, range_with_len}

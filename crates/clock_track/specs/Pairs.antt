@@ -7,7 +7,7 @@ use Rattle.time_unfold.specs.Lines.{floor_of}
 
 -- ---- the frequency
 
--- the numerator of the factor that a code of pull names; the base frequency is multiplied by this factor (IEEE
+-- the numerator of the factor that this pull code names; the base frequency is multiplied by this factor (IEEE
 -- 1722-2016, 10)
 abbrev pub pull_up : ℕ → ℕ
 pull_up pull =
@@ -16,7 +16,7 @@ pull_up pull =
     if pull == 3 then 24 else
     if pull == 4 then 25 else 1
 
--- the denominator of the factor that a code of pull names (IEEE 1722-2016, 10)
+-- the denominator of the factor that this pull code names (IEEE 1722-2016, 10)
 abbrev pub pull_down : ℕ → ℕ
 pull_down pull =
     if pull == 1 then 1001 else
@@ -45,13 +45,14 @@ pub record IsJoined (p : Pair) : Type 0 where
   pub least : 7 * nominal p ≤ 8 * (period p * p.up)
   pub most : 8 * (period p * p.up) ≤ 9 * nominal p
 
--- the points are at least 3/4 of the nominal time of the interval apart
+-- the time between the points is at least 3/4 of the nominal time of the interval
 abbrev pub IsSpaced : Pair → Type 0
 IsSpaced p = 3 * nominal p ≤ 4 * (period p * p.up)
 
 -- ---- the samples of a stream according to a pair
 
--- The numerator of the spacing of samples according to a pair. The spacing is step_num p / step_den p rate nanoseconds.
+-- The numerator of the spacing of samples according to a pair. The spacing is `step_num p / step_den p rate`
+-- nanoseconds.
 abbrev pub step_num : Pair → ℕ
 step_num p = period p * p.up
 
@@ -59,8 +60,8 @@ step_num p = period p * p.up
 abbrev pub step_den : Pair → ℕ → ℕ
 step_den p rate = p.interval * rate * p.down
 
--- The period of a pair begins half a sample before its later point. This is the time in nanoseconds from the beginning
--- of the period to an instant, times 2 * step_den p rate.
+-- The period of a pair begins half a sample before its later point. The result is the time in nanoseconds from the
+-- beginning of the period to an instant, times `2 * step_den p rate`.
 abbrev pub reach : Pair → ℕ → ℤ → ℤ
 reach p rate instant = (instant -ℤ p.later) *ℤ pos (2 * step_den p rate) +ℤ pos (step_num p)
 
@@ -87,7 +88,7 @@ event_line p = record { base = p.later; num = period p; den = p.interval }
 abbrev pub nearest_event : Pair → ℤ → ℤ
 nearest_event p instant = floor_of ((instant -ℤ p.later) *ℤ pos (2 * p.interval) +ℤ pos (period p)) (2 * period p)
 
--- The line of a sample with this presentation time according to a pair, and the sample's number on that line. If the
+-- According to a pair: the line of a sample with this presentation time, and the sample's number on that line. If the
 -- clock's frequency is the stream's rate, the sample is at the nearest event. Otherwise the sample is sample 0 of a
 -- line that begins at the presentation time and has the pair's spacing.
 abbrev pub spot_by : Pair → ℕ → ℤ → Spot

@@ -25,9 +25,10 @@ pub fn second_point_is_waited_for()
 {}
 
 /// Two clock packets have one point each. The points are 2 ms apart, with an interval of 96 events. The stream's rate
-/// is 48 kHz. If the clock's frequency is 48 kHz, the stamped sample is the clock's nearest event. If the clock's
-/// frequency is 44.1 kHz, samples are counted from the timestamp, 19,140.625 ns apart. An instant more than half a
-/// sample before the second point has no line. If the clock restarted between the packets, there is no line.
+/// is 48 kHz. If the clock's frequency is 48 kHz, the stamped sample is at the clock's event that is nearest to the
+/// timestamp. If the clock's frequency is 44.1 kHz, the stamped sample is at the timestamp itself, and the spacing of
+/// samples is 19,140.625 ns. An instant more than half a sample before the second point has no line. If the clock
+/// restarted between the packets, there is no line.
 pub fn worked_lines_are_so()
     ensures own { clock_spot (worked_rows 48000 false) (pos 0) (pos 1004125000) 48000 ≡ Some (record { line = record { base = pos 1004000000; num = 2000000; den = 96 }; from = pos 6 }) }
     ensures other { clock_spot (worked_rows 44100 false) (pos 0) (pos 1004125000) 48000 ≡ Some (record { line = record { base = pos 1004125000; num = 88200000000; den = 4608000 }; from = pos 0 }) }

@@ -13,7 +13,7 @@ use time_unfold::Line;
 const NANOSECONDS: u64 = 1_000_000_000;
 
 /// Two adjacent timestamps of a clock that has `up / down` events a second (IEEE 1722-2016, 10). The timestamps are in
-/// nanoseconds of gPTP and `interval` events apart.
+/// nanoseconds of gPTP, and there are `interval` events from one to the other.
 #[derive(Clone, Copy, Debug, PartialEq, Eq)]
 pub struct Pair {
     pub earlier: i64,

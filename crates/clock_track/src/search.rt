@@ -63,8 +63,8 @@ pub trait Rows {
         requires { place < length (rows self.now) }
         ensures { (shift : ℤ) (row : ClockRowValue) → bounded self.now shift → slice_get (rows self.now) place ≡ Some row → IfSome result (HasPairs shift row) };
 
-    /// The bounds of each group of 32 pairs inside the packet at index `place`, in order. The last groups may have no
-    /// bounds.
+    /// The bounds of each group of 32 pairs inside the packet at index `place`, in order. The list can be shorter than
+    /// the packet's number of groups; the later groups then have no bounds.
     fn groups(&self, place: usize) -> &[Bounds]
         requires { place < length (rows self.now) }
         ensures { (shift : ℤ) (row : ClockRowValue) → bounded self.now shift → slice_get (rows self.now) place ≡ Some row → AreGroups shift row result.now };
@@ -133,7 +133,8 @@ fn covering(row: &Points<'_>, query: &Query, first: u64, second: u64) -> Option<
     }
 }
 
-/// The bounds of those pairs inside a packet whose earlier timestamp has an index from `first` to `end` - 1.
+/// Of the pairs inside a packet, the bounds of those pairs whose earlier timestamp has an index from `first` to below
+/// `end`.
 fn bounds_inside(row: &Points<'_>, shift: i64, first: usize, end: usize) -> Bounds
     requires row { IsRow (row_of row.now) }
     requires shift { IsShift shift }
@@ -163,8 +164,8 @@ fn group_end(group: usize, pairs: usize) -> usize
     }
 }
 
-/// Replaces `groups` by the bounds of each group of 32 pairs inside a packet. If memory runs out, later groups have no
-/// bounds.
+/// Replaces `groups` by the bounds of each group of 32 pairs inside a packet. If memory runs out, the remaining groups
+/// have no bounds.
 pub fn bound_groups(groups: &mut Vec<Bounds>, row: &Points<'_>, shift: i64)
     requires row { IsRow (row_of row.now) }
     requires shift { IsShift shift }
@@ -205,8 +206,8 @@ pub fn bounds_of(row: &Points<'_>, shift: i64) -> Bounds
     )
 }
 
-/// Of the pairs inside a packet whose earlier timestamp has an index from `first` to `end` - 1, the last that covers
-/// the instant.
+/// The last pair inside a packet that covers the instant, among the pairs whose earlier timestamp has an index from
+/// `first` to below `end`.
 fn latest_between(row: &Points<'_>, first: usize, end: usize, query: &Query) -> Option<Pair>
     requires row { IsRow (row_of row.now) }
     requires shift { IsShift query.now.shift }

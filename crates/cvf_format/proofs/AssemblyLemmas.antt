@@ -328,7 +328,7 @@ room_is a g gs f k =
     let most = lt_le (length a.held) (length (g ∷ (gs ++ f ∷ []))) most_fragments count in
     rw (bytes, most) refl
 
--- The packet `f` continues the unit of the waiting packets `r`, which are `first` and then `rest`.
+-- The waiting packets `r` are `first`, followed by `rest`, and the packet `f` continues their unit.
 record Waits (a : Assembly) (r : List Fragment) (f : Fragment) : Type 0 where
   first : Fragment
   rest : List Fragment

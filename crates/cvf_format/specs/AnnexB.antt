@@ -13,12 +13,12 @@ start_code = 0 ∷ 0 ∷ 1 ∷ []
 abbrev pub three_zeros : List ℕ
 three_zeros = 0 ∷ 0 ∷ 0 ∷ []
 
--- a NAL unit may end at this index: before a start code, before three zero bytes, or at the end of the bytes
+-- a NAL unit can end at this index: before a start code, before three zero bytes, or at the end of the bytes
 abbrev pub IsEnd : List ℕ → ℕ → Type 0
 IsEnd bytes at = OccursAt bytes start_code at ⊎ OccursAt bytes three_zeros at ⊎ (at ≡ length bytes)
 
 -- The bytes from `from` to before `to` are a NAL unit. The unit begins after a start code. `end` is the first later
--- index at which a unit may end. The unit has at least one byte, and excludes the zero bytes just before `end`.
+-- index at which a unit can end. The unit has at least one byte, and excludes the zero bytes just before `end`.
 pub record IsUnit (bytes : List ℕ) (from to end : ℕ) : Type 0 where
   pub behind : 3 ≤ from
   pub code : OccursAt bytes start_code (from - 3)
@@ -48,7 +48,7 @@ is_start_code bytes at = occurs_at bytes start_code at
 abbrev pub is_end : List ℕ → ℕ → Bool
 is_end bytes at = occurs_at bytes start_code at || occurs_at bytes three_zeros at
 
--- the index at which the NAL unit that begins at `from` ends, including zero bytes at its end
+-- the first index from `from` on at which a NAL unit can end; zero bytes just before this index are not yet dropped
 abbrev pub end_behind : List ℕ → ℕ → ℕ
 end_behind bytes from = unwrap_or (find (is_end bytes) (range_with_len from (length bytes - from))) (length bytes)
 
@@ -56,8 +56,8 @@ end_behind bytes from = unwrap_or (find (is_end bytes) (range_with_len from (len
 abbrev pub is_other_byte : List ℕ → ℕ → Bool
 is_other_byte bytes at = not (slice_index bytes at == 0)
 
--- The NAL unit after the start code at this index. The unit ends with the last byte before `end_behind` that is not 0.
--- If there is no such byte, there is no unit.
+-- The NAL unit after the start code at this index. The unit's last byte is the last nonzero byte before the index
+-- `end_behind`. If there is no such byte, there is no unit.
 abbrev pub unit_behind : List ℕ → ℕ → Option (ℕ × ℕ)
 unit_behind bytes code =
     option_map (λ last. (code + 3, last + 1))

@@ -39,7 +39,7 @@ cvf_shape v = record {
   reserved = v.reserved;
 }
 
--- the code of the video formats that an RFC defines (IEEE 1722-2016, 8)
+-- the value of the format field for the video formats that RFCs define (IEEE 1722-2016, 8)
 abbrev pub rfc_format : ℕ
 rfc_format = 2
 
@@ -57,7 +57,7 @@ reference_of nal = nal / 2 ^ 5
 abbrev pub type_of : ℕ → ℕ
 type_of nal = nal % 2 ^ 5
 
--- a type of a single NAL unit, 1 to 23 (RFC 6184, 5.2)
+-- the type is that of a single NAL unit, 1 to 23 (RFC 6184, 5.2)
 abbrev pub is_single_type : ℕ → Bool
 is_single_type type = nat_lt 0 type && nat_lt type 24
 
@@ -210,7 +210,8 @@ cvf_of bytes = record {
   reserved = sets_reserved (part_of bytes) bytes;
 }
 
--- an H.264 packet that can be written: no row refuses it, and its stated length is that of its headers and its body
+-- an H.264 packet that can be written: no row refuses it, and its stated length is the number of bytes after its stream
+-- header
 pub record IsWritableCvf (v : Cvf) : Type 0 where
   pub subtype : v.header.subtype ≡ cvf_subtype
   pub evt : v.evt < 2 ^ 4

@@ -26,7 +26,8 @@ settled_by before (packet fragment) =
     given_up (before ++ packet fragment ∷ [])
     ++ settled_as (piece (before ++ packet fragment ∷ [])) fragment (last_stretch (before ++ packet fragment ∷ []))
 
--- the packets that the events of the second list settle after the events of the first list, in order
+-- the packets, in order, that the events of the second list settle; these events come after the events of the first
+-- list
 abbrev pub settled : List Event → List Event → List Fragment
 settled before [] = []
 settled before (event ∷ events) = settled_by before event ++ settled (before ++ event ∷ []) events

@@ -145,8 +145,8 @@ held events = waiting (last_stretch events)
 abbrev pub is_passed : List Fragment → Bool
 is_passed stretch = not (is_within stretch) && is_within (before_last stretch)
 
--- What becomes of the last packet of the stretch, as far as is known when the packet arrives. The stretch is empty if
--- the packet is in no stretch.
+-- What becomes of a packet, as far as is known when the packet arrives. The list is the stretch that ends with this
+-- packet. The list is empty if the packet is in no stretch.
 abbrev pub piece_of : List Fragment → Piece
 piece_of [] = variant.Lost Broken
 piece_of (first ∷ rest) =

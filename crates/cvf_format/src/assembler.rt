@@ -176,8 +176,8 @@ impl Assembler {
         self.shown()
     }
 
-    /// The size of the unit that this packet would complete, or 0 if it would complete none. The caller can reserve
-    /// memory for the unit before it pushes the packet. The packet must meet the requirements of `push`.
+    /// The size of the unit that this packet would complete, or 0 if it would complete none. With this size, the caller
+    /// can reserve memory for the unit before it pushes the packet. The packet must meet the requirements of `push`.
     pub fn unit_with(&self, mark: Mark, instant: Option<i64>, view: &CvfView<'_>) -> usize
         requires { length view.now.body.now ≤ longest_body }
         ensures { (events : List Event) → StandsFor self.now events

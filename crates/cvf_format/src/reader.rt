@@ -18,7 +18,7 @@ fn is_single_type(kind: u8) -> bool
     0 < kind && kind < 24
 }
 
-/// The refusal of the fields that come before the NAL unit.
+/// Why a field that comes before the NAL unit is refused; `None` if none of them is.
 fn refused_by_format(pdu: &[u8], stated: u16) -> Option<Refusal>
     requires whole { 24 ≤ length pdu.now }
     requires length { stated ≡ bits 20 0 16 pdu.now }
@@ -146,12 +146,13 @@ fn read_packet(pdu: &[u8]) -> Result<CvfView<'_>, Refusal>
 /// Reads a packet.
 ///
 /// Checks the fields in the order given here, and refuses the packet at the first one that fails. The slice must hold
-/// the whole stream header. The subtype must be CVF, the version 0, the format that of RFC payloads, and the format
-/// subtype that of H.264. The stated length must be at least 5, and at most the number of bytes after the stream
-/// header. The NAL type must be FU-A or that of a single unit, 1 to 23. A fragment must have an FU header, must not be
-/// both first and last, and must be of a unit with a type from 1 to 23.
+/// the whole stream header. The subtype must be CVF, and the version must be 0. The format must be the one of RFC
+/// payloads, and the format subtype the one of H.264. The stated length must be at least 5, and at most the number of
+/// bytes after the stream header. The NAL type must be FU-A or that of a single unit, 1 to 23. A fragment must have an
+/// FU header, must not be both first and last, and must be of a unit with a type from 1 to 23.
 ///
-/// A body may be empty. Reserved bits may be set, and bytes after the stated length are ignored.
+/// An empty body is accepted. A packet with a reserved bit set is accepted, and bytes after the stated length are
+/// ignored.
 #[inline(always)]
 pub fn read_cvf(pdu: &[u8]) -> Result<CvfView<'_>, Refusal>
     ensures exact { Reads cvf_shape (cvf_refusal pdu.now) (cvf_of pdu.now) result }

@@ -11,7 +11,7 @@ use avtp_base::Room;
 use avtp_base::octets::write_front;
 use avtp_header::header_bytes;
 
-/// Bytes 16 to 19: the format is that of an RFC, and its subtype H.264.
+/// Bytes 16 to 19: the format is the one of RFC payloads, and the format subtype is the one of H.264.
 const FORMAT_DATA: u32 = 0x0201_0000;
 
 /// Bytes 22 and 23: the bit `ptv`, the marker and the event field.
@@ -54,8 +54,8 @@ fn packet_header(view: &CvfView<'_>) -> [u8; 30]
 /// Writes a packet, with every reserved bit 0, and returns its length. If the slice is shorter than the packet, the
 /// function returns `Room` and leaves the slice unchanged.
 ///
-/// The view must be one that `read_cvf` could return. In such a view the subtype is CVF, the event field at most 15,
-/// and the type of the NAL unit 1 to 23. `data_length` must be 5 more than the body of a whole unit, or 6 more than
+/// The view must be one that `read_cvf` could return. In such a view the subtype is CVF, the event field is at most 15,
+/// and the type of the NAL unit is 1 to 23. `data_length` must be 5 more than the body of a whole unit, or 6 more than
 /// that of a fragment. The header's format bits and `reserved` are not read.
 pub fn write_cvf(out: &mut [u8], view: &CvfView<'_>) -> Result<usize, Room>
     requires { IsWritableCvf (cvf_shape view.now) }

@@ -47,7 +47,8 @@ stream_numbers [] = []
 stream_numbers (OfStream n ∷ os) = n ∷ stream_numbers os
 stream_numbers (OfClock m ∷ os) = stream_numbers os
 
--- Each delivery is a copy of a packet of the journal. Any packet may be missing, arrive again, or arrive in any order.
+-- Each delivery is a copy of a packet of the journal. Packets can be missing, arrive more than once, and arrive in any
+-- order.
 pub record AreDelivered (p : PacketJournal) (lead : ℕ) (ds : List Delivery) : Type 0 where
   pub origins : List Origin
   pub copies : AreFrom p lead origins ds

@@ -87,7 +87,7 @@ IsPacket (H264 part) j stream n (Pcm v) = ⊥
 IsPacket (H264 part) j stream n (Am824Data v) = ⊥
 IsPacket (H264 part) j stream n (H264Data v) = IsCvfPacket j (part n) stream n v
 
--- the type of CRF packets whose timestamps count audio samples (IEEE 1722-2016, 10)
+-- the type of CRF packets whose events are audio samples (IEEE 1722-2016, 10)
 abbrev pub audio_sample_type : ℕ
 audio_sample_type = 1
 

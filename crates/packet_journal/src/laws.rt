@@ -53,8 +53,8 @@ pub fn records_of_both_are_delivered()
     cvf_format::laws::packet_again();
 }
 
-/// Each packet of H.264 belongs to one NAL unit, and the talker sent all packets of the unit. A single packet carries
-/// the whole unit, or the packets carry a first fragment, then only middle ones, and then a last one.
+/// Each packet of H.264 belongs to one NAL unit, and the talker sent all packets of the unit. The unit is whole in a
+/// single packet, or its packets carry a first fragment, then only middle ones, and then a last one.
 pub fn packets_are_of_units()
     ensures { (j : Journal) (part : ℕ → Part) (n : ℕ) → IsVideo j part → n < j.packets → IsInUnit j part n }
 {}

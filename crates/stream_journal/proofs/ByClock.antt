@@ -208,7 +208,8 @@ by_nominal j is n head known e =
     close_on j.rate j.count (nominal_line head.instant j.rate) (pos 0) head.first head.instant (pos (j.due n)) (omega arith) (omega arith) reach.from reach.to (omega arith) (omega arith)
     (at_start head.instant 1000000000 j.rate) due
 
--- two packets with the same first instant are due less than the time of 192 packets apart
+-- if two packets have the same first instant, the instants at which they are due differ by less than the time of 192
+-- packets
 too_near : (rate w : ℕ) (x p q : ℤ) (a b : ℕ) → IsClose rate w (x -ℤ p) → IsClose rate w (pos a -ℤ p) → IsClose rate w (x -ℤ q) → IsClose rate w (pos b -ℤ q)
     → 4 * (a * rate) + 768 * w ≤ 4 * (b * rate) → ⊥
 too_near rate w x p q a b c d e f h =

@@ -12,7 +12,7 @@ use Rattle.stream_journal.specs.Near.{IsNear}
 use Rattle.stream_journal.proofs.ByClock.{IsClose, by_clock, by_nominal, difference_times}
 use Rattle.stream_journal.proofs.Spacing.{spaced as due_spaced}
 
--- the first instant `x` is less than the time of 18 packets before or after the instant `due`
+-- the first instant `x` differs from the instant `due` by less than the time of 18 packets
 record IsNearDue (rate w : ℕ) (x due : ℤ) : Type 0 where
   above : ((x -ℤ due) *ℤ pos (8 * rate)) <ℤ pos (144 * w)
   below : ((due -ℤ x) *ℤ pos (8 * rate)) <ℤ pos (144 * w)
@@ -38,8 +38,8 @@ not_further x y = of_difference (x -ℤ y) (y -ℤ x) (omega (arith, ints))
     of_difference (pos k) w e = omega (arith, ints)
     of_difference (negsuc k) w e = omega (arith, ints)
 
--- if two packets are due at least the time of 192 packets apart, their first instants are more than the time of 72
--- packets apart
+-- if the instants at which two packets are due differ by at least the time of 192 packets, their first instants differ
+-- by more than the time of 72 packets
 too_near : (rate w : ℕ) (x y : ℤ) (a b : ℕ) → IsNearDue rate w x (pos a) → IsNearDue rate w y (pos b) → unsigned_abs (x -ℤ y) * rate ≤ 72 * w → 4 * (a * rate) + 768 * w ≤ 4 * (b * rate) → ⊥
 too_near rate w x y a b c d near h =
     let k : ℕ = unsigned_abs (x -ℤ y) in

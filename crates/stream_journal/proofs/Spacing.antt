@@ -1,4 +1,5 @@
--- How far apart packets are due, and when a sample that is counted from a stamp is due.
+-- The time between the instants at which two packets are due, and the instant at which a sample that is counted from a
+-- stamp is due.
 use Rattle.std.proofs.Common.{◌≡◌, ℕ, zero, suc, ◌+◌, ◌-◌, ◌*◌, ◌<◌, ◌≤◌, ℤ, pos, neg_ℤ, ◌+ℤ◌, ◌-ℤ◌, refl, ap, inl, inr, subst, arith}
 use Rattle.std.proofs.Math.Nat.{mul-le-mul_left}
 use Rattle.std.proofs.lemmas.Bool.{cases_lt}

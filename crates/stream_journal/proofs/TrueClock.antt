@@ -109,7 +109,7 @@ span c is m l (suc k) known last =
 not_joined_back : (p q up time : ℕ) → 1 ≤ time → q ≤ p → 7 * time ≤ 8 * ((q - p) * up) → ⊥
 not_joined_back p q up time some h least = let none : q - p ≡ 0 = omega arith in let least = rw none at least in omega arith
 
--- two points are not joined if they are at least 3/2 of the nominal time of the interval apart
+-- two points are not joined if the time between them is at least 3/2 of the nominal time of the interval
 not_joined_far : (p q up time k : ℕ) → 1 ≤ time → 1 ≤ k → 4 * (p * up) + 3 * suc k * time ≤ 4 * (q * up) → 8 * ((q - p) * up) ≤ 9 * time → ⊥
 not_joined_far p q up time k some more far most = elim (cases_lt p q) [
   | inl below ↦

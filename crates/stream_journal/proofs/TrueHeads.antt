@@ -22,7 +22,7 @@ use Rattle.stream_journal.proofs.Apart.{apart, back_of}
 difference : (x y : ℕ) → unsigned_abs (pos x -ℤ pos y) ≡ (x - y) + (y - x)
 difference x y = omega (arith, ints)
 
--- if x is near `due`, and p is far from `due`, then x and p are more than the time of 60 packets apart
+-- if x is near `due`, and p is far from `due`, then x and p differ by more than the time of 60 packets
 refused_by : (x p due r w d : ℕ) → due * r < x * r + 128 * w → x * r < due * r + 128 * w → p ≤ x + d → x ≤ p + d
     → (due * r + 189 * w < p * r) ⊎ (p * r + 189 * w < due * r) → 60 * w < d * r
 refused_by x p due r w d from to above below (inl h) =
@@ -45,7 +45,7 @@ audio_of (H264 part) n count far e = absurd cc
 not_le : (a b : ℕ) → b < a → nat_le a b ≡ false
 not_le a b h = grind (arith, nat_tests)
 
--- if x and p are more than the time of 60 packets apart, the comparison of `is_near` is false
+-- if x and p differ by more than the time of 60 packets, the comparison of `is_near` is false
 near_by : (x p r count : ℕ) → 60 * (count * 1000000000) < ((x - p) + (p - x)) * r → nat_le (unsigned_abs (pos x -ℤ pos p) * r) (60 * count * 1000000000) ≡ false
 near_by x p r count h = rw (difference x p) (not_le (((x - p) + (p - x)) * r) (60 * count * 1000000000) (omega arith))
 

@@ -18,8 +18,8 @@ pub record IsRowOf (c : ClockJournal) (shift : ℤ) (m : ℕ) (row : ClockRow) :
   pub size : length row.payload ≡ 8 * length (c.points m)
   pub points : (i : ℕ) → i < length (c.points m) → pos (get_or (c.points m) i 0) ≡ pos (timestamp row i) +ℤ shift
 
--- A row that gives points is a copy of some packet of the clock. Any packet may be missing, arrive again, or arrive in
--- any order.
+-- A row that gives points is a copy of some packet of the clock. Packets can be missing, arrive more than once, and
+-- arrive in any order.
 abbrev pub IsTrueRow : ClockJournal → ℤ → ClockRow → Type 0
 IsTrueRow c shift row = row.usable ≡ true → (m : ℕ) × IsRowOf c shift m row
 

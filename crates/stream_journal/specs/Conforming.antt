@@ -54,7 +54,7 @@ pub record IsAudio (j : Journal) : Type 0 where
   -- packets have timestamps as the format says
   pub stamps : (n : ℕ) → n < j.packets → is_some (j.stamp n) ≡ is_stamped (rule_of j.kind n) n j.count
   pub blocks : HasBlocks j.kind j.count j.packets
-  -- first samples of adjacent packets are at least 3/4 of a packet's time apart
+  -- the instants at which adjacent packets are due differ by at least 3/4 of a packet's time
   pub spacing : (n : ℕ) → suc n < j.packets → IsApart j 3 (j.due n) (j.due (suc n))
   -- a packet that has a head is due at the instant of its first sample
   pub first_instants : (n : ℕ) (head : Head) → n < j.packets → head_of j n ≡ Some head → pos (j.due n) ≡ nominal_instant j head 0
@@ -97,9 +97,10 @@ pub record IsClock (c : ClockJournal) : Type 0 where
   pub interval : 1 ≤ c.interval
   -- each packet has a point
   pub some : (n : ℕ) → n < c.packets → IsPlace c (record { packet = n; at = 0 })
-  -- each point is at least 3/4 of the nominal interval after the point before it, even in another run
+  -- from each point to the next, at least 3/4 of the nominal time of the interval passes, even if the next point begins
+  -- a new run
   pub spaced : (p q : Place) → Follows c p q → IsSpaced (pair_at c p q)
-  -- adjacent points of a run are 7/8 to 9/8 of the nominal interval apart
+  -- the time between adjacent points of a run is 7/8 to 9/8 of the nominal time of the interval
   pub even : (p q : Place) → Follows c p q → InOneRun c p q → IsJoined (pair_at c p q)
 
 -- ---- the clock and the timestamps of an audio stream

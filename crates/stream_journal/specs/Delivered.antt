@@ -1,4 +1,4 @@
--- How far from a packet's instant a copy of the packet may arrive if a listener is to tell which instant was sent.
+-- How near to a packet's instant a copy of the packet must arrive, so that a listener can tell which instant was sent.
 use Rattle.std.specs.Prelude.{◌≡◌, ◌⊎◌, ℕ, ◌+◌, ◌*◌, ◌^◌, ◌<◌, ◌≤◌, ⊤, List, [], ◌∷◌, map, All, Some, None}
 use Rattle.stream_journal.specs.Journal.{Journal, Kind, DenseAaf, SparseAaf, Am824, H264, First, Middle, Last}
 
@@ -12,7 +12,7 @@ pub record IsInHalfCircle (instant arrival : ℕ) : Type 0 where
   pub from : instant < arrival + 2 ^ 31
   pub to : arrival ≤ instant + 2 ^ 31
 
--- the instants x and y are less than the time of `times` packets apart
+-- the instants x and y differ by less than the time of `times` packets
 pub record IsWithin (j : Journal) (times x y : ℕ) : Type 0 where
   pub from : y * j.rate < x * j.rate + times * (j.count * 1000000000)
   pub to : x * j.rate < y * j.rate + times * (j.count * 1000000000)
@@ -30,8 +30,8 @@ pub record IsDelivered (j : Journal) (lead : ℕ) (c : Copy) : Type 0 where
   pub known : c.number < j.packets
   pub arrival : c.arrival ≤ 2 ^ 62
   pub stamped : (instant : ℕ) → j.stamp c.number ≡ Some instant → IsInHalfCircle instant c.arrival
-  -- if an audio packet has no timestamp, the copy's arrival plus `lead` is less than the time of 128 packets before or
-  -- after the packet's first instant
+  -- if an audio packet has no timestamp, the copy's arrival plus `lead` differs from the packet's first instant by less
+  -- than the time of 128 packets
   pub unstamped : IsAudioKind j.kind → j.stamp c.number ≡ None → IsWithin j 128 (c.arrival + lead) (j.due c.number)
 
 -- ---- copies of adjacent fragments
@@ -50,14 +50,15 @@ IsNear j n m =
     IsFragment j.kind n → IsFragment j.kind m → ((j.stamp n ≡ None) ⊎ (j.stamp m ≡ None)) →
     (n ≤ m + 254) × (m ≤ n + 254)
 
--- `IsNear` holds for each two adjacent packets of the list. For any two packets of a run of fragments, `IsNear` follows
+-- `IsNear` holds for any two adjacent packets of the list. For any two packets of a run of fragments, `IsNear` follows
 -- by induction.
 abbrev pub AreNear : Journal → List ℕ → Type 0
 AreNear j [] = ⊤
 AreNear j (n ∷ []) = ⊤
 AreNear j (n ∷ m ∷ numbers) = IsNear j n m × AreNear j (m ∷ numbers)
 
--- Copies of a stream's packets reach a listener. Any packet may be missing, arrive again, or arrive in any order.
+-- Copies of a stream's packets reach a listener. Packets can be missing, arrive more than once, and arrive in any
+-- order.
 pub record AreDelivered (j : Journal) (lead : ℕ) (copies : List Copy) : Type 0 where
   pub each : All (IsDelivered j lead) copies
   pub near : AreNear j (map (λ c. c.number) copies)

@@ -135,7 +135,7 @@ video_part (suc (suc zero)) = Middle
 video_part (suc (suc (suc n))) = Last
 
 -- Four packets of H.264: a whole NAL unit, and a unit of three fragments of which the last has a timestamp. The two
--- units are in access units a thirtieth of a second apart.
+-- units belong to different access units, whose instants differ by a thirtieth of a second.
 abbrev pub video : Journal
 video = record {
   kind = H264 video_part;
@@ -150,7 +150,7 @@ video = record {
 
 -- ---- at the limits of the rules
 
--- a clock without packets, with this code of pull
+-- a clock without packets, with this pull code
 abbrev pub pulled : ℕ → ClockJournal
 pulled pull = record no_clock { pull = pull }
 

@@ -7,8 +7,8 @@ use Rattle.stream_journal.specs.Journal.{Journal}
 use Rattle.stream_journal.specs.Delivered.{Copy}
 use Rattle.stream_journal.specs.Heads.{IsStampOf}
 
--- A listener expects packets `lead` nanoseconds before their first instant. The arrival of this copy, plus `lead`, is
--- at most the time of 60 packets before or after the packet's first instant.
+-- A listener expects packets `lead` nanoseconds before their first instant. The arrival of this copy, plus `lead`,
+-- differs from the packet's first instant by at most the time of 60 packets.
 pub record IsExpected (j : Journal) (lead : ℕ) (c : Copy) : Type 0 where
   pub from : j.due c.number * j.rate ≤ (c.arrival + lead) * j.rate + 60 * (j.count * 1000000000)
   pub to : (c.arrival + lead) * j.rate ≤ j.due c.number * j.rate + 60 * (j.count * 1000000000)

@@ -66,11 +66,11 @@ pub record IsHeadOf (j : Journal) (n : ℕ) (far : Distance) (stamp : Stamp) : T
 abbrev pub behind : Journal → ℕ → ℕ → ℕ
 behind j instant samples = instant + samples * 1000000000 / j.rate
 
--- the instant `to` is more than the time of `times` packets after the instant `from`
+-- from the instant `from` to the instant `to`, more than the time of `times` packets passes
 abbrev pub IsFarther : Journal → ℕ → ℕ → ℕ → Type 0
 IsFarther j times from to = from * j.rate + times * (j.count * 1000000000) < to * j.rate
 
--- the two instants are more than the time of `times` packets apart
+-- the two instants differ by more than the time of `times` packets
 abbrev pub AreApart : Journal → ℕ → ℕ → ℕ → Type 0
 AreApart j times x y = IsFarther j times x y ⊎ IsFarther j times y x
 

@@ -19,8 +19,8 @@ abbrev pub stamps_in : Journal → List ℕ → List Stamp
 stamps_in j came = filter_map (λ n. option_map (stamp_at j n) (j.stamp n)) came
 
 -- A copy of a packet without a timestamp can be counted. One of the last `room` timestamps that arrived belongs to the
--- packet from which the copy is counted. There is no restart between the two packets. The copy's arrival plus `lead` is
--- at most the time of 60 packets before or after the packet's first instant.
+-- packet from which the copy is counted. There is no restart between the two packets. The copy's arrival plus `lead`
+-- differs from the packet's first instant by at most the time of 60 packets.
 pub record IsCounted (j : Journal) (lead room : ℕ) (c : Copy) (came : List ℕ) : Type 0 where
   pub none : j.stamp c.number ≡ None
   pub far : Distance
@@ -46,8 +46,8 @@ pub record IsCoveredBy (c : ClockJournal) (shift : ℤ) (rate : ℕ) (came : Lis
   pub later_came : Contains (last_of 64 came) later.packet
   pub covers : Covers (pair_at c earlier later) rate instant
 
--- `c` is a copy of an audio packet. After the stream's packets `came` and the clock's packets `clock_came` arrived, a
--- listener knows the instants of the samples of `c`. The packet has a timestamp, or the packet is counted from one of
+-- `c` is a copy of an audio packet. A listener at which the packets `came` of the stream and `clock_came` of the clock
+-- arrived knows the instants of the samples of `c`. The packet has a timestamp, or the packet is counted from one of
 -- the last 16 + `look` timestamps that arrived. If the listener has the clock, two of the clock's points cover that
 -- timestamp.
 pub record IsKnown (by_clock : Bool) (j : Journal) (shift : ℤ) (lead look : ℕ) (c : Copy) (came clock_came : List ℕ) : Type 0 where

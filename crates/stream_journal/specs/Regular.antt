@@ -17,8 +17,8 @@ pub record IsSteady (first second : Pair) : Type 0 where
   pub longer : 4 * (period second * second.up) ≤ 4 * (period first * first.up) + 1000000000 * first.down
   pub shorter : 4 * (period first * first.up) ≤ 4 * (period second * second.up) + 1000000000 * first.down
 
--- The clock's code of pull is one of the standard's (IEEE 1722-2016, 10). Adjacent periods of a run differ little, and
--- runs do not overlap.
+-- The clock's pull code is one that the standard defines (IEEE 1722-2016, 10). Adjacent periods of a run differ little,
+-- and runs do not overlap.
 pub record IsRegularClock (c : ClockJournal) : Type 0 where
   pub base : 1 ≤ c.base
   pub pull : c.pull ≤ 5
@@ -26,8 +26,8 @@ pub record IsRegularClock (c : ClockJournal) : Type 0 where
   -- adjacent periods of a run differ little, as `IsSteady` says
   pub steady : (p q r : Place) → Follows c p q → Follows c q r → InOneRun c p q → InOneRun c q r
       → IsSteady (pair_at c p q) (pair_at c q r)
-  -- From the last point of a run to the first point of the next run, at least the last period of the earlier run
-  -- passes.
+  -- The time from the last point of a run to the first point of the next run is at least as long as the last period of
+  -- the earlier run.
   pub renewed : (p q r : Place) → Follows c p q → Follows c q r → InOneRun c p q → ¬ InOneRun c q r
       → point c q + period (pair_at c p q) ≤ point c r
   pub holds : HoldsEight c.packets c.mr

@@ -17,8 +17,8 @@ ghost use Rattle.stream_journal.specs.Known.{IsKnown};
 ghost use Rattle.stream_journal.specs.Heads.{IsTrue, IsUnstamped, stamp_at, wanted};
 ghost use Rattle.stream_journal.specs.Journal.{IsAt, head_of};
 
-/// Three packets of 6 samples at 48 kHz take 125,000 ns each. The talker keeps the rules exactly if adjacent packets
-/// are due at least 3/4 of 125,000 ns apart.
+/// Three packets of 6 samples at 48 kHz take 125,000 ns each. The talker keeps the rules exactly if the instants at
+/// which adjacent packets are due differ by at least 3/4 of 125,000 ns.
 pub fn three_packets_conform()
     ensures { (spacing : ℕ) → Conforms (three_packets spacing) ↔ 93750 ≤ spacing }
 {}
@@ -75,7 +75,7 @@ pub fn samples_are_clocked()
     ensures next { IsAt true (clocked 44100) 17 5 (pos 1004220703) }
 {}
 
-/// The rules at their limits. Codes of pull are 0 to 5. Adjacent periods differ by at most a quarter of the 20,833 ns
+/// The rules at their limits. Pull codes are 0 to 5. Adjacent periods differ by at most a quarter of the 20,833 ns
 /// between two events of 48 kHz. If a stream agrees with its clock, each timestamp of the stream is covered by at most
 /// one joined pair. An access unit has at most 255 packets.
 pub fn rules_have_limits()

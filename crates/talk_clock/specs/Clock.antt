@@ -35,7 +35,7 @@ run_points crf plan packets = packets * plan.count / spacing_of crf plan.rate
 
 -- ---- the packets
 
--- the number of clock packets that hold all points; the last one may be partly filled
+-- the number of clock packets that are needed for all points; the last packet can be partly filled
 abbrev pub clock_packets : CrfPlan → TalkPlan → ℕ → ℕ
 clock_packets crf plan packets = div_ceil (points_for crf plan packets) crf.points
 
@@ -79,7 +79,7 @@ clock_arrival crf plan m = clock_point crf plan (first_point crf m) - plan.lead
 
 -- ---- the clock's journal
 
--- the journal of the clock with a stream of this many packets
+-- the journal of the clock that is sent with a stream of this many packets
 abbrev pub clock_times : CrfPlan → TalkPlan → ℕ → ClockJournal
 clock_times crf plan packets = record {
   base = crf.rate;
@@ -90,8 +90,8 @@ clock_times crf plan packets = record {
   mr = λ m. clock_mr crf plan m;
 }
 
--- The journal of the plan's clock with a stream of this many packets. If the plan has no clock, it is the journal of a
--- clock without packets.
+-- The journal of the plan's clock that is sent with a stream of this many packets. If the plan has no clock, it is the
+-- journal of a clock without packets.
 abbrev pub clock_by : Option CrfPlan → TalkPlan → ℕ → ClockJournal
 clock_by None plan packets = no_clock
 clock_by (Some crf) plan packets = clock_times crf plan packets
@@ -103,7 +103,7 @@ abbrev pub clock_id : Option CrfPlan → ℕ
 clock_id None = 0
 clock_id (Some crf) = crf.id
 
--- packet m of the clock with a stream of this many packets; a placeholder if there is no clock
+-- packet m of the clock that is sent with a stream of this many packets; a placeholder if there is no clock
 abbrev pub clock_packet_by : Option CrfPlan → TalkPlan → ℕ → ℕ → Crf
 clock_packet_by None plan packets m = crf_of []
 clock_packet_by (Some crf) plan packets m = clock_packet crf plan packets m

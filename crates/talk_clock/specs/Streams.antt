@@ -5,7 +5,7 @@ use Rattle.talk_plan.specs.declared.plan.TalkPlan.{TalkPlan}
 use Rattle.talk_clock.specs.Clock.{clock_packets, points_for, AreFew}
 use Rattle.talk_plan.specs.Plan.{IsAudioPlan}
 
--- a valid plan and its clock, with a stream whose sample frames can be counted
+-- a valid plan and its clock; the sample frames of the stream can be counted
 pub record IsClockStream (c : ClockStream) : Type 0 where
   pub plan : IsAudioPlan c.plan
   pub clock : c.plan.crf ≡ Some c.crf
@@ -21,7 +21,7 @@ pub record IsPointOfClock (c : ClockStream) (s : ℕ) : Type 0 where
   pub clock : IsClockStream c
   pub known : s < points_for c.crf c.plan c.stream
 
--- `c` is the clock of this plan, with a stream of this many packets
+-- `c` is the clock of this plan and is sent with a stream of this many packets
 pub record IsClockIn (c : ClockStream) (plan : TalkPlan) (packets : ℕ) : Type 0 where
   pub plan_is : c.plan ≡ plan
   pub stream : c.stream ≡ packets

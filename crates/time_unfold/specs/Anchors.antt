@@ -1,4 +1,4 @@
--- The last of the stamps that were noted.
+-- The stamps that were noted last.
 use Rattle.std.specs.Prelude.{◌≡◌, ◌≤◌, ℕ, List}
 use Rattle.time_unfold.specs.declared.stamp.Stamp.{Stamp}
 use Rattle.time_unfold.specs.Stamps.{last_of}

@@ -32,8 +32,8 @@ distance (Blocks dbc interval) n count =
     if nat_lt 7 (div_ceil (dbc % interval) count) then None else
     Some (record { packets = div_ceil (dbc % interval) count; samples = dbc % interval })
 
--- A packet without a timestamp is timed by an earlier stamped block. The result is the block count of that block in IEC
--- 61883-6, modulo 256; `None` for AAF.
+-- A packet without a timestamp is timed by an earlier stamped block. In IEC 61883-6, the result is the block count of
+-- that block, modulo 256; for AAF it is `None`.
 abbrev pub counted_block : HeadRule → Option ℕ
 counted_block Own = None
 counted_block Eight = None

@@ -7,7 +7,8 @@ use Rattle.time_unfold.specs.declared.stamp.Stamp.{Stamp}
 use Rattle.time_unfold.specs.declared.stamp.Want.{Want}
 use Rattle.time_unfold.specs.Time.{IsArrival}
 
--- the instant of a stamp is from -2^62 to below 2^62 + 2^31 ns, because it is less than 2^31 ns after an arrival
+-- the instant of a stamp is from -2^62 to below 2^62 + 2^31 ns; it is less than 2^31 ns after an arrival, and an
+-- arrival is at most 2^62
 pub record IsStamp (stamp : Stamp) : Type 0 where
   pub from : neg_ℤ (pos (2 ^ 62)) ≤ℤ stamp.instant
   pub to : stamp.instant <ℤ pos (2 ^ 62 + 2 ^ 31)

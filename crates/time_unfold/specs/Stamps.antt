@@ -21,8 +21,8 @@ same_flag false false = true
 abbrev pub candidate : Want → Stamp → ℤ
 candidate want stamp = instant_at (nominal_line stamp.instant want.rate) (pos want.back)
 
--- The packet's first sample, counted from the stamp, is at most 60 packet durations before or after the packet's
--- arrival plus the lead. This test is needed because sequence numbers repeat after 256 packets.
+-- Counted from the stamp, the packet's first sample is at most 60 packet durations away from its expected instant,
+-- which is the packet's arrival plus the lead. This test is needed because sequence numbers repeat after 256 packets.
 abbrev pub is_near : Want → Stamp → Bool
 is_near want stamp =
     nat_le (unsigned_abs ((want.arrival +ℤ pos want.lead) -ℤ candidate want stamp) * want.rate) (60 * want.count * 1000000000)
@@ -35,7 +35,7 @@ fits want stamp =
     if stamp.rate == want.rate then
     if same_block stamp.block want.block then is_near want stamp else false else false else false else false
 
--- the last item of a list that passes a test
+-- of the items of a list that pass a test, the last
 abbrev pub find_last : {T : Type 0} → (T → Bool) → List T → Option T
 find_last {T} test [] = None
 find_last {T} test (x ∷ xs) = last_or (find_last test xs) (if test x then Some x else None)

@@ -9,8 +9,8 @@ use crate::stamp::{Stamp, Want};
 
 const NANOSECONDS: u64 = 1_000_000_000;
 
-/// A stamp is near if the packet's first sample, counted from the stamp, is at most this many packet durations before
-/// or after the packet's arrival plus the lead.
+/// A stamp is near if the packet's first sample, counted from the stamp, is at most this many packet durations away
+/// from its expected instant, which is the packet's arrival plus the lead.
 const REACH: u64 = 60;
 
 fn candidate(stamp: &Stamp, want: &Want) -> i64
@@ -71,7 +71,8 @@ pub fn last_fit(stamps: &[Stamp], want: &Want) -> Option<Stamp>
 ///
 /// A stamp fits if it has the wanted sequence number, media clock restart bit, rate and block count, and is near (IEEE
 /// 1722-2016, 7, sparse timestamps; IEC 61883-6, block counts). A stamp is near if the packet's first sample, counted
-/// from the stamp, is at most 60 packet durations before or after the packet's arrival plus the lead.
+/// from the stamp, is at most 60 packet durations away from its expected instant, which is the packet's arrival plus
+/// the lead.
 ///
 /// The stamps are in the order of their arrival, with instants from -2^62 to below 2^62 + 2^31 ns. The packet has a
 /// rate of at least 1 Hz and at most 65,535 samples. `want.back` is at most 7 times the packet's number of samples.

@@ -77,7 +77,7 @@ fn block_distance(dbc: u8, interval: u32, count: u32) -> Option<Distance>
 impl HeadRule {
     /// The sample, counted from 0, to which the timestamp of a packet belongs. In AAF this is the first sample (IEEE
     /// 1722-2016, 7). In IEC 61883-6 it is the first block whose block count is a multiple of the interval, which is 8,
-    /// 16 or 32. The packet may end before that block.
+    /// 16 or 32. That block can be past the end of the packet.
     pub fn stamped_index(self) -> u32
         requires { IsRule self }
         ensures value { result ≡ stamped_index_of self }
@@ -103,8 +103,8 @@ impl HeadRule {
         }
     }
 
-    /// A packet without a timestamp is timed by an earlier stamped block. The result is the block count of that block,
-    /// modulo 256 (IEC 61883-6); `None` for AAF. The interval is 8, 16 or 32.
+    /// A packet without a timestamp is timed by an earlier stamped block. In IEC 61883-6, the result is the block count
+    /// of that block, modulo 256; for AAF it is `None`. The interval is 8, 16 or 32.
     pub fn counted_block(self) -> Option<u8>
         requires { IsRule self }
         ensures { result ≡ counted_block_of self }

@@ -28,7 +28,7 @@ pub struct Want {
     pub rate: u32,
     /// When the packet without a timestamp was captured, in nanoseconds of gPTP.
     pub arrival: i64,
-    /// A packet is expected this many nanoseconds before its first sample.
+    /// The packet is expected to arrive this many nanoseconds before the instant of its first sample.
     pub lead: u32,
     /// The packet's first sample is this many samples after the stamped sample.
     pub back: u32,

@@ -38,8 +38,8 @@ IsLead rate lead = (d : ℕ) → rate * d ≤ 562500000 → d ≤ lead
 abbrev pub HasInside : ℤ → ClockRow → Bounds → ℕ → ℕ → Type 0
 HasInside shift row bounds first end = (i : ℕ) → first ≤ i → i < end → IfSome (inside shift row i) (λ pair. IsWithin bounds pair)
 
--- Bounds g of `groups` hold the joined pairs inside a packet with indexes from 32 * g to 32 * g + 31. Pairs of later
--- groups have no bounds.
+-- Bounds g of `groups` hold those joined pairs inside a packet whose indexes are from 32 * g to 32 * g + 31. Groups
+-- after the last of `groups` have no bounds.
 abbrev pub AreGroups : ℤ → ClockRow → List Bounds → Type 0
 AreGroups shift row groups = (g : ℕ) (bounds : Bounds) → slice_get groups g ≡ Some bounds → (end : ℕ) → end ≤ 32 * g + 32 → end ≤ timestamps row - 1 → HasInside shift row bounds (32 * g) end
 

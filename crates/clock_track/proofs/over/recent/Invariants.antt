@@ -2,7 +2,7 @@ use Rattle.std.proofs.Common.{◌≡◌, ◌≤◌, length, drop}
 use Rattle.clock_track.specs.Rows.{used}
 use Rattle.clock_track.proofs.over.recent.Given as goal
 
--- `found` of the rows from index `start` on give points
+-- the number of rows from index `start` on that give points is `found`
 abbrev pub invariant-loop-start : goal.invariant-loop-start
 invariant-loop-start l = record {
   within : l.start ≤ length l.rows;
