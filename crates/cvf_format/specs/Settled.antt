@@ -1,5 +1,5 @@
--- Each packet is settled once, in order: a later event gives it up, it is lost when it arrives, it is in a complete
--- unit, or it still waits.
+-- Packets are settled in the order of their arrival, each once, and packets that are not settled yet wait. A packet is
+-- settled when a later event gives it up, when it is lost as it arrives, or when its unit is complete.
 use Rattle.std.specs.Prelude.{List, [], ◌∷◌, ◌++◌}
 use Rattle.cvf_format.specs.declared.piece.Piece.{Piece}
 use Rattle.cvf_format.specs.declared.piece.Piece.TheVariants.{Whole, Held, Lost}

@@ -23,15 +23,15 @@ const MOST_FRAGMENTS: usize = 4_096;
 /// fragments carry the same first byte of the unit, and each has the next sequence number. All fragments with a
 /// timestamp must have the same presentation time.
 ///
-/// What becomes of a packet depends on the longest stretch of packets that ends with it. The assembler keeps only that
-/// stretch.
+/// A stretch is a packet that begins a unit, followed by packets that each continue this unit. What becomes of a packet
+/// depends on the longest stretch that ends with it. The assembler keeps only that stretch.
 #[derive(Drop)]
 pub struct Assembler {
     /// The bytes of the unit so far, or of a complete unit if `whole` is true.
     bytes: Vec<u8>,
     /// The marks of the fragments that wait for the rest of their unit.
     held: Vec<Mark>,
-    /// The marks of the fragments that the last packet or cut gave up.
+    /// The marks of the fragments that the most recent packet or cut gave up.
     lost: Vec<Mark>,
     nal: u8,
     next_seq: u8,
@@ -150,8 +150,8 @@ impl Assembler {
         self.push_packet(mark, instant, view)
     }
 
-    /// The mark of fragment `i` of those that the last packet or cut gave up. These fragments are counted from 0, in
-    /// the order of their arrival. `i` must be less than the number of these fragments.
+    /// The mark of fragment `i` of those that the most recent packet or cut gave up. These fragments are counted from
+    /// 0, in the order of their arrival. `i` must be less than the number of these fragments.
     pub fn lost_mark(&self, i: u32) -> Mark
         requires { i < length self.now.lost }
         ensures { (events : List Event) → StandsFor self.now events → slice_get (lost_marks events) i ≡ Some result }
@@ -169,7 +169,7 @@ impl Assembler {
         self.give_up()
     }
 
-    /// The bytes of the unit that the last packet completed; empty if it completed none.
+    /// The bytes of the unit that the most recent packet completed; empty if it completed none, and after a cut.
     pub fn unit(&self) -> &[u8]
         ensures { (events : List Event) → StandsFor self.now events → result.now ≡ whole_unit events }
     {

@@ -16,8 +16,9 @@ pub fn one_stretch()
     ensures some { (events : List Event) → (last_stretch events ≡ []) ⊎ EndsWith events (last_stretch events) }
 {}
 
-/// Each packet is settled exactly once, in the order in which the packets arrived: a later event gives it up, it is
-/// lost when it arrives, it is in a unit that a packet completes, or it waits at the end.
+/// Packets are settled in the order of their arrival, each exactly once, and packets that are not settled wait at the
+/// end. A packet is settled when a later event gives it up, when it is lost as it arrives, or when its unit is
+/// complete.
 pub fn each_packet_once()
     ensures all { (events : List Event) → packets events ≡ settled [] events ++ held events }
     ensures next { (before : List Event) (event : Event) → held before ++ packets (event ∷ []) ≡ settled_by before event ++ held (before ++ event ∷ []) }

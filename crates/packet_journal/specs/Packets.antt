@@ -29,7 +29,8 @@ pub record PacketJournal : Type 0 where
 -- ---- which packets belong to which times
 
 -- The header of packet n of a stream (IEEE 1722-2016, 4.4.4). The header has the low 8 bits of the packet's number, and
--- the low 32 bits of the packet's timestamp if there is one. The bit tu is 0, and the restart bit is the journal's.
+-- the low 32 bits of the packet's timestamp if there is one. The bit `tu` is 0, and the restart bit is the one in the
+-- journal.
 pub record IsHeader (j : Journal) (stream n : ℕ) (h : StreamHeader) : Type 0 where
   pub valid_id : h.sv ≡ true
   pub id : h.stream_id ≡ stream
@@ -91,9 +92,9 @@ IsPacket (H264 part) j stream n (H264Data v) = IsCvfPacket j (part n) stream n v
 abbrev pub audio_sample_type : ℕ
 audio_sample_type = 1
 
--- Packet m of a clock (IEEE 1722-2016, 10). The packet has the type for audio samples, and its bit tu is 0. Its base
--- frequency, pull and interval are the clock's, and its restart bit is the journal's. The packet's timestamps plus
--- `shift` are the journal's points.
+-- Packet m of a clock (IEEE 1722-2016, 10). The packet has the type for audio samples, and its bit `tu` is 0. Its base
+-- frequency, pull, interval and restart bit are those in the clock's journal. The packet's timestamps plus `shift` are
+-- the journal's points.
 pub record IsClockPacket (c : ClockJournal) (shift : ℤ) (id m : ℕ) (v : Crf) : Type 0 where
   pub writable : IsWritableCrf v
   pub fits : Fits crf_layout v

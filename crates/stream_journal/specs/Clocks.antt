@@ -50,8 +50,8 @@ pub record Follows (c : ClockJournal) (p q : Place) : Type 0 where
 abbrev pub InOneRun : ClockJournal → Place → Place → Type 0
 InOneRun c p q = c.mr p.packet ≡ c.mr q.packet
 
--- The pair of the points at two positions, with the number of events between timestamps. The clock's frequency is `up /
--- down`, which is its base frequency times the factor of its pull (IEEE 1722-2016, 10).
+-- The pair of the points at two positions, with the number of events between timestamps. The quotient of `up` and
+-- `down` is the clock's frequency: its base frequency times the factor of its pull (IEEE 1722-2016, 10).
 abbrev pub pair_at : ClockJournal → Place → Place → Pair
 pair_at c p q = record {
   earlier = pos (point c p);

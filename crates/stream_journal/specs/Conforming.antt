@@ -54,7 +54,7 @@ pub record IsAudio (j : Journal) : Type 0 where
   -- packets have timestamps as the format says
   pub stamps : (n : ℕ) → n < j.packets → is_some (j.stamp n) ≡ is_stamped (rule_of j.kind n) n j.count
   pub blocks : HasBlocks j.kind j.count j.packets
-  -- the instants at which adjacent packets are due differ by at least 3/4 of a packet's time
+  -- from the first sample of a packet to that of the next packet, at least 3/4 of a packet's time passes
   pub spacing : (n : ℕ) → suc n < j.packets → IsApart j 3 (j.due n) (j.due (suc n))
   -- a packet that has a head is due at the instant of its first sample
   pub first_instants : (n : ℕ) (head : Head) → n < j.packets → head_of j n ≡ Some head → pos (j.due n) ≡ nominal_instant j head 0

@@ -69,10 +69,10 @@ pub fn joined_pairs_are_true()
     ensures { (c : ClockJournal) (p q : Place) → IsClock c → SeemsJoined c p q → IsJoinedAt c p q }
 {}
 
-/// A listener has copies of any of a clock's packets, in any order. Each pair that the listener joins is a joined pair
-/// of the list of all points. Each line that the listener finds is that of a joined pair that covers the instant. If
-/// the stream agrees with the clock, there is at most one such line for the instant of a packet's head. On such a line,
-/// the packet's samples are at the instants that the journal gives them by the clock.
+/// A listener has copies of some or all of a clock's packets, in any order. Each pair that the listener joins is a
+/// joined pair of the list of all points. Each line that the listener finds is that of a joined pair that covers the
+/// instant. If the stream agrees with the clock, there is at most one such line for the instant of a packet's head. On
+/// such a line, the packet's samples are at the instants that the journal gives them by the clock.
 pub fn clock_lines_are_true()
     ensures pairs { (c : ClockJournal) (shift : ℤ) (rows : List ClockRow) → IsClock c → All (IsTrueRow c shift) rows → All (IsTruePair c) (joined_pairs shift (window rows)) }
     ensures spot { (j : Journal) (shift instant : ℤ) (rows : List ClockRow) → IsClock j.clock → All (IsTrueRow j.clock shift) rows → IfSome (clock_spot rows shift instant j.rate) (IsSpotAt j instant) }

@@ -62,7 +62,7 @@ rest_only z q r d some e natural below =
     let times : int_div_euclid z (pos d) *ℤ pos d ≡ q *ℤ pos d = ap (λ (n : ℤ). n *ℤ pos d) same in
     omega (arith, ints)
 
--- two integers are equal if they have the same remainder and are less than the divisor apart
+-- two integers are equal if they have the same remainder and differ by less than the divisor
 pub same_rest : (x y : ℤ) (d : ℕ) → 0 < d → int_rem_euclid x (pos d) ≡ int_rem_euclid y (pos d) → x <ℤ (y +ℤ pos d) → y <ℤ (x +ℤ pos d) → x ≡ y
 same_rest x y d some e above below =
     let p = int_div_euclid x (pos d) in

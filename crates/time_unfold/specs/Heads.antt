@@ -1,5 +1,5 @@
--- Which sample of an audio packet its timestamp belongs to, and which earlier sample a packet without a timestamp is
--- counted from. Packets are numbered through the stream, perhaps modulo 256.
+-- To which sample of an audio packet the packet's timestamp belongs, and from which earlier sample a packet without a
+-- timestamp is counted. Packets are numbered through the stream; a packet's number can be given modulo 256.
 use Rattle.std.specs.Prelude.{ℕ, ◌+◌, ◌-◌, ◌*◌, ◌%◌, ◌==◌, nat_lt, if◌then◌else◌, Option, Some, None}
 use Rattle.std.specs.Int.{div_ceil}
 use Rattle.time_unfold.specs.declared.head_rule.Distance.{Distance}
@@ -20,8 +20,8 @@ stamped_block Eight = None
 stamped_block (Blocks dbc interval) = Some ((dbc + stamped_index (Blocks dbc interval)) % 256)
 
 -- How far back the stamped sample is if packet n, which has `count` samples, has no timestamp. In sparse AAF, the
--- stamped sample is the first sample of the last earlier packet whose number is a multiple of 8. In IEC 61883-6, it is
--- the last earlier block whose block count is a multiple of the interval. `None` for AAF that is not sparse. Also
+-- stamped sample is the first sample of the nearest earlier packet whose number is a multiple of 8. In IEC 61883-6, it
+-- is the nearest earlier block whose block count is a multiple of the interval. `None` for AAF that is not sparse. Also
 -- `None` if the packet's own first sample is stamped, or if the stamped sample is more than 7 packets back.
 abbrev pub distance : HeadRule → ℕ → ℕ → Option Distance
 distance Own n count = None
@@ -32,8 +32,8 @@ distance (Blocks dbc interval) n count =
     if nat_lt 7 (div_ceil (dbc % interval) count) then None else
     Some (record { packets = div_ceil (dbc % interval) count; samples = dbc % interval })
 
--- A packet without a timestamp is timed by an earlier stamped block. In IEC 61883-6, the result is the block count of
--- that block, modulo 256; for AAF it is `None`.
+-- The time of a packet without a timestamp is counted from an earlier stamped block. In IEC 61883-6, the result is the
+-- block count of that block, modulo 256; for AAF it is `None`.
 abbrev pub counted_block : HeadRule → Option ℕ
 counted_block Own = None
 counted_block Eight = None

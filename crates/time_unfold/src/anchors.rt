@@ -1,4 +1,4 @@
-//! The last stamps of a running stream, from which packets without a timestamp are counted.
+//! The newest stamps of a running stream, from which packets without a timestamp are counted.
 
 ghost use Rattle.std.specs.Prelude.{◌≡◌, ◌++◌, ◌∷◌, [], IfOk, IfSome, List};
 ghost use Rattle.time_unfold.specs.declared.stamp.Stamp.{Stamp as StampValue};
@@ -13,7 +13,7 @@ use circular_buffer::HeapCircularBuffer;
 use std::alloc::Global;
 use std::marker::Model;
 
-/// The last stamps of a stream.
+/// The newest stamps of a stream.
 #[derive(Drop)]
 pub struct Anchors {
     stamps: HeapCircularBuffer<Stamp>,

@@ -103,8 +103,8 @@ impl HeadRule {
         }
     }
 
-    /// A packet without a timestamp is timed by an earlier stamped block. In IEC 61883-6, the result is the block count
-    /// of that block, modulo 256; for AAF it is `None`. The interval is 8, 16 or 32.
+    /// The time of a packet without a timestamp is counted from an earlier stamped block. In IEC 61883-6, the result is
+    /// the block count of that block, modulo 256; for AAF it is `None`. The interval is 8, 16 or 32.
     pub fn counted_block(self) -> Option<u8>
         requires { IsRule self }
         ensures { result ≡ counted_block_of self }
@@ -118,8 +118,8 @@ impl HeadRule {
     }
 
     /// How far back the stamped sample is if the packet has no timestamp. In sparse AAF, the stamped sample is the
-    /// first sample of the last earlier packet whose sequence number is a multiple of 8. In IEC 61883-6, it is the last
-    /// earlier block whose block count is a multiple of the interval.
+    /// first sample of the nearest earlier packet whose sequence number is a multiple of 8. In IEC 61883-6, it is the
+    /// nearest earlier block whose block count is a multiple of the interval.
     ///
     /// `None` for AAF that is not sparse. Also `None` if the packet's own first sample is stamped, or if the stamped
     /// sample is more than 7 packets back. The packet has 1 to 65,535 samples, and the interval is 8, 16 or 32.
