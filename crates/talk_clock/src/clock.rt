@@ -13,8 +13,8 @@ use crf_format::{CrfView, write_crf};
 use talk_plan::{CrfPlan, ETHERNET_HEADER, TalkPlan, write_ethernet};
 
 /// The media clock of a plan, which is sent with a stream of `stream` packets. The clock's points are counted through
-/// the whole stream, including points at sample frames that only fill up the last packet. The sample frame of point s is
-/// s times the spacing. Each restart is at the beginning of a clock packet, so a restart does not change the sample
+/// the whole stream, including points at sample frames that only fill up the last packet. The sample frame of point s
+/// is s times the spacing. Each restart is at the beginning of a clock packet, so a restart does not change the sample
 /// frames of points.
 #[derive(Clone, Copy, Debug)]
 pub struct ClockStream {
