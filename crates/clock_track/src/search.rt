@@ -36,7 +36,7 @@ pub struct Query {
 }
 
 /// A joined pair covers no instant that is more than this many nanoseconds before the pair's later point. The number is
-/// 9/8 of half a sample of a stream of `rate` samples a second, rounded down.
+/// 9/8 of half the nominal spacing of samples at `rate` samples a second, rounded down.
 pub fn lead_of(rate: u32) -> u64
     requires { 1 ≤ rate }
     ensures { IsLead rate result }

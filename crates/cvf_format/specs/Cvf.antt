@@ -147,9 +147,9 @@ is_fragment bytes = bits 28 3 5 bytes == fu_a
 abbrev pub cut_off : Field → ℕ → Bool → Row
 cut_off field at holds = record { refusal = record { field = field; at = at; short = true }; holds = holds }
 
--- The rows of the NAL unit's headers, which come last. One row refuses a type that is neither that of a single unit nor
--- FU-A. The other rows refuse an FU header that is cut off, has both S and E, or names a type other than that of a
--- single unit.
+-- The rows of the NAL unit's headers; they are the last rows. One row refuses a type that is neither that of a single
+-- unit nor FU-A. The other rows refuse an FU header that is cut off, has both S and E, or names a type other than that
+-- of a single unit.
 abbrev pub nal_rows : List ℕ → List Row
 nal_rows bytes =
     row NalType 28 (not (is_single_type (bits 28 3 5 bytes) || is_fragment bytes)) ∷

@@ -42,7 +42,8 @@ pub fn other_stamps_are_far()
 {}
 
 /// A listener has a copy of a packet without a timestamp. If the stamp of another packet has the right sequence number,
-/// the listener refuses this stamp. The copy arrives too far from the instant that would be counted from the stamp.
+/// the listener refuses this stamp. The copy arrives too long before or after the instant that would be counted from
+/// this stamp.
 pub fn other_stamps_are_refused()
     ensures candidate { (j : Journal) (lead : ℕ) (c : Copy) (far : Distance) (k : ℕ) (stamp : Stamp) (is : IsStampOf j k stamp) → candidate (wanted j lead c far) stamp ≡ pos (behind j is.instant far.samples) }
     ensures refused { (j : Journal) (lead : ℕ) (c : Copy) (far : Distance) (k : ℕ) (stamp : Stamp) → IsAudio j → IsUnstamped j lead c far → IsStampOf j k stamp → IsOther c.number k far → is_near (wanted j lead c far) stamp ≡ false }
@@ -64,7 +65,7 @@ pub fn samples_have_one_instant()
 {}
 
 /// If a listener joins two points from copies of the clock's packets, they are a joined pair of the list of all points.
-/// Packets that are 256 apart have the same sequence number, but their points are too far apart in time.
+/// Packets whose numbers differ by 256 have the same sequence number, but their points are too far apart in time.
 pub fn joined_pairs_are_true()
     ensures { (c : ClockJournal) (p q : Place) → IsClock c → SeemsJoined c p q → IsJoinedAt c p q }
 {}

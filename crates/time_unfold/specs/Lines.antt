@@ -3,7 +3,7 @@ use Rattle.std.specs.Prelude.{ℕ, ℤ, pos, ◌+ℤ◌, ◌-ℤ◌, ◌*ℤ◌,
 use Rattle.std.specs.Int.{int_div_euclid}
 use Rattle.time_unfold.specs.declared.line.Line.{Line}
 
--- the greatest whole number that is at most numerator / denominator; the numerator may be negative
+-- the greatest whole number that is at most numerator / denominator; the numerator can be negative
 abbrev pub floor_of : ℤ → ℕ → ℤ
 floor_of numerator denominator = int_div_euclid numerator (pos denominator)
 

@@ -8,7 +8,7 @@ pub record IsArrival (arrival : ℤ) : Type 0 where
   pub from : pos 0 ≤ℤ arrival
   pub to : arrival ≤ℤ pos (2 ^ 62)
 
--- an instant that a packet or a sample may have
+-- an instant that a packet or a sample can have
 pub record IsInstant (instant : ℤ) : Type 0 where
   pub from : neg_ℤ (pos (2 ^ 62)) ≤ℤ instant
   pub to : instant <ℤ pos (2 ^ 63)
