@@ -30,7 +30,8 @@ abbrev pub IsOutside : Bounds → ℤ → ℕ → Type 0
 IsOutside bounds instant lead = (bounds.latest ≤ℤ instant) ⊎ ((instant +ℤ pos lead) <ℤ bounds.earliest)
 
 -- In a stream of this rate, if an instant is before a joined pair's later point by more than the lead, the pair does
--- not cover the instant. The lead is at least 9/8 of half the nominal spacing of samples.
+-- not cover the instant. The lead is at least 9/8 of half the nominal spacing of samples, rounded down to a whole
+-- nanosecond.
 abbrev pub IsLead : ℕ → ℕ → Type 0
 IsLead rate lead = (d : ℕ) → rate * d ≤ 562500000 → d ≤ lead
 
