@@ -39,7 +39,7 @@ not_there bytes needle k never = by (occurs_at bytes needle k) refl
     by true t = absurd (never (OccursAt-true bytes needle k t))
     by false f = f
 
--- No start code and no three zeros begin within the bytes of a unit, because its last byte is not zero.
+-- Neither a start code nor a run of three zeros begins within a unit, because the unit's last byte is not zero.
 module _ (bytes unit rest : List ℕ) (at : ℕ) (carried : IsCarried unit) (stands : drop at bytes ≡ unit ++ rest) where
   unit_byte : (i : ℕ) → i < length unit → get_or bytes (at + i) 0 ≡ get_or unit i 0
   unit_byte i inside = sym (get_or-drop at bytes i 0) ∙ ap (λ (xs : List ℕ). get_or xs i 0) stands ∙ get_or_append_left unit rest 0 i inside

@@ -1,5 +1,5 @@
--- A walk along a list changes each element once. The walk counts by how much the number of elements that pass a test
--- rises.
+-- A walk along a list changes each element once. The walk also counts how many more elements pass a test after the walk
+-- than before it.
 use Rattle.std.proofs.Common.{◌≡◌, ℕ, ◌+◌, ◌<◌, ◌≤◌, Bool, true, false, cond, not, ◌&&◌, List, [], ◌∷◌, ◌++◌, length, get_or, set, take, drop, refl, sym, subst, ◌∙◌, arith, count_by, length-set}
 use Rattle.std.specs.List.{AllZip}
 use Rattle.std.proofs.lemmas.List.{drop_more, drop-set-lt, take_more, take_more_set, take_all, length-take}
@@ -8,8 +8,8 @@ use Rattle.std.proofs.lemmas.List.Filters.{length-filter_both}
 use Rattle.std.specs.Int.{from_bool}
 use Rattle.std.proofs.lemmas.List.Elements.{AllZip-push}
 
--- The elements before index i were changed as `R` says, and the elements from index i on are unchanged. The change
--- raised the number of elements that pass the test by `turned`.
+-- The elements before index i were changed as `R` says, and the elements from index i on are unchanged. After the
+-- change, `turned` more elements pass the test than before it.
 pub record HasWalked {X : Type 0} (R : X → X → Type 0) (test : X → Bool) (old new : List X) (i turned : ℕ) : Type 0 where
   pub long : length new ≡ length old
   pub changed : AllZip R (take i old) (take i new)

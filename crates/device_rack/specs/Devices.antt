@@ -1,8 +1,8 @@
--- What a device reports of its future failing calls.
+-- What a device reports about its future failing calls.
 use Rattle.std.specs.Prelude.{◌≡◌, ℕ, ◌-◌, ◌==◌, ◌↔◌, not, List, map, filter, Contains, Option, Some, Result, IsErr}
 use Rattle.avtp_base.specs.declared.failed.Failed.{Failed}
 
--- the numbers of the failing calls that are left after `calls` calls, if the next call has number 1
+-- the numbers of the failing calls that are left after `calls` calls, renumbered so that the next call has number 1
 abbrev pub later : ℕ → List ℕ → List ℕ
 later calls numbers = filter (λ n. not (n == 0)) (map (λ n. n - calls) numbers)
 

@@ -4,8 +4,8 @@ use Rattle.std.specs.List.{slice_range}
 use Rattle.memchr.specs.Find.{OccursAt}
 use Rattle.cvf_format.specs.AnnexB.{nal_units, start_code, three_zeros}
 
--- A byte stream can carry these bytes as one NAL unit. There is at least one byte, and the last byte is not zero. No
--- start code and no three zeros in a row are among the bytes.
+-- A byte stream can carry these bytes as one NAL unit. There is at least one byte, and the last byte is not zero. The
+-- bytes contain no start code and no three zeros in a row.
 pub record IsCarried (bytes : List ℕ) : Type 0 where
   pub some : 0 < length bytes
   pub no_start_code : (k : ℕ) → ¬ OccursAt bytes start_code k

@@ -1,4 +1,4 @@
--- What a device in memory shows.
+-- The state of a device that keeps its items in memory.
 use Rattle.std.specs.Prelude.{ℕ, Bool, List}
 use Rattle.device_rack.specs.declared.memory_device.MemoryDevice.{MemoryDevice}
 use Rattle.sample_schedule.specs.declared.shown.Shown.{Shown}

@@ -5,8 +5,8 @@ use Rattle.device_rack.specs.Handed.{WasHandedAll}
 use Rattle.device_rack.specs.Racks.{WasHanded}
 use Rattle.device_rack.specs.declared.outlet.Outlet.{Outlet}
 
--- A device of type D. The device is known by the items that it took, its count of faults, and the numbers of its future
--- failing calls, if it reports these numbers.
+-- A device of type D. What is known of the device: the items that it took, its count of faults, and, if the device
+-- reports them, the numbers of its future failing calls.
 module _ {D : Type 0} (took : D → List Shown → Type 0) (faults : D → ℕ) (failing : D → Option (List ℕ)) where
   -- A live device is given an item, and stays live if it takes the item. A failed device is unchanged.
   abbrev pub IsHandedTo : Shown → Outlet D → Outlet D → Type 0

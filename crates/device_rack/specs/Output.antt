@@ -56,7 +56,7 @@ longest_silence = 16777216
 abbrev pub silent_bytes : Line → ℕ → ℤ → ℕ
 silent_bytes line size span = min (samples_in line span) (longest_silence / size) * size
 
--- byte j of silence: 0, or for AM824 byte j of a sequence of quadlets 40 00 00 00 (IEC 61883-6)
+-- byte j of silence: for AM824, byte j of a sequence of quadlets 40 00 00 00 (IEC 61883-6); otherwise, 0
 abbrev pub silent_byte : Silence → ℕ → ℕ
 silent_byte Zero j = 0
 silent_byte Am824 j = if j % 4 == 0 then 0x40 else 0

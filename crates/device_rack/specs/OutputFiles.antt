@@ -25,11 +25,11 @@ module _ {S : Type 0} where
   abbrev pub units_outlet : OutputFiles S → Option (Outlet (AnnexBDevice S))
   units_outlet outputs = outputs.units
 
-  -- a device of raw samples was given the items of a list until it failed; its sink may have held any bytes before
+  -- a device of raw samples was given the items of a list until it failed, whatever its sink held before
   abbrev pub RawHanded : (S → SinkState) → List Shown → Outlet (RawDevice S) → Outlet (RawDevice S) → Type 0
   RawHanded state = AreHandedTo (λ device items. (start : SinkState) × HasTakenRaw state start device items) (λ device. (state (raw_sink device)).faults) (λ device. None)
 
-  -- a device of units was given the items of a list until it failed; its sink may have held any bytes before
+  -- a device of units was given the items of a list until it failed, whatever its sink held before
   abbrev pub UnitsHanded : (S → SinkState) → List Shown → Outlet (AnnexBDevice S) → Outlet (AnnexBDevice S) → Type 0
   UnitsHanded state = AreHandedTo (λ device items. (start : SinkState) × HasTakenUnits state start device items) (λ device. (state (annexb_sink device)).faults) (λ device. None)
 

@@ -8,8 +8,8 @@ use Rattle.device_rack.specs.Devices.{later}
 use Rattle.device_rack.specs.declared.place.Place.{Place}
 use Rattle.device_rack.specs.declared.rack.Rack.{Rack}
 
--- A device was given an item, and `live` says whether it took the item. A device is known by the items that it took,
--- its count of faults, and the numbers of its future failing calls, if it reports these numbers.
+-- A device was given an item, and `live` says whether it took the item. What is known of a device: the items that it
+-- took, its count of faults, and, if the device reports them, the numbers of its future failing calls.
 pub record WasHanded {Device : Type 0} (took : Device → List Shown → Type 0) (faults : Device → ℕ) (failing : Device → Option (List ℕ)) (shown : Shown) (before after : Device) (live : Bool) : Type 0 where
   pub takes : live ≡ true → (items : List Shown) → took before items → took after (items ++ shown ∷ [])
   pub quiet : live ≡ true → faults after ≡ faults before

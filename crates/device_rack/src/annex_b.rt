@@ -6,11 +6,11 @@ use avtp_base::Failed;
 use avtp_files::Sink;
 use sample_schedule::Shown;
 
-/// Writes to a sink the units that it takes, in order, each after a start code (ITU-T H.264, annex B). Samples and
-/// flags add nothing.
+/// A device that writes the units it takes to a sink, in order, each after a start code (ITU-T H.264, annex B). Samples
+/// and flags add nothing.
 ///
-/// As long as no `take` has failed, the sink holds what it held at first, followed by the whole output. The first
-/// `take` that fails writes only a prefix of its item's output.
+/// As long as no `take` has failed, the sink holds what it held when the device was made, followed by the whole output.
+/// The first `take` that fails writes only a prefix of its item's output.
 #[derive(Drop)]
 pub struct AnnexBDevice<S> {
     sink: S,

@@ -18,7 +18,7 @@ pub trait Device: Drop {
     /// The number of faults so far, which stops at the greatest 64-bit number.
     ghost faults: { Self → ℕ };
 
-    /// The numbers of the device's future failing calls, counted from 1, if the device reports these numbers.
+    /// The numbers of the device's future failing calls, if the device reports them; the next call has number 1.
     ghost failing: { Self → Option (List ℕ) };
 
     /// Takes an item.

@@ -11,7 +11,7 @@ pub trait Devices {
     ghost use Rattle.std.specs.Prelude.{List, ℕ};
     ghost use Rattle.sample_schedule.specs.declared.shown.Shown.{Shown as ShownValue};
 
-    /// Giving these items, in this order, took the devices from the first state to the second state.
+    /// The devices were in the first state, were given these items in this order, and are now in the second state.
     ghost handed: { Self → Self → List ShownValue → Type 0 };
 
     /// How many of the devices have failed.

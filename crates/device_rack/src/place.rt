@@ -15,7 +15,7 @@ pub struct Place {
     pub live: bool,
 }
 
-/// Gives an item to the place if it is live. Returns whether the place failed now.
+/// Gives an item to the place if it is live. Returns whether the place failed in this call.
 fn hand(place: &mut Place, shown: &Shown) -> bool
     ensures handed { IsHanded (λ device. took device) (λ device. faults device) (λ device. failing device) shown.now place.old place.new }
     ensures stays { place.old.live ≡ false → place.new.live ≡ false }
@@ -28,7 +28,7 @@ fn hand(place: &mut Place, shown: &Shown) -> bool
     !place.live
 }
 
-/// Gives an item to each live place, in the order of the places. Returns how many places failed now.
+/// Gives an item to each live place, in the order of the places. Returns how many places failed in this call.
 pub fn hand_each(places: &mut [Place], shown: &Shown) -> u32
     requires { length places.old < 2 ^ 32 }
     ensures places { AllZip (IsHanded (λ device. took device) (λ device. faults device) (λ device. failing device) shown.now) places.old places.new }

@@ -46,8 +46,8 @@ impl Rack {
         self.places.len() as u32 - self.live()
     }
 
-    /// Gives an item to each live device, in the order of the places. Returns how many places failed now. A place fails
-    /// if its device returns `Failed`, and is given nothing from then on.
+    /// Gives an item to each live device, in the order of the places. Returns how many places failed in this call. A
+    /// place fails if its device returns `Failed`, and is given nothing from then on.
     pub fn hand(&mut self, shown: &Shown) -> u32
         ensures places { AllZip (IsHanded (λ device. took device) (λ device. faults device) (λ device. failing device) shown.now) (places_of self.old) (places_of self.new) }
         ensures failures { failed_count (places_of self.new) ≡ failed_count (places_of self.old) + result }

@@ -8,14 +8,14 @@ use avtp_base::Failed;
 use avtp_files::Sink;
 use sample_schedule::Shown;
 
-/// Writes to a sink the samples of the items that it takes, in order, with silence for missing samples.
+/// A device that writes the samples of the items it takes to a sink, in order, with silence for missing samples.
 ///
 /// Units and flags add nothing. Between two batches of samples, the device writes silence from the end of the first
 /// batch to the beginning of the second, even if there are units or flags between the batches. The length of the
 /// silence is rounded to whole samples of the first batch's line, with half a sample rounded up, and is at most
 /// 16,777,216 bytes. If the batches overlap, there is no silence. Nothing is buffered: all bytes of an item are in the
-/// sink when `take` returns `Ok`. As long as no `take` has failed, the sink holds what it held at first, followed by
-/// the whole output. The first `take` that fails writes only a prefix of its item's output.
+/// sink when `take` returns `Ok`. As long as no `take` has failed, the sink holds what it held when the device was
+/// made, followed by the whole output. The first `take` that fails writes only a prefix of its item's output.
 #[derive(Drop)]
 pub struct RawDevice<S> {
     sink: S,

@@ -36,7 +36,7 @@ fn write_silence<S: Sink>(sink: &mut S, silence: Silence, count: usize) -> Resul
     write_all(sink, &piece[..count % Silence::PIECE])
 }
 
-/// Writes a number of bytes of silence, and then samples. If the sink fails, it has taken a prefix of these bytes.
+/// Writes `silent` bytes of silence, and then samples. If the sink fails, it has taken a prefix of these bytes.
 pub fn write_samples<S: Sink>(
     sink: &mut S,
     silence: Silence,

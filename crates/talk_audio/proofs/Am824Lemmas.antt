@@ -160,7 +160,8 @@ some_interval_of interval (inl e) = omega arith
 some_interval_of interval (inr (inl e)) = omega arith
 some_interval_of interval (inr (inr e)) = omega arith
 
--- if packet n has no timestamp and n is at least 7, packet n is counted from one of the seven packets before it
+-- if packet n has no timestamp and n is at least 7, the time of packet n is counted from one of the seven packets
+-- before it
 blocks_found : (plan : TalkPlan) (n : ℕ) → IsAudioPlan plan → IsInterval (interval_of plan.rate) → interval_of plan.rate ≤ 8 * plan.count
     → plan.count ≤ (interval_of plan.rate - dbc_of plan n % interval_of plan.rate) % interval_of plan.rate → 7 ≤ n → IsFound (am824_kind plan) plan.count n
 blocks_found plan n p of eighth unstamped behind =

@@ -1,4 +1,4 @@
--- At most one pair of a plan's clock covers a timestamp of its stream.
+-- At most one pair of timestamps of a plan's clock covers any given timestamp of the plan's stream.
 use Rattle.std.proofs.Common.{◌≡◌, inl, inr, ℕ, suc, ◌+◌, ◌-◌, ◌*◌, ◌/◌, ◌<◌, ◌≤◌, Bool, true, false, pos, Some, None, refl, sym, subst, ap, ◌∙◌, arith}
 use Rattle.std.specs.Prelude.{Option, if◌then◌else◌}
 use Rattle.std.proofs.Math.Nat.{div-eq_of_lt-le, lt-div-mul-add, mul-le-mul_right}
@@ -25,7 +25,7 @@ use Rattle.talk_clock.proofs.ClockPoints.{AreWhole, IsBeside, begun_by, beside, 
 use Rattle.talk_clock.proofs.ClockPoints.{starts_apart, whole_runs}
 use Rattle.talk_clock.proofs.ClockRules.{pair_from_at}
 
--- ---- the timestamps of the stream on the clock
+-- ---- the timestamps of a stream that follows a clock
 
 -- the times of a stream whose plan has the clock `crf`, if any
 abbrev pub times_with : Option CrfPlan → Kind → TalkPlan → ℕ → Journal

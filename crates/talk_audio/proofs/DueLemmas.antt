@@ -38,12 +38,13 @@ use Rattle.time_unfold.proofs.Floors.{one_more}
 
 -- ---- what holds for kinds of audio
 
--- Packet n is counted from the stamped sample of a packet at most 7 packets before it, at the distance `far`.
+-- The time of packet n is counted from a stamped sample at the distance `far`, in a packet at most 7 packets before
+-- packet n.
 pub record IsCountedBack (kind : Kind) (count n : ℕ) (far : Distance) : Type 0 where
   pub few : far.packets ≤ 7
   pub place : stamped_index (rule_of kind (n - far.packets)) + far.samples ≡ far.packets * count
 
--- packet n is counted from a stamped packet at most 7 packets before it
+-- the time of packet n is counted from a stamped packet at most 7 packets before packet n
 pub record IsFound (kind : Kind) (count n : ℕ) : Type 0 where
   pub far : Distance
   pub is_far : distance (rule_of kind n) n count ≡ Some far
@@ -62,8 +63,8 @@ pub record IsKindOf (plan : TalkPlan) (kind : Kind) : Type 0 where
 
 -- ---- the head of a packet
 
--- The head's instant is near the nominal instant of an event of packet n's run. If packet n is counted from the head,
--- packet n is due at instant 0 or later.
+-- The instant of `head` is near the nominal instant of an event of packet n's run. If the time of packet n is counted
+-- from `head`, packet n is due at instant 0 or later.
 pub record IsCounted (plan : TalkPlan) (n : ℕ) (head : Head) : Type 0 where
   pub event : ℕ
   pub stamp : ℕ
@@ -337,7 +338,8 @@ head_nearby kind plan packets n head p counted =
     rw counted.instant (nearly plan.crf start counted.event (event_of plan n 0) plan.rate counted.stamp head.first (omega arith) some counted.first
     counted.near counted.room)
 
--- ---- a packet is due near its first instant, and at its first sample, counted from its head
+-- ---- a packet is due at the instant of its first sample, counted from its head; this instant is near the packet's
+-- nominal first instant
 
 pub record IsDueNear (kind : Kind) (plan : TalkPlan) (packets n : ℕ) : Type 0 where
   pub from : due_in (nominal_times kind plan packets) n ≤ first_instant plan n + late_by plan.crf

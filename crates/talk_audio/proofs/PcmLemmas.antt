@@ -138,7 +138,7 @@ patched_behind o o1 o2 o3 all a t p n lo lall la few h1 h2 h3 =
     h3 ∙ rw (second, front, end, la) (append_assoc e (take 12 x) (t ++ drop 16 x)
     ∙ ap (λ (y : List ℕ). e ++ y) (patched_is h a t p (p + n) (omega (arith, length-drop 18 all, lall)) (omega (arith, la)) few))
 
--- samples that are written in two parts, which may overlap, are all written
+-- if `samples` has 16 to 32 bytes, writing its first 16 bytes and its last 16 bytes writes all of it
 pub in_parts : (o o1 o2 samples first last : List ℕ) (k : ℕ) → length o ≡ length samples → k ≤ 16 → k + 16 ≡ length samples → first ≡ take 16 samples
     → last ≡ drop k samples
     → o1 ≡ take 0 o ++ (first ++ drop (0 + 16) o) → o2 ≡ take k o1 ++ (last ++ drop (k + 16) o1)

@@ -36,7 +36,7 @@ pcm format sparse plan = record {
   packet = λ n samples. Pcm (aaf_packet format sparse plan n samples);
 }
 
--- AM824: a sample frame is a data block with one quadlet for each channel; silence is quadlets 40 00 00 00
+-- AM824: a sample frame is a data block with one quadlet for each channel; each quadlet of silence is 40 00 00 00
 abbrev pub am824 : TalkPlan → Audio
 am824 plan = record {
   kind = am824_kind plan;

@@ -6,7 +6,7 @@ use Rattle.std.specs.Int.{div_ceil}
 abbrev pub is_whole : ℕ → List ℕ → Bool
 is_whole frame input = length input % frame == 0
 
--- how many packets of `count` sample frames the input fills; the last one may be partly filled
+-- how many packets of `count` sample frames are needed to hold the input; the last packet can be partly filled
 abbrev pub packets_for : ℕ → ℕ → List ℕ → ℕ
 packets_for frame count input = div_ceil (length input / frame) count
 

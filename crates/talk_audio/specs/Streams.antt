@@ -18,17 +18,17 @@ use Rattle.talk_audio.specs.Packets.{aaf_packet}
 use Rattle.talk_plan.specs.Places.{IsSentAt}
 use Rattle.talk_plan.specs.Plan.{IsAudioPlan, fdf_of, most_input, rate_code}
 
--- `pcm` is the format of a plan of PCM, sparse or not, with the code of its sample rate
+-- `pcm` has the sample format of a plan of PCM, whether the plan is sparse, and the code of the plan's sample rate
 pub record IsPcm (pcm : PcmFormat) (plan : TalkPlan) : Type 0 where
   pub kind : plan.kind ≡ Aaf pcm.format pcm.sparse
   pub code : rate_code plan.rate ≡ Some pcm.code
 
--- `headers` is the Ethernet header and then the packet header of the frame of the PCM packet `v`
+-- `headers` is the Ethernet header of the frame of the PCM packet `v`, followed by the packet's own header
 pub record HasHeaders (headers : List ℕ) (v : Packet) : Type 0 where
   pub frame : take 18 headers ≡ spelling (frame_layout true) (ethernet [])
   pub packet : drop 18 headers ≡ spelling aaf_layout v
 
--- each packet of a stream of PCM is stamped, and its media clock never restarts
+-- each packet of a stream of PCM is stamped, and the stream's media clock never restarts
 pub record IsSteady (sparse : Bool) (plan : TalkPlan) : Type 0 where
   pub dense : sparse ≡ false
   pub once : plan.restart ≡ None
@@ -89,7 +89,7 @@ pub record IsSentOf (stream : AudioStream) (n : ℕ) (arrival : ℤ) : Type 0 wh
   pub audio : IsAudio stream
   pub sent : IsSentAt stream.plan n arrival
 
--- The stream is a valid stream of audio. The input is not too long and fills more than n packets.
+-- The stream is a valid stream of audio. The input is not too long, and the stream has more than n packets.
 pub record IsPacketOfInput (stream : AudioStream) (input : List ℕ) (n : ℕ) : Type 0 where
   pub audio : IsAudio stream
   pub limit : length input ≤ most_input

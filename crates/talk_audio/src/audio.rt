@@ -117,7 +117,7 @@ impl AudioStream {
     }
 
     /// Silence, at least as much as a packet holds. The last packet's samples are copied over the start of this array,
-    /// so the talker reserves only one frame's buffer.
+    /// so the talker needs no buffer other than that of one frame.
     #[tactic(auto, using(crate::proofs::Am824Lemmas::packet_of_silence, crate::proofs::PcmLemmas::zeros))]
     fn silence(&self) -> [u8; SAMPLES_LIMIT]
         requires { IsAudio self.now }
@@ -143,8 +143,8 @@ impl AudioStream {
         }
     }
 
-    /// Writes the frame of packet `n`, which is sent at `arrival`. The packet's samples are `rest`, the end of the
-    /// input, followed by silence.
+    /// Writes the frame of packet `n`, which is sent at `arrival`. The packet's samples are the end of the input, which
+    /// is `rest`, and then silence.
     // This code seldom runs while audio is sent. It is marked cold, so that it takes no registers from the code that
     // runs often. The code for clock packets, for stamps on a clock and for H.264 is marked cold for the same reason.
     #[cold]

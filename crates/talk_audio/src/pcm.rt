@@ -83,8 +83,9 @@ fn put_bytes<const N: usize>(out: &mut [u8], offset: usize, bytes: &[u8; N])
 /// Samples are moved in two parts of this many bytes each.
 const PART: usize = 16;
 
-/// Copies samples to a slice of the same length. The 16 to 32 bytes of most packets are moved as two parts, which may
-/// overlap, without a call. A move whose length the compiler does not know becomes a call.
+/// Copies samples to a slice of the same length. Most packets have 16 to 32 bytes of samples. They are moved as two
+/// parts, which can overlap, so no call is needed. If the compiler does not know the length of a move, it makes a call
+/// of it.
 #[inline(always)]
 fn copy_samples(out: &mut [u8], samples: &[u8])
     requires { length out.old ≡ length samples.now }

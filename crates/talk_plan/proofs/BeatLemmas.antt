@@ -17,11 +17,10 @@ use Rattle.talk_plan.specs.Timing.{nominal_offset}
 use Rattle.talk_plan.proofs.TimingLemmas.{is_offset, sum_of}
 use Rattle.clock_track.proofs.LineFacts.{less, at_most}
 
--- ---- numbers
 
 -- ---- the period from one point to the next
 
--- `p` is the time of `spacing` events, to within a nanosecond.
+-- `spacing` events take `p` nanoseconds, to within a nanosecond.
 pub record IsPeriod (b : Beat) (start m p : ℕ) : Type 0 where
   pub next : point_at b start m + p ≡ point_at b start (suc m)
   pub under : p * b.rate ≤ b.spacing * 1000000000 + b.rate
@@ -157,8 +156,8 @@ part_over w rate r p f some small over fast = elim (cases_lt (f * rate + 2 * rat
   | inr not ↦ omega arith
 ]
 
--- The stamp of event e is at most 1 ns later and less than 3 ns earlier than the event's nominal instant, start + e *
--- 10^9 / rate.
+-- The nominal instant of event e is start + e * 10^9 / rate. The event's stamp is at most 1 ns after that instant, and
+-- less than 3 ns before it.
 pub record IsStamped (b : Beat) (start e instant : ℕ) : Type 0 where
   pub under : instant * b.rate ≤ start * b.rate + e * 1000000000 + b.rate
   pub over : start * b.rate + e * 1000000000 < instant * b.rate + 3 * b.rate
@@ -331,7 +330,7 @@ covered b start m e is at =
     let small : e % b.spacing < b.spacing = mod-lt e is.some in
     rw (stamped_late b start e m (e % b.spacing) (omega arith) small) (covers_late b start m (e % b.spacing) is small)
 
--- ---- if the clock's frequency is the stream's rate, the instant is that of an event of the clock
+-- ---- if the clock's frequency is the stream's rate, the stamp is the instant of an event of the clock
 
 own_spacing : (up w interval rate down : ℕ) → 1 ≤ up → w * up ≡ interval * rate * down → up ≡ rate * down → interval ≡ w
 own_spacing up w interval rate down some e own =

@@ -1,4 +1,4 @@
--- The codes of sample rates, their range, and the SYT interval of each AM824 rate.
+-- The codes of sample rates, the range of the rates, and the SYT interval of each AM824 rate.
 use Rattle.std.proofs.Common.{◌≡◌, ℕ, zero, suc, ◌≤◌, Some, None, refl, sym, ap, ◌∙◌, arith, Option}
 use Rattle.std.specs.Prelude.{IsSome}
 use Rattle.std.proofs.lemmas.Bool.Decides.{nat_tests}

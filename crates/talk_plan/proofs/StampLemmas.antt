@@ -16,7 +16,7 @@ use Rattle.talk_plan.proofs.RateLemmas.{rate_range}
 use Rattle.talk_plan.proofs.TimingLemmas.{is_offset}
 use Rattle.clock_track.proofs.LineFacts.{product}
 
--- ---- the two rates
+-- ---- the rates of a plan's stream and of its clock
 
 pub record IsPull (pull : ℕ) : Type 0 where
   pub up : 1 ≤ pull_up pull
@@ -72,8 +72,8 @@ is_beat plan crf p e =
 
 -- ---- timestamps lie near nominal instants
 
--- how many nanoseconds a timestamp may be after its nominal instant (`late_by`) or before it (`early_by`); 0 without a
--- clock
+-- by how many nanoseconds at most a timestamp is after its nominal instant (`late_by`) or before it (`early_by`); 0
+-- without a clock
 abbrev pub late_by : Option CrfPlan → ℕ
 late_by None = 0
 late_by (Some crf) = 1

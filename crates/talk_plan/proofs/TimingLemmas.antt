@@ -87,7 +87,7 @@ apart_by : (s j x y k z w a b c d n count rate : ℕ) → a + b ≡ n → c + d 
     → 4 * ((s + j + x + y) * rate) + 3 * (count * 1000000000) + 16 * rate ≤ 4 * ((s + k + z + w) * rate)
 apart_by s j x y k z w a b c d n count rate e f jumps wide under also over and = omega arith
 
--- the first instants of adjacent packets are at least 3/4 of a packet's time plus 4 nanoseconds apart
+-- the first instants of adjacent packets differ by at least 4 nanoseconds plus 3/4 of a packet's time
 pub apart : (plan : TalkPlan) (n : ℕ) → IsAudioPlan plan
     → 4 * (first_instant plan n * plan.rate) + 3 * (plan.count * 1000000000) + 16 * plan.rate ≤ 4 * (first_instant plan (suc n) * plan.rate)
 unfolding nominal_instant

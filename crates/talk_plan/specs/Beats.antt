@@ -54,8 +54,8 @@ pair_from b start m = record {
 abbrev pub IsNextStart : Beat → ℕ → ℕ → ℕ → Type 0
 IsNextStart b start events next = start + nominal_offset b.rate events + 4 ≤ next
 
--- if a listener counts the events of the clock by the pair, the event nearest to `instant` is exactly at `instant`, in
--- whole nanoseconds
+-- if a listener computes the instants of the clock's events from the pair, the event nearest to `instant` is at exactly
+-- `instant`, in whole nanoseconds
 abbrev pub IsOnEvent : Pair → ℕ → ℕ → Type 0
 IsOnEvent pair rate instant =
     instant_at (spot_by pair rate (pos instant)).line (spot_by pair rate (pos instant)).from ≡ pos instant

@@ -74,7 +74,7 @@ FitsPacket Am824 plan = FitsBlocks plan
 FitsPacket (H264 last_stamp) plan = ⊥
 
 -- There is a restart after every `packets` packets, and each restart sets presentation times `jump` nanoseconds
--- forward. Listeners rely on a restart bit that keeps its value for at least 8 packets.
+-- forward. `packets` is at least 8: listeners rely on the restart bit to keep each value for at least 8 packets.
 pub record IsRestart (packets jump : ℕ) : Type 0 where
   pub some : 8 ≤ packets
   pub most : packets ≤ 1000000000
@@ -94,14 +94,14 @@ Restarts (Some packets) jump = IsRestart packets jump
 unfoldable pub spacing_of : CrfPlan → ℕ → ℕ
 spacing_of crf rate = crf.interval * rate * pull_down crf.pull / (crf.rate * pull_up crf.pull)
 
--- If there are restarts, a run of `packets` packets takes as long as 8 packets of the clock, or a multiple of that
--- time.
+-- If there are restarts, the time of a run, which has `packets` packets, is a whole multiple of the time of 8 clock
+-- packets.
 abbrev pub HasWholeRuns : CrfPlan → ℕ → ℕ → Option ℕ → Type 0
 HasWholeRuns crf rate count None = ⊤
 HasWholeRuns crf rate count (Some packets) = packets * count % (8 * spacing_of crf rate * crf.points) ≡ 0
 
--- The limits of a clock. The clock's stream has `rate` sample frames a second, `count` sample frames in a packet, and
--- restarts as in `restart`.
+-- The limits of a clock. The stream that is stamped with the clock has `rate` sample frames a second, `count` sample
+-- frames in a packet, and restarts as in `restart`.
 pub record IsClockPlan (crf : CrfPlan) (rate count : ℕ) (restart : Option ℕ) : Type 0 where
   pub id : crf.id < 2 ^ 64
   pub some_rate : 1 ≤ crf.rate
@@ -126,7 +126,8 @@ abbrev pub IsAhead : Option CrfPlan → ℕ → Type 0
 IsAhead None lead = ⊤
 IsAhead (Some crf) lead = 3 ≤ lead
 
--- A plan of audio: PCM in the AVTP audio format, sparse or not, or AM824. The plan may have restarts and a media clock.
+-- A plan of audio: AM824, or PCM in the AVTP audio format (sparse or not). Such a plan can have restarts, a media
+-- clock, or both.
 pub record IsAudioPlan (plan : TalkPlan) : Type 0 where
   pub kind : IsAudioKind plan.kind
   pub rate : HasRate plan.kind plan.rate
@@ -183,9 +184,9 @@ ExpectsBy (Aaf format true) plan lead = IsNearLead plan lead
 ExpectsBy Am824 plan lead = plan.count < interval_of plan.rate → IsNearLead plan lead
 ExpectsBy (H264 last_stamp) plan lead = ⊤
 
--- A listener identifies audio packets without a timestamp by their arrivals. If a plan has such packets, the listener's
--- lead must be near the plan's lead. Any lead will do for PCM that is not sparse, for AM824 whose packets have at least
--- SYT_INTERVAL data blocks, and for H.264.
+-- If an audio packet has no timestamp, a listener identifies it by its arrival time. If a plan has such packets, the
+-- listener's lead must be near the plan's lead. Any lead will do for PCM that is not sparse, for AM824 whose packets
+-- have at least SYT_INTERVAL data blocks, and for H.264.
 abbrev pub Expects : TalkPlan → ℕ → Type 0
 Expects plan lead = ExpectsBy plan.kind plan lead
 

@@ -14,7 +14,7 @@ use clock_track::{pull_down, pull_up};
 
 const NANOSECONDS: u64 = 1_000_000_000;
 
-/// The time of `parts` parts of a period that has `whole` equal parts, rounded down.
+/// How long `parts` of the `whole` equal parts of a period take, rounded down.
 fn part(parts: u64, period: u64, whole: u64) -> u64
     requires { parts < whole }
     ensures value { result ≡ parts * period / whole }
@@ -127,7 +127,7 @@ impl TalkPlan {
 
     /// The instant that the plan's clock gives the timestamp of sample frame `i` of packet `n`, in nanoseconds of gPTP.
     /// The instant is computed from the clock's last point up to the sample frame, with the period that ends at that
-    /// point. Before the second point, the instant is the nominal instant.
+    /// point. If the sample frame is before the second point, the instant is its nominal instant.
     #[cold]
     #[inline(never)]
     fn clocked_instant(&self, crf: &CrfPlan, n: u64, i: u32) -> u64

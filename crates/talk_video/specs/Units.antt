@@ -13,7 +13,7 @@ use Rattle.talk_plan.specs.Rows.{Row, first_of, row}
 abbrev pub has_start_code : List ℕ → Bool
 has_start_code bytes = list_any (is_start_code bytes) (range_with_len 0 (length bytes))
 
--- a unit has a type that no packet can carry (RFC 6184, 5.4)
+-- some unit has a type other than 1 to 23, so no packet can carry the unit (RFC 6184, 5.4)
 abbrev pub has_other_type : List ℕ → Bool
 has_other_type bytes = list_any (λ unit. not (is_single_type (type_in bytes unit))) (nal_units bytes)
 

@@ -118,7 +118,7 @@ impl NalUnit {
 }
 
 impl<'a> VideoStream<'a> {
-    /// The stream of a plan and a byte stream without a fault.
+    /// The stream of H.264 for a plan and for a byte stream that has no fault.
     pub fn of(
         alloc: Global,
         plan: TalkPlan,

@@ -115,7 +115,8 @@ unit_size plan input last_stamp from n e few =
     let bodies = all_short plan input last_stamp from (suc n - from) e in
     omega (arith, length-append (first_byte ((journal plan input).packet from)) (flat_map (λ (k : ℕ). carried ((journal plan input).packet k)) (range_with_len from (suc n - from))), byte, bodies, few)
 
--- A unit has at most 1,500 bytes for each of its packets: its first byte, and at most 1,428 bytes from each packet.
+-- A unit has at most 1,500 bytes for each of its packets, because it consists of its first byte and of at most 1,428
+-- bytes from each packet.
 pub unit_small : (plan : TalkPlan) (input : List ℕ) (last_stamp : Bool) (from n : ℕ) → plan.kind ≡ H264 last_stamp → from ≤ n → length (unit_bytes (journal plan input) from n) ≤ (suc n - from) * 1500
 unit_small plan input last_stamp from n e low =
     let byte : length (first_byte ((journal plan input).packet from)) ≡ 1 = ap (λ (view : PacketView). length (first_byte view)) (packet_is plan input last_stamp from e) in

@@ -18,8 +18,8 @@ use Rattle.talk_video.specs.Units.{sent_units}
 abbrev pub captured : TalkPlan → List ℕ → List ℕ → List Record
 captured plan input places = whole_records (capture_of (frames_at plan input places))
 
--- An audio plan sends `input`, and the listener listens to the plan's stream, with or without the plan's clock. With
--- its lead, the listener can tell packets without a timestamp apart.
+-- An audio plan sends `input`, and the listener listens to the plan's stream, with or without the plan's clock. The
+-- listener's lead lets it tell apart packets that have no timestamp.
 pub record ListensTo (plan : TalkPlan) (input : List ℕ) (listen : ListenPlan) : Type 0 where
   pub talked : IsAudioPlan plan
   pub id : plan.id < 2 ^ 64
@@ -32,7 +32,7 @@ pub record ListensTo (plan : TalkPlan) (input : List ℕ) (listen : ListenPlan) 
 
 -- An H.264 plan sends `input`, and the listener listens to the plan's stream. If the plan stamps only the last
 -- fragments of units, the numbers of adjacent captured packets differ by at most 254, unless both packets are stamped.
--- The listener may have any lead.
+-- Any lead of the listener will do.
 pub record ListensToVideo (plan : TalkPlan) (input places : List ℕ) (listen : ListenPlan) : Type 0 where
   pub last_stamp : Bool
   pub kind : plan.kind ≡ H264 last_stamp

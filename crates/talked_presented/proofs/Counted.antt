@@ -1,4 +1,4 @@
--- In a whole capture, a packet without a timestamp is known by the packet that it is counted from.
+-- In a whole capture, each packet without a timestamp is known, because the stamp that it is counted from is kept.
 use Rattle.std.proofs.Common.{◌≡◌, ℕ, zero, suc, ◌+◌, ◌-◌, ◌<◌, ◌≤◌, Bool, true, false, pos, List, [], ◌∷◌, ◌++◌, length, map, drop, Option, Some, None, is_some, refl, sym, ap, ◌∙◌, subst, inr, arith, length-append}
 use Rattle.std.specs.Prelude.{Contains, IsSome, nat_le, if◌then◌else◌, option_and_then, option_map, take}
 use Rattle.std.specs.List.{cons_option, filter_map, range_with_len}
@@ -25,7 +25,7 @@ use Rattle.listener.specs.Heard.{deliveries_of}
 use Rattle.listener.specs.Known.{IsKnownCopy}
 use Rattle.listener.specs.Laws.{by_clock}
 
--- ---- the packet that a packet is counted from
+-- ---- the packet from which another packet is counted
 
 -- Packet n is counted from a stamped packet, which was sent `far.packets` packets earlier. No restart lies between
 -- these two packets.
@@ -113,8 +113,8 @@ stamp_kept j room k m instant e below few =
 
 -- ---- what arrived
 
--- A capture has `count` packets, from packet a on. Among the first `size` packets of the capture are exactly packets a
--- to a + m - 1.
+-- A capture has `count` packets, from packet a on. Its first `size` packets, or all of them if it has fewer, are
+-- packets a to a + m - 1.
 record IsFront (size a count : ℕ) : Type 0 where
   m : ℕ
   numbers : stream_numbers (take size (map OfStream (range_with_len a count))) ≡ range_with_len a m

@@ -32,7 +32,7 @@ use Rattle.talked_presented.specs.Whole.{ends_unit}
 use Rattle.talked_presented.proofs.Caught.{IsCaught, as_many, came_by}
 use Rattle.talked_presented.proofs.UnitRuns.{ends_so, inside_unit, unit_ends}
 
--- ---- the deliveries before, of and after the unit
+-- ---- the deliveries before the unit, those of the unit, and those after it
 
 -- the deliveries `ds` are those of the packets `xs`, followed by those of the packets `ys`
 record IsParted (p : PacketJournal) (lead : ℕ) (xs ys : List ℕ) (ds : List Delivery) : Type 0 where
@@ -55,7 +55,7 @@ copies_of p lead a zero (d ∷ ds) from = absurd from
 copies_of p lead a (suc k) [] from = tt
 copies_of p lead a (suc k) (d ∷ ds) from = let next : a + 1 ≡ suc a = omega arith in (from.0, subst (λ (b : ℕ). AreCopiesFrom p lead b ds) next (copies_of p lead (a + 1) k ds from.1))
 
--- the journal `p` is one of H.264 and conforms
+-- `p` is a journal of H.264, and conforms
 record IsHeard (p : PacketJournal) (part : ℕ → Part) (lead : ℕ) : Type 0 where
   conforming : IsConforming (pos 0) p
   kind : p.times.kind ≡ OfParts part

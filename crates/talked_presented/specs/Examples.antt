@@ -6,7 +6,8 @@ use Rattle.talk_plan.specs.declared.plan.TalkKind.TheVariants.{Aaf, H264}
 use Rattle.talk_plan.specs.declared.plan.TalkPlan.{TalkPlan}
 use Rattle.talker.specs.Examples.{restarting, six_blocks}
 
--- PCM of 16 bits at 48 kHz, sparse or not, in packets of 6 stereo sample frames, without restarts
+-- PCM of 16 bits at 48 kHz in packets of 6 stereo sample frames, without restarts; the argument says whether the stream
+-- is sparse
 abbrev pub plain : Bool → TalkPlan
 plain sparse = record restarting { kind = Aaf Int16 sparse; restart = None }
 

@@ -34,8 +34,8 @@ pub record IsCloseLead (plan : TalkPlan) (lead : ℕ) : Type 0 where
   pub from : plan.lead * plan.rate ≤ lead * plan.rate + 59 * (plan.count * 1000000000)
   pub to : lead * plan.rate ≤ plan.lead * plan.rate + 59 * (plan.count * 1000000000)
 
--- If a packet has no timestamp, the listener must expect packets at about the time at which the plan sends them. If
--- each packet is stamped, any lead will do.
+-- If some packets have no timestamp, the listener must expect packets at about the time at which the plan sends them.
+-- If each packet is stamped, any lead will do.
 abbrev pub ExpectsCounted : TalkKind → TalkPlan → ℕ → Type 0
 ExpectsCounted (Aaf format false) plan lead = ⊤
 ExpectsCounted (Aaf format true) plan lead = IsCloseLead plan lead
@@ -90,14 +90,14 @@ abbrev pub unit_ends : TalkPlan → List ℕ → List ℕ
 unit_ends plan input = filter (λ (n : ℕ). ends_unit (part_sent input n)) (range_with_len 0 (journal plan input).times.packets)
 
 -- Whenever a packet is sent, the buffer has room for all packets that are not yet due. The buffer has 1,500 bytes for
--- each packet that it may hold, and for 255 further packets, as many as a unit can have.
+-- each of the `listen.buffer` packets that it can hold, and for 255 further packets, the maximum number for a unit.
 pub record HoldsUnits (plan : TalkPlan) (input : List ℕ) (listen : ListenPlan) : Type 0 where
   pub packets : (k n : ℕ) → k ≤ n → n < (journal plan input).times.packets → (stream_of plan input).arrival n ≤ (journal plan input).times.due k
       → n < k + listen.buffer
   pub bytes : (listen.buffer + 255) * 1500 ≤ listen.room
 
--- The listener can present each unit of a plan of H.264, because its buffer has room for all waiting units. The
--- listener may have any lead.
+-- The listener can present each unit of a plan of H.264, because its buffer has room for all waiting units. Any lead of
+-- the listener will do.
 pub record HearsUnits (plan : TalkPlan) (input : List ℕ) (listen : ListenPlan) : Type 0 where
   pub last_stamp : Bool
   pub kind : plan.kind ≡ H264 last_stamp

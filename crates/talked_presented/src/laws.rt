@@ -58,7 +58,7 @@ pub fn whole_capture_is_presented()
 }
 
 /// A listener with the default options of `listen` presents all packets of an audio plan that has the default lead of
-/// `talk` and no clock. A plan of sparse PCM or of AM824 must have no restarts. The plan may have any rate, any number
+/// `talk` and no clock. A plan of sparse PCM or of AM824 must have no restarts. The plan can have any rate, any number
 /// of channels, and any number of sample frames in a packet.
 pub fn defaults_present_all()
     ensures hears { (plan : TalkPlan) (input : List ℕ) → HasDefaultLead plan input → HearsAll plan input (default_listener plan.id) }
@@ -70,7 +70,7 @@ pub fn defaults_present_all()
 
 /// Assume that each packet of an audio plan with a clock stamps its first sample. Assume that there are no restarts,
 /// and that the lead is at least 3 ns. Assume that the listener has the talker's clock, no look-ahead, and room for
-/// what is sent during the lead. Then each packet of a whole capture from the second timestamp of the clock on is
+/// what is sent during the lead. Then, from the second timestamp of the clock on, each packet of a whole capture is
 /// presented, once and in order. Any other shown item is a flag of a packet before that timestamp, with the reason
 /// `noclock`.
 pub fn clocked_capture_is_presented()
@@ -128,7 +128,7 @@ pub fn defaults_hear_units()
     journal_conforms();
 }
 
-/// A capture of an audio plan without a clock may lose, repeat or reorder packets. A copy of a packet must be
+/// Take a capture of an audio plan without a clock; it can lose, repeat or reorder packets. A copy of a packet must be
 /// presented, wherever the copy is in the capture, if four conditions hold. The packet has a timestamp or can be
 /// counted from a timestamp that arrived. All packets before the copy were captured no later than the instant at which
 /// the packet is due. The copy is the first copy of the packet. The buffer has room for the copy.
@@ -158,10 +158,11 @@ pub fn talked_copy_is_further()
     copies_anywhere_are_further();
 }
 
-/// A capture of an H.264 plan may lose, repeat or reorder packets. A unit must be presented, wherever it is in the
-/// capture, if four conditions hold. All packets of the unit are captured in order, with no other packet of the stream
-/// between them. All packets before the unit were captured no later than the instant at which the unit is due. The last
-/// packet of the unit was not captured before. The buffer has room for the unit.
+/// Take a capture of an H.264 plan; it can lose, repeat or reorder packets. A unit must be presented, wherever it is in
+/// the capture, if four conditions hold. All packets of the unit are captured in order, with no other packet of the
+/// stream between them. All packets before the unit were captured no later than the instant at which the unit is due.
+/// The unit's last packet is not among the packets that were captured before the unit. The buffer has room for the
+/// unit.
 pub fn talked_unit_anywhere_is_welcome()
     ensures { (plan : TalkPlan) (input front after : List ℕ) (from n : ℕ) (listen : ListenPlan) → UnitMustBePresented plan input listen front from n after
         → (place : ℕ) × ((made : MadeItem) × IsWelcome (journal plan input) listen (captured plan input (front ++ (range_with_len from (n - from) ++ n ∷ after))) place n made) }

@@ -225,7 +225,7 @@ clock_carried plan s m h =
     }
 
 -- The records of the frames `given` carry the packets that `origins` lists. The packets of the stream have the same
--- numbers in `origins` as in `given`.
+-- numbers, in the same order, in `origins` and in `given`.
 pub record AreCarried (j : PacketJournal) (lead : ℕ) (given : List SentFrame) : Type 0 where
   pub origins : List Origin
   pub carry : AllCarryFrom j lead origins (map record_of given)

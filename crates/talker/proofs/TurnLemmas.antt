@@ -119,7 +119,7 @@ is_turn t turn of sends at =
       most = turn_most t.plan s turn of sends;
     }
 
--- `f` is the frame of the packet that the number and the clock flag of `f` name
+-- the number and the clock flag of `f` identify a packet, and `f` is the frame of that packet
 record IsKnown (s : Stream) (f : SentFrame) : Type 0 where
   known : f.number < packets_by f.clock s
   same : f ≡ frame_by f.clock s f.number

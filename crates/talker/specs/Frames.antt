@@ -67,7 +67,7 @@ clock_frames plan input = numbered_clock (stream_of plan input)
 
 -- ---- all frames
 
--- a frame is inserted into a list, before the first frame of the list that arrives at the same time or later
+-- the list with the frame inserted before the first frame of the list that arrives at the same time or later
 abbrev pub put_in : SentFrame → List SentFrame → List SentFrame
 put_in f [] = f ∷ []
 put_in f (g ∷ frames) = if int_le f.arrival g.arrival then f ∷ g ∷ frames else g ∷ put_in f frames
@@ -88,7 +88,7 @@ RiseByArrival [] = ⊤
 RiseByArrival (f ∷ []) = ⊤
 RiseByArrival (f ∷ g ∷ frames) = (f.arrival ≤ℤ g.arrival) × RiseByArrival (g ∷ frames)
 
--- the plan's frames at the indices `places`, in that order; frames may be missing, repeated or reordered
+-- the plan's frames at the indices `places`, in that order; `places` can leave out, repeat or reorder frames
 abbrev pub frames_at : TalkPlan → List ℕ → List ℕ → List SentFrame
 frames_at plan input places = filter_map (slice_get (frames plan input)) places
 

@@ -1,4 +1,4 @@
--- A talker after the frame that it lent is given back.
+-- The state of a talker after the frame that it lent was given back.
 use Rattle.std.specs.Prelude.{[], ⊤}
 use Rattle.std.specs.Borrow.{follows_so, MutBor, Fml}
 use mathlib.Core.Option.{none}

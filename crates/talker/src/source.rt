@@ -43,7 +43,8 @@ fn audio_fault(stream: &AudioStream, input: &[u8]) -> Option<TalkFault>
 }
 
 impl<'a> Source<'a> {
-    /// The source of a plan and an input. A fault of the plan or the input is returned before `Memory`.
+    /// The source of a plan and an input. If the plan or the input has a fault, the fault is returned, even if memory
+    /// runs out.
     pub fn of(alloc: Global, plan: TalkPlan, input: &'a [u8]) -> Result<Self, TalkFault>
         requires plan { IsPlan plan }
         requires limit { length input.now ≤ most_input }

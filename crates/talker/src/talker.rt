@@ -22,17 +22,17 @@ use std::marker::Model;
 use talk_clock::ClockStream;
 use talk_plan::{TalkFault, TalkPlan};
 
-/// Makes the frames of a plan from its input, by number or one after another. The memory of one frame, and of the list
-/// of an H.264 stream's NAL units, is allocated at the beginning. Nothing is allocated later: each frame is lent until
-/// the next frame is made, or is written into the caller's slice.
+/// Makes the frames of a plan from its input, by number or one after another. The memory for one frame, and for the
+/// list of an H.264 stream's NAL units, is allocated at the beginning. Nothing is allocated later: each frame is lent
+/// until the next frame is made, or is written into the caller's slice.
 #[derive(Debug, Drop)]
 pub struct Talker<'a> {
     source: Source<'a>,
     clock: Option<ClockStream>,
     packets: u64,
     clocks: u64,
-    /// How many packets of the stream were given in the order of sending. The next field counts the clock's packets
-    /// that were given.
+    /// How many packets of the stream were given as next frames, in the order of sending. The next field counts the
+    /// clock's packets in the same way.
     given_packets: u64,
     given_clocks: u64,
     /// The frame that was lent last.
@@ -61,9 +61,9 @@ impl<'a> Talker<'a> {
     ghost use Rattle.talker.specs.Lending.{EndsAs};
 
     /// A talker of the plan and the input. For audio, the input is a sequence of sample frames, each with its channels
-    /// in order. A sample of PCM has its highest byte first; a sample of AM824 is a quadlet as it is sent, a label and
-    /// 24 bits (IEC 61883-6). For H.264, the input is a byte stream of NAL units (ITU-T H.264, annex B). The input has
-    /// at most 268,435,456 bytes.
+    /// in order. A sample of PCM has its highest byte first; a sample of AM824 is a quadlet as it is sent: a label,
+    /// then 24 bits (IEC 61883-6). For H.264, the input is a byte stream of NAL units (ITU-T H.264, annex B). The input
+    /// has at most 268,435,456 bytes.
     ///
     /// A plan has a start of 0 to 4 * 10^18 and a lead of 1 to 10^9. A plan of audio either has no restarts, or has
     /// `restart` from 8 to 10^9 and `jump` from 4 to 10^9. PCM, sparse or not, has one of AAF's rates and 1 to 1023
@@ -74,7 +74,7 @@ impl<'a> Talker<'a> {
     ///
     /// A media clock has a base frequency of 1 to 200,000,000 Hz, a pull of 0 to 5, and 1 to 180 timestamps in a
     /// packet. The time from one timestamp to the next is 1 to 65,535 events of the clock, and a whole number of sample
-    /// frames. With restarts, a run of the stream takes as long as a multiple of 8 packets of the clock.
+    /// frames. With restarts, the time of a run of the stream is a whole multiple of the time of 8 clock packets.
     ///
     /// Returns `Frames` exactly if an audio input is not a whole number of sample frames. An input of H.264 is tested
     /// for three faults, and the first one found is returned. `StartCode`: there is no start code. `NalType`: a NAL
@@ -221,7 +221,7 @@ impl<'a> Talker<'a> {
     }
 }
 
-/// The number of packets of a clock, if there is one.
+/// The number of the clock's packets; 0 if there is no clock.
 fn clock_packets(clock: &Option<ClockStream>) -> u64
     requires { IfSome clock.now IsClockStream }
     ensures { result ≡ clocks_of clock.now }

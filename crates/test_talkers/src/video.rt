@@ -84,7 +84,7 @@ const ACCESS: [(&[u16], &[i64]); 8] = [
         &[1, 2, 2, 3, 3, 3],
     ),
     (&[0x419a, 0x0e80, 0x419a, 0x1280, 0x419a], &[1, 2, 2, 3, 3]),
-    // units that may follow a picture in its access unit
+    // units that can follow a picture in its access unit
     (
         &[0x419a, 0x0a80, 0x0b80, 0x0cff, 0x0d80, 0x1380],
         &[1, 1, 1, 1, 1, 1],

@@ -58,7 +58,7 @@ pub record IsEnded (bytes : List ℕ) (old new : Units) : Type 0 where
   pub all : old.number ≡ length (nal_units bytes)
   pub same : new ≡ old
 
--- an access unit of the first i units needs more than 255 packets
+-- among the first i units, the units of some access unit need more than 255 packets
 abbrev pub is_long_in : List ℕ → List (ℕ × ℕ) → ℕ → Bool
 is_long_in bytes units zero = false
 is_long_in bytes units (suc i) =

@@ -6,8 +6,8 @@ use Rattle.talker.specs.state.Frames.{left_of}
 use Rattle.talk_clock.specs.Streams.{IsClockOf}
 use Rattle.talker.specs.state.Talking.{IsSource, input_in, plan_in, stream_in}
 
--- A talker has a valid plan, the plan's clock, and memory for the longest frame. If the frames that the talker has
--- given are dropped from the plan's frames, the frames of all other packets are left.
+-- A talker has a valid plan, the plan's clock, and memory for the longest frame. The plan's frames after those that the
+-- talker has given are the frames of all packets that it has not given.
 pub record IsTalker (t : Inside) : Type 0 where
   pub source : IsSource t.source
   pub packets : t.packets ≡ (stream_in t.source).journal.times.packets

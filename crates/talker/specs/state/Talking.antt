@@ -41,7 +41,8 @@ pub record IsSourceOf (plan : TalkPlan) (input : List ℕ) (source : Source) : T
   pub plan_is : plan_in source ≡ plan
   pub input_is : input_in source ≡ input
 
--- The source of a plan and an input. A fault of them is returned, and before `Memory`.
+-- `result` is the source of a plan and an input, or why there is none. If the plan or the input has a fault, the fault
+-- is returned, even if memory runs out.
 pub record BeginsSource (plan : TalkPlan) (input : List ℕ) (result : Result Source TalkFault) : Type 0 where
   pub made : IfOk result (IsSourceOf plan input)
   pub accepted : OnOk result (fault_of plan input ≡ None)
