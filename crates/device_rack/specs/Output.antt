@@ -1,4 +1,4 @@
--- What the files of devices hold, given the items that were taken.
+-- What the files that devices write hold for the items that the devices took.
 use Rattle.std.specs.Prelude.{ℕ, ◌*◌, ◌/◌, ◌%◌, ◌==◌, Bool, not, ◌&&◌, if◌then◌else◌, min, ℤ, pos, negsuc, ◌+ℤ◌, ◌-ℤ◌, ◌*ℤ◌, List, [], ◌∷◌, ◌++◌, length, map, filter, flat_map, Option, None, Some}
 use Rattle.std.specs.List.{filter_map, range_with_len}
 use Rattle.sample_schedule.specs.Batches.{Presented, is_unit, sample_instant}

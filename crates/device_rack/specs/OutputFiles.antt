@@ -17,7 +17,7 @@ AreLive (Some device) None = ⊥
 AreLive (Some device) (Some outlet) = (outlet.device ≡ device) × (outlet.live ≡ true)
 
 -- The two devices of a program, whether each device is live, and what giving items to the devices does. Either device
--- may be missing.
+-- can be missing.
 module _ {S : Type 0} where
   abbrev pub raw_outlet : OutputFiles S → Option (Outlet (RawDevice S))
   raw_outlet outputs = outputs.raw

@@ -18,7 +18,7 @@ pub record Audio : Type 0 where
   pub kind : Kind
   -- the number of bytes in a sample frame
   pub frame : ℕ
-  -- the samples of a packet of silence, which fill up the last packet
+  -- the samples of a packet of silence; the last packet is filled up from them
   pub silence : List ℕ
   -- packet n, with the given samples
   pub packet : ℕ → List ℕ → PacketView

@@ -23,6 +23,6 @@ abbrev pub stamped_by : Option CrfPlan → TalkPlan → ℕ → ℕ → ℕ
 stamped_by None plan n i = nominal_instant plan n i
 stamped_by (Some crf) plan n i = stamped_at (beat_of crf plan) (run_start plan (run_of plan n)) (event_of plan n i)
 
--- the instant in the timestamp of sample frame i of packet n, by the plan's clock if there is one
+-- the instant in the timestamp of sample frame i of packet n, computed from the plan's clock if there is one
 abbrev pub stamped_instant : TalkPlan → ℕ → ℕ → ℕ
 stamped_instant plan n i = stamped_by plan.crf plan n i

@@ -2,7 +2,7 @@
 
 use thiserror::Error;
 
-/// Why a plan and its input make no stream, in the order in which the faults are tested.
+/// The faults that prevent a plan and its input from making a stream, in the order in which they are tested.
 #[derive(Clone, Copy, Debug, PartialEq, Eq, Error)]
 pub enum TalkFault {
     /// The input is not a whole number of sample frames.

@@ -125,9 +125,9 @@ impl TalkPlan {
             / (u64::from(crf.rate) * pull_up(crf.pull))
     }
 
-    /// The instant that the plan's clock gives the timestamp of sample frame `i` of packet `n`, in nanoseconds of gPTP.
-    /// The instant is computed from the clock's last point up to the sample frame, with the period that ends at that
-    /// point. If the sample frame is before the second point, the instant is its nominal instant.
+    /// The instant in the timestamp of sample frame `i` of packet `n`, computed from the plan's clock, in nanoseconds
+    /// of gPTP. The instant is computed from the clock's last point up to the sample frame, with the period that ends
+    /// at that point. If the sample frame is before the second point, the instant is its nominal instant.
     #[cold]
     #[inline(never)]
     fn clocked_instant(&self, crf: &CrfPlan, n: u64, i: u32) -> u64

@@ -35,7 +35,7 @@ next_place units p =
     if nat_lt (suc p.fragment) (packets_at units p.unit) then record { unit = p.unit; fragment = suc p.fragment }
     else record { unit = suc p.unit; fragment = 0 }
 
--- which fragment of which unit packet n carries
+-- what packet n carries: which unit, and which fragment of that unit
 abbrev pub place_of : List (ℕ × ℕ) → ℕ → Place
 place_of units zero = record { unit = 0; fragment = 0 }
 place_of units (suc n) = next_place units (place_of units n)

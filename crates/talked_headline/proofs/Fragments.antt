@@ -1,4 +1,4 @@
--- A unit of an H.264 plan whose packets are captured in order.
+-- A unit of an H.264 plan, if the unit's packets are captured in order.
 use Rattle.std.proofs.Common.{◌≡◌, ◌⊎◌, ℕ, zero, suc, ◌+◌, ◌-◌, ◌*◌, ◌<◌, ◌≤◌, Bool, true, List, [], ◌∷◌, ◌++◌, length, map, Option, Some, refl, sym, ap, ◌∙◌, subst, inl, inr, arith, length-append}
 use Rattle.std.specs.Prelude.{⊤, nat_lt, slice_get, filter}
 use Rattle.std.specs.List.{enumerate_from, flat_map, range_with_len}

@@ -1,5 +1,5 @@
-//! The captures of a talker's plans meet every premise of the headline, the promise of listeners. Each call only states
-//! its contract, and does nothing.
+//! The captures of a talker's plans meet every premise of the headline, which is the promise of listeners. Each call
+//! only states its contract, and does nothing.
 
 ghost use Rattle.std.specs.Prelude.{List, ℕ, pos, ◌-◌, ◌∷◌, ◌++◌};
 ghost use Rattle.std.specs.List.{range_with_len};

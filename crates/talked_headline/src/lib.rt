@@ -1,4 +1,4 @@
-//! What listeners promise of conforming talkers, applied to the captures of a talker's plans.
+//! The promise of listeners for conforming talkers, applied to the captures of a talker's plans.
 #![tactic(auto)]
 
 pub mod laws;

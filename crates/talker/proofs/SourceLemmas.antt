@@ -72,7 +72,7 @@ video_fault plan input last_stamp p kind limit =
     ap (λ (k : TalkKind). first_of (faults_by (audio_by k plan) plan input)) kind
     ∙ none_more (has_start_code input) (has_other_type input) (has_long_access_unit input) (arrives_too_late plan input) (none_late plan input plan_is limit)
 
--- each packet of H.264 is sent before 2^32 seconds, so a capture can record it
+-- each packet of H.264 is sent before the instant 2^32 seconds, so a capture can record it
 pub video_early : (v : VideoStream) (n : ℕ) → IsVideo v → n < v.packets → (stream_of v.plan v.input.now).arrival n < 2 ^ 32 * 1000000000
 video_early v n is h =
     let plan_is : IsPlan v.plan = subst (λ (k : TalkKind). IsPlanOf k v.plan) (sym is.kind) is.plan in

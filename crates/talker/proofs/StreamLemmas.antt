@@ -38,15 +38,16 @@ clocks_in s = s.journal.times.clock.packets
 
 -- What holds for the stream of every plan.
 pub record IsStream (plan : TalkPlan) (s : Stream) : Type 0 where
-  -- No packet is sent before its predecessor. Each packet is sent before 2^32 seconds, so a capture can record it.
+  -- No packet is sent before its predecessor. Each packet is sent before the instant 2^32 seconds, so a capture can
+  -- record it.
   pub rising : (n : ℕ) → s.arrival n ≤ s.arrival (n + 1)
   pub sent : (n : ℕ) → n < packets_in s → s.arrival n < 2 ^ 32 * 1000000000
   -- no packet is sent after it is due
   pub early : (n : ℕ) → IsAhead plan.crf plan.lead → n < packets_in s → s.arrival n ≤ s.journal.times.due n
   -- the frame of each packet fits Ethernet
   pub size : (n : ℕ) → n < packets_in s → length (packet_bytes (s.journal.packet n)) ≤ 1518
-  -- No packet of the clock is sent before its predecessor. Each packet of the clock is sent before 2^32 seconds, and
-  -- its frame fits Ethernet.
+  -- No packet of the clock is sent before its predecessor. Each packet of the clock is sent before the instant 2^32
+  -- seconds, and its frame fits Ethernet.
   pub clock_rising : (m : ℕ) → s.clock_arrival m ≤ s.clock_arrival (m + 1)
   pub clock_sent : (m : ℕ) → m < clocks_in s → s.clock_arrival m < 2 ^ 32 * 1000000000
   pub clock_size : (m : ℕ) → m < clocks_in s → length (clock_bytes (s.journal.clock_packet m)) ≤ 1518

@@ -28,7 +28,7 @@ pub(crate) enum Source<'a> {
 }
 
 /// Why an input makes no audio stream. `Arrival` is never among the reasons, because the packets of every plan arrive
-/// well before 2^32 seconds.
+/// well before the instant 2^32 seconds.
 #[tactic(auto, using(talk_audio::proofs::FormatLemmas::audio_found, crate::proofs::TalkLemmas::none_late), unfolding(crate::specs::Faults::fault_of))]
 fn audio_fault(stream: &AudioStream, input: &[u8]) -> Option<TalkFault>
     requires stream { IsAudio stream.now }

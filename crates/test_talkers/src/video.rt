@@ -72,7 +72,7 @@ fn units_are_sent_whole_or_in_fragments(rt: HostRuntime) -> Result<(), Fail> {
     check_rows(&rt, rt.alloc(), &ROWS)
 }
 
-/// Units of two bytes, and the number of the access unit of each, from 1.
+/// Units of two bytes, and for each unit, the number of its access unit, counted from 1.
 const ACCESS: [(&[u16], &[i64]); 8] = [
     // parameter sets and a picture, then the next picture
     (&[0x6742, 0x68ce, 0x6588, 0x419a], &[1, 1, 1, 2]),

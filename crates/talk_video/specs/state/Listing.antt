@@ -72,7 +72,7 @@ pub record IsCarried (bytes : List ℕ) (unit : NalUnit) (n : ℕ) : Type 0 wher
   pub begun : unit.first ≤ n
   pub within : n < unit.first + packets_for (unit.from, unit.to)
 
--- which fragment of which unit packet n of the stream carries
+-- what packet n of the stream carries: which unit, and which fragment of that unit
 abbrev pub place_in : VideoStream → ℕ → Place
 place_in v n = place_of (nal_units v.input.now) n
 
