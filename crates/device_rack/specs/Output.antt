@@ -1,4 +1,4 @@
--- What the files that devices write hold for the items that the devices took.
+-- The bytes that devices write to their files for the items that they took.
 use Rattle.std.specs.Prelude.{ℕ, ◌*◌, ◌/◌, ◌%◌, ◌==◌, Bool, not, ◌&&◌, if◌then◌else◌, min, ℤ, pos, negsuc, ◌+ℤ◌, ◌-ℤ◌, ◌*ℤ◌, List, [], ◌∷◌, ◌++◌, length, map, filter, flat_map, Option, None, Some}
 use Rattle.std.specs.List.{filter_map, range_with_len}
 use Rattle.sample_schedule.specs.Batches.{Presented, is_unit, sample_instant}

@@ -6,8 +6,8 @@ use avtp_base::Failed;
 use avtp_files::Sink;
 use sample_schedule::Shown;
 
-/// A device that writes the units it takes to a sink, in order, each after a start code (ITU-T H.264, annex B). Samples
-/// and flags add nothing.
+/// A device that takes items and writes their units to a sink, in order, each after a start code (ITU-T H.264, annex
+/// B). Samples and flags add nothing.
 ///
 /// As long as no `take` has failed, the sink holds what it held when the device was made, followed by the whole output.
 /// The first `take` that fails writes only a prefix of its item's output.

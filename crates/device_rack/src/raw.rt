@@ -8,7 +8,7 @@ use avtp_base::Failed;
 use avtp_files::Sink;
 use sample_schedule::Shown;
 
-/// A device that writes the samples of the items it takes to a sink, in order, with silence for missing samples.
+/// A device that takes items and writes their samples to a sink, in order, with silence for missing samples.
 ///
 /// Units and flags add nothing. Between two batches of samples, the device writes silence from the end of the first
 /// batch to the beginning of the second, even if there are units or flags between the batches. The length of the

@@ -18,7 +18,7 @@ use Rattle.talk_audio.specs.Packets.{aaf_packet}
 use Rattle.talk_plan.specs.Places.{IsSentAt}
 use Rattle.talk_plan.specs.Plan.{IsAudioPlan, fdf_of, most_input, rate_code}
 
--- `pcm` has the sample format of a plan of PCM, whether the plan is sparse, and the code of the plan's sample rate
+-- `pcm` holds the sample format of a plan of PCM and the code of its sample rate, and says whether the plan is sparse
 pub record IsPcm (pcm : PcmFormat) (plan : TalkPlan) : Type 0 where
   pub kind : plan.kind ≡ Aaf pcm.format pcm.sparse
   pub code : rate_code plan.rate ≡ Some pcm.code

@@ -17,7 +17,6 @@ use Rattle.talk_plan.specs.Timing.{nominal_offset}
 use Rattle.talk_plan.proofs.TimingLemmas.{is_offset, sum_of}
 use Rattle.clock_track.proofs.LineFacts.{less, at_most}
 
-
 -- ---- the period from one point to the next
 
 -- `spacing` events take `p` nanoseconds, to within a nanosecond.

@@ -72,8 +72,8 @@ is_beat plan crf p e =
 
 -- ---- timestamps lie near nominal instants
 
--- by how many nanoseconds at most a timestamp is after its nominal instant (`late_by`) or before it (`early_by`); 0
--- without a clock
+-- how much later than its nominal instant a timestamp can be (`late_by`), and how much earlier (`early_by`), in
+-- nanoseconds; 0 without a clock
 abbrev pub late_by : Option CrfPlan → ℕ
 late_by None = 0
 late_by (Some crf) = 1

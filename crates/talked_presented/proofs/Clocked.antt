@@ -140,7 +140,7 @@ sent_by_then plan crf input m n c sent =
       (λ le. before_next plan.rate (n * plan.count) (m * crf.points * spacing_of crf plan.rate) range.least range.most (omega (arith, here, there, le))),
     )
 
--- ---- which packets of the clock arrived by the time of a packet
+-- ---- which packets of the clock have arrived when a packet of the stream is sent
 
 -- when packet n is sent, a packet of the clock has arrived exactly if it has a point at or before packet n's first
 -- sample

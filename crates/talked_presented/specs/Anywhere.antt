@@ -18,9 +18,9 @@ sent_copy plan input n = record { number = n; arrival = (stream_of plan input).a
 abbrev pub waiting_at : TalkPlan → List ℕ → ℕ → List ℕ → List ℕ
 waiting_at plan input n packets = filter (λ (k : ℕ). nat_le ((stream_of plan input).arrival n) ((journal plan input).times.due k)) packets
 
--- Packet n of a plan without a clock is captured after the packets `before` and before the packets `after`. Packet n
--- has a timestamp, or can be counted from the timestamp of an earlier captured packet or of one of the next `look`
--- captured packets. All packets of `before` were captured no later than the instant at which packet n is due.
+-- Packet n of a plan without a clock is captured between the packets `before` and the packets `after`. Packet n has a
+-- timestamp, or can be counted from the timestamp of an earlier captured packet or of one of the next `look` captured
+-- packets. All packets of `before` were captured no later than the instant at which packet n is due.
 pub record ComesInTime (plan : TalkPlan) (input : List ℕ) (listen : ListenPlan) (before : List ℕ) (n : ℕ) (after : List ℕ) : Type 0 where
   pub talk : ListensTo plan input listen
   pub alone : plan.crf ≡ None
@@ -39,11 +39,11 @@ pub record MustBePresented (plan : TalkPlan) (input : List ℕ) (listen : Listen
   pub some : length (waiting_at plan input n before) < listen.buffer
   pub bytes : (length (waiting_at plan input n before) + 1) * 1500 ≤ listen.room
 
--- Packets `from` to n of a plan of H.264 carry one unit, and are captured in order, after the packets `front` and
--- before the packets `after`. The unit must be presented, because three conditions hold. All packets of `front` were
--- captured no later than the instant at which the unit is due. The unit's last packet is not in `front`. The buffer has
--- room for the unit and for all units completed in `front`, even if each of them takes the maximum of 255 packets of
--- 1,500 bytes.
+-- Packets `from` to n of a plan of H.264 carry one unit, and are captured in order, between the packets `front` and the
+-- packets `after`. The unit must be presented, because three conditions hold. All packets of `front` were captured no
+-- later than the instant at which the unit is due. The unit's last packet is not in `front`. The buffer has room for
+-- the unit and for all units completed in `front`, even if each of them takes the maximum of 255 packets of 1,500
+-- bytes.
 pub record UnitMustBePresented (plan : TalkPlan) (input : List ℕ) (listen : ListenPlan) (front : List ℕ) (from n : ℕ) (after : List ℕ) : Type 0 where
   pub talk : ListensToVideo plan input (front ++ (range_with_len from (n - from) ++ n ∷ after)) listen
   pub sent : All (λ (k : ℕ). k < (journal plan input).times.packets) (front ++ n ∷ after)

@@ -89,8 +89,8 @@ ends_unit Last = true
 abbrev pub unit_ends : TalkPlan → List ℕ → List ℕ
 unit_ends plan input = filter (λ (n : ℕ). ends_unit (part_sent input n)) (range_with_len 0 (journal plan input).times.packets)
 
--- Whenever a packet is sent, the buffer has room for all packets that are not yet due. The buffer has 1,500 bytes for
--- each of the `listen.buffer` packets that it can hold, and for 255 further packets, the maximum number for a unit.
+-- Whenever a packet is sent, the buffer has room for all packets that are not yet due. The buffer has room for
+-- `listen.buffer` packets of 1,500 bytes, and for 255 further such packets, the maximum number for a unit.
 pub record HoldsUnits (plan : TalkPlan) (input : List ℕ) (listen : ListenPlan) : Type 0 where
   pub packets : (k n : ℕ) → k ≤ n → n < (journal plan input).times.packets → (stream_of plan input).arrival n ≤ (journal plan input).times.due k
       → n < k + listen.buffer
