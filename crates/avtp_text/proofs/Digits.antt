@@ -15,7 +15,7 @@ one_digit n h = length_one n h
 pub length_three : (n : ℕ) → 100 ≤ n → n < 1000 → length (decimal n) ≡ 3
 length_three n lo hi = let one = length_one (n / 100) (omega arith) in omega (arith, one, length_pair n lo (omega arith))
 
--- two numbers below 10 have equally many digits; so have two numbers from 10 to 99, and two numbers from 100 to 999
+-- two numbers have equally many digits if both are below 10, both from 10 to 99, or both from 100 to 999
 pub as_long_one : (m n : ℕ) → m < 10 → n < 10 → length (decimal n) ≡ length (decimal m)
 as_long_one m n a b = length_one n b ∙ sym (length_one m a)
 

@@ -32,7 +32,7 @@ one_more line j =
     ap (flat_map line) (numbers (j + 1) j (omega arith) ∙ ap (λ k. range_with_len 0 j ++ j ∷ range_with_len (j + 1) k) none)
     ∙ flat_map-append line (range_with_len 0 j) (j ∷ []) ∙ ap (λ t. flat_map line (range_with_len 0 j) ++ t) (append-nil (line j))
 
--- if the first `j` lines were printed and the next line failed, the `n` lines were printed in part
+-- if the first `j` of `n` lines were printed and printing the next line failed, the `n` lines were printed in part
 pub lines_failed : {s t u : SinkState} {w w' w'' : List ℕ} {result : Result Unit Failed} {ok : Unit} {e : Failed} (line : ℕ → List ℕ) (n j : ℕ) → j < n → IsErr result
     → PrintsPart s t w w' (Ok ok) (flat_map line (range_with_len 0 j)) → PrintsPart t u w' w'' (Err e) (line j) → PrintsPart s u w w'' result (flat_map line (range_with_len 0 n))
 lines_failed line n j lt err first next =

@@ -101,7 +101,7 @@ h264_content v =
     ++ codes " part " ++ part_text v.part
     ++ codes " bytes " ++ decimal v.header.data_length
 
--- the text of a CRF packet, which ends with the number of timestamps and the first timestamp
+-- the text of a CRF packet; the text ends with the number of timestamps and the first timestamp
 unfoldable pub crf_content : Crf → List ℕ
 crf_content v =
     codes "crf id " ++ id_text v.stream_id

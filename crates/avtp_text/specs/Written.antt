@@ -30,7 +30,7 @@ pub record Grows (before now : Option (List ℕ)) : Type 0 where
   pub appends : Appends before now more
 
 -- A call printed `text` whole, or printed nothing if the sink failed. What the sink holds begins with what it held
--- before the call. The sink's count of faults rose exactly if the call failed.
+-- before the call. The sink's count of faults rose if and only if the call failed.
 pub record Prints (before after : SinkState) (waits waits' : List ℕ) (result : Result Unit Failed) (text : List ℕ) : Type 0 where
   pub written : Writes (written before.held waits) (written after.held waits') result text
   pub grows : Grows before.held after.held

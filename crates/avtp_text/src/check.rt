@@ -55,7 +55,8 @@ impl Text {
         }
     }
 
-    /// Appends the line of a finding if the finding has a number `count`. There must be room for the line.
+    /// Appends the line of a finding with the number in `count`, or nothing if `count` is `None`. There must be room
+    /// for the line.
     fn push_counted(&mut self, number: u64, id: u64, count: Option<u32>, label: &str)
         requires short { length label.now ≤ 8 }
         requires room { length self.old + FINDING ≤ ROOM }

@@ -75,8 +75,8 @@ fn write_hex_of_each(bytes: &[u8], out: &mut [u8])
     }
 }
 
-/// Writes the lower-case hexadecimal digits of bytes. Most samples have two channels of two bytes, whose digits need no
-/// loop.
+/// Writes the lower-case hexadecimal digits of bytes. Most samples have two channels of two bytes; the digits of these
+/// four bytes need no loop.
 #[inline(always)]
 pub fn write_hex(bytes: &[u8], out: &mut [u8])
     requires { length out.old ≡ 2 * length bytes.now }
