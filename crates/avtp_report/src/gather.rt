@@ -147,7 +147,7 @@ impl Report {
         Ok(self.streams.get_mut(place))
     }
 
-    /// The index of the stream with this key, if this stream is the stream of the last packet or that stream's
+    /// The index of the stream with this key, if this stream is the stream of the most recent packet or that stream's
     /// follower.
     fn expected(&self, key: StreamKey) -> Option<usize> {
         if self.is_at(self.last, key) {
@@ -165,8 +165,8 @@ impl Report {
         }
     }
 
-    /// Returns the index of the stream with this key. This stream becomes the follower of the last packet's stream. If
-    /// there is no stream with this key yet, one is added.
+    /// Returns the index of the stream with this key. This stream becomes the follower of the most recent packet's
+    /// stream. If there is no stream with this key yet, one is added.
     #[inline(never)]
     fn find(&mut self, key: StreamKey, sender: &Sender, at: At) -> Result<usize, NoMemory> {
         let place = match self.places.get(&key).copied() {

@@ -40,7 +40,7 @@ pub struct Reading {
 const LIMIT: u64 = 1 << 62;
 
 /// Reads the captures that the words name. If `html` is given, the word at index `html` names the page, not a capture.
-/// After a capture that cannot be read to its end, no other capture is read, and standard error says why.
+/// If a capture cannot be read to its end, standard error says why, and no other capture is read.
 pub fn read_files(
     rt: &HostRuntime,
     alloc: Global,

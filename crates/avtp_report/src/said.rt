@@ -290,8 +290,8 @@ fn say_first<W: fmt::Write>(found: i64, wanted: u64, f: &mut fmt::Formatter<W>) 
     )
 }
 
-/// This limit is 1,000 ppm, in parts of 10^9. A drift up to the limit is given in ppm. A greater drift is given in
-/// percent, because it cannot come from a clock.
+/// This limit is 1,000 ppm, stated in parts per 10^9. A drift up to the limit is given in ppm. A greater drift is given
+/// in percent, because it cannot come from a clock.
 const MOST_DRIFT: u64 = 1_000_000;
 
 fn say_drift<W: fmt::Write>(parts: i64, f: &mut fmt::Formatter<W>) -> fmt::Result {

@@ -115,7 +115,7 @@ fn prepend_h264(line: &mut Line, view: &CvfView<'_>)
     line.prepend("h264 ");
 }
 
-/// Prepends the number of timestamps in a CRF packet and the first timestamp to the line.
+/// Prepends to the line the number of timestamps in a CRF packet, and the first timestamp.
 fn prepend_points(line: &mut Line, view: &CrfView<'_>)
     requires some { 8 ≤ length view.now.payload.now }
     requires room { 55 + length line.old ≤ LONGEST }

@@ -15,7 +15,7 @@ const MOST: usize = 65_528;
 const WINDOW: u32 = 64;
 
 /// Looks up the lines of `count` samples near the newest timestamps of a clock. The clock's window is full of packets,
-/// each with 1 to 8,191 timestamps. Returns how many samples have a line.
+/// each with `timestamps` timestamps (1 to 8,191). Returns how many samples have a line.
 pub fn lines(alloc: Global, timestamps: u32, count: u32) -> Option<u64>
     requires some { 1 ≤ timestamps }
     requires most { timestamps ≤ 8191 }

@@ -50,7 +50,7 @@ pub fn samples<C: Clock>(clock: &C, alloc: Global, count: u32, times: u32) -> Op
     })
 }
 
-/// The batches that are presented of packets that arrive in the order of their instants.
+/// The batches that are presented if `count` packets arrive in the order of their instants.
 fn batches(alloc: Global, count: u32) -> Option<Vec<Shown>> {
     let stream = Stream {
         order: Order::Rising,

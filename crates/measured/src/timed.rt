@@ -2,7 +2,7 @@
 
 use std::alloc::Global;
 
-/// How many packets were presented or how many bytes were printed, and how many nanoseconds that took.
+/// The number of presented packets or of printed bytes, and how many nanoseconds the presenting or printing took.
 #[derive(Clone, Copy)]
 pub struct Timed {
     pub count: u64,

@@ -114,9 +114,9 @@ fn batches_of_another_shape_are_skipped(rt: HostRuntime) -> Result<(), Fail> {
     Ok(())
 }
 
-/// A stream of PCM, and one of the frames to which it is converted: the frame's index, its arrival, and its first
-/// bytes, which are those from the packet on, without the stream ID. A block count that is not a multiple of the SYT
-/// interval is raised to the next multiple. The block count wraps after 255.
+/// A stream of PCM, and one of the frames to which it is converted: the frame's index, its arrival, and the first bytes
+/// of its packet, without the stream ID. A block count that is not a multiple of the SYT interval is raised to the next
+/// multiple. The block count wraps after 255.
 const FRAMES: &str = "\
 packets=1 | 0 => 1000000000 00810000 3bb94e80 0000000000385fa03f0200009002ffff
 packets=2 | 1 => 1000125000 00810100 3bbb36c8 0000000000385fa03f0200089002ffff
@@ -131,7 +131,7 @@ packets=2 channels=256 count=1 | 1 => 1000020833 00810100 3bb99fe1 0000000004085
 packets=1 start=1999999 | 0 => 0 00810000 001e847f 0000000000385fa03f0200009002ffff
 ";
 
-/// The arrival of a frame, and its first bytes: from the packet on, without the stream ID.
+/// The arrival of a frame, and the first bytes of its packet, without the stream ID.
 fn start_of(alloc: Global, records: &[Recorded], place: usize) -> Result<String, Fail> {
     let record = records.get(place).ok_or("no such frame")?;
     let head = hex::encode(alloc, record.frame.get(18..22).unwrap_or(&[]))?;

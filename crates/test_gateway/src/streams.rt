@@ -112,7 +112,7 @@ fn are_same(a: &[Recorded], b: &[Recorded]) -> bool {
 
 /// Checks that a row's stream is converted to as many packets as the row says. From these packets, a listener must
 /// present the same values at the same instants, and `check` must find nothing in the packets. Checks the same for the
-/// conversion back. If AM824 of a gateway is converted to PCM and back, the frames must be the same.
+/// conversion back. If AM824 that a gateway made is converted to PCM and back, the frames must stay the same.
 fn check_row(rt: &impl Abort, alloc: Global, to: To, line: &str) -> Result<(), Fail> {
     let (words, wanted) = row_of(line)?;
     let back = match to {

@@ -26,8 +26,8 @@ const MOST: u64 = 1024;
 
 /// A packet and its findings. The first three values are the packet's sequence number, its restart bit, and whether it
 /// has both a reserved bit and a wrong timestamp. The fourth value is the step of the sequence number, unless that step
-/// is 1. If the restart bit changes at this packet, the fifth value is the number of packets for which the bit had kept
-/// its previous value, if that number is below 8. It is `None` if that previous value began with the stream.
+/// is 1. If the restart bit changes at this packet after fewer than eight packets with the previous value, the fifth
+/// value is the number of those packets. Otherwise, or if the stream began with that previous value, it is `None`.
 type Noted = (u8, bool, bool, Option<u8>, Option<u32>);
 
 /// Separate streams, each with its packets in order.

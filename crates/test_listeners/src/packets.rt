@@ -94,8 +94,9 @@ fn packets_come_in_order_once_and_within_the_buffer(rt: HostRuntime) -> Result<(
     check_rows(&rt, rt.alloc(), &ROWS)
 }
 
-/// Each row has changes to the bytes of a packet, the number of bytes of its frame that are captured, and the packet's
-/// flag. The flag is empty if the packet does not belong to the stream. A packet begins at byte 18 of its frame.
+/// Each row says which bytes of a packet are changed, how many bytes of the packet's frame are captured, and how the
+/// packet is flagged. The text of the flag is empty if the packet does not belong to the stream. A packet begins at
+/// byte 18 of its frame.
 const CHANGED: [(&[(usize, u8)], usize, &str); 24] = [
     (&[(3, 0x01)], 66, "1/0 Uncertain, "),
     (&[(21, 0)], 66, "1/0 Empty, "),

@@ -113,7 +113,7 @@ fn heard_in_pieces(
     ))
 }
 
-/// The capture is the first vector, and then the header of a second record whose stated length exceeds the limit.
+/// The capture is the first vector, followed by the header of a second record whose stated length exceeds the limit.
 #[test]
 fn a_capture_may_be_cut_anywhere(rt: HostRuntime) -> Result<(), Fail> {
     let longer = changed(vector(rt.alloc(), 1)?, &[], 106, 16)?;

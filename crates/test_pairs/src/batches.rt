@@ -30,8 +30,8 @@ fn split<'a>(text: &'a str, sign: char, other: &'a str) -> (&'a str, &'a str) {
     text.split_once(sign).unwrap_or((text, other))
 }
 
-/// The samples that a word gives before its bytes. `1000` means six samples at 48 kHz from instant 1,000; `1000*3`
-/// means three samples; `1000/44100` means six samples at 44.1 kHz; and `1000u` means a unit.
+/// The samples that a word describes before the `=` and the bytes. `1000` means six samples at 48 kHz from instant
+/// 1,000; `1000*3` means three samples; `1000/44100` means six samples at 44.1 kHz; and `1000u` means a unit.
 fn samples_of(word: &str) -> Samples {
     if let Some(first) = word.strip_suffix('u') {
         return Samples {
@@ -72,8 +72,8 @@ fn batch_of(frame: u64, seq: u8, samples: Samples, bytes: Bytes) -> Result<Batch
     })
 }
 
-/// The batch that a word states: the sequence number, `@`, and the samples. If `=` follows, the bytes of the samples
-/// come after it. Without bytes, each sample has one byte, 0.
+/// The batch that a word describes. The word has the batch's sequence number, then `@`, then the samples. If `=`
+/// follows, the bytes of the samples come after it. Without bytes, each sample has one byte, 0.
 fn batch(alloc: Global, frame: u64, word: &str) -> Result<Batch, Fail> {
     let (seq, rest) = split(word, '@', "");
     let (rest, digits) = split(rest, '=', "");

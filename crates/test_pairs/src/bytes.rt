@@ -12,8 +12,8 @@ use std::alloc::Global;
 use std::test::Fail;
 use vectors_avtp::{bytes_of, refusal_text, row_of};
 
-/// The captures A and B. After `=>` is what is found: the first refusal of a capture when it ends, the differences and
-/// the counts.
+/// The captures A and B. After `=>` is what is found, in order: differences where they become known, a capture's first
+/// refusal where the capture ends, and the counts.
 const ROWS: &str = "\
 pcap | pcap => matched 1 only 0 0 differ 0
 pcap | pcap 105=fb => 1 1 seq 0 Bytes { sample: 5 }, matched 1 only 0 0 differ 1

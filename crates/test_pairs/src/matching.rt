@@ -55,7 +55,7 @@ const ROWS: &str = "\
 0@5u=65 | 0@5u=65 => matched 1 only 0 0 differ 0
 0@5u=65 | 0@5u=6501 => 1 1 seq 0 Bytes { sample: 0 }, matched 1 only 0 0 differ 1
 0@5u=65 | 0@6u=65 => matched 0 only 1 1 differ 0
-// For the first sample that differs, its instants are reported, or its bytes if the instants are equal.
+// The first sample that differs is reported: as `At` if its instants differ, otherwise as `Bytes`.
 0@0=000000000100 | 0@0=000000000000 => 1 1 seq 0 Bytes { sample: 4 }, matched 1 only 0 0 differ 1
 0@0=010000000000 | 0@1=000000000000 => 1 1 seq 0 At { sample: 0, a: 0, b: 1 }, matched 1 only 0 0 differ 1
 0@0 | 0@0/44100 => 1 1 seq 0 At { sample: 1, a: 20833, b: 22675 }, matched 1 only 0 0 differ 1

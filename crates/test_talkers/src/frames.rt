@@ -118,8 +118,8 @@ fn number_at(bytes: &[u8], at: usize) -> u32 {
     }
 }
 
-/// A frame's line: the frame's arrival, and of its packet, the number, the first four bytes, the low 32 bits of the
-/// first timestamp, and what follows the common header.
+/// A frame's line: the frame's arrival; then its packet's number, the packet's first four bytes, the low 32 bits of the
+/// packet's first timestamp, and what follows the packet's common header.
 fn line_of(alloc: Global, frame: &Frame) -> Result<String, NoMemory> {
     let head = number_at(&frame.bytes, 18);
     let stamp = number_at(&frame.bytes, if frame.clock { 42 } else { 30 });
