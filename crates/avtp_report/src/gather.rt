@@ -131,8 +131,8 @@ impl Report {
         }
     }
 
-    /// The stream with this key. If there is no stream with this key yet, one is added. `None` if no stream has this
-    /// key and 1,024 streams are tracked already.
+    /// The stream with this key. If there is no stream with this key yet, one is added, unless 1,024 streams are
+    /// tracked already: then the result is `None`.
     fn stream(
         &mut self,
         key: StreamKey,

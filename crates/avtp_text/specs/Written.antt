@@ -37,7 +37,7 @@ pub record Prints (before after : SinkState) (waits waits' : List ℕ) (result :
   pub counted : IsCounted before.faults after.faults result
 
 -- A call printed `text`, which may be long: all of it, or a prefix if the sink failed. What the sink holds begins with
--- what it held before the call. The sink's count of faults rose exactly if the call failed.
+-- what it held before the call. The sink's count of faults rose if and only if the call failed.
 pub record PrintsPart (before after : SinkState) (waits waits' : List ℕ) (result : Result Unit Failed) (text : List ℕ) : Type 0 where
   pub written : WritesPrefix (written before.held waits) (written after.held waits') result text
   pub grows : Grows before.held after.held

@@ -1,4 +1,4 @@
-//! What `avtp` prints: the exact lines, and the one bounded buffer that they go through.
+//! The exact lines that `avtp` prints, and the one bounded buffer that they go through.
 #![tactic(auto)]
 
 mod aaf_line;

@@ -4,10 +4,11 @@
 //! `measured lines TIMESTAMPS LOOK-UPS` looks up lines of a media clock, and prints how many were found. The clock's
 //! window is full of packets, each with `TIMESTAMPS` timestamps.
 //!
-//! `measured judge ORDER WAITING LOOK CLOCK ITEMS` judges packets with a look-ahead, and with a clock or without. The
-//! order of the packets' instants is rising, falling, random, middle or equal. `measured listener STREAMS PACKETS`
-//! feeds a listener a capture of this many streams and packets. The listener hears one of the streams. `judge` and
-//! `listener` print how many packets are presented, and in how many nanoseconds.
+//! `measured judge ORDER WAITING LOOK CLOCK ITEMS` judges packets with a look-ahead, and with a clock or without.
+//! `ORDER`, the order of the packets' instants, is `rising`, `falling`, `random`, `middle` or `equal`.
+//! `measured listener STREAMS PACKETS` feeds a listener a capture with `STREAMS` streams and `PACKETS` packets. The
+//! listener hears one of the streams. `judge` and `listener` print how many packets are presented, and in how many
+//! nanoseconds.
 //!
 //! `measured samples BATCHES TIMES` prints the samples of `BATCHES` batches `TIMES` times, to a sink that keeps
 //! nothing. It prints the number of bytes of text, and how many nanoseconds the printing took.
