@@ -14,7 +14,7 @@ use Rattle.avtp_tool.specs.DeviceWords.{silence_as}
 use Rattle.avtp_tool.specs.HasRun.{HasRun, RefusesWords}
 use Rattle.avtp_tool.specs.Yield.{HandsOn}
 
--- `path` gives the path of the file of a sink, and `state` gives the state of a sink.
+-- `path` gives the path of a sink's file, and `state` gives the sink's state.
 module _ {S : Type 0} (path : S → List ℕ) (state : S → SinkState) where
   -- The device writes raw samples to the file that was asked for, with the silence that was asked for. The device has
   -- taken no item yet.

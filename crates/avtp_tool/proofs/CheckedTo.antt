@@ -1,4 +1,4 @@
--- The records of a capture that were checked so far.
+-- How far a capture was checked, and what was printed of it.
 use Rattle.std.proofs.Common.{◌≡◌, ℕ, ◌+◌, ◌≤◌, Bool, true, false, if◌then◌else◌, inl, inr, List, [], ◌∷◌, ◌++◌, length, map, take, Option, Some, None, Result, Ok, Err, refl, sym, ap, subst, ◌∙◌, append_assoc, append-nil, arith, length-append}
 use Rattle.std.specs.Prelude.{◌⊎◌, ◌==◌, flat_map, IfOk}
 use Rattle.std.proofs.lemmas.Grind.{flat_map-append}
@@ -120,11 +120,11 @@ checked_kept to kept = record { records = to.records; given = to.given; stands =
 
 -- ---- cut short
 
--- each text of `check` begins with the capture's name
+-- a prefix of the line with the capture's name is a prefix of the text that `check` prints of the capture
 pub name_checked : {before now : Option (List ℕ)} (limit : ℕ) (bytes name : List ℕ) → AppendsPrefix before now (capture_line name) → AppendsPrefix before now (text_of name (records_in (take limit bytes)))
 name_checked {before} {now} limit bytes name prefix = prefix_before before now (capture_line name) (joined_lines (of_each check_lines (records_in (take limit bytes)))) prefix
 
--- ---- what `check` makes of a file
+-- ---- what `check` yields for a file
 
 pub check_told : {h h' : SinkState} {w w' : List ℕ} {result : Result Status Failed} (limit : ℕ) (name bytes : List ℕ) (fault : Type 0) (total : Total) (before : Option (List ℕ)) → HasChecked limit name bytes fault total before (written h.held w)
     → EndsWith (check_status total.findings total.end) h h' w w' result (total_line limit total.frames total.streams total.findings total.end) → IsReadAndTold (check_report limit name) HandsNothing limit bytes fault total.end before (written h'.held w') result

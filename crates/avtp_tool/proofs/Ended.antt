@@ -76,7 +76,7 @@ asks_nothing names a never = record { count = 0; within = omega arith; all = λ 
 
 -- ---- devices
 
--- a request that gives items to devices is one of `listen`
+-- only a request for `listen` gives items to devices
 pub listens_to : (words : List (List ℕ)) (request : Request) → is_listening request ≡ true → IsCommandLine words request → (asked : Listening) × IsCommandLine words (listen asked)
 listens_to words (listen asked) listens line = (asked, line)
 listens_to words (show limit file) listens line = absurd cc

@@ -106,8 +106,8 @@ take_all : {X : Type 0} (xs : List X) → take (length xs) xs ≡ xs
 take_all {X} [] = refl
 take_all {X} (x ∷ xs) = ap (λ (l : List X). x ∷ l) (take_all xs)
 
--- The reading of a capture ended after these records; `how` says how it ended. All items of the capture were shown and
--- counted.
+-- The reading of a capture ended after these records; `how` says how it ended. `items` are all items that were shown by
+-- then, and `counts` are the listener's counts.
 pub record IsAllHeard (plan : ListenPlan) (records : List Record) (how : End) (counts : Counts) (items : List Shown) : Type 0 where
   pub items_are : items ≡ shown_by plan records how
   pub counted : counts ≡ counts_of plan records (shown_by plan records how)
@@ -151,7 +151,7 @@ hears_counted (Showing how) listener before after over counted = absurd cc
 hears_counted (Ended how) listener before after over counted = counted
 hears_counted NoMemory listener before after over counted = counted
 
--- ---- what `listen` makes of a file
+-- ---- what `listen` yields for a file
 
 abbrev yields_with : List ℕ → List Shown → Yield
 yields_with text items = record { text = text; items = items }

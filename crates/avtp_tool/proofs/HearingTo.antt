@@ -241,7 +241,7 @@ sound_over how is sound = record { bounded = omega (arith, sound.bounded); going
 
 -- ---- the hearing goes on
 
--- If a step shows nothing and does not raise the number of items that can still be shown, the hearing goes on.
+-- If a step shows nothing and does not raise the number of items that can still be shown, `GoesOn` holds for the step.
 pub goes_still : {t u : ShelfState} {old_source source : Sourcing} {old new : ListenState} {stage stage' : Stage}
     → ((begun : ShelfState) (first : Sourcing) (fresh : ListenState) (earlier : List Shown) → Shows begun t first old_source fresh old stage earlier → Shows begun u first source fresh new stage' earlier)
     → IsSome (u.slots (slot_of source)) → left_of stage' source new ≤ left_of stage old_source old → GoesOn t u old_source source old new stage stage' []

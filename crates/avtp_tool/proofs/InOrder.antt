@@ -114,7 +114,7 @@ order_here one ends yields here (name ∷ names) =
           )
     ]
 
--- ---- what a run gives out of its files
+-- ---- what a run over several files gives out
 
 pub tells_stopped : {a b : ShelfState} {before mid now : Option (List ℕ)} {earlier handed all_handed : List Shown → Type 0} {result : Result Status Failed} (one : List ℕ → Status → Yield → Type 0) (ends : List ℕ → Status) (yields : List ℕ → Yield) → ((name : List ℕ) → one name (ends name) (yields name))
     → Joins earlier handed all_handed → (names rest all : List (List ℕ)) (name : List ℕ) (first : Yield) (so_far : Status) → all ≡ names ++ name ∷ rest → is_done so_far ≡ true → InOrder one names names so_far first → Gives earlier before mid first → TellsYield (one name) handed mid now result

@@ -188,7 +188,7 @@ counts_unopened {result = result} fault before after files name counts missing e
       | inr no_memory ↦ counts_fault result before after files name counts.never_falls (cause_of fault before after files name no_memory counts missing) (ends.other no_memory).status
     ]
 
--- the count of reading faults rose exactly if the status is that of a read fault
+-- the count of reading faults rose if and only if the status is `ReadFault`
 abbrev pub TellsFault : Status → ℕ → ℕ → Type 0
 TellsFault ended before after = ((ended ≢ status.ReadFault) × (after ≡ before)) ⊎ ((ended ≡ status.ReadFault) × Rose before after)
 

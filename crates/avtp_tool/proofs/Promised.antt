@@ -1,4 +1,4 @@
--- If a run did what the words ask for and its text was then written, the run keeps what the command promises.
+-- If a run did what the words ask for and its text was then written, the command's promise `HasRun` holds for the run.
 use Rattle.std.proofs.Common.{◌≡◌, ◌≢◌, ℕ, ℤ, List, [], ◌∷◌, ◌++◌, Option, Some, Result, Bool, false, inl, inr, refl, sym, ap, subst, ◌∙◌, arith}
 use Rattle.std.specs.Prelude.{IfOk, IsSome}
 use Rattle.avtp_base.specs.declared.failed.Failed.{Failed}

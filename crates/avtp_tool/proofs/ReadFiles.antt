@@ -1,4 +1,4 @@
--- Files that are read one after another, from the first to the last of a run.
+-- The files of a run are read one after another, from the first file to the last.
 use Rattle.std.proofs.Common.{◌≡◌, ℕ, zero, suc, ◌+◌, ◌<◌, ◌≤◌, List, [], ◌∷◌, ◌++◌, length, take, drop, get_or, Option, Some, None, Result, Ok, Err, true, false, inl, inr, refl, sym, ap, subst, ◌∙◌, arith}
 use Rattle.std.specs.Prelude.{◌≢◌, Contains, IfOk, IsErr, IsSome, String, string_bytes}
 use Rattle.std.specs.declared.alloc.Global.{Global}

@@ -51,7 +51,7 @@ one_printed limit bytes remains source records r frames before mid now given cou
   lines = subst (Appends before now) (sym (line_of frames records r counted)) (Appends-trans before mid now _ _ lines line);
 }
 
--- ---- what `show` makes of a file
+-- ---- what `show` yields for a file
 
 pub show_told : {h h' : SinkState} {w w' : List ℕ} {result : Result Status Failed} (limit : ℕ) (bytes : List ℕ) (fault : Type 0) (printed : Printed) (before : Option (List ℕ)) → HasPrinted limit bytes fault printed before (written h.held w)
     → EndsWith (status_of printed.end) h h' w w' result (end_line limit printed.frames printed.end) → IsReadAndTold (show_report limit) HandsNothing limit bytes fault printed.end before (written h'.held w') result

@@ -410,7 +410,8 @@ prefix_of_all list n before now appends = record {
 
 -- ---- the whole comparison
 
--- Captures with the bytes `x` and `y` were read up to some point. All differences known by then were printed.
+-- Two captures, whose bytes are `x` and `y`, were each read up to some point. All differences known by then were
+-- printed.
 pub record IsAllTo (asked : Agreeing) (x y : List ℕ) (shelf : ShelfState) (c : Comparing) (before now : Option (List ℕ)) : Type 0 where
   pub to : IsComparedTo asked x y shelf c before now
   pub all : take to.given (differences (known_by c.pair to.records_a to.records_b)) ≡ differences (known_by c.pair to.records_a to.records_b)
@@ -599,7 +600,7 @@ module _ {s t : ShelfState} {first c : Comparing} (amid : IsAmidTwo s t first c)
       subst (λ (a : Side). IsComparedTo asked x y u (record { a = a; b = c'.b; pair = c'.pair }) before (written h'.held w')) (sym same)
       (told_b to unended listens (slots_apart_a amid) ends fault memory reads.steps on.reads reads.kept was)
 
-  -- after a step of reading one capture, both files are still open
+  -- after a step that reads one of the captures, both files are still open
   pub reads_on : (u : ShelfState) (c' : Comparing) (which : Which) (next : Option End) → ReadsSlot t u (slot_of (side_of which c).source) (slot_of (side_of which c').source) → side_of (other_of which) c' ≡ side_of (other_of which) c → IsReadOn s u first c'
   reads_on u c' A next reads same = record {
     reads = two_on_a amid.reads amid.slot_a reads;

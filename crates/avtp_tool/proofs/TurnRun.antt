@@ -101,7 +101,7 @@ turned_own skipped (end.Refused refusal) = (λ e. cc, λ e. cc)
 turned_own skipped end.ReadFault = (λ e. cc, λ e. cc)
 turned_own skipped end.Limit = (λ e. cc, λ e. cc)
 
--- the status is `ReadFault` exactly if the reading ended with a read fault
+-- the status is `ReadFault` if and only if the reading ended with a read fault
 turned_fault : (skipped : ℕ) (how : End) → (turned_status skipped how ≡ status.ReadFault → how ≡ end.ReadFault) × (how ≡ end.ReadFault → turned_status skipped how ≡ status.ReadFault)
 turned_fault skipped end.Whole = (elim (skipped == 0) as (λ b. (if b then status.Done else status.Findings) ≡ status.ReadFault → end.Whole ≡ end.ReadFault) [ true ↦ λ e. cc | false ↦ λ e. cc ], λ e. cc)
 turned_fault skipped (end.Refused refusal) = (λ e. cc, λ e. cc)
@@ -138,7 +138,7 @@ produces_cut {before} {now} {f} {g} {result} asked shape bytes fault whole cut l
 asks_none : {p : Type 0} (names : List (List ℕ)) (a : ShelfState) → (p → ⊥) → AsksFor names a a p
 asks_none names a never = record { count = 0; within = omega arith; all = λ done. absurd (never done); asked = λ before stands. subst (WasAsked a.asked) (sym (append-nil before)) stands }
 
--- if memory ran out before OUT was created, nothing is done
+-- if memory ran out before OUT was created, nothing was done
 pub turns_nothing : {s : ShelfState} {out : SinkState} {waits : List ℕ} (asked : Turning) (shape : Option Shape) → TurnsFile asked shape s s out out waits waits (Ok status.Memory)
 turns_nothing {s} {out} {waits} asked shape = record {
   told = λ all bytes told has some whole. produces_cut asked shape bytes _ whole (inl refl) (prefix_none (written out.held waits) (written out.held waits) _ (Keeps-refl _)) (inl (KeepsFiles-refl s.files));

@@ -111,7 +111,7 @@ module _ {s t u : ShelfState} {old mid new : Output} {batches : List Presented} 
     lines = lines_one did.Done puts one;
   }
 
--- returning the samples of the last batch does not change which batches a gateway was given
+-- returning the samples of the latest batch does not change which batches a gateway was given
 put_given_back : {to : To} {shape : Option Shape} {id : ℕ} {batches : List Presented} (o : Output) → HasPut to shape id batches o.gateway → HasPut to shape id batches (given_back o).gateway
 put_given_back o has = record { to_is = has.to_is; shape_is = has.shape_is; id_is = has.id_is; given = has.given }
 
@@ -414,7 +414,7 @@ still_made {t = t} so_far = subst (IsMadeIn t.slots) (sym so_far.slot) so_far.be
 
 -- ---- one more item
 
--- a batch is done if all its packets were written
+-- the result of putting a batch is `Done` unless it is `Unwritten`
 pub done_left : (so : Put) → so ≢ did.Unwritten → so ≡ did.Done
 done_left did.Done other = refl
 done_left did.Unwritten other = absurd (other refl)

@@ -1,4 +1,4 @@
--- Words without options are command lines.
+-- The words of `talk` and of `listen` are command lines, even without options.
 use Rattle.std.proofs.Common.{◌≡◌, ◌≢◌, ℕ, List, [], ◌∷◌, All, codes, false, arith, refl}
 use Rattle.std.specs.List.{AllByRecursion}
 use Rattle.std.proofs.lemmas.List.Elements.{All-nil, All-contains, All-from_recursion}

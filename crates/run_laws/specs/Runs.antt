@@ -27,9 +27,9 @@ pub record Ran (words : List (List ℕ)) (handed : List Shown → Type 0) (still
   pub told_after : shelf'.files ≡ Some files'
   pub read : ReadsAll shelf shelf'
 
--- The devices got what a listener shows of a capture of the plan, as the headline says. The listener presents exactly
--- the packets `packets`, or for H.264 the NAL units that end with these packets. Each packet or NAL unit is presented
--- once, in order, with its bytes and at its instants. Nothing else is shown.
+-- The devices got the items that a listener shows of a capture of the plan, and `KeepsHeadline` holds for these items.
+-- The listener presents the packets `packets` or, for H.264, the NAL units that these packets complete. Each packet or
+-- NAL unit is presented once, in order, with its bytes and at its instants. Nothing else is shown.
 pub record GaveAll (plan : TalkPlan) (input packets : List ℕ) (handed : List Shown → Type 0) : Type 0 where
   pub items : List Shown
   pub given : handed items
