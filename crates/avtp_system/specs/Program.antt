@@ -38,8 +38,8 @@ module _ {S : Type 0} (path : S → List ℕ) (state : S → SinkState) where
   IsFor Writes (Some asked) None = ⊥
   IsFor Writes (Some asked) (Some outlet) = Writes asked outlet.device × (outlet.live ≡ true)
 
-  -- The devices are those that a request asks for. `listen` asks for one device, for both or for none; no other command
-  -- asks for a device.
+  -- The devices are those that a request asks for. `listen` asks for a device for raw samples, for a device for NAL
+  -- units, for both or for neither; no other command asks for a device.
   abbrev pub AreAsked : Request → OutputFiles S → Type 0
   AreAsked (listen asked) outputs = IsFor WritesRaw asked.raw (raw_outlet outputs) × IsFor WritesUnits asked.annexb (units_outlet outputs)
   AreAsked request outputs = (raw_outlet outputs ≡ None) × (units_outlet outputs ≡ None)

@@ -15,7 +15,7 @@ use presenter_ring::NoGate;
 use std::alloc::Global;
 use std::thread::Threads;
 
-/// Does what the arguments ask for, over the files of `shelf` and the text of `out`, and returns the status.
+/// Does what the arguments ask for with the files of `shelf`, prints the text to `out`, and returns the status.
 pub fn run_over<
     T: Threads + Sync,
     S: Sink + Drop + Send,

@@ -50,7 +50,7 @@ pub record ReadsAndWrites (s t : ShelfState) (k now w : ℕ) (how : Option End) 
   pub writing : IsCounted s.writing_faults t.writing_faults done
   pub asked : AsksNothing s t
 
--- One call read the file in slot `k`. All else is unchanged.
+-- The files and all slots other than `k` are unchanged, as after a call that reads the file in slot `k`.
 pub record OnlyMoves (t u : ShelfState) (k : ℕ) : Type 0 where
   pub files : KeepsFiles t.files u.files
   pub others : KeepsOthers t.slots u.slots k

@@ -74,7 +74,7 @@ one_file {s} {t} {h} {h'} {l} {l'} {result = result} {handed} plan name named do
 
 -- ---- a command
 
--- a run without an output makes nothing
+-- a run that leaves all files unchanged makes no output
 makes_nothing : (output : Option (List ℕ)) (f g : Option Files) → KeepsFiles f g → MakesOutput output None f g × MakesPart output None f g
 makes_nothing None f g keeps = (keeps, keeps)
 makes_nothing (Some name) f g keeps = (keeps, keeps)

@@ -1,4 +1,4 @@
--- What a run of `listen` with default words gives to devices.
+-- What a run of `listen` with the words `listen_words` gives to devices.
 use Rattle.std.proofs.Common.{◌≡◌, ◌≢◌, ℕ, ◌^◌, ◌≤◌, [], ◌∷◌, pos, Bool, true, false, List, length, take, Option, None, Some, IsSome, inl, inr, refl, sym, ap, subst, ◌∙◌, append-nil, nat_le}
 use Rattle.std.specs.Prelude.{◌⊎◌}
 use Rattle.std.proofs.lemmas.Bool.{cases_Bool, le-leb, leb-true}
