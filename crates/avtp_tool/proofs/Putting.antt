@@ -42,7 +42,8 @@ piece_written g i turn bytes is = sym (ap frame_bytes is)
 
 -- ---- a batch that is put
 
--- The gateway `g` took a batch of a stream of this shape and became `next`. The batch adds the frames `added`.
+-- The gateway `g` took a batch from a stream whose shape is `shape`, and became `next`. The batch adds the frames
+-- `added`.
 record IsNext (shape : Option Shape) (g next : Gating) (batch : Presented) (added : List SentFrame) : Type 0 where
   pub to_is : next.to ≡ g.to
   pub shape_is : next.shape ≡ g.shape
