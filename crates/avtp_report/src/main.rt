@@ -54,7 +54,7 @@ impl Status {
     }
 }
 
-/// The program's name, which begins each of its lines on standard error.
+/// The program's name, as its messages on standard error give it.
 const PROGRAM: &str = "avtp-report";
 
 const USAGE: &str = "usage: avtp-report [--html OUT] FILE..";
