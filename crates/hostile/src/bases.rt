@@ -8,8 +8,8 @@ use std::alloc::Global;
 use std::thread::Threads;
 use vectors_avtp::vector;
 
-/// The arguments of the talkers. All talkers have the same stream ID, and all their media clocks have the same stream
-/// ID.
+/// The arguments of the talkers. The streams of all talkers share one stream ID, and their media clocks share another
+/// one.
 pub const TALKS: [&str; 9] = [
     "--kind aaf",
     "--sparse --restart 8",
@@ -33,7 +33,7 @@ pub struct Bases {
 }
 
 impl Bases {
-    /// Makes the records of the vectors and the stream of each talker.
+    /// Makes the records of the vectors and the records of each talker's stream.
     pub fn new<T: Threads + Sync>(rt: &T, alloc: Global) -> Result<Self, NoMemory> {
         let input = input(alloc)?;
         let labelled = labelled(alloc, &input)?;

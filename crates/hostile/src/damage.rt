@@ -9,8 +9,8 @@ use std::alloc::Global;
 /// capture can have.
 const TURNS: [u64; 6] = [0, 1 << 31, 1 << 32, 3 << 31, 1 << 62, 1 << 63];
 
-/// Short distances in time, in nanoseconds. Among them are the distance between two packets, 125,000, and the max
-/// transit time, 2,000,000.
+/// Short distances in time, in nanoseconds. Among them are the distance between two packets (125,000) and the max
+/// transit time (2,000,000).
 const STEPS: [u64; 4] = [0, 1, 125_000, 2_000_000];
 
 /// Lengths, counts and other numbers at their bounds.
@@ -87,7 +87,8 @@ fn damage_field(draws: &mut Draws, record: &mut Record) {
     }
 }
 
-/// Cuts a frame or makes it longer, rarely to about the maximum length in a capture.
+/// Cuts a frame or makes it longer. On average, one frame in 30 is given about the maximum length of a frame in a
+/// capture.
 fn damage_size(draws: &mut Draws, frame: &mut Vec<u8>) -> Result<(), NoMemory> {
     let size = draws.below(frame.len());
     let more = draws.below(40);

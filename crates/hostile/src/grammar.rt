@@ -3,8 +3,8 @@
 use avtp_base::NoMemory;
 use std::alloc::Global;
 
-/// The rules. A rule is a word in capital letters and the pattern of this word. A pattern may use the words of later
-/// rules.
+/// The rules. A rule is a word in capital letters and the pattern of this word. A pattern can contain the words of
+/// later rules, which stand for the patterns of those rules.
 const RULES: [(&str, &str); 27] = [
     ("TEXT", "^(?:SHOW|CHECK|LISTEN|TALK|AGREE|GATEWAY)\n$"),
     (

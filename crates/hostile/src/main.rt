@@ -22,8 +22,8 @@ use std::env;
 use std::process::ExitCode;
 use std::thread::Threads;
 
-/// The number of runs over each capture. Each of seven command lines is run three times, the last time in pieces of one
-/// byte.
+/// The number of runs over each capture. Each of seven command lines is run three times; in the third run, the file is
+/// read in pieces of one byte.
 const RUNS: u64 = 21;
 
 /// Which captures are made.

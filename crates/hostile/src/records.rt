@@ -19,7 +19,7 @@ struct Style {
     micro: bool,
 }
 
-/// The longest frame that a capture may have.
+/// The maximum length of a frame in a capture.
 pub const LONGEST: usize = 262_144;
 
 impl Record {
@@ -53,7 +53,7 @@ impl Style {
         }
     }
 
-    /// Appends the header of a pcap file, or the header of a pcapng file and of its one interface.
+    /// Appends the header of a pcap file, or the section header and the only interface description of a pcapng file.
     fn add_header(self, bytes: &mut Vec<u8>, pcapng: bool) -> Result<(), NoMemory> {
         if !pcapng {
             let magic = if self.micro { 0xa1b2_c3d4 } else { 0xa1b2_3c4d };

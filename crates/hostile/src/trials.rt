@@ -9,10 +9,10 @@ use regex::Matcher;
 use std::alloc::Global;
 use std::thread::Threads;
 
-/// The maximum number of bytes that may be read.
+/// The usual value of `--limit`, which exceeds the size of any capture that is made.
 const LIMIT: usize = 1 << 40;
 
-/// What `listen` is asked for.
+/// The options and stream IDs with which `listen` is run.
 const LISTENS: [&str; 12] = [
     "0200000000010001",
     "--ring 256 0200000000010001",
@@ -28,7 +28,7 @@ const LISTENS: [&str; 12] = [
     "ffffffffffffffff",
 ];
 
-/// What `agree` is asked for when it compares a capture with itself.
+/// The options and stream IDs with which `agree` compares a capture with itself.
 const AGREES: [&str; 5] = [
     "0200000000010001",
     "--look 64 --lead 1000000000 0200000000010001",
@@ -37,7 +37,7 @@ const AGREES: [&str; 5] = [
     "--clock 0200000000010001 0200000000010002",
 ];
 
-/// What `gateway` is asked for.
+/// The options and stream IDs with which `gateway` is run.
 const GATEWAYS: [&str; 5] = [
     "0200000000010001",
     "--look 64 --lead 1000000000 --id 0000000000000009 0200000000010001",
@@ -53,8 +53,8 @@ pub struct Found {
     pub wrong: Wrong,
 }
 
-/// Runs each command over a damaged capture, and returns the runs that went wrong. `talk` runs either over this capture
-/// or over samples that may be damaged.
+/// Runs each command over a damaged capture, and returns the runs that went wrong. The input of `talk` is either this
+/// capture or samples with some damage or with none.
 pub fn try_commands<T: Threads + Sync>(
     rt: &T,
     alloc: Global,

@@ -193,7 +193,7 @@ pub record IsAtPlace (p : PacketJournal) (plan : ListenPlan) (records : List Rec
   pub holds : HoldsOf Q o
   pub taken : IsTakenAt p plan records j o
 
--- the number of stream packets among the first `j` origins for which the test `waits` is true
+-- among the first `j` origins, the number of stream packets for which the test `waits` is true
 abbrev pub passing : (ℕ → Bool) → List Origin → ℕ → ℕ
 passing waits os j = length (filter waits (stream_numbers (take j os)))
 

@@ -44,8 +44,8 @@ pub record MustBePresented (p : PacketJournal) (plan : ListenPlan) (records : Li
 
 -- ---- units of H.264
 
--- the index of the unit that delivery `last` completes: the unit comes after all earlier items and after the fragments
--- that are given up because of `last`
+-- the index, among all items, of the unit that delivery `last` completes: the unit comes after all earlier items and
+-- after the fragments that are given up because of `last`
 abbrev pub unit_place : List Delivery → Delivery → ℕ
 unit_place before last = length (items_so_far before ++ given_up_by before last)
 

@@ -69,19 +69,19 @@ pub fn copies_anywhere_are_welcome()
     ensures { (shift : ℤ) (p : PacketJournal) (plan : ListenPlan) (records : List Record) (place n : ℕ) (d : Delivery) → HearsTalker shift p plan records → IsAudioKind p.times.kind → MustBePresented p plan records place n d → IsWelcome p plan records place n (made_of_one d) }
 {}
 
-/// If one copy of an audio packet must be presented, any later copy that is in time must be flagged as a repeat. It
-/// must be possible to time the later copy from the packets that came. The later copy is in time if all deliveries up
-/// to and including it were captured no later than the packet's first instant.
+/// If one copy of an audio packet must be presented, a later copy must be flagged as a repeat if two conditions hold.
+/// The later copy can be timed from the packets that came. All deliveries up to and including the later copy were
+/// captured no later than the packet's first instant.
 pub fn copies_anywhere_are_further()
     ensures { (shift : ℤ) (p : PacketJournal) (plan : ListenPlan) (records : List Record) (earlier place n : ℕ) (made : MadeItem) (d : Delivery) → HearsTalker shift p plan records → IsAudioKind p.times.kind → IsWelcome p plan records earlier n made → earlier < place
         → ComesInTime p plan records place n d → IsFurther p plan records place n (made_of_one d) }
 {}
 
 /// A unit of H.264 must be presented if four conditions hold. One copy of each of the unit's packets came, in order,
-/// with no other packet of the stream between them. All deliveries up to and including the last copy were captured no
-/// later than the instant at which the unit is due. No other copy of the unit's last packet came earlier. The buffer
-/// has room for the unit. If the conditions hold, the unit is made of exactly these copies. This holds anywhere in a
-/// capture, whatever the capture loses, repeats or reorders.
+/// with no other packet of the stream between them. All deliveries up to and including the last of these copies were
+/// captured no later than the instant at which the unit is due. No other copy of the unit's last packet came earlier.
+/// The buffer has room for the unit. If the conditions hold, the unit is made of exactly these copies. This holds
+/// anywhere in a capture, whatever the capture loses, repeats or reorders.
 pub fn units_anywhere_are_welcome()
     ensures { (shift : ℤ) (p : PacketJournal) (plan : ListenPlan) (records : List Record) (part : ℕ → Part) (from n : ℕ) (before : List Delivery) (last : Delivery) → HearsTalker shift p plan records → p.times.kind ≡ H264 part
         → UnitMustBePresented p plan records part from n before last → IsWelcome p plan records (unit_place before last) n (unit_by before last) }

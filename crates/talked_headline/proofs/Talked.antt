@@ -44,7 +44,7 @@ video_expects plan last_stamp lead e = rw e tt
 
 -- ---- the first frame of a capture
 
--- The frame of packet n arrives no later than the packet is due.
+-- The frame of packet n arrives no later than the instant at which packet n is due.
 pub record IsEarly (plan : TalkPlan) (input : List ℕ) (n : ℕ) (f : SentFrame) : Type 0 where
   pub there : slice_get (frames plan input) n ≡ Some f
   pub early : f.arrival ≤ℤ pos ((journal plan input).times.due n)

@@ -18,8 +18,9 @@ use Rattle.talk_video.specs.Units.{sent_units}
 abbrev pub captured : TalkPlan → List ℕ → List ℕ → List Record
 captured plan input places = whole_records (capture_of (frames_at plan input places))
 
--- An audio plan sends `input`, and the listener listens to the plan's stream, with or without the plan's clock. The
--- listener's lead lets it tell apart packets that have no timestamp.
+-- An audio plan sends `input`, and the listener listens to the plan's stream, with or without the plan's clock. If the
+-- plan has packets without a timestamp, the listener's lead is near the plan's lead, so the listener can identify these
+-- packets by their arrival times.
 pub record ListensTo (plan : TalkPlan) (input : List ℕ) (listen : ListenPlan) : Type 0 where
   pub talked : IsAudioPlan plan
   pub id : plan.id < 2 ^ 64
@@ -43,7 +44,7 @@ pub record ListensToVideo (plan : TalkPlan) (input places : List ℕ) (listen : 
   pub stream : listen.stream ≡ plan.id
   pub clock : FollowsClock (pos 0) (journal plan input) listen.shift listen.clock
 
--- the part of a unit that packet n of a byte stream carries
+-- the part of a unit that packet n carries if this byte stream is sent
 abbrev pub part_sent : List ℕ → ℕ → Part
 part_sent input n = part_of (part_at (sent_units input) (place_of (sent_units input) n))
 

@@ -39,7 +39,7 @@ use Rattle.talked_presented.proofs.UnitCapture.{AreMade, AreUnitsFrom, IsUnitMad
 use Rattle.talked_presented.proofs.UnitRuns.{ends_so, inside_unit, unit_ends, unit_low}
 use Rattle.listener_laws.proofs.Anywhere.{not_full}
 
--- Each unit arrives in time. When packet n is judged, only packets later than packet n - `buffer` can still wait.
+-- Each unit arrives in time. When packet n is judged, only packets later than packet n - `buffer` can still be waiting.
 pub record AreTimelyUnits (p : PacketJournal) (part : ℕ → Part) (plan : ListenPlan) (d : ℕ → Delivery) (arr : ℕ → ℕ) : Type 0 where
   pub capture : IsVideoCapture p part plan d
   pub arrived : (n : ℕ) → (d n).arrival ≡ pos (arr n)

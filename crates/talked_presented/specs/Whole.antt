@@ -14,8 +14,8 @@ use Rattle.talk_plan.specs.Plan.{IsAudioPlan, IsVideoPlan, interval_of, most_inp
 use Rattle.talker.specs.Journal.{journal, stream_of}
 use Rattle.talked_headline.specs.Premises.{ListensTo, part_sent}
 
--- Exactly the packets with the given numbers are shown, in that order. Each packet is presented once, with its bytes
--- and at its instants, and nothing is flagged.
+-- Exactly the packets with the listed numbers are shown, in the order of the list. Each packet is presented once, with
+-- its bytes and at its instants, and nothing is flagged.
 abbrev pub ArePresented : Bool → PacketJournal → List ℕ → List Shown → Type 0
 ArePresented by p [] [] = ⊤
 ArePresented by p [] (s ∷ rest) = ⊥
@@ -43,7 +43,8 @@ ExpectsCounted Am824 plan lead = plan.count < interval_of plan.rate → IsCloseL
 ExpectsCounted (H264 last_stamp) plan lead = ⊤
 
 -- The listener can present each packet of the plan, which has no clock. Each packet has a timestamp or is counted from
--- one, and the buffer has room for all waiting packets.
+-- one. The listener has no clock either, its lead is close to the plan's lead if packets are counted, and its buffer
+-- has room for all waiting packets.
 pub record HearsAll (plan : TalkPlan) (input : List ℕ) (listen : ListenPlan) : Type 0 where
   pub talk : ListensTo plan input listen
   pub alone : plan.crf ≡ None
@@ -89,8 +90,9 @@ ends_unit Last = true
 abbrev pub unit_ends : TalkPlan → List ℕ → List ℕ
 unit_ends plan input = filter (λ (n : ℕ). ends_unit (part_sent input n)) (range_with_len 0 (journal plan input).times.packets)
 
--- Whenever a packet is sent, the buffer has room for all packets that are not yet due. The buffer has room for
--- `listen.buffer` packets of 1,500 bytes, and for 255 further such packets, the maximum number for a unit.
+-- Whenever a packet is sent, all sent packets that are not yet due are among the latest `listen.buffer` packets. The
+-- buffer has room for the bytes of `listen.buffer` + 255 packets, with 1,500 bytes for each packet; a unit has at most
+-- 255 packets.
 pub record HoldsUnits (plan : TalkPlan) (input : List ℕ) (listen : ListenPlan) : Type 0 where
   pub packets : (k n : ℕ) → k ≤ n → n < (journal plan input).times.packets → (stream_of plan input).arrival n ≤ (journal plan input).times.due k
       → n < k + listen.buffer

@@ -45,8 +45,9 @@ pub fn files_are_heard()
 }
 
 /// Assume that each packet of an audio plan without a clock has a timestamp or is counted from one. Assume that the
-/// listener has room for what is sent during the lead. Then each packet of a whole capture is presented, once and in
-/// order, and nothing is flagged.
+/// listener has no clock either, and has room for what is sent during the lead. If some packets have no timestamp,
+/// assume that the leads of the plan and of the listener are close. Then each packet of a whole capture is presented,
+/// once and in order, and nothing is flagged.
 pub fn whole_capture_is_presented()
     ensures { (plan : TalkPlan) (input : List ℕ) (listen : ListenPlan) → HearsAll plan input listen
         → ArePresented false (journal plan input) (range_with_len 0 (journal plan input).times.packets) (shown_of listen (whole_records (capture plan input))) }
@@ -84,8 +85,8 @@ pub fn clocked_capture_is_presented()
 }
 
 /// Take a plan that meets the assumptions of `clocked_capture_is_presented` and has the default lead of `talk`. A
-/// listener with the plan's clock and otherwise the default options of `listen` presents the plan's packets from the
-/// second timestamp of the clock on.
+/// listener that has the plan's clock, and otherwise the default options of `listen`, presents the plan's packets from
+/// the second timestamp of the clock on.
 pub fn defaults_present_by_clock()
     ensures hears { (plan : TalkPlan) (crf : CrfPlan) (input : List ℕ) → HasDefaultClock plan crf input → HearsClock plan crf input (clocked_listener plan.id crf.id) }
     ensures presented { (plan : TalkPlan) (crf : CrfPlan) (input : List ℕ) → HasDefaultClock plan crf input
@@ -143,9 +144,9 @@ pub fn talked_copy_is_welcome()
     copies_anywhere_are_welcome();
 }
 
-/// Assume that a packet whose copy must be presented is captured again, anywhere later in the capture. The later copy
-/// must be flagged as a repeat, if two conditions hold. The later copy can be timed. All packets before the later copy
-/// were captured no later than the instant at which the packet is due.
+/// Assume that a copy of a packet must be presented, and that the packet is captured again anywhere later in the
+/// capture. The later copy must be flagged as a repeat, if two conditions hold. The later copy can be timed. All
+/// packets before the later copy were captured no later than the instant at which the packet is due.
 pub fn talked_copy_is_further()
     ensures { (plan : TalkPlan) (input before between after : List ℕ) (n : ℕ) (listen : ListenPlan) → MustBePresented plan input listen before n (between ++ n ∷ after) → ComesInTime plan input listen (before ++ n ∷ between) n after
         → (made : MadeItem) × IsFurther (journal plan input) listen (captured plan input ((before ++ n ∷ between) ++ n ∷ after)) (length (before ++ n ∷ between)) n made }
@@ -183,7 +184,7 @@ pub fn presented_are_counted()
 
 /// Example plans of each kind, with a clock and without, meet the premises of the laws about default options, for any
 /// input. If packets 0, 2, 1 and 1 of a plan are captured, in this order, the first copy of packet 1 must be presented.
-/// A unit of one packet that is captured twice must be presented, too.
+/// If a unit that consists of one packet is captured twice, its first copy must be presented, too.
 pub fn examples_are_so()
     ensures dense { (input : List ℕ) → length input ≤ most_input → HasDefaultLead (plain false) input }
     ensures sparse { (input : List ℕ) → length input ≤ most_input → HasDefaultLead (plain true) input }

@@ -154,7 +154,7 @@ x0000000106ab*254 x000000016588 x0000000106cd*254 x000000016588 | --kind h264 | 
 x0000000106ab*254 x000000016588 x0000000165 xff*356000 x0000000106cd*254 x000000016588 | --kind h264 |  | 600/0/0 | 520/0/0
 ";
 
-/// From the line of a packet's first sample: the instant, and the text from the sequence number on. In each capture of
+/// From the line of a packet's first sample: the instant, and the text from the sequence number on. In all captures of
 /// one talker, these parts of the line are the same.
 #[derive(Clone, Copy)]
 struct Sample<'a> {

@@ -160,7 +160,7 @@ impl Case {
         if self.second.is_some() { 2 } else { 1 }
     }
 
-    /// The number of calls of the shelf in a run. Each capture is opened, takes `reads` reads, and is read once more to
+    /// The number of calls to the shelf in a run. Each capture is opened, takes `reads` reads, and is read once more to
     /// find that nothing is left.
     fn calls(&self, reads: usize) -> usize {
         self.captures().saturating_mul(reads.saturating_add(2))
@@ -269,8 +269,8 @@ fn a_failing_read_of_either_capture_ends_their_comparison(rt: HostRuntime) -> Re
     ends_where_a_read_fails(&rt, rt.alloc(), &AGREED)
 }
 
-/// The written text is a prefix of the whole text. If a later write fails instead, the written text is at least as
-/// long.
+/// If a write fails, the written text is a prefix of the whole text. A run in which a later write fails writes at least
+/// as much text.
 #[test]
 fn a_failing_write_leaves_a_prefix_of_the_text(rt: HostRuntime) -> Result<(), NoMemory> {
     let alloc = rt.alloc();

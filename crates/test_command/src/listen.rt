@@ -393,9 +393,9 @@ fn samples_follow_the_points_that_the_look_ahead_reaches(rt: HostRuntime) -> Res
     follow(&rt, rt.alloc(), CLOCKS)
 }
 
-/// After `=` is one number for each of the three devices. Each digit of this number is the frame number of an item that
-/// the device took, in order. The number is 0 if the device took no item. In the last run, each packet makes the packet
-/// before it due, and the third record exceeds the limit.
+/// `=` is followed by one number for each of the three devices. The digits of a device's number are the frame numbers
+/// of the items that the device took, in order. If the device took no item, its number is 0. In the last run, each
+/// packet makes the packet before it due, and the third record exceeds the limit.
 const RACKS: &str = "\
 < one.pcap V1
 ! devices 1 0 0

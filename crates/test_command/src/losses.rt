@@ -86,8 +86,8 @@ fn network_places(alloc: Global, comes: &str, records: usize) -> Result<Vec<usiz
     Ok(places)
 }
 
-/// On average, one record of eight is lost, one record of eight is delivered twice, and one record of eight overtakes
-/// the record before it.
+/// On average, one record in eight is lost, one in eight is delivered twice, and one in eight overtakes the record
+/// before it.
 fn drawn_places(alloc: Global, seed: usize, records: usize) -> Result<Vec<usize>, NoMemory> {
     let mut draws = Draws::seeded(seed as u64);
     let mut places = Vec::new(alloc);
@@ -131,7 +131,7 @@ fn is_each(n: usize, each: usize) -> bool {
     each > 0 && n % each == each - 1
 }
 
-/// If `line` is the line of a sample, the line that the complete capture has for this sample.
+/// If `line` shows a sample, the line that shows this sample in the text of the complete capture.
 fn as_sent(alloc: Global, line: &str, places: &[usize]) -> Result<Option<String>, NoMemory> {
     if let Some((instant, rest)) = line.split_once(" frame ")
         && let Some((frame, sample)) = rest.split_once(" seq ")

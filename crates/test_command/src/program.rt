@@ -29,8 +29,8 @@ impl Sink for Counting {
     }
 }
 
-/// A system with the arguments `line`. If `line` is `None`, the system has no memory for arguments. The bytes of the
-/// file `x` are counted by themselves, and the bytes of all other files together.
+/// A system with the arguments `line`. If `line` is `None`, the system has no memory for arguments. `x` counts the
+/// bytes of the file `x`, and `others` counts the bytes of all other files together.
 #[derive(Drop)]
 struct Arguments {
     alloc: Global,

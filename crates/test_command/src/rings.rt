@@ -92,8 +92,8 @@ fn stay(mine: &AtomicBool, other: &AtomicBool, met: &AtomicBool) {
     mine.store(false, Ordering::SeqCst);
 }
 
-/// A shelf for `one_thread_reads_while_the_other_writes`. From the fourth read on, each read waits until it sees a
-/// write of the sink running.
+/// A shelf for `one_thread_reads_while_the_other_writes`. From the fourth read on, each read waits until it sees that a
+/// write of the sink is running.
 #[derive(Drop)]
 struct MeetingShelf {
     shelf: MemoryShelf,
@@ -138,7 +138,7 @@ impl Shelf for MeetingShelf {
     }
 }
 
-/// A sink. Each of its writes waits until it sees a read of the shelf running.
+/// A sink. Each of its writes waits until it sees that a read of the shelf is running.
 #[derive(Drop)]
 struct MeetingSink {
     sink: MemorySink,

@@ -22,7 +22,7 @@ use std::alloc::Global;
 use std::process::Abort;
 use std::thread::Threads;
 
-/// The files of a shelf, the newest first; which calls are to fail in the next run; and the result of the last run.
+/// The files of a shelf, the newest first; which calls are to fail in the next run; and the result of the latest run.
 #[derive(Drop)]
 pub struct Bench {
     alloc: Global,
@@ -191,7 +191,7 @@ fn three_numbers(text: &str) -> [u64; 3] {
     ]
 }
 
-/// The numbers that a text consists of, separated by spaces.
+/// The numbers in a text of numbers that are separated by spaces.
 pub fn numbers_in(alloc: Global, text: &str) -> Result<Vec<usize>, NoMemory> {
     let mut numbers = Vec::new(alloc);
     for word in text.split_ascii_whitespace() {
