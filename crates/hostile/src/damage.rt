@@ -87,8 +87,8 @@ fn damage_field(draws: &mut Draws, record: &mut Record) {
     }
 }
 
-/// Cuts a frame or makes it longer. On average, one frame in 30 is given about the maximum length of a frame in a
-/// capture.
+/// Cuts a frame or makes it longer. On average, one frame in 30 is lengthened to about the maximum length of a frame in
+/// a capture.
 fn damage_size(draws: &mut Draws, frame: &mut Vec<u8>) -> Result<(), NoMemory> {
     let size = draws.below(frame.len());
     let more = draws.below(40);

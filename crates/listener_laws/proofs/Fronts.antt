@@ -115,7 +115,7 @@ front_shown plan records others place made item settled at is =
 any_later : (P : Presented → Type 0) (x : Presented) (xs : List Presented) → Any P xs → Any P (x ∷ xs)
 any_later P x xs (k, a, within, there, holds) = (suc k, a, let lt = within in omega arith, there, holds)
 
--- if only a batch is shown for a frame, the batch is among the presented batches
+-- if one batch and nothing else is shown for a frame, this batch is among the presented batches
 found_in : (P : Presented → Type 0) (frame : ℕ) (list : List Shown) (batch : Presented) → shown_of_frame frame list ≡ Present batch ∷ [] → P batch → Any P (presented_of list)
 found_in P frame [] batch e holds = absurd cc
 found_in P frame (Present b ∷ rest) batch e holds = by (b.frame == frame) e (λ f. found_in P frame rest batch f holds)
