@@ -44,7 +44,7 @@ counted test k (suc more) = by (test k) refl (counted test (suc k) more)
     by true e next = rw e (omega (arith, next.0), omega (arith, next.1))
     by false e next = rw e (omega arith, omega arith)
 
--- the code's comparison of instants is the test `is_nominal` of sample k
+-- the code's comparison of instants gives the result of the test `is_nominal` for sample k
 pub test_is : (rate first k j offset : ℕ) (batch : Presented) (now start : ℤ) (b : Bool) → b ≡ int_eq now (start +ℤ pos offset) → now ≡ sample_instant batch j → j ≡ first + k → start ≡ sample_instant batch first
     → offset ≡ nominal_offset rate k → is_nominal rate batch first k ≡ b
 test_is rate first k j offset batch now start b e at place begun off = sym (e ∙ (rw (at, place, begun, off) refl))

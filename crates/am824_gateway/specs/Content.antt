@@ -21,8 +21,7 @@ has_24_bits Int32 = false
 has_24_bits Int24 = true
 has_24_bits Int16 = false
 
--- PCM of this rate. The bit depth is the number of bits of each sample that are used; 0 means all bits (IEEE 1722-2016,
--- 7).
+-- PCM of this rate. The bit depth says how many bits of each sample are used; 0 means all bits (IEEE 1722-2016, 7).
 abbrev pub pcm : Aaf → ℕ → Samples
 pcm v rate = record {
   format = ToAaf;

@@ -1,5 +1,5 @@
--- Values of 24 bits with and without the label of AM824 (IEC 61883-6). A quadlet is a label byte and 24 bits. The
--- highest byte comes first, as in PCM of 24 bits.
+-- Values of 24 bits with and without the label of AM824 (IEC 61883-6). A quadlet is a label byte and 24 bits. The most
+-- significant byte of a value comes first, as in PCM of 24 bits.
 use Rattle.std.specs.Prelude.{ℕ, zero, suc, ◌*◌, ◌+◌, ◌/◌, ◌==◌, Bool, true, ◌&&◌, List, [], ◌∷◌, ◌++◌, length, get_or, take, drop}
 use Rattle.am824_gateway.specs.declared.scan.To.{To}
 use Rattle.am824_gateway.specs.declared.scan.To.TheVariants.{Aaf, Am824}

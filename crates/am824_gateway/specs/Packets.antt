@@ -93,11 +93,11 @@ abbrev pub headers_of : To → ℕ
 headers_of Am824 = 50
 headers_of Aaf = 42
 
--- the number of bytes of the frame of a piece
+-- the number of bytes of the frame that carries a piece
 abbrev pub frame_size : To → Shape → Piece → ℕ
 frame_size to shape p = headers_of to + p.count * (value_out to * shape.channels)
 
--- the frame of packet n, which carries a piece of a batch: its arrival and its bytes
+-- the arrival and the bytes of the frame of packet n, which carries a piece of a batch
 abbrev pub piece_frame : To → Shape → ℕ → ℕ → Presented → Piece → SentFrame
 piece_frame to shape id n batch p = record {
   arrival = arrival_at (sample_instant batch p.first);

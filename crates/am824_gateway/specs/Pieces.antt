@@ -52,8 +52,8 @@ piece_count to shape batch first =
 
 -- The block count of the first data block of an AM824 packet: add the previous packet's number of blocks to that
 -- packet's block count, raise the sum to a multiple of SYT_INTERVAL, and take it modulo 256. So the timestamp always
--- belongs to the packet's first block (IEC 61883-6). If the previous packet does not end at a multiple, the block count
--- has a gap.
+-- belongs to the packet's first block (IEC 61883-6). If the sum is not already such a multiple, the block count has a
+-- gap before this packet.
 abbrev pub next_block : ℕ → ℕ → ℕ → ℕ
 next_block interval block count = div_ceil (block + count) interval * interval % 256
 
@@ -160,7 +160,8 @@ abbrev pub unless : {T : Type 0} → Option Skip → T → T → T
 unless None given skipped = given
 unless (Some skip) given skipped = skipped
 
--- the gateway's history after `batches`; `given` is the history before them, and a skipped batch does not change it
+-- the gateway's history after `batches`; `given` is the history before them, and a skipped batch leaves the history as
+-- it is
 abbrev pub given_by : To → Shape → Given → List Presented → Given
 given_by to shape given [] = given
 given_by to shape given (batch ∷ batches) = given_by to shape (unless (skip_by to shape given batch) (given_with to shape given batch) given) batches

@@ -77,9 +77,10 @@ abbrev pub other_rate : Shape → ℕ → Bool
 other_rate first rate = is_none (fdf_of rate) || not (rate == first.rate)
 
 -- The faults of a packet of samples, in the order in which they are tested. `Kind`: the packet has the wanted format
--- already. `Format`: PCM samples do not have 24 bits, or not all bits of them are used. `Rate`: IEC 61883-6 does not
--- have the rate, or the rate differs from that of the first packet. `Channels`: a data block cannot have this number of
--- channels, or the number differs from that of the first packet. `Label`: a quadlet is not linear audio of 24 bits.
+-- already. `Format`: the samples are PCM that does not have 24 bits or does not use all of its bits. `Rate`: IEC
+-- 61883-6 does not have the rate, or the rate differs from that of the first packet. `Channels`: a data block cannot
+-- have this number of channels, or the number differs from that of the first packet. `Label`: a quadlet is not linear
+-- audio of 24 bits.
 abbrev pub fault_rows : To → Shape → Samples → List Row
 fault_rows to first s =
     row Kind (same_format s.format to) ∷
@@ -121,7 +122,7 @@ first_fault to stream records = fault_from to stream None 1 records
 
 -- ---- a scan
 
--- a scan: the format to which the stream is to be converted, the stream's id, and the shape of the stream's first
+-- a scan: the format to which the stream is to be converted, the stream's ID, and the shape of the stream's first
 -- packet of samples
 pub record Scanning : Type 0 where
   pub to : To

@@ -180,10 +180,10 @@ impl Gateway {
         })
     }
 
-    /// Cuts the next batch that is presented into pieces, and returns their number. Call `put` only while `batches` is
-    /// below 2^44. A skipped batch changes nothing. The call allocates nothing.
+    /// Takes the next batch that is presented, cuts it into pieces, and returns the number of pieces. Call `put` only
+    /// while `batches` is below 2^44. A skipped batch changes nothing. The call allocates nothing.
     ///
-    /// A batch is skipped for the first of these reasons that holds: `ShapeOff`: there is no shape, the batch is a unit
+    /// A batch is skipped for the first of these reasons that holds. `ShapeOff`: there is no shape, the batch is a unit
     /// of H.264, it does not have one value of 24 bits for each channel of each sample, or a value has a label other
     /// than 0x40. `Overlap`: the batch begins at or before the last sample of the batches that were not skipped.
     /// `Range`: a packet would arrive at 2^32 seconds or later.
@@ -273,8 +273,8 @@ impl Gateway {
         current.write(piece, current.first + u64::from(i), out);
     }
 
-    /// Returns the bytes of the last batch that was not skipped, so that their memory can be used again after the
-    /// batch's packets are written. After this call there are no pieces.
+    /// Returns the bytes of the last batch that was not skipped, so that their memory can be used again. Call this only
+    /// after the batch's packets are written, because the call removes the pieces.
     pub fn give_back(&mut self) -> Option<Bytes>
         ensures { self.new ≡ record self.old { frames = [] } }
     {

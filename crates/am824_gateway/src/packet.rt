@@ -34,13 +34,13 @@ const SEQUENCE_NUMBER: usize = ETHERNET_HEADER + 2;
 /// The offset of the packet's timestamp in a frame.
 const TIMESTAMP: usize = ETHERNET_HEADER + 12;
 
-/// The offset of the stream data length in a frame: the number of bytes after the stream header.
+/// The offset, in a frame, of the stream data length, which is the number of bytes after the stream header.
 const DATA_LENGTH: usize = ETHERNET_HEADER + 20;
 
 /// The offset, in a frame of AM824, of the block count of the packet's first data block (IEC 61883-1).
 const BLOCK_COUNT: usize = ETHERNET_HEADER + 27;
 
-/// What all packets of a stream have in common: their format, their sample rate and channels, and their stream id.
+/// What all packets of a stream have in common: their format, their sample rate and channels, and their stream ID.
 #[derive(Clone, Copy, Debug)]
 pub(crate) struct Stream {
     pub to: To,

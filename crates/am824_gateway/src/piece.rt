@@ -122,7 +122,7 @@ fn is_one_piece(to: To, shape: Shape, batch: &Batch) -> bool
 }
 
 /// Cuts a batch into pieces, the first of which has the block count `block`. Returns the block count of the next
-/// packet, and whether the packet of a piece would arrive at a time that a capture cannot state.
+/// packet, and whether the packet of any of the pieces would arrive at a time that a capture cannot state.
 pub(crate) fn cut(
     pieces: &mut Vec<Piece>,
     to: To,

@@ -22,7 +22,7 @@ pub enum To {
 pub enum ScanFault {
     /// A packet of the stream is neither AM824 nor PCM, or it already has the wanted format.
     Kind,
-    /// PCM samples do not have 24 bits, or not all bits of them are used.
+    /// The samples are PCM that does not have 24 bits or does not use all of its bits.
     Format,
     /// IEC 61883-6 does not have this sample rate, or the rate differs from that of the first packet.
     Rate,

@@ -112,7 +112,7 @@ mapped : (gs : List Given) → AllByRecursion IsNotFull (map shown_of gs) → Al
 mapped [] all = tt
 mapped (g ∷ gs) all = (all.0, mapped gs all.1)
 
--- if a timed item is not a copy, it is accepted exactly if there is room
+-- if a timed item is not a copy, it is accepted if and only if there is room
 judged : (clock : Clock) (plan : SchedulePlan) (entries : List Entry) (i : ℕ) (b : Presented) (earlier : List Accepted) → (is : IsTimedAt clock plan entries i b) → accepted clock plan entries i ≡ earlier → list_any (is_copy (first_instant b) b.seq) earlier ≡ false
     → verdict_in clock plan entries i is.item ≡ (if is_full plan (standing (now_at entries i) earlier) (length b.bytes) then Err Full else Ok (record { place = i; instant = first_instant b; batch = b }))
 judged clock plan entries i b earlier is same copy =

@@ -141,7 +141,7 @@ is_pcm_rate shape is = pcm_rate shape.rate is.rate
 
 -- ---- packets
 
--- the packet of a piece, under this stream id
+-- the PCM packet that carries a piece, under this stream ID
 abbrev pub cut_aaf : Shape → ℕ → Cut → AafPacket
 cut_aaf shape id c = aaf_packet shape (header_at aaf_subtype id c.number (cut_instant c) (c.piece.count * (3 * shape.channels))) c.piece (samples_of Aaf shape c.batch c.piece)
 

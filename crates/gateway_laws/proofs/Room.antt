@@ -1,5 +1,5 @@
--- A listener has room for packets that arrive shortly before they are presented and are presented at least 500 ns
--- apart.
+-- If packets arrive shortly before they are presented, and are presented at least 500 ns apart, a listener has room for
+-- all of them.
 use Rattle.std.proofs.Common.{◌≡◌, ℕ, zero, suc, ◌+◌, ◌*◌, ◌^◌, ◌<◌, ◌≤◌, Bool, true, false, ℤ, pos, ◌+ℤ◌, ◌≤ℤ◌, List, [], ◌∷◌, length, map, take, Option, Some, None, refl, sym, ap, subst, arith}
 use Rattle.std.specs.Prelude.{⊤, IfSome, if◌then◌else◌, nat_le, nat_lt, slice_get}
 use Rattle.std.specs.List.{AllByRecursion}

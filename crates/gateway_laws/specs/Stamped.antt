@@ -30,11 +30,11 @@ AreStamped [] (x ∷ xs) = ⊥
 AreStamped (p ∷ ps) [] = ⊥
 AreStamped (p ∷ ps) (x ∷ xs) = IsStamped p x × AreStamped ps xs
 
--- the samples of a packet, counted at the nominal rate from the instant of its first sample
+-- the samples of a packet, whose instants are counted at the nominal rate from the instant of the first sample
 abbrev pub counted_from_first : Packet → ℤ → Presented
 counted_from_first p instant = samples_at p (nominal_spot p.rate (record { instant = instant; first = neg_ℤ (pos 0) }))
 
--- the batches of all packets; the samples of packet i are counted from instant i
+-- the batches of all packets; the instants of the samples of packet i are counted from instant i
 abbrev pub all_counted : List Packet → List ℤ → List Presented
 all_counted [] xs = []
 all_counted (p ∷ ps) [] = []

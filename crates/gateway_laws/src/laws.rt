@@ -44,7 +44,7 @@ pub fn items_in_order_are_presented()
 
 /// Let each packet's timestamp belong to the packet's first sample. Let the packets arrive in time and in the order of
 /// their timestamps. A listener that has no clock, and whose buffer is never full, presents each packet once, in order.
-/// Each sample is counted at the nominal rate from the timestamp of its own packet.
+/// The instant of each sample is counted at the nominal rate from the timestamp of its own packet.
 pub fn stamped_packets_in_order_are_presented()
     ensures { (clock : Clock) (plan : SchedulePlan) (packets : List Packet) (instants : List ℤ) → plan.clock ≡ false → AreStamped packets instants → Rise instants
         → AllByRecursion IsNotFull (shown clock plan (packet_entries packets)) → map (λ (a : Accepted). a.batch) (presented (given clock plan (packet_entries packets))) ≡ all_counted packets instants }
@@ -61,7 +61,7 @@ pub fn packets_of_pieces_are_heard()
 
 /// A listener reads the frames of a gateway as packets that carry the pieces of the batches. Each timestamp belongs to
 /// the packet's first sample. This is true in AM824, too, because block counts are raised to a multiple of
-/// SYT_INTERVAL. If the instant of this sample is 0 or later, a listener computes exactly this instant from the
+/// SYT_INTERVAL. If the instant of the first sample is 0 or later, a listener computes exactly this instant from the
 /// timestamp.
 pub fn frames_carry_the_pieces()
     ensures { (to : ToValue) (shape : ShapeValue) (given_before : GivenOut) (frame : ℕ) (batches : List Presented) → IsShape shape → given_before.block % interval_of shape.rate ≡ 0 → AllByRecursion BeginsInTime batches

@@ -112,7 +112,7 @@ module _ (plan : TalkPlan) (input : List ℕ) (p : IsAudioPlan plan) (limit : le
   in_time : (n : ℕ) (batch : Presented) → 1 ≤ batch.count → IsSent plan n batch → IsInTime batch
   in_time n batch some is = record { some = some; apart = is.apart; early = λ k within. (let to = is.to k within in let early = is.early in omega (arith, ints, to, early)) }
 
-  -- if batch a comes before batch b and is another packet, a ends at least 500 ns before b begins
+  -- if batches a and b are different packets, and a comes before b, a ends at least 500 ns before b begins
   before_of : (n m : ℕ) (a b : Presented) → 1 ≤ b.count → IsOfPacket false (journal plan input) n a → IsOfPacket false (journal plan input) m b → AreOther false (journal plan input) a b → ComesBefore a b → IsBefore a b
   before_of n m a b some of_a of_b other comes =
       elim (cases_lt n m) [

@@ -40,7 +40,7 @@ pub fn nothing_talked_is_skipped()
 /// Let a listener without a clock hear a capture of an audio plan, and let a scan find no fault in this capture. A
 /// gateway converts what the listener presents, and sends it under any stream ID. A second listener, without a clock
 /// and with at least the default buffer, hears the gateway's packets. Then the buffer of the second listener is never
-/// full. So the gateway's promises about what listeners present hold for the second listener.
+/// full. So the laws about the samples that are presented from a gateway's packets apply to the second listener.
 pub fn default_listeners_hear_turned_captures()
     ensures { (to : ToValue) (plan : TalkPlan) (input places : List ℕ) (listen : ListenPlan) (id : ℕ) (hearing : ListenPlan) → ListensTo plan input listen → listen.clock ≡ None → first_fault to listen.stream (captured plan input places) ≡ None
         → id < 2 ^ 64 → HasDefaultRoom id hearing → Hears id hearing (map record_of (frames_made to listen id (captured plan input places))) }

@@ -28,14 +28,15 @@ pub record CountsPiece (rate most : ℕ) (batch : Presented) (old new : Instant)
   pub is : IsInstantOf new batch
 
 -- A batch is cut into `pieces`, the first of which has the block count `block`. `next` is the block count of the packet
--- after `pieces`. `late` says whether the packet of a piece would arrive at a time that a capture cannot state.
+-- after `pieces`. `late` says whether the packet of any of the pieces would arrive at a time that a capture cannot
+-- state.
 pub record CutsBatch (to : To) (shape : Shape) (batch : Presented) (block : ℕ) (pieces : List Piece) (next : ℕ) (late : Bool) : Type 0 where
   pub cut : pieces ≡ pieces_of to shape batch block
   pub following : next ≡ block_after (interval_of shape.rate) block (pieces_of to shape batch block)
   pub in_time : late ≡ list_any (is_late batch) (pieces_of to shape batch block)
   pub few : length pieces ≤ batch.count
 
--- All samples of the batch are on the nominal line of the first sample, and one packet can carry all samples.
+-- The batch's line has the nominal rate and begins at the first sample, and one packet can carry all samples.
 pub record IsOnePiece (to : To) (shape : Shape) (batch : Presented) : Type 0 where
   pub begun : batch.from ≡ pos 0
   pub num : batch.line.num ≡ 1000000000

@@ -14,7 +14,8 @@ use Rattle.am824_gateway.specs.Pieces.{is_late, most_frames}
 use Rattle.am824_gateway.specs.Scan.{IsShape}
 use Rattle.am824_gateway.specs.state.Streams.{HasHeaders, IsStream}
 
--- A piece lies within its batch, fits one packet, and its packet arrives early enough for a capture.
+-- A piece has at least one sample, lies within its batch and fits one packet, and this packet arrives early enough for
+-- a capture.
 pub record IsWithin (to : To) (shape : Shape) (batch : Presented) (p : Piece) : Type 0 where
   pub inside : p.first + p.count ≤ batch.count
   pub some : 1 ≤ p.count
@@ -28,7 +29,8 @@ pub record IsCut (c : Current) (pieces : List Piece) : Type 0 where
   pub size : length c.batch.bytes ≡ c.batch.count * (value_in c.stream.to * c.stream.shape.channels)
   pub within : AllByRecursion (IsWithin c.stream.to c.stream.shape c.batch) pieces
 
--- The last batch that was not skipped is cut into these pieces. If there is no such batch, there are no pieces.
+-- The batch that the gateway holds, which is the last that was not skipped, is cut into these pieces. If the gateway
+-- holds no batch, there are no pieces.
 abbrev pub IsCutFrom : Option Current → List Piece → Type 0
 IsCutFrom None pieces = pieces ≡ []
 IsCutFrom (Some c) pieces = IsCut c pieces

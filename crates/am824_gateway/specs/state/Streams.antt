@@ -19,7 +19,7 @@ no_samples = record { first = 0; count = 0; block = 0 }
 abbrev pub HasHeaders : To → Shape → ℕ → List ℕ → Type 0
 HasHeaders to shape id headers = take (headers_of to) headers ≡ packet_bytes (packet_of to shape id 0 (pos 0) no_samples [])
 
--- the number of bytes after the stream header of a packet that carries this piece
+-- the number of bytes that follow the stream header in a packet that carries this piece
 abbrev pub stated_of : To → Shape → Piece → ℕ
 stated_of Am824 shape p = 8 + p.count * (4 * shape.channels)
 stated_of Aaf shape p = p.count * (3 * shape.channels)
