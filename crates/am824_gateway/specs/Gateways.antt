@@ -19,8 +19,8 @@ pub record Gating : Type 0 where
   pub given : Given
   pub frames : List SentFrame
 
--- The gateway after a batch that is not skipped. If there is no shape, each batch is skipped, and the gateway stays the
--- same.
+-- The gateway after a batch, if the batch is not skipped. If there is no shape, each batch is skipped, so the result is
+-- the unchanged gateway.
 abbrev pub given_out : Option Shape → Gating → Presented → Gating
 given_out None g batch = g
 given_out (Some shape) g batch = record g {

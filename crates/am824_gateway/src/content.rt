@@ -27,7 +27,7 @@ pub(crate) struct Samples {
     pub linear: bool,
 }
 
-/// What a record holds for a stream.
+/// The content of a record, as far as it belongs to a stream.
 #[derive(Clone, Copy, Debug)]
 pub(crate) enum Content {
     /// Nothing that can be presented.
@@ -98,7 +98,7 @@ fn packet_content(packet: &StreamPacket<'_>) -> Content
     }
 }
 
-/// What a record with these bytes holds for the stream with this ID.
+/// The content of a record with these bytes, as far as it belongs to the stream with this ID.
 pub(crate) fn content_of(stream: u64, frame: &[u8]) -> Content
     ensures exact { result ≡ content stream frame.now }
     ensures counted { IsCounted result }

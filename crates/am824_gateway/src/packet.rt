@@ -51,7 +51,7 @@ pub(crate) struct Stream {
     pub headers: [u8; AM824_HEADERS],
 }
 
-/// The stream header of a packet without samples, with a payload of `length` bytes.
+/// The stream header of a packet that has no samples and whose payload has `length` bytes.
 fn first_header(subtype: u8, id: u64, length: u16) -> StreamHeader
     ensures { result ≡ header_by subtype id 0 (pos 0) length }
 {

@@ -35,7 +35,7 @@ use Rattle.gateway_laws.proofs.Read.{IsCarried, aaf_read, belongs_so, cut_aaf, c
 
 -- ---- one delivery
 
--- the delivery of the frame of piece c, which is record number `frame`
+-- the delivery of the frame that carries piece c; this frame is record number `frame`
 abbrev delivered : To → Shape → ℕ → ℕ → Cut → Delivery
 delivered to shape id frame c = delivery frame (record_of (cut_frame to shape id c))
 

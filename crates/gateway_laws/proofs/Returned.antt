@@ -1,4 +1,4 @@
--- If AM824 that a gateway made is converted to PCM and back, the frames are the same.
+-- If AM824 frames that a gateway made are converted to PCM and back, the resulting frames are the same.
 use Rattle.std.proofs.Common.{◌≡◌, ℕ, zero, suc, ◌+◌, ◌-◌, ◌*◌, ◌/◌, ◌^◌, ◌<◌, ◌≤◌, Bool, true, false, inl, inr, ℤ, pos, ◌<ℤ◌, List, [], ◌∷◌, ◌++◌, length, drop, map, take, Option, Some, None, refl, sym, ap, subst, ◌∙◌, eq-eqb, arith}
 use Rattle.std.specs.Prelude.{◌==◌, IfSome, if◌then◌else◌, int_le, nat_lt, not, ⊤}
 use Rattle.std.specs.List.{AllByRecursion, list_any}

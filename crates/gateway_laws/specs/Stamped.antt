@@ -30,7 +30,7 @@ AreStamped [] (x ∷ xs) = ⊥
 AreStamped (p ∷ ps) [] = ⊥
 AreStamped (p ∷ ps) (x ∷ xs) = IsStamped p x × AreStamped ps xs
 
--- the samples of a packet, whose instants are counted at the nominal rate from the instant of the first sample
+-- the samples of a packet; their instants are counted at the nominal rate from the instant of the first sample
 abbrev pub counted_from_first : Packet → ℤ → Presented
 counted_from_first p instant = samples_at p (nominal_spot p.rate (record { instant = instant; first = neg_ℤ (pos 0) }))
 

@@ -34,8 +34,8 @@ soon_by q r f k x rate low high over =
     absurd (omega (arith, ints, low, high, over, below, one, more, k_times, f_times)))
     (λ not. not)
 
--- Let the instants of a packet's samples be counted at the nominal rate. Sample k is at most `nominal_offset rate k +
--- 1` ns after the packet's first sample.
+-- Let instants be counted at the nominal rate. Sample k of a packet is at most `nominal_offset rate k + 1` ns after the
+-- packet's first sample.
 pub soon_after : (head f : ℤ) (k rate : ℕ) → 0 < rate → instant_at (nominal_line head rate) (f +ℤ pos k) ≤ℤ (instant_at (nominal_line head rate) (f +ℤ pos 0) +ℤ pos (nominal_offset rate k + 1))
 soon_after head f k rate some =
     let q : ℤ = floor_of ((f +ℤ pos k) *ℤ pos 1000000000) rate in

@@ -40,8 +40,8 @@ times_by (Aaf format true) plan input kind = record { audio = tt; rate = refl; c
 times_by TalkAm824 plan input kind = record { audio = tt; rate = refl; count = refl }
 times_by (TalkH264 last_stamp) plan input kind = absurd kind
 
--- In the journal, packet n begins at most 3 ns before and at most 1 ns after its instant in the plan. At most
--- 268,435,456 events are before the packet.
+-- In the journal, packet n begins at most 3 ns before and at most 1 ns after its instant in the plan. If the journal
+-- has packet n, at most 268,435,456 events come before it.
 record IsDue (plan : TalkPlan) (j : Journal) (n : ℕ) : Type 0 where
   from : first_instant plan n ≤ j.due n + 3
   to : j.due n ≤ first_instant plan n + 1
