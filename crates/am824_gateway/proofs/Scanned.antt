@@ -1,4 +1,4 @@
--- The shape that a scan finds in records without a fault can be converted.
+-- If records have no fault, the shape that a scan finds in them can be converted.
 use Rattle.std.proofs.Common.{◌≡◌, ℕ, zero, suc, ◌≤◌, Bool, true, false, List, [], ◌∷◌, Option, Some, None, refl, arith}
 use Rattle.std.specs.Prelude.{◌==◌, ◌||◌, IfSome, if◌then◌else◌, is_none, nat_lt, not}
 use Rattle.std.proofs.lemmas.Bool.{ltb-false}

@@ -33,8 +33,9 @@ pub(crate) struct Current {
     pub first: u64,
 }
 
-/// Cuts the batches that a listener presents into packets of the other format. Listeners present the samples of these
-/// packets with the same values at the same instants. Memory is reserved when the gateway is made.
+/// Cuts the batches that a listener presents into packets of the other format. From these packets, listeners present
+/// samples with the same values and at the same instants as in the batches. Memory is reserved when the gateway is
+/// made.
 #[derive(Drop)]
 pub struct Gateway {
     to: To,
