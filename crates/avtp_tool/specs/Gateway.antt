@@ -128,8 +128,8 @@ turned_last asked shape batches how = side_line asked.listener.limit how
 abbrev pub turned_text : Turning → Option Shape → List Presented → End → List ℕ
 turned_text asked shape batches how = flat_map skipped_line (skips_in asked shape batches) ++ turned_last asked shape batches how
 
--- The status. If the capture was read to its end, the status says whether batches were skipped. Otherwise the status
--- says how the reading ended.
+-- The status of a run, given the number of skipped batches and how the reading ended. If the capture was read to its
+-- end, the status says whether batches were skipped. Otherwise the status says how the reading ended.
 abbrev pub turned_status : ℕ → End → Status
 turned_status skipped end.Whole = if skipped == 0 then status.Done else status.Findings
 turned_status skipped how = status_of how
@@ -170,9 +170,9 @@ pub data GatewayOutcome (asked : Turning) (files : Files) (fault : Type 0) (came
       → ended ≡ turned_status (length (skips_in asked shape batches)) how → text ≡ turned_text asked shape batches how → made ≡ Some (turned_capture asked shape batches)
       → GatewayOutcome asked files fault came ended text made
 
--- What the capture OUT keeps of IN. OUT is whole. From OUT a listener presents exactly the samples of the batches of IN
--- that are not skipped. These samples have the same order, values and instants as in IN. `check` prints no finding for
--- OUT. If the status is 0, no batch is skipped.
+-- What the capture OUT keeps of IN. OUT is a whole capture. A listener that has no clock, and whose buffer is never
+-- full, presents from OUT exactly the samples of the batches of IN that are not skipped. These samples have the same
+-- order, values and instants as in IN. `check` prints no finding for OUT. If the status is 0, no batch is skipped.
 pub record KeepsInput (asked : Turning) (files : Files) (fault : Type 0) (ended : Status) (capture : List ℕ) : Type 0 where
   pub shape : Option Shape
   pub batches : List Presented

@@ -59,12 +59,12 @@ pub record Reports (request : Request) (files : Files) (failed : Bool) (handed :
   pub first : IsPrefix items yields.items
   pub given : handed items
   pub begun : MakesPart (output_of request) made shelf.files shelf'.files
-  -- If no read fault occurred, the request, the files and `failed` alone determine `came`, `reached`, `yields` and
-  -- `made`.
+  -- The request, the files and `failed` alone determine `came`, `reached`, `yields` and `made` if no read fault
+  -- occurred.
   pub complete : ReadsAll shelf shelf' →
       (came ≡ came_for request files) × (reached ≡ status_for request files failed) × (yields ≡ yield_for request files failed) × (made ≡ made_for request files)
-  -- Each file that `listen` reached yields what the headline says of the records that were read. The headline holds for
-  -- records of a talker that keeps the rules. Different files may have different talkers.
+  -- For each file that `listen` reached: if a talker that keeps the rules sent the records that were read, the file
+  -- yields what the headline says of them. Different files can have different talkers.
   pub headline : (asked : Listening) (earlier later : List (List ℕ)) (name bytes : List ℕ) → request ≡ listen asked → came ≡ earlier ++ name ∷ later →
       files name ≡ Some bytes → HasHeadline asked files (Rose shelf.reading_faults shelf'.reading_faults) earlier name bytes yields
   -- what `agree` prints of two captures of one talker that keeps the rules, if no read fault occurred

@@ -25,8 +25,8 @@ KeepsFilesBut (Some name) None (Some new) = ⊥
 KeepsFilesBut (Some name) (Some old) None = ⊤
 KeepsFilesBut (Some name) (Some old) (Some new) = (other : List ℕ) → other ≢ name → new other ≡ old other
 
--- Each slot that had a file still has this file, and each slot that was free is free. If the files are known, what is
--- left to read in a slot is unchanged, unless the slot's file is the one that is written.
+-- Each slot that had a file still has this file, and each slot that was free is still free. If the files are known, the
+-- bytes that are left to read in a slot are also unchanged, unless the slot's file is the one that is written.
 abbrev pub KeepsSlotsFor : Option (List ℕ) → Option Files → Slots → Slots → Type 0
 KeepsSlotsFor None files old new = KeepsSlots old new
 KeepsSlotsFor (Some name) files old new = KeepsSlotsBut files old new name

@@ -19,7 +19,7 @@ pub record Report : Type 0 where
   pub status : List Record → End → Status
   pub yields : List Record → End → Yield
 
--- A possible outcome of reading an open file with these bytes. At most `limit` of the bytes are read.
+-- A possible outcome of reading an open file that has these bytes. At most `limit` of the bytes are read.
 pub record ReadOutcome (report : Report) (limit : ℕ) (bytes : List ℕ) (fault : Type 0) (ended : Status) (yields : Yield) : Type 0 where
   pub how : End
   pub prefix : List ℕ
@@ -63,8 +63,8 @@ InOrder One (name ∷ names) read ended yields =
     × (is_done first ≡ true) × One name first here × InOrder One names others rest more
     × (read ≡ name ∷ others) × (ended ≡ joined first rest) × (yields ≡ with_more here more))
 
--- the files that a run reaches, given the status of each: all files up to the first file that does not end with `Done`
--- or `Findings`
+-- the files that a run reaches, given the status of each: all files up to and including the first file that does not
+-- end with `Done` or `Findings`
 unfoldable pub in_order_read : (List ℕ → Status) → List (List ℕ) → List (List ℕ)
 in_order_read one [] = []
 in_order_read one (name ∷ names) = name ∷ (if is_done (one name) then in_order_read one names else [])

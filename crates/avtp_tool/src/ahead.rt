@@ -10,8 +10,8 @@ use avtp_files::{Shelf, Sink};
 use avtp_text::Text;
 use capture_io::{End, Source};
 
-/// Reads the next record. If the record may not have arrived yet, the pending text is written first. Whoever watches a
-/// growing capture thus sees each line as soon as its packet has arrived.
+/// Reads the next record. If it is possible that the record has not arrived yet, the pending text is written first.
+/// Whoever watches a growing capture thus sees each line as soon as its packet has arrived.
 #[inline(always)]
 pub fn next_record<F: Shelf, S: Sink>(
     source: &mut Source,
@@ -29,7 +29,7 @@ pub fn next_record<F: Shelf, S: Sink>(
     Ok(source.next(shelf))
 }
 
-/// If the next record may not have arrived yet, writes the pending text.
+/// If it is possible that the next record has not arrived yet, writes the pending text.
 #[inline(always)]
 fn write_ahead<S: Sink>(source: &Source, text: &mut Text, out: &mut S) -> Result<(), Failed>
     ensures { WritesWaiting (S.state out.old) (S.state out.new) text.old text.new result }

@@ -89,8 +89,8 @@ fn check_records<F: Shelf, S: Sink>(
     }
 }
 
-/// Notes the packet of a record, and prints a line for each finding in the record. If the sink fails, no line is
-/// printed. Returns the number of findings.
+/// Notes the packet of a record, and prints a line for each finding in the record. If the sink fails, none of these
+/// lines is printed. Returns the number of findings.
 fn print_checked<S: Sink>(
     tracker: &mut Tracker,
     text: &mut Text,

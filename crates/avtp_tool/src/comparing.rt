@@ -170,7 +170,7 @@ impl Comparing {
     }
 }
 
-/// Prints the known differences that were not printed yet.
+/// Prints the known differences that have not been printed yet.
 fn print_differences<S: Sink>(
     pair: &mut RecordPair,
     text: &mut Text,

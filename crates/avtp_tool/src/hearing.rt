@@ -45,7 +45,7 @@ fn pull_of(end: End) -> Pull
     }
 }
 
-/// If all items are shown after a reading that ended in this way, closes the listener.
+/// Closes the listener unless a read fault or the limit ended the reading.
 fn close_at(listener: &mut RecordListener, end: End)
     requires { (is_closed listener.old ≡ false) × IsIdle listener.old }
     ensures { ClosesAt end listener.old listener.new }

@@ -43,7 +43,7 @@ pub enum Put {
     Unwritten,
 }
 
-/// The frame of a packet that carries a piece of the last batch that was not skipped.
+/// The frame of a packet. The packet carries a piece of the most recent batch that was not skipped.
 #[derive(Drop)]
 pub struct PieceFrame<'a> {
     pub gateway: &'a Gateway,
@@ -100,7 +100,7 @@ impl Output {
     }
 }
 
-/// Adds to the capture the first `number` frames of the last batch that was not skipped.
+/// Adds to the capture the first `number` frames of the most recent batch that was not skipped.
 fn write_frames<F: Shelf>(
     gateway: &Gateway,
     number: u32,
@@ -141,7 +141,7 @@ fn print_skip<S: Sink>(text: &mut Text, out: &mut S, frame: u64, skip: Skip) -> 
     text.skip(out, frame, skip_name(skip))
 }
 
-/// If the next item may not have arrived yet, writes the pending text.
+/// If it is possible that the next record has not arrived yet, writes the pending text.
 fn write_ahead<S: Sink>(hearing: &Hearing, text: &mut Text, out: &mut S) -> Result<(), Failed>
     ensures { WritesWaiting (S.state out.old) (S.state out.new) text.old text.new result }
 {
@@ -152,7 +152,7 @@ fn write_ahead<S: Sink>(hearing: &Hearing, text: &mut Text, out: &mut S) -> Resu
     }
 }
 
-/// Returns the samples of the last batch to the listener, which reuses their memory.
+/// Returns the samples of the most recent batch to the listener, which reuses their memory.
 fn give_back(hearing: &mut Hearing, output: &mut Output)
     ensures source { hearing.new.source ≡ hearing.old.source }
     ensures listener { hearing.new.listener ≡ hearing.old.listener }

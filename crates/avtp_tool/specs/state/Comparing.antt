@@ -48,7 +48,8 @@ pub record AreOpen (shelf : ShelfState) (k j : ℕ) : Type 0 where
 abbrev pub IsOpenAt : ShelfState → Comparing → Type 0
 IsOpenAt shelf c = AreOpen shelf (slot_of c.a.source) (slot_of c.b.source)
 
--- The files in the slots `k` and `j` were read, and are still open. All else is unchanged, and no name was asked for.
+-- The files in the slots `k` and `j` were read, and are still open. The count of reading faults did not fall. All else
+-- is unchanged, and no name was asked for.
 pub record ReadsTwo (before after : ShelfState) (k j : ℕ) : Type 0 where
   pub files : KeepsFiles before.files after.files
   pub live : AreOpen after k j
@@ -57,7 +58,8 @@ pub record ReadsTwo (before after : ShelfState) (k j : ℕ) : Type 0 where
   pub writing : after.writing_faults ≡ before.writing_faults
   pub asked : AsksNothing before after
 
--- The file `a` was opened in slot `k`, and the file `b` in slot `j`. Both slots had been free. All else is unchanged.
+-- The file `a` was opened in slot `k`, and the file `b` in slot `j`. Both slots had been free. The shelf was asked for
+-- these two names. All else is unchanged.
 pub record OpensSlots (before after : ShelfState) (a b : List ℕ) (k j : ℕ) : Type 0 where
   pub free_a : before.slots k ≡ None
   pub free_b : before.slots j ≡ None
@@ -108,7 +110,8 @@ pub record Refuses (before after : ShelfState) (name : List ℕ) (fault : OpenFa
   pub missing : IsErrOf {T = Sourcing} (Err fault) open_fault.Missing → IsMissing before.files name
   pub counted : IsOpenCounted {T = Sourcing} before.reading_faults after.reading_faults (Err fault)
 
--- Either the first file was not opened, or it was opened and then the second file was not opened or memory ran out.
+-- Either the first file was not opened; or the first file was opened, and then the second file was not opened or memory
+-- ran out.
 pub data RefusesTwo (before after : ShelfState) (a b : List ℕ) (fault : OpenFault) : Type 0 where
   first : OnlyReads before after (a ∷ []) → Refuses before after a fault → RefusesTwo before after a b fault
   second : ((files : Files) → before.files ≡ Some files → IsSome (files a)) → OnlyReads before after (a ∷ b ∷ []) → Refuses before after b fault → RefusesTwo before after a b fault
@@ -132,7 +135,7 @@ PrintedAll records others pair all base (Ok x) now =
 PrintedAll records others pair all base (Err e) now =
     (n : ℕ) × StandsFor records others (n + 1) pair × Appends base now (difference_lines (take n all))
 
--- All differences that were known but not yet printed were printed. If the sink failed, only a prefix of these
+-- All known differences that had not been printed yet are now printed. If the sink failed, only a prefix of these
 -- differences was printed.
 pub record PrintsDifferences (pair pair' : PairState) (out out' : SinkState) (waits waits' : List ℕ) (result : Result Unit Failed) : Type 0 where
   pub printed : (records others : List Record) (given : ℕ) (base : Option (List ℕ)) → StandsFor records others given pair
@@ -184,8 +187,8 @@ StepsTo which shelf shelf' side side' pair pair' step.Fault =
 StepsTo which shelf shelf' side side' pair pair' step.NoMemory =
     (side'.end ≡ None) × GivesNext shelf shelf' side.source side'.source None × (pair' ≡ pair)
 
--- With `Ok`, the pending text was written, and then one step of reading the capture `which` was done. With `Err`,
--- writing failed, and nothing was read.
+-- With `Ok`, one step of reading the capture `which` was done, and before it the pending text was written if necessary.
+-- With `Err`, writing the pending text failed, and nothing was read.
 pub record ReadsSide (which : Which) (shelf shelf' : ShelfState) (side side' : Side) (pair pair' : PairState) (out out' : SinkState) (waits waits' : List ℕ) (result : Result Step Failed) : Type 0 where
   pub steps : IfOk result (StepsTo which shelf shelf' side side' pair pair')
   pub cut : OnErr result ((shelf' ≡ shelf) × (slot_of side'.source ≡ slot_of side.source))
@@ -199,7 +202,7 @@ pub record ReadsOn (which : Which) (shelf shelf' : ShelfState) (c c' : Comparing
 
 -- ---- two captures, as far as they were compared
 
--- A capture that is read, and its listener. The listener is closed exactly if the reading has ended. No read fault
+-- A capture that is read, and its listener. The listener is closed if and only if the reading has ended. No read fault
 -- ended the reading.
 pub record IsSideAt (side : Side) (listener : ListenState) : Type 0 where
   pub going : side.end ≡ None → (side.source.ended ≡ None) × (listener.counts.frames + to_do side.source ≤ 2 ^ 41)

@@ -77,12 +77,12 @@ has_stopped stage source = false
 abbrev pub IsGoing : Slots → Sourcing → Stage → Type 0
 IsGoing slots source stage = IsSome (slots (slot_of source)) × (pull_at stage ≡ None)
 
--- the file is open, and its records are read
+-- the file is open, and its records are being read
 abbrev pub IsAtReading : Slots → Sourcing → Stage → Type 0
 IsAtReading slots source stage = IsSome (slots (slot_of source)) × (stage ≡ Reading)
 
--- `how` says how the reading ended. If all items are shown after such an end, the listener was closed. Otherwise the
--- listener was left open.
+-- `how` says how the reading ended. If a read fault or the limit ended the reading, the listener was left open.
+-- Otherwise the listener was closed.
 pub record ClosesAt (how : End) (old new : ListenState) : Type 0 where
   pub stands : (records : List Record) (given : ℕ) → StandsFor records given old → StandsFor records given new
   pub plan : new.plan ≡ old.plan
@@ -117,8 +117,8 @@ abbrev pub IsStable : ListenState → Type 0
 IsStable listener = (WasGiven listener → ⊥) → ⊥
 
 -- What holds of every hearing at this stage. At most 2^41 records were taken or are unread. If the reading of the file
--- has ended, the stage is not `Reading`. The listener is closed exactly if the reading has ended and all items are to
--- be shown.
+-- has ended, the stage is not `Reading`. The listener is closed if and only if the reading ended at the capture's end
+-- or at a refused field.
 pub record IsSoundAt (stage : Stage) (source : Sourcing) (listener : ListenState) : Type 0 where
   pub bounded : listener.counts.frames + unread stage source ≤ 2 ^ 41
   pub going : has_stopped stage source ≡ false

@@ -25,8 +25,8 @@ pub record Makes (name bytes : List ℕ) (files files' : Option Files) (result :
   pub part : MakesPrefix files files' name bytes
   pub untouched : IfOk result (λ s. s ≢ status.Done → s ≢ status.WriteFault → s ≢ status.Memory → KeepsFiles files files')
 
--- The count of writing faults of a run never falls. It rises exactly if the run ends with a write fault. If the run
--- writes no file, the count is unchanged.
+-- The count of writing faults of a run never falls. It rises if and only if the run ends with the status `WriteFault`.
+-- If the run writes no file, the count is unchanged.
 pub record CountsWriting (name : Option (List ℕ)) (before after : ℕ) (result : Result Status Failed) : Type 0 where
   pub never_falls : before ≤ after
   pub failed : result ≡ Ok status.WriteFault → Rose before after
@@ -35,9 +35,9 @@ pub record CountsWriting (name : Option (List ℕ)) (before after : ℕ) (result
 
 -- ---- one file
 
--- A call made the file `name` with these bytes, or returns why the file was not made. If the file was not made, memory
--- ran out or a writing fault was counted, and the file is unchanged or has a prefix of the bytes. All else is
--- unchanged, and no other name was asked for.
+-- A call made the file `name` with these bytes, or returned why the file was not made. If the file was not made, then
+-- memory ran out or a writing fault was counted. In this case the file is unchanged or has a prefix of the bytes. All
+-- else is unchanged, and no other name was asked for.
 pub record MakesFile (shelf shelf' : ShelfState) (name bytes : List ℕ) (result : Result Unit OpenFault) : Type 0 where
   pub made : OnOk result (PutsFile shelf.files shelf'.files name bytes)
   pub part : OnErr result (MakesPrefix shelf.files shelf'.files name bytes)
@@ -67,7 +67,8 @@ unmade_as fault = status.WriteFault
 
 -- ---- a run that makes a file
 
--- A run gave out the text of one of the possible outcomes, and the run's output is what this outcome makes.
+-- For one of the possible outcomes, a run gave out the text and made the capture, if any. If memory ran out or a write
+-- failed, the run gave out only a prefix of the text, and its output is unchanged or has a prefix of the capture.
 pub record Produces (Outcome : Status → List ℕ → Option (List ℕ) → Type 0) (name : Option (List ℕ)) (before now : Option (List ℕ)) (files files' : Option Files) (result : Result Status Failed) : Type 0 where
   pub made : Option (List ℕ)
   pub tells : TellsText (λ ended text. Outcome ended text made) before now result

@@ -30,8 +30,8 @@ pub record Tells {Y : Type 0} (Outcome : Status → Y → Type 0) (Whole Part : 
   pub whole : IfOk result (λ s. s ≢ status.Memory → s ≢ status.WriteFault → (s ≡ ended) × Whole yields)
   pub part : Part yields
 
--- `Tells` for outcomes that yield a text. A text is given out by appending it to the known bytes `before`; the result
--- is `now`.
+-- `Tells` for outcomes that yield a text. A text is given out by appending it to the known bytes `before`, which gives
+-- the bytes `now`.
 abbrev pub TellsText : (Status → List ℕ → Type 0) → Option (List ℕ) → Option (List ℕ) → Result Status Failed → Type 0
 TellsText Outcome before now result = Tells Outcome (Appends before now) (AppendsPrefix before now) result
 
@@ -50,7 +50,7 @@ pub record TellsRun (Outcome : List (List ℕ) → Status → Yield → Type 0) 
   pub whole : IfOk result (λ s. s ≢ status.Memory → s ≢ status.WriteFault → (s ≡ ended) × Gives handed before now yields × Asks came shelf shelf')
   pub part : GivesPart handed before now yields
 
--- The sink keeps what it held. Its count of faults rose if and only if the call failed.
+-- The sink keeps what it held, and its count of faults rose if and only if the call failed.
 pub record KeepsSink {T : Type 0} (out out' : SinkState) (result : Result T Failed) : Type 0 where
   pub grows : Grows out.held out'.held
   pub counted : IsCounted out.faults out'.faults result

@@ -12,7 +12,7 @@ use Rattle.presenter_ring.specs.declared.receiver.Pull.{Pull}
 use Rattle.presenter_ring.specs.Pipes.{ended_with, given_to, waiting_in}
 use Rattle.avtp_base.specs.States.{SinkState}
 
--- the number of a presenter's failures, given its result: 0, or 1 because the presenter stops at its first failure
+-- the number of a presenter's failures, given its result: at most 1, because the presenter stops at its first failure
 abbrev pub failures : Result Unit Failed → ℕ
 failures (Ok x) = 0
 failures (Err e) = 1

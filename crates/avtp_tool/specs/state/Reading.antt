@@ -29,14 +29,14 @@ abbrev pub ended_in : {T E : Type 0} → (T → End) → Result T E → Option E
 ended_in end (Ok x) = Some (end x)
 ended_in end (Err e) = None
 
--- The file was read, and is still open. All else is unchanged. The count of reading faults rose if a read fault ended
--- the reading, and is otherwise unchanged.
+-- The file was read, and is still open. The count of reading faults rose if a read fault ended the reading. All else is
+-- unchanged.
 pub record ReadsCapture (shelf shelf' : ShelfState) (k now : ℕ) (how : Option End) : Type 0 where
   pub reads : ReadsSlot shelf shelf' k now
   pub counted : CountsFault None how shelf.reading_faults shelf'.reading_faults
 
--- The pending text was written. Then the next record was read, or the reading ended. If writing failed, nothing was
--- read.
+-- With `Ok`, the next record was read or the reading ended, and before this the pending text was written if necessary.
+-- With `Err`, writing the pending text failed, and nothing was read.
 pub record ReadsAhead (shelf shelf' : ShelfState) (old new : Sourcing) (out out' : SinkState) (waits waits' : List ℕ) (result : Result (Option End) Failed) : Type 0 where
   pub gives : IfOk result (λ how. GivesNext shelf shelf' old new how)
   pub cut : OnErr result ((shelf' ≡ shelf) × (slot_of new ≡ slot_of old))
@@ -65,7 +65,7 @@ is_of_reading ended = true
 abbrev pub IsReadingStatus : Result Status Failed → Type 0
 IsReadingStatus result = IfOk result (λ s. is_of_reading s ≡ true)
 
--- The file `name` was read, up to `limit` bytes. The report on the file was printed and given to devices, and nothing
+-- The file `name` was read, up to `limit` bytes. What the report yields was printed and given to devices, and nothing
 -- else was done.
 pub record DoesFile (report : Report) (handed : List Shown → Type 0) (limit : ℕ) (name : List ℕ) (shelf shelf' : ShelfState) (out out' : SinkState) (waits waits' : List ℕ) (result : Result Status Failed) : Type 0 where
   pub tells : (all : Files) → shelf.files ≡ Some all → TellsYield (FileOutcome report limit (all name) (Rose shelf.reading_faults shelf'.reading_faults)) handed (written out.held waits) (written out'.held waits') result

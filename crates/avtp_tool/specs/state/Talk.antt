@@ -31,8 +31,8 @@ next_bytes t = frame_bytes (slice_get (frames t.plan t.input) t.given)
 
 -- ---- what is done
 
--- Unless memory ran out or a write failed, a run over an input ends with a read fault exactly if a read fault stopped
--- the reading. The run never ends with the status of wrong words or of a failed device.
+-- Unless memory ran out or a write failed, a run over an input ends with a read fault if and only if a read fault
+-- stopped the reading. The run never ends with the status of wrong words or of a failed device.
 pub record FaultStops (halt : Stop) (result : Result Status Failed) : Type 0 where
   pub fault : result ≡ Ok status.ReadFault → halt ≡ stop.Fault
   pub quiet : IfOk result (λ s. s ≢ status.ReadFault → s ≢ status.Memory → s ≢ status.WriteFault → halt ≢ stop.Fault)

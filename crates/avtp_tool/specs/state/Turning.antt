@@ -63,7 +63,7 @@ pub record HoldsFirst (files : Option Files) (shelf : ShelfState) (writer : Writ
 
 -- ---- the packets of a batch
 
--- the bytes of frame `i` of the last batch that was not skipped
+-- the bytes of frame `i` of the most recent batch that was not skipped
 abbrev pub piece_bytes : Gating → ℕ → List ℕ
 piece_bytes g i = frame_bytes (slice_get g.frames i)
 
@@ -90,7 +90,7 @@ pub record PutsBatch (batch : Presented) (before after : ShelfState) (old new : 
 
 -- ---- samples that are returned
 
--- the output after the samples of the last batch were returned: no piece of the batch is left
+-- the output after the samples of the most recent batch were returned: no piece of the batch is left
 abbrev pub given_back : Output → Output
 given_back o = record o { gateway = record o.gateway { frames = [] } }
 
@@ -137,8 +137,8 @@ pub record HasTurned (asked : Asked) (shape : Option Shape) (batches : List Pres
   pub lines : Appends before now (flat_map skipped_line (skips_in asked shape batches))
   pub holds : HoldsCapture files shelf o.writer asked.output (map record_of (turned_frames asked shape batches))
 
--- A capture of these bytes was heard as far as it could be read. If a listener presents a batch from the part that was
--- read, this batch was put.
+-- A capture of these bytes was heard as far as it could be read. Every batch that a listener presents from the part
+-- that was read was put, and `presented` counts these batches.
 pub record HasHeard (asked : Asked) (shape : Option Shape) (bytes : List ℕ) (fault : Type 0) (files : Option Files) (shelf : ShelfState) (o : Output) (how : End) (presented : ℕ) (before now : Option (List ℕ)) : Type 0 where
   pub prefix : List ℕ
   pub ends : EndsAt asked.listener.limit (Some bytes) fault how prefix
@@ -162,8 +162,8 @@ pub record AreOpenIn (slots : Slots) (source : Sourcing) (o : Output) : Type 0 w
   pub made : IsMadeIn slots o.writer.slot
 
 -- A capture was written to a file while another file was read. If the written file was at first a capture without
--- records, it is still a capture and may now have records. A writing fault was counted exactly if a packet could not be
--- written.
+-- records, it is still a capture and may now have records. A writing fault was counted if and only if a packet could
+-- not be written.
 pub record WritesOutput (before after : ShelfState) (old new : Output) (result : Result Turned Failed) : Type 0 where
   pub slot : new.writer.slot ≡ old.writer.slot
   pub made : IsMadeIn after.slots old.writer.slot
