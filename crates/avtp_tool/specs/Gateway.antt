@@ -58,7 +58,7 @@ skip_name skip.ShapeOff = codes "shape"
 skip_name skip.Overlap = codes "overlap"
 skip_name skip.Range = codes "range"
 
--- A skipped batch: the number of the frame of the batch's packet, and the reason why the batch is skipped.
+-- A skipped batch: the number of the frame that carries the batch's packet, and the reason why the batch is skipped.
 pub record Skipped : Type 0 where
   pub frame : ℕ
   pub why : Skip

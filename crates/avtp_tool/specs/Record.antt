@@ -12,8 +12,8 @@ abbrev pub refused_or : Option Refusal → List ℕ → List ℕ
 refused_or (Some refusal) content = refused_content refusal
 refused_or None content = content
 
--- A refusal in a frame's payload, with its offset counted from the start of the frame. The payload begins at offset
--- `start`.
+-- A refusal in a frame's payload, with the offset of the refused field counted from the start of the frame. The payload
+-- begins at offset `start`.
 abbrev pub inside : ℕ → Refusal → Refusal
 inside start refusal = record refusal { at = refusal.at + start }
 

@@ -111,7 +111,7 @@ abbrev pub is_listening : Request → Bool
 is_listening (listen asked) = true
 is_listening request = false
 
--- the command did everything that was asked for, though a device may have failed
+-- the command did everything that was asked for, whether or not a device failed
 abbrev pub is_through : Status → Bool
 is_through status.DeviceFault = true
 is_through ended = is_done ended

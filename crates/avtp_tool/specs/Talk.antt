@@ -42,7 +42,7 @@ talk_plan asked = record {
   crf = option_map talk_clock asked.crf;
 }
 
--- the line with the number of the stream's packets and the number of its media clock's packets
+-- the line that says how many packets the stream has, and how many packets its media clock has
 abbrev pub sent_line : TalkPlan → List ℕ → List ℕ
 sent_line plan input = talk_line (length (stream_frames plan input)) (length (clock_frames plan input))
 

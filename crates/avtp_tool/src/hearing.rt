@@ -90,7 +90,7 @@ impl Hearing {
         }
     }
 
-    /// Whether `next` may have to read another record, and wait for it.
+    /// Whether `next` possibly has to read another record and wait for it.
     pub fn may_wait(&self) -> bool {
         match self.stage {
             Stage::Reading => self.source.must_read(),

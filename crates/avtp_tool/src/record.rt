@@ -56,7 +56,7 @@ fn print_packet<S: Sink>(
     }
 }
 
-/// A refusal in a frame's payload, with its offset counted from the start of the frame.
+/// A refusal in a frame's payload, with the offset of the refused field counted from the start of the frame.
 pub fn in_frame(frame: &FrameView<'_>, refusal: Refusal) -> Refusal
     requires { refusal.at + frame.now.start < 2 ^ 64 }
     ensures { result ≡ inside frame.now.start refusal }

@@ -178,7 +178,7 @@ pub fn unmade(fault: OpenFault) -> Status
 /// the file is created. If the file cannot be created or written, nothing is printed, because the line of `talk` says
 /// what was made.
 ///
-/// Returns `Failed` only if the count of writing faults rose; the file then is unchanged or has a prefix of the
+/// Returns `Failed` only if the count of writing faults rose; in this case the file is unchanged or has a prefix of the
 /// capture. If `Memory` is returned, the file is unchanged. `Missing` is never returned.
 fn make_capture<F: Shelf>(
     alloc: Global,

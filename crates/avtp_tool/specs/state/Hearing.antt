@@ -134,8 +134,8 @@ ReadTo (Showing how) limit bytes fault remains source records = EndsAfter limit 
 ReadTo (Ended how) limit bytes fault remains source records = EndsAfter limit bytes fault how records
 ReadTo NoMemory limit bytes fault remains source records = ⊤
 
--- The reading of a file of these bytes has reached this stage, and these items of its records were shown. Once the
--- hearing has ended, these are all items.
+-- The reading of a file of these bytes has reached this stage, and these items of its records were shown. At the stage
+-- `Ended`, these are all items that are shown of the records.
 pub record IsShown (stage : Stage) (limit : ℕ) (bytes : List ℕ) (fault : Type 0) (remains : Option (List ℕ)) (source : Sourcing) (listener : ListenState) (items : List Shown) : Type 0 where
   pub records : List Record
   pub first : IsPrefix records (records_in (take limit bytes))

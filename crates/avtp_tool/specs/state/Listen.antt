@@ -47,9 +47,9 @@ abbrev pub heard_end : Heard → Option End
 heard_end (Ended how counts) = Some how
 heard_end NoMemory = None
 
--- The items `items` were shown: the lines of each item were printed, and then the item was given to the devices. If the
--- hearing ended, `items` are all items of the capture. If the sink failed, only a part of the lines was printed, and
--- the devices got only a prefix of `items`.
+-- The items `items` were shown: the lines of each item were printed, and then the item was given to the devices. At the
+-- stage `Ended`, `items` are all items that are shown of the capture's records. If the sink failed, only a part of the
+-- lines was printed, and the devices got only a prefix of `items`.
 pub record HearsItems (handed : List Shown → Type 0) (shelf shelf' : ShelfState)
     (old_source source : Sourcing) (old_listener listener : ListenState) (stage : Stage) (out out' : SinkState) (waits waits' : List ℕ) (result : Result Unit Failed) : Type 0 where
   pub items : List Shown
