@@ -76,8 +76,8 @@ pub record Reports (request : Request) (files : Files) (failed : Bool) (handed :
 
 -- ---- why a run ended with a fault
 
--- A run ends with a device's fault only if the command is `listen` and a device failed. A run of `listen` in which a device
--- failed does not end with `Done`.
+-- A run ends with the status `DeviceFault` only if the command is `listen` and a device failed. A run of `listen` in
+-- which a device failed does not end with `Done`.
 pub record TellsFailed (request : Request) (failed : Bool) (ended : Status) : Type 0 where
   pub fault : ended ≡ status.DeviceFault → (is_listening request ≡ true) × (failed ≡ true)
   pub quiet : is_listening request ≡ true → ended ≡ status.Done → failed ≡ false

@@ -31,7 +31,8 @@ pub enum Reading<'a> {
     Listen(&'a Listen<'a>),
 }
 
-/// Reads the files in order, and does with each what is asked for. The first file that cannot be read to its end ends the run.
+/// Reads the files in order, and does with each file what is asked for. The first file that cannot be read to its end
+/// ends the run.
 pub fn read_files<T: Threads + Sync, F: Shelf + Send, S: Sink + Send, G: Gate, D: Devices + Send>(
     rt: &T,
     alloc: Global,

@@ -33,8 +33,8 @@ abbrev pub IsThrough : Result Status Failed → Type 0
 IsThrough (Ok ended) = is_through ended ≡ true
 IsThrough (Err e) = ⊥
 
--- A run ends with a device's fault only if the command is `listen` and a device failed. A run of `listen` in which a device
--- failed does not end with `Done`.
+-- A run ends with the status `DeviceFault` only if the command is `listen` and a device failed. A run of `listen` in
+-- which a device failed does not end with `Done`.
 pub record TellsDevices (request : Request) (failed : Bool) (result : Result Status Failed) : Type 0 where
   pub fault : result ≡ Ok status.DeviceFault → (is_listening request ≡ true) × (failed ≡ true)
   pub quiet : is_listening request ≡ true → result ≡ Ok status.Done → failed ≡ false
