@@ -43,7 +43,7 @@ pub fn format(asked: GatewayFormat) -> To
 
 /// Converts a stream of a capture to the other audio format. Prints which batches are skipped, and how many packets
 /// were made. The capture is read twice. The first reading only scans the capture: if a record cannot be converted, the
-/// run ends before a capture is made.
+/// run ends before OUT is made.
 pub fn gateway<F: Shelf, S: Sink>(
     alloc: Global,
     asked: &Gateway<'_>,

@@ -25,8 +25,8 @@ pub struct Printed {
     pub end: End,
 }
 
-/// Prints a line for each record of a capture, and a last line. Reads at most `limit` bytes of the capture. All memory is
-/// allocated before the first line, so nothing is printed if memory runs out.
+/// Prints a line for each record of a capture, and then a last line. Reads at most `limit` bytes of the capture. All
+/// memory is allocated before the first line, so nothing is printed if memory runs out.
 pub fn show<F: Shelf, S: Sink>(
     alloc: Global,
     limit: u64,

@@ -17,9 +17,9 @@ use Rattle.avtp_tool.specs.state.Outcome.{TellsText}
 use Rattle.avtp_tool.specs.declared.status.Status.{Status}
 use Rattle.avtp_tool.specs.declared.status.Status.TheVariants as status
 
--- What becomes of the file `name` in a run that makes this file, given the run's result. If everything was done, the
--- file has these bytes. If memory ran out or a write failed, the file is unchanged or has a prefix of these bytes.
--- Otherwise all files are unchanged.
+-- What becomes of the file `name` in a run whose task is to make this file, given the run's result. If everything was
+-- done, the file has these bytes. If memory ran out or a write failed, the file is unchanged or has a prefix of these
+-- bytes. Otherwise all files are unchanged.
 pub record Makes (name bytes : List ℕ) (files files' : Option Files) (result : Result Status Failed) : Type 0 where
   pub done : result ≡ Ok status.Done → PutsFile files files' name bytes
   pub part : MakesPrefix files files' name bytes
