@@ -61,8 +61,8 @@ IsThrough pair = IsIdle pair.matching
 abbrev pub most_left : FedPair → ℕ
 most_left pair = (work pair.a + work pair.b) + nexts_left pair.matching
 
--- Each listener keeps its plan and its reader. A listener has ended exactly if it had ended before, and has run out of
--- memory exactly if it had run out of memory before.
+-- Each listener keeps its plan and its reader. Whether a listener has ended, and whether it has run out of memory, does
+-- not change.
 pub record Keeps (old new : FedPair) : Type 0 where
   pub a : KeepsFed old.a new.a
   pub b : KeepsFed old.b new.b

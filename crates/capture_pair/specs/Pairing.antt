@@ -98,7 +98,7 @@ pub record Continues (more more_others : List Record) (old new : PairState) : Ty
 abbrev pub most_left : PairState → ℕ
 most_left pair = (work pair.a + work pair.b) + nexts_left pair.matching
 
--- Each listener has the same plan and the same number of records as before, and is closed exactly if it was closed
+-- Each listener has the same plan and the same number of records as before, and is closed if and only if it was closed
 -- before.
 pub record Keeps (old new : PairState) : Type 0 where
   pub plan_a : new.a.plan ≡ old.a.plan
@@ -108,8 +108,8 @@ pub record Keeps (old new : PairState) : Type 0 where
   pub closed_a : is_closed new.a ≡ is_closed old.a
   pub closed_b : is_closed new.b ≡ is_closed old.b
 
--- The listener of side `which` was given more records; `more` is the number of these records. The listener is closed
--- exactly if `ended` is true. The other listener is unchanged, except for what it has shown.
+-- The listener of side `which` was given more records; `more` is the number of these records. The listener is closed if
+-- and only if `ended` is true. The other listener is unchanged, except for what it has shown.
 pub record Changes (which : Which) (more : ℕ) (ended : Bool) (old new : PairState) : Type 0 where
   pub plan_a : new.a.plan ≡ old.a.plan
   pub plan_b : new.b.plan ≡ old.b.plan

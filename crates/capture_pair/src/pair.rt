@@ -117,9 +117,10 @@ impl Pair {
         answer
     }
 
-    /// Returns the next difference in the known part of the merged list of what both listeners present; `None` exactly
-    /// if that part has no further difference. The known part is a prefix that no later bytes can change. Until more
-    /// is fed, only finitely many differences are returned. Allocates nothing.
+    /// Returns the next difference in the known part of the merged list; `None` if and only if that part has no further
+    /// difference. The merged list has the batches that both listeners present. The known part is a prefix of this list
+    /// that no later bytes can change. Until more is fed, only finitely many differences are returned. Allocates
+    /// nothing.
     pub fn next_difference(&mut self) -> Option<Difference>
         ensures given { (bytes others : List ℕ) (given : ℕ) → AreShort bytes others → StandsFor bytes others given self.old → result ≡ slice_get (differences (known_by self.old bytes others)) given }
         ensures stands { (bytes others : List ℕ) (given : ℕ) → AreShort bytes others → StandsFor bytes others given self.old → StandsFor bytes others (given + length (option_to_list result)) self.new }

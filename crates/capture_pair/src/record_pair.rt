@@ -109,9 +109,10 @@ impl RecordPair {
         fill_both(&mut self.a, &mut self.b, &mut self.matching);
     }
 
-    /// Returns the next difference in the known part of the merged list of what both listeners present; `None` exactly
-    /// if that part has no further difference. The known part is a prefix that no later records can change. Until
-    /// more is taken, only finitely many differences are returned. Allocates nothing.
+    /// Returns the next difference in the known part of the merged list; `None` if and only if that part has no further
+    /// difference. The merged list has the batches that both listeners present. The known part is a prefix of this list
+    /// that no later records can change. Until more is taken, only finitely many differences are returned. Allocates
+    /// nothing.
     pub fn next_difference(&mut self) -> Option<Difference>
         ensures given { (records others : List Record) (given : ℕ) → StandsFor records others given self.old → result ≡ slice_get (differences (known_by self.old records others)) given }
         ensures stands { (records others : List Record) (given : ℕ) → StandsFor records others given self.old → StandsFor records others (given + length (option_to_list result)) self.new }

@@ -87,8 +87,9 @@ pub fn fill_both<S: Source>(a: &mut S, b: &mut S, matching: &mut Matching)
     fill(b, matching, Which::B);
 }
 
-/// Returns the next difference in the known part of the merged list of what both listeners present; `None` exactly if
-/// that part has no further difference. The known part is a prefix that no later input can change.
+/// Returns the next difference in the known part of the merged list; `None` if and only if that part has no further
+/// difference. The merged list has the batches that both listeners present. The known part is a prefix of this list
+/// that no later input can change.
 pub fn next_difference<S: Source>(
     a: &mut S,
     b: &mut S,

@@ -37,7 +37,7 @@ use Rattle.pair_laws.proofs.Beside.{pairs-cons, pairs-nil, same-same}
 use Rattle.capture_pair.proofs.Joined.{all-merged}
 use Rattle.pair_laws.proofs.Paces.{presented-of-talker}
 
--- ---- the same samples make no difference
+-- ---- equal batches do not differ
 
 same-is : (x y : ℤ) → x ≡ y → same_instant x y ≡ true
 same-is x y e = subst (λ z. same_instant x z ≡ true) e (same-same x)
@@ -73,8 +73,8 @@ cancel w x y some h = elim (cases_lt y x) [
   | inr le ↦ le
 ]
 
--- If the pace of a line is kept, 64 times the duration of a batch on this line is at most 72 times the packet's nominal
--- duration.
+-- Let a line keep the pace of `rate`. If a time `u` is at most 64 times the duration of `count` samples on this line,
+-- it is at most 72 times their nominal duration.
 paced : (u den count num rate : ℕ) → 1 ≤ den → u * den ≤ 64 * count * num → 8 * (rate * num) ≤ 9000000000 * den → u * rate ≤ 72 * (count * 1000000000)
 paced u den count num rate some near pace =
     let a : (8 * rate) * (u * den) ≤ (8 * rate) * (64 * count * num) = mul-le-mul_left (8 * rate) near in
@@ -85,7 +85,8 @@ paced u den count num rate some near pace =
 instant-is : (x y : ℤ) → same_instant x y ≡ true → x ≡ y
 instant-is x y e = grind (arith, ints)
 
--- if two batches are within reach, they have the same first instant, or they are near each other and neither is a unit
+-- if batches `a` and `b` are within reach, they have the same first instant, or they are near each other and `a` is not
+-- a unit
 reach-cases : (a b : Presented) → within_reach a b ≡ true → (first_instant a ≡ first_instant b) ⊎ ((is_unit a ≡ false) × (are_near a b ≡ true))
 unfolding within_reach
 reach-cases a b h = at (is_unit a) (is_unit b) refl h

@@ -185,8 +185,8 @@ near done u x rest xs ys h same sorted ea eb px py =
 
 -- ---- the pairs
 
--- Each pair that the batches `rest` make consists of equal batches. All batches of B in `rest` are paired, and no batch
--- is left unpaired.
+-- All pairs that the batches `rest` add are pairs of equal batches. There are as many of them as batches of B in
+-- `rest`, and no batch is left unpaired.
 record AreSame (place : ℕ) (waiting : List Placed) (rest : List Sided) : Type 0 where
   pairs : AllByRecursion (λ (p : Paired). p.earlier.batch ≡ p.later.batch) (pairs_from place waiting rest)
   left : unpaired_from place waiting rest ≡ []

@@ -31,7 +31,7 @@ use Rattle.capture_pair.proofs.Joined.{merges}
 use Rattle.pair_laws.proofs.Paces.{presented-of-talker}
 use Rattle.pair_laws.proofs.Told.{shown-told}
 
--- ---- batches of the same packet may be a pair
+-- ---- batches of the same packet fit
 
 many : (n : ℕ) → (n == 1) ≡ true → n ≡ 1
 many n e = grind arith
@@ -220,7 +220,7 @@ any-here P before x after h = (length before, x, within before, there before, h)
 any-later : {X : Type 0} (P : X → Type 0) (before : List X) (x : X) (list after : List X) → list ≡ x ∷ after → P x → Any P (before ++ list)
 any-later P before x list after e h = subst (λ (l : List _). Any P (before ++ l)) (sym e) (any-here P before x after h)
 
--- Batches a and b are a pair, and no batch of packet n waits.
+-- Batches a and b are a pair, and no batch of packet n is left unpaired.
 record AreFound (by : Bool) (p : PacketJournal) (n : ℕ) (a b : Presented) (list : List Sided) : Type 0 where
   pair : Any (IsPairOf a b) (pairs list)
   left : AllElse by p n (unpaired list)
@@ -467,7 +467,7 @@ found-at by p n xs ys a b list x1 x2 y1 y2 is g sorted ea eb ex ey = at (locate 
         (sa.whole ∙ ap (λ (l : List Sided). l ++ of_side A a ∷ sa.rest) sb.whole ∙ append_assoc sb.front (of_side B b ∷ sb.rest) (of_side A a ∷ sa.rest)) ex ey sb.ahead
         (sym (batches-append A sb.front (of_side B b ∷ sb.rest)) ∙ ap (batches_of A) (sym sb.whole) ∙ sa.ahead) (ap (λ (l : List Presented). l ++ batches_of B sa.rest) sb.behind ∙ sym h.then) sa.behind refl
 
--- if two listeners present batches of the same packet, these are a pair, and no batch of the packet waits
+-- if two listeners present batches of the same packet, these are a pair, and no batch of the packet is left unpaired
 captures-found : (shift : ℤ) (p : PacketJournal) (plan other : ListenPlan) (records others : List Record) → HearsTalker shift p plan records → HearsTalker shift p other others → by_clock other ≡ by_clock plan → (n i k : ℕ) (a b : Presented)
     → slice_get (presented_of (shown_of plan records)) i ≡ Some a → slice_get (presented_of (shown_of other others)) k ≡ Some b → IsOfPacket (by_clock plan) p n a → IsOfPacket (by_clock plan) p n b → AreFound (by_clock plan) p n a b (merged (presented_of (shown_of plan records)) (presented_of (shown_of other others)))
 captures-found shift p plan other records others h g e n i k a b there_a there_b oa ob =

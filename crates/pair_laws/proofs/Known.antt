@@ -1,4 +1,4 @@
--- The known part of what two listeners present of one talker has no differences.
+-- If two listeners hear one talker, the known part of the batches that they present has no differences.
 use Rattle.std.proofs.Common.{◌≡◌, Bool, true, false, ℤ, List, [], refl, sym, ap, ◌∙◌, subst}
 use Rattle.std.specs.List.{AllByRecursion}
 use Rattle.pcap_frames.specs.Capture.{Record}

@@ -22,7 +22,7 @@ use Rattle.soak_run.specs.Captured.{captured, soak_input, soak_listener, soak_re
 use Rattle.soak_run.proofs.DeliveryLemmas.{IsCopy, are_copies}
 use Rattle.soak_run.proofs.StreamSizes.{input_within, soak_is_plan, stream_long}
 
--- the stream keeps the rules of streams
+-- the soak plan's stream keeps the rules that `IsStream` states
 pub stream_keeps : (packets : ℕ) → packets ≤ 1000000 → IsStream soak_plan (stream_of soak_plan (soak_input packets))
 stream_keeps packets few = plan_keeps soak_plan (soak_input packets) soak_is_plan (input_within packets few)
 

@@ -1,5 +1,5 @@
 -- A listener shows the same items whether it is given the records of the deliveries or the bytes of their capture.
--- `KeepsHeadline` is true of what it shows, and each delivery is counted once.
+-- `KeepsHeadline` is true of what the listener shows, and each delivery is counted once.
 use Rattle.std.proofs.Common.{◌≡◌, ℕ, ◌+◌, pos, ◌≤◌, arith, false, List, length, refl, sym, ap, subst, ◌∙◌, None}
 use Rattle.std.specs.Prelude.{◌==◌}
 use Rattle.std.proofs.lemmas.List.{length-map}

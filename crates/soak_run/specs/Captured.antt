@@ -1,5 +1,5 @@
 -- The stream that is sent over a bad network, the capture of its deliveries, and the listener that hears the capture.
--- This project defines them, not a standard.
+-- This project defines them; no standard does.
 use Rattle.std.specs.Prelude.{ℕ, ℤ, pos, ◌-◌, ◌*◌, ◌%◌, List, ◌++◌, map, None}
 use Rattle.std.specs.List.{flat_map, range_with_len}
 use Rattle.byteorder.specs.Endian.{big_bytes}
@@ -9,7 +9,7 @@ use Rattle.talker.specs.Frames.{capture_style, frame_of, record_of}
 use Rattle.talker.specs.Journal.{Stream, stream_of}
 use Rattle.soak_run.specs.Soak.{deliveries_of, soak_plan}
 
--- ---- what is talked
+-- ---- what is sent
 
 -- sample frame k: two samples of 16 bits, one that rises with k and one that falls with k
 abbrev pub sample_frame : ℕ → List ℕ

@@ -110,7 +110,7 @@ abbrev pub ended_of : Which → MatchingState → Bool
 ended_of A m = m.ended_a
 ended_of B m = m.ended_b
 
--- the side other than `which` has the same next batch as before, and has ended exactly if it had ended before
+-- the side other than `which` has the same next batch as before, and has ended if and only if it had ended before
 abbrev pub IsOtherSame : Which → MatchingState → MatchingState → Type 0
 IsOtherSame A old new = (new.next_b ≡ old.next_b) × (new.ended_b ≡ old.ended_b)
 IsOtherSame B old new = (new.next_a ≡ old.next_a) × (new.ended_a ≡ old.ended_a)

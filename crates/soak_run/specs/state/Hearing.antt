@@ -67,8 +67,8 @@ pub record Takes (taken : Record) (old new : ListenState) (result : Result Unit 
 abbrev pub shown_by : ListenState → ℕ
 shown_by listener = listener.counts.presented + listener.counts.flagged
 
--- an upper bound on the items that the listener can still show: the number of deliveries minus the number of items
--- shown
+-- an upper bound on the number of items that the listener can still show: the number of deliveries minus the number of
+-- items shown
 abbrev pub left_of : List (ℤ × ℕ) → ListenState → ℕ
 left_of deliveries listener = length deliveries - shown_by listener
 
