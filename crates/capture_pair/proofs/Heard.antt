@@ -30,7 +30,7 @@ use Rattle.capture_pair.specs.state.Sides.{IsHeard}
 use Rattle.capture_pair.proofs.Handing.{presented-append}
 use Rattle.capture_pair.proofs.Joined.{order-front}
 
--- ---- an accepted item has the instant of its batch
+-- ---- the instant of an accepted item is the first instant of its batch
 
 abbrev pub Timely : Accepted → Type 0
 Timely a = a.instant ≡ first_instant a.batch

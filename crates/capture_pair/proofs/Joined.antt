@@ -408,7 +408,8 @@ pub record IsAsked (more_a more_b : List Presented) (over_a over_b : Bool) (m : 
   pub open_a : wanted m ≡ Some A → over_a ≡ false
   pub open_b : wanted m ≡ Some B → over_b ≡ false
 
--- if no side is wanted and no next batch is known, both sides have ended and have no next batch
+-- if no side is wanted and the known part of the merged next batches is empty, both sides have ended and have no next
+-- batch
 through-at : (ea eb : Bool) (na nb : Option Presented) → lacks ea na ≡ false → lacks eb nb ≡ false → known ea eb (nexts na nb) ≡ [] → (na ≡ None) × (nb ≡ None) × (ea ≡ true) × (eb ≡ true)
 through-at true true None None a b k = (refl, refl, refl, refl)
 through-at false eb None nb a b k = absurd (cc)

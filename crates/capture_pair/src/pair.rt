@@ -181,7 +181,7 @@ fn feed_one(alloc: Global, source: &mut ByteSource, piece: &[u8]) -> Result<usiz
     answer
 }
 
-/// Whether a listener ran out of memory.
+/// Whether `answer` says that the listener ran out of memory.
 fn is_out_of_memory(answer: &Result<usize, ListenFault>) -> bool
     ensures { result ≡ is_memory answer.now }
 {
@@ -192,7 +192,7 @@ fn is_out_of_memory(answer: &Result<usize, ListenFault>) -> bool
     }
 }
 
-/// Ends the capture of the listener of a side.
+/// Ends the capture of side `which`.
 fn end_on(a: &mut ByteSource, b: &mut ByteSource, which: Which) -> Result<(), ListenFault>
     requires open { IsOpenOn which a.old.listener b.old.listener }
     ensures { EndedOn which (result_err result) a.old.listener b.old.listener a.new.listener b.new.listener }

@@ -15,7 +15,8 @@ pub trait Source {
     ghost use Rattle.sample_schedule.specs.declared.shown.Shown.{Shown as ShownValue};
     ghost use Rattle.capture_pair.specs.Sources.{Kept, Taken};
 
-    /// The listener took these records or bytes, shows this list of items, and has shown this many items of the list.
+    /// The listener took these records or bytes, of which it shows this list of items, and has shown this many items of
+    /// the list so far.
     ghost shows: { Self → Taken → List ShownValue → ℕ → Type 0 };
 
     /// The listener has shown all items that are known so far.

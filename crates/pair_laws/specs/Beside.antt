@@ -14,8 +14,8 @@ abbrev pub AreAllTold : List Presented → Type 0
 AreAllTold [] = ⊤
 AreAllTold (x ∷ rest) = AllByRecursion (AreTold x) rest × AreAllTold rest
 
--- The list has the properties of every list of batches that a listener presents. It is in the order of first instants.
--- No two batches have both the same first instant and the same sequence number. Each sequence number is a byte.
+-- What holds for each list of batches that a listener presents. The list is in the order of first instants. No two
+-- batches have both the same first instant and the same sequence number. Each sequence number is a byte.
 pub record IsPresentation (list : List Presented) : Type 0 where
   pub order : IsInOrder list
   pub told : AreAllTold list

@@ -16,7 +16,7 @@ pub struct SoakCounts {
     pub delivered: u64,
     /// The deliveries that are presented.
     pub presented: u64,
-    /// The deliveries whose presentation time had passed.
+    /// The deliveries whose presentation time had passed when they arrived.
     pub late: u64,
     /// The deliveries of a packet that was accepted before.
     pub repeat: u64,

@@ -15,12 +15,13 @@ pub use Rattle.capture_pair.specs.Sources.{Kept, OfBytes, OfRecords, Taken}
 
 -- ---- a listener
 
--- a listener of records took these records, shows this list, and has shown n items of it
+-- a listener of records took these records, of which it shows this list, and has shown the first n items of the list so
+-- far
 abbrev pub ShowsRecords : ListenState → Taken → List Shown → ℕ → Type 0
 ShowsRecords listener (OfRecords records) list n = IsGiven records n listener × (list ≡ out listener records)
 ShowsRecords listener (OfBytes bytes) list n = ⊥
 
--- a listener of bytes took these bytes, shows this list, and has shown n items of it
+-- a listener of bytes took these bytes, of which it shows this list, and has shown the first n items of the list so far
 abbrev pub ShowsBytes : Feeding → Taken → List Shown → ℕ → Type 0
 ShowsBytes fed (OfRecords records) list n = ⊥
 ShowsBytes fed (OfBytes bytes) list n = IsFed bytes n fed × (list ≡ out_fed fed bytes)
