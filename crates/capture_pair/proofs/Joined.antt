@@ -250,7 +250,7 @@ any-end s (x ∷ front) z rest = at (is_side s x.side) (any-end s front z rest)
     at true h = refl
     at false h = h
 
--- `is_settled` is true for side `s` and the list `rest`, or the list `done` ends with a batch of side `s`
+-- `is_settled` is true for side `s` and the list `rest`, or the list `done` is empty or ends with a batch of side `s`
 abbrev pub Covered : Bool → Which → List Sided → List Sided → Type 0
 Covered e s done rest = (is_settled e s rest ≡ true) ⊎ EndsOn s done
 

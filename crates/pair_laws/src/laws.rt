@@ -54,18 +54,19 @@ pub fn batches_of_one_talker_never_differ()
     ensures presented { (shift : ℤ) (p : PacketJournal) (plan : ListenPlan) (records : List Record) → HearsTalker shift p plan records → AllByRecursion (IsPresentedOfTalker (by_clock plan) p) (presented_of (shown_of plan records)) }
 {}
 
-/// The differences that a pair has returned are the first known differences. A difference is known if no later record
-/// can change it. However the two captures continue or end, the returned differences stay the first known differences.
+/// The differences that a `RecordPair` has returned are the first known differences. A difference is known if no later
+/// record can change it. However the two captures continue or end, the returned differences stay the first known
+/// differences.
 pub fn what_was_given_stays()
     ensures within { (records others : List Record) (given : ℕ) (pair : PairState) → StandsFor records others given pair → EndsAreClosed pair → given ≤ length (differences (known_by pair records others)) }
     ensures stays { (records others more more_others : List Record) (given : ℕ) (old new : PairState) → StandsFor records others given old → EndsAreClosed old → Continues more more_others old new
         → take given (differences (known_by new (records ++ more) (others ++ more_others))) ≡ take given (differences (known_by old records others)) }
 {}
 
-/// Let a pair still want more of one capture, for example because that capture cannot be read any further. Then the
-/// known part of the merged list depends on two lists only. One list has the batches of that capture that are certain
-/// to be presented, whatever follows. The other list has all batches of the other capture. Reading more of the other
-/// capture does not change the known part. After both captures are closed, all that both listeners show is known.
+/// Let a `RecordPair` still want more of one capture, for example because that capture cannot be read any further. Then
+/// the known part of the merged list depends on two lists only. One list has the batches of that capture that are
+/// certain to be presented, whatever follows. The other list has all batches of the other capture. Reading more of the
+/// other capture does not change the known part. After both captures are closed, all that both listeners show is known.
 pub fn what_a_fault_leaves_is_known()
     ensures a { (plan : ListenPlan) (records others more : List Record) (given : ℕ) (pair : PairState) → StandsFor records others given pair → HavePlan plan pair → EndsAreClosed pair → wanted_by pair ≡ Some A → is_closed pair.a ≡ false → (is_closed pair.b ≡ true → more ≡ [])
         → known_by pair records others ≡ known false true (merged (presented_of (due_of plan records)) (presented_of (shown_of plan (others ++ more)))) }

@@ -75,8 +75,8 @@ from_stream : (p : PacketJournal) (lead : ℕ) (d : Delivery) (o : Origin) → p
 from_stream p lead d (FromStream n) none copy = (n, copy)
 from_stream p lead d (FromClock m) none copy = absurd (let known = copy.known in omega arith)
 
--- if an audio stream has no clock, has samples in each packet and has a known rate, then all entries of deliveries that
--- copy its packets are sound
+-- if an audio stream has no clock, has samples in each packet and has a known rate, then the entries of all deliveries
+-- of its packets are sound
 pub entries_sound : (shift : ℤ) (p : PacketJournal) (lead : ℕ) (ds : List Delivery) → IsConforming shift p → IsAudioKind p.times.kind → p.times.clock.packets ≡ 0 → (p.times.count == 0) ≡ false → (p.times.rate == 0) ≡ false
     → All IsOther ds → All (IsCopied p lead) ds → (i : ℕ) (e : Entry) → slice_get (entries ds) i ≡ Some e → IsSoundEntry e
 entries_sound shift p lead ds conforming audio none some rate others all i e there =

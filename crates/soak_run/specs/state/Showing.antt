@@ -7,8 +7,8 @@ use Rattle.soak_run.specs.declared.hearing.Hearing.{Hearing}
 use Rattle.soak_run.specs.declared.hearing.Stage.TheVariants.{Ended}
 use Rattle.soak_run.specs.state.Hearing.{Shows, closed_at, records_of}
 
--- `items` were shown between the states `begun` and `now` of a hearing. If the hearing has ended, `items` are all items
--- of its deliveries.
+-- `begun` and `now` are states of the same hearing, and `items` are the items that it has shown until `now`. If the
+-- hearing has ended, `items` are all items of its deliveries.
 pub record HasShown (begun now : Hearing) (items : List Shown) : Type 0 where
   pub talker : now.talker ≡ begun.talker
   pub deliveries : now.deliveries.now ≡ begun.deliveries.now
