@@ -16,7 +16,7 @@ pub record IsUsableRow (c : ClockJournal) (shift : ℤ) (m : ℕ) (row : ClockRo
   pub usable : row.usable ≡ true
   pub is : IsRowOf c shift m row
 
--- each row is a copy of a clock packet; the packet's number is at the row's index in the list of numbers
+-- each row is a copy of the clock packet whose number is at the row's index in the list of numbers
 abbrev pub AreRows : ClockJournal → ℤ → List ℕ → List ClockRow → Type 0
 AreRows c shift [] [] = Unit {0}
 AreRows c shift [] (row ∷ rows) = ⊥

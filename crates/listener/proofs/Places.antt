@@ -1,4 +1,4 @@
--- How many items are shown of the entries below index n. Each shown item is presented or flagged.
+-- How many of the entries below index n are shown. Each shown item is presented or flagged.
 use Rattle.std.proofs.Common.{◌≡◌, ℕ, suc, ◌+◌, ◌<◌, ◌≤◌, Bool, cond, List, [], ◌∷◌, length, refl, arith, inl, inr}
 use Rattle.std.specs.Prelude.{◌==◌, count_by, nat_lt}
 use Rattle.std.proofs.lemmas.Bool.{cases_lt}

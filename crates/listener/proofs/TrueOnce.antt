@@ -99,7 +99,7 @@ presented_once shift p plan records h =
     subst (λ (l : List Presented). AllPairs (AreOther (by_clock plan) p) l) (sym (batches_are gs))
     (each_once (by_clock plan) p (presented gs) h.conforming.times (given_true shift p plan records h) (presented-distinct clock_spot (schedule_plan plan) es))
 
--- ---- a batch is at most one packet
+-- ---- no batch is two different packets
 
 at_nominal : (kind : Kind) (j : Journal) (n k : ℕ) (instant : ℤ) → IsAudioKind kind → IsAtBy kind false j n k instant → IsAtNominal j n k instant
 at_nominal DenseAaf j n k instant heard at = at

@@ -58,7 +58,7 @@ abbrev pub is_flag : Shown → Bool
 is_flag (Present batch) = false
 is_flag (Flag frame seq reason) = true
 
--- The counts of a listener: the records, the records of the stream, the items presented, and the items flagged.
+-- The counts of a listener: the numbers of records, of the stream's records, of items presented, and of items flagged.
 abbrev pub counts_of : ListenPlan → List Record → List Shown → Counts
 counts_of plan records list = record {
   frames = length records;
@@ -67,8 +67,8 @@ counts_of plan records list = record {
   flagged = count_by is_flag list;
 }
 
--- What a listener shows of a capture's bytes: what is shown of the whole records before the first refusal, the counts,
--- and the first refusal, if there is one.
+-- What a listener shows of a capture's bytes: the items and the counts of the whole records before the first refusal,
+-- and the first refusal itself, if there is one.
 abbrev pub heard_of : ListenPlan → List ℕ → Heard
 heard_of plan bytes =
     let records = whole_records bytes in

@@ -71,8 +71,8 @@ pub fn clocks_are_followed()
 /// A capture may lose, repeat or reorder the H.264 packets of a talker that keeps the rules. Each whole unit still
 /// consists of the packets of one unit of the talker: one copy of each packet, in order. The whole unit has the bytes
 /// and the instant of the talker's unit. Sequence numbers alone do not distinguish packets whose numbers differ by 256,
-/// but timestamps do. Fragments without a timestamp are distinguished by the condition that the numbers of adjacent
-/// fragments' packets differ by at most 254.
+/// but timestamps do. If two fragments arrive one right after the other, and at least one has no timestamp, their
+/// packet numbers are assumed to differ by at most 254.
 pub fn units_are_true()
     ensures { (shift : ℤ) (p : PacketJournal) (plan : ListenPlan) (records : List Record) (place : ℕ) (made : MadeItem) (unit : Unit) (part : ℕ → Part) → HearsTalker shift p plan records → p.times.kind ≡ H264 part → slice_get (items_in plan records) place ≡ Some made → made.entry ≡ Entry.Item (Item.Unit unit)
         → (n : ℕ) × IsUnitFrom p part plan.lead n made unit }
@@ -88,7 +88,7 @@ pub fn units_are_whole()
         → deliveries_of plan records ≡ before ++ last ∷ rest → in_stream before ≡ front ++ earlier → AreOfUnit p part plan.lead from n earlier last → (unit_by before last).earlier ≡ earlier }
 {}
 
-/// What is presented is true. If a talker keeps the rules, a capture may lose, repeat or reorder the packets of the
+/// What is presented is true. The talker must keep the rules. A capture may lose, repeat or reorder the packets of the
 /// talker and of its clock, and the media clock may restart anywhere. Each batch that is presented is the packet or
 /// unit of the talker that the batch's item was made of, and has the bytes of that packet or unit. Each sample is at
 /// the nanosecond of gPTP that follows from one timestamp of the talker. Without a clock, samples are counted from that
@@ -99,8 +99,8 @@ pub fn presented_are_true()
     ensures packet { (shift : ℤ) (p : PacketJournal) (plan : ListenPlan) (records : List Record) → HearsTalker shift p plan records → All (IsOfJournal (by_clock plan) p) (presented_of (shown_of plan records)) }
 {}
 
-/// A batch is at most one packet of the talker: if it is packet n and packet m, n equals m. A unit of H.264 has the
-/// number of its last packet.
+/// No batch is two different packets of the talker: if a batch is packet n and is packet m, then n equals m. A unit of
+/// H.264 has the number of its last packet.
 pub fn batches_have_one_number()
     ensures { (shift : ℤ) (p : PacketJournal) (by : Bool) (n m : ℕ) (batch : Presented) → IsConforming shift p → IsOfPacket by p n batch → IsOfPacket by p m batch → n ≡ m }
 {}
@@ -124,24 +124,25 @@ pub fn listeners_agree()
 {}
 
 /// A copy of a packet is presented if it came in time, it found room, and no copy of the packet was accepted before.
-/// The packet's timestamp must be known. With a clock, two CRF timestamps that cover the packet's timestamp must also
-/// be known. It does not matter how many other packets are late, lost or untimed. What is presented has the frame
-/// number of that copy.
+/// The timestamp from which the packet's samples are counted must be known. With a clock, two CRF timestamps that cover
+/// that timestamp must also be known. It does not matter how many other packets are late, lost or untimed. What is
+/// presented has the frame number of that copy.
 pub fn known_and_in_time_is_presented()
     ensures { (shift : ℤ) (p : PacketJournal) (plan : ListenPlan) (records : List Record) (place n : ℕ) (made : MadeItem) → HearsTalker shift p plan records → IsWelcome p plan records place n made → Any (IsPresentedOf (by_clock plan) p n made) (presented_of (shown_of plan records)) }
 {}
 
-/// Suppose that the first deliveries of an H.264 stream are all packets of one unit of the talker, in their order. The
-/// last delivery must arrive no later than the unit's presentation time. Each packet must carry the unit's first byte.
-/// The unit must be within the limits of units, and its bytes must fit into `room`. Then the unit must be presented.
+/// Suppose that an H.264 stream's first deliveries are the packets of one unit of the talker: one copy of each packet,
+/// in order. The last of these deliveries must arrive no later than the unit's presentation time. Each packet must
+/// carry the unit's first byte. The unit must be within the limits of units, and its bytes must fit into `room`. Then
+/// the unit must be presented.
 pub fn first_fragments_are_welcome()
     ensures { (shift : ℤ) (p : PacketJournal) (plan : ListenPlan) (records : List Record) (from n : ℕ) (part : ℕ → Part) (earlier : List Delivery) (last : Delivery) (rest : List Delivery) → HearsTalker shift p plan records → p.times.kind ≡ H264 part → deliveries_of plan records ≡ earlier ++ last ∷ rest
         → AreOfUnit p part plan.lead from n earlier last → last.arrival ≤ℤ pos (p.times.due n) → 1 ≤ plan.buffer → length (unit_bytes p from n) ≤ plan.room → IsWelcome p plan records 0 n (unit_by earlier last) }
 {}
 
 /// If a packet was accepted before, a further copy of the packet is flagged as a repeat, whether the buffer has room
-/// for the copy or not. The copy's timestamp must be known, and the copy must have come in time. Nothing else is shown
-/// of the copy's frame.
+/// for the copy or not. The copy must have come in time, and the timestamps that give the copy's instants must be
+/// known. Nothing else is shown of the copy's frame.
 pub fn further_copies_are_repeats()
     ensures { (shift : ℤ) (p : PacketJournal) (plan : ListenPlan) (records : List Record) (place n : ℕ) (made : MadeItem) → HearsTalker shift p plan records → IsFurther p plan records place n made → shown_of_frame made.last.frame (shown_of plan records) ≡ Flag made.last.frame made.last.seq Repeat ∷ [] }
 {}
@@ -149,8 +150,8 @@ pub fn further_copies_are_repeats()
 /// All that is promised for a talker that keeps the rules, whatever packets a capture loses, repeats or reorders, and
 /// wherever the talker's clock restarts. Each sample is presented at the talker's own nanosecond if its packet came in
 /// time, found room and has a known timestamp or clock reference. Hence any two listeners agree if both have the
-/// talker's clock, or neither has. Every other packet that came is flagged with one reason. Samples are presented in
-/// order, once, within fixed buffers.
+/// talker's clock, or neither has. Every other packet that came is flagged with one reason. Samples are presented once
+/// and in order, and the buffers have fixed sizes.
 pub fn headline_holds()
     ensures { (shift : ℤ) (p : PacketJournal) (plan : ListenPlan) (records : List Record) → HearsTalker shift p plan records → KeepsHeadline shift p plan records (shown_of plan records) }
 {}

@@ -87,7 +87,7 @@ impl Listener {
     /// Takes bytes up to the end of the next record or of the piece, whichever comes first, and returns how many it
     /// took. In all, at most 2^62 bytes may be taken, and the listener must not have been ended.
     ///
-    /// Without a fault, returns `Ok(0)` exactly if the piece is empty or an item is due. `Refused` is the capture's
+    /// Without a fault, returns `Ok(0)` if and only if the piece is empty or an item is due. `Refused` is the capture's
     /// first refusal, and is returned as soon as the bytes so far show it. The records before the refusal are kept, and
     /// the listener can still be ended. `Memory` is returned if there is no memory for the samples of the record that
     /// was read. That record makes no item, and every later `feed` and `end` returns `Memory`.
@@ -146,8 +146,8 @@ impl Listener {
     }
 
     /// The next item that is shown of the bytes so far. Before `end`, only items that are due are returned; after
-    /// `end`, all items. Returns `None` exactly if none of these items is left. If the talker keeps the rules, what is
-    /// returned is as the headline says (`listener_laws::bytes_are_given_truly`). Allocates nothing.
+    /// `end`, all items. Returns `None` if and only if none of these items is left. If the talker keeps the rules, what
+    /// is returned is as the headline says (`listener_laws::bytes_are_given_truly`). Allocates nothing.
     pub fn next_out(&mut self) -> Option<Shown>
         ensures given { (bytes : List ℕ) (given : ℕ) → StandsFor bytes given self.old → result ≡ slice_get (out self.old bytes) given }
         ensures stands { (bytes : List ℕ) (given : ℕ) → StandsFor bytes given self.old → StandsFor bytes (given + length (option_to_list result)) self.new }

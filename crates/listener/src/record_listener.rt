@@ -47,8 +47,8 @@ pub struct RecordListener {
     ended: bool,
     /// Whether the judge was closed.
     closed: bool,
-    /// True only if, since all due items were returned, no record of the stream or of its clock was taken and the
-    /// listener was not closed. In this state, for example after a record of another stream, the judge is not called.
+    /// If true, all due items were returned; since then, the listener has taken no record of the stream or of its
+    /// clock, and was not closed. In this state, for example after a record of another stream, the judge is not called.
     idle: bool,
     counts: Counts,
     pool: BufferPool,
@@ -132,8 +132,8 @@ impl RecordListener {
     }
 
     /// The next item that is shown of the records so far. Before `close`, only items that are due are returned; after
-    /// `close`, all items. Returns `None` exactly if none of these items is left. If the talker keeps the rules, what
-    /// is returned is as the headline says (`listener_laws::records_are_given_truly`). Allocates nothing.
+    /// `close`, all items. Returns `None` if and only if none of these items is left. If the talker keeps the rules,
+    /// what is returned is as the headline says (`listener_laws::records_are_given_truly`). Allocates nothing.
     #[inline(always)]
     pub fn next_out(&mut self) -> Option<Shown>
         ensures given { (records : List Record) (given : ℕ) → StandsFor records given self.old → result ≡ slice_get (out self.old records) given }
@@ -158,7 +158,7 @@ impl RecordListener {
         next
     }
 
-    /// Puts the next item that is shown into `next`, which must be empty. Usually there is no item, and nothing is
+    /// Puts the next item that is shown into `next`, which must be empty. Usually there is no item; then nothing is
     /// moved.
     #[inline(always)]
     pub(crate) fn put_next(&mut self, next: &mut Option<Shown>)

@@ -32,7 +32,7 @@ use time_unfold::unfold;
 #[derive(Drop)]
 pub struct Units {
     assembler: Assembler,
-    /// For the fragments that were given up most recently: why they were given up, how many they are, and how many of
+    /// For the fragments that were given up most recently: why they were given up, how many there are, and how many of
     /// them were taken.
     why: Lost,
     lost: u32,
