@@ -91,9 +91,9 @@ pub fn units_are_whole()
 /// What is presented is true. The talker must keep the rules. A capture may lose, repeat or reorder the packets of the
 /// talker and of its clock, and the media clock may restart anywhere. Each batch that is presented is the packet or
 /// unit of the talker that the batch's item was made of, and has the bytes of that packet or unit. Each sample is at
-/// the nanosecond of gPTP that follows from one timestamp of the talker. Without a clock, samples are counted from that
-/// timestamp at the nominal rate. With the clock, they are on the line through the two CRF timestamps that cover that
-/// timestamp.
+/// the nanosecond of gPTP that follows from one timestamp of the talker. Without a clock, audio samples are counted
+/// from that timestamp at the nominal rate. With the clock, they are on the line through the two CRF timestamps that
+/// cover that timestamp. A unit of H.264 is presented at its own timestamp, with the clock or without it.
 pub fn presented_are_true()
     ensures origin { (shift : ℤ) (p : PacketJournal) (plan : ListenPlan) (records : List Record) → HearsTalker shift p plan records → All (IsHeardFrom (by_clock plan) (items_in plan records) p plan.lead) (presented_of (shown_of plan records)) }
     ensures packet { (shift : ℤ) (p : PacketJournal) (plan : ListenPlan) (records : List Record) → HearsTalker shift p plan records → All (IsOfJournal (by_clock plan) p) (presented_of (shown_of plan records)) }
@@ -124,9 +124,9 @@ pub fn listeners_agree()
 {}
 
 /// A copy of a packet is presented if it came in time, it found room, and no copy of the packet was accepted before.
-/// The timestamp from which the packet's samples are counted must be known. With a clock, two CRF timestamps that cover
-/// that timestamp must also be known. It does not matter how many other packets are late, lost or untimed. What is
-/// presented has the frame number of that copy.
+/// The timestamp from which the packet's samples are counted must be known. For audio with a clock, two CRF timestamps
+/// that cover that timestamp must also be known. It does not matter how many other packets are late, lost or untimed.
+/// What is presented has the frame number of that copy.
 pub fn known_and_in_time_is_presented()
     ensures { (shift : ℤ) (p : PacketJournal) (plan : ListenPlan) (records : List Record) (place n : ℕ) (made : MadeItem) → HearsTalker shift p plan records → IsWelcome p plan records place n made → Any (IsPresentedOf (by_clock plan) p n made) (presented_of (shown_of plan records)) }
 {}

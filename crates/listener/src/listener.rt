@@ -146,8 +146,8 @@ impl Listener {
     }
 
     /// The next item that is shown of the bytes so far. Before `end`, only items that are due are returned; after
-    /// `end`, all items. Returns `None` if and only if none of these items is left. If the talker keeps the rules, what
-    /// is returned is as the headline says (`listener_laws::bytes_are_given_truly`). Allocates nothing.
+    /// `end`, all items. Returns `None` if and only if none of these items is left. If the talker keeps the rules,
+    /// `listener_laws::bytes_are_given_truly` applies to the items that are returned. Allocates nothing.
     pub fn next_out(&mut self) -> Option<Shown>
         ensures given { (bytes : List ℕ) (given : ℕ) → StandsFor bytes given self.old → result ≡ slice_get (out self.old bytes) given }
         ensures stands { (bytes : List ℕ) (given : ℕ) → StandsFor bytes given self.old → StandsFor bytes (given + length (option_to_list result)) self.new }

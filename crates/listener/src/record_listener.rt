@@ -133,7 +133,7 @@ impl RecordListener {
 
     /// The next item that is shown of the records so far. Before `close`, only items that are due are returned; after
     /// `close`, all items. Returns `None` if and only if none of these items is left. If the talker keeps the rules,
-    /// what is returned is as the headline says (`listener_laws::records_are_given_truly`). Allocates nothing.
+    /// `listener_laws::records_are_given_truly` applies to the items that are returned. Allocates nothing.
     #[inline(always)]
     pub fn next_out(&mut self) -> Option<Shown>
         ensures given { (records : List Record) (given : ℕ) → StandsFor records given self.old → result ≡ slice_get (out self.old records) given }
