@@ -202,7 +202,7 @@ pub item_known : (shift : ℤ) (p : PacketJournal) (plan : ListenPlan) (records 
     → (copy : IsCopyOf p plan.lead n made.last) → IsKnownItem p.times.kind p plan records place (record { number = n; arrival = copy.arrival }) made → is_known (schedule_plan plan) (prefix_of (schedule_plan plan) (entries_in plan records) place) made.entry ≡ true
 item_known shift p plan records place n made h there copy k = known_by p.times.kind shift p plan records place n made refl h there copy k
 
--- ---- a stamped packet is known without a clock
+-- ---- without a clock, the samples of a stamped packet can be timed
 
 pub audio_item : (kind : Kind) (p : PacketJournal) (plan : ListenPlan) (records : List Record) (place : ℕ) (c : Copy) (made : MadeItem) → IsAudioKind kind → IsKnownCopy p plan records place c → IsKnownItem kind p plan records place c made
 audio_item DenseAaf p plan records place c made heard k = k

@@ -33,8 +33,8 @@ FollowsClock shift p added (Some id) = (id ≡ p.clock) × (added ≡ shift)
 
 -- The records deliver a stream of audio or H.264 to a listener, and the stream's talker keeps the rules. The listener
 -- times samples by their timestamps and the nominal rate, or by the talker's clock. Any packet may be missing, repeated
--- or out of order. H.264 has one more condition: if two fragments are adjacent and at least one of them has no
--- timestamp, the numbers of their packets differ by at most 254.
+-- or out of order. H.264 has one more condition: if two fragments of the stream arrive one right after the other, and
+-- at least one has no timestamp, their packet numbers differ by at most 254.
 pub record HearsTalker (shift : ℤ) (p : PacketJournal) (plan : ListenPlan) (records : List Record) : Type 0 where
   pub conforming : IsConforming shift p
   pub stream : plan.stream ≡ p.stream

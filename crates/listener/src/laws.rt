@@ -52,8 +52,8 @@ pub fn what_is_due_stays()
 
 /// Records may carry any packets of a talker that keeps the rules, and any packets of the talker's clock, in any order.
 /// Such records meet the whole premise of the laws below, for listeners with the clock and without it. H.264 has one
-/// condition: if two fragments are adjacent and at least one of them has no timestamp, the numbers of their packets
-/// differ by at most 254.
+/// condition: if two fragments of the stream arrive one right after the other, and at least one has no timestamp, their
+/// packet numbers differ by at most 254.
 pub fn carried_packets_are_heard()
     ensures audio { (shift : ℤ) (p : PacketJournal) (plan : ListenPlan) (origins : List Origin) (records : List Record) → IsConforming shift p → IsAudioKind p.times.kind → plan.stream ≡ p.stream → FollowsClock shift p plan.shift plan.clock → AllCarryFrom p plan.lead origins records → HearsTalker shift p plan records }
     ensures h264 { (shift : ℤ) (p : PacketJournal) (plan : ListenPlan) (origins : List Origin) (records : List Record) → IsConforming shift p → plan.stream ≡ p.stream → FollowsClock shift p plan.shift plan.clock → AllCarryFrom p plan.lead origins records → AreNear p.times (stream_numbers origins) → HearsTalker shift p plan records }
@@ -78,9 +78,9 @@ pub fn units_are_true()
         → (n : ℕ) × IsUnitFrom p part plan.lead n made unit }
 {}
 
-/// A unit is made if all its packets came. Suppose that one copy of each packet of a talker's unit came, in order and
-/// with no other packet of the stream between them. Then the unit is among the items, and is made of exactly these
-/// copies. Each packet must carry the unit's first byte, and the unit must be within the limits of units.
+/// A unit is made if all its packets came in order. Suppose that one copy of each packet of a talker's unit came, in
+/// order and with no other packet of the stream between them. Then the unit is among the items, and is made of exactly
+/// these copies. Each packet must carry the unit's first byte, and the unit must be within the limits of units.
 pub fn units_are_whole()
     ensures made { (shift : ℤ) (p : PacketJournal) (plan : ListenPlan) (records : List Record) (part : ℕ → Part) (from n : ℕ) (before front earlier : List Delivery) (last : Delivery) (rest : List Delivery) → HearsTalker shift p plan records → p.times.kind ≡ H264 part
         → deliveries_of plan records ≡ before ++ last ∷ rest → in_stream before ≡ front ++ earlier → AreOfUnit p part plan.lead from n earlier last → Contains (items_in plan records) (unit_by before last) }
@@ -150,8 +150,8 @@ pub fn further_copies_are_repeats()
 /// All that is promised for a talker that keeps the rules, whatever packets a capture loses, repeats or reorders, and
 /// wherever the talker's clock restarts. Each sample is presented at the talker's own nanosecond if its packet came in
 /// time, found room and has a known timestamp or clock reference. Hence any two listeners agree if both have the
-/// talker's clock, or neither has. Every other packet that came is flagged with one reason. Samples are presented once
-/// and in order, and the buffers have fixed sizes.
+/// talker's clock, or neither has. Every other packet of the stream that came is flagged with one reason. Samples are
+/// presented once and in order, and the buffers have fixed sizes.
 pub fn headline_holds()
     ensures { (shift : ℤ) (p : PacketJournal) (plan : ListenPlan) (records : List Record) → HearsTalker shift p plan records → KeepsHeadline shift p plan records (shown_of plan records) }
 {}
