@@ -15,7 +15,7 @@ use Rattle.device_rack.specs.Laws.{IsCarried}
 use Rattle.cvf_format.proofs.PlaceLemmas.{filter_skip, find_skip, NonePasses}
 use Rattle.cvf_format.proofs.AnnexBLemmas.{three_read}
 
--- ---- numbers that pass no test are skipped
+-- ---- numbers that fail the test are skipped
 
 -- if the last number of a range passes a test, it is the last number that passes
 last_passes : (test : ℕ → Bool) (m a : ℕ) (o : Option ℕ) → test (a + m) ≡ true → last_or o (filter test (range_with_len a (suc m))) ≡ Some (a + m)

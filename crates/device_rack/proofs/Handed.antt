@@ -10,7 +10,7 @@ use Rattle.device_rack.specs.Handed.{AreHanded, HandsAll, WasHandedAll}
 use Rattle.device_rack.specs.Racks.{IsHanded, WasHanded}
 use Rattle.device_rack.specs.declared.place.Place.{Place}
 
--- ---- an element of a list that satisfies `P`
+-- ---- list elements that satisfy `P`
 
 module _ {X : Type 0} (P : X → Type 0) where
   any_here : (x : X) (xs : List X) → P x → Any P (x ∷ xs)

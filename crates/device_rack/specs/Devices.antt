@@ -6,8 +6,8 @@ use Rattle.avtp_base.specs.declared.failed.Failed.{Failed}
 abbrev pub later : ℕ → List ℕ → List ℕ
 later calls numbers = filter (λ n. not (n == 0)) (map (λ n. n - calls) numbers)
 
--- A device that reports the numbers of its future failing calls was called once. The call failed exactly if 1 is among
--- the numbers. The device now reports the failing calls that are left; the next call has number 1.
+-- A device that reports the numbers of its future failing calls was called once. The call failed if and only if 1 is
+-- among the numbers. The device now reports the failing calls that are left; the next call has number 1.
 pub record FailsAsTold {T : Type 0} (numbers : List ℕ) (after : Option (List ℕ)) (result : Result T Failed) : Type 0 where
   pub failed : IsErr result ↔ Contains numbers 1
   pub told : after ≡ Some (later 1 numbers)

@@ -10,7 +10,7 @@ use Rattle.device_rack.specs.declared.place.Place.{Place}
 
 -- A device was given these items, one after another, up to the first item that it did not take. `live` says whether the
 -- device took all items; if not, it took a proper prefix of the items. A device that reports the numbers of its future
--- failing calls fails exactly if one of the numbers is at most the number of items.
+-- failing calls fails if and only if one of these numbers is at most the number of items.
 pub record WasHandedAll {Device : Type 0} (took : Device → List Shown → Type 0) (faults : Device → ℕ) (failing : Device → Option (List ℕ)) (items : List Shown) (before after : Device) (live : Bool) : Type 0 where
   pub takes : live ≡ true → (earlier : List Shown) → took before earlier → took after (earlier ++ items)
   pub quiet : live ≡ true → faults after ≡ faults before

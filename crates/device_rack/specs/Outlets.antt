@@ -16,7 +16,7 @@ module _ {D : Type 0} (took : D → List Shown → Type 0) (faults : D → ℕ) 
   abbrev pub AreHandedTo : List Shown → Outlet D → Outlet D → Type 0
   AreHandedTo items before after = MatchBool before.live (WasHandedAll took faults failing items before.device after.device after.live) (after ≡ before)
 
--- two options are both missing, or both present and related
+-- two options are both `None`, or both `Some` with related values
 abbrev pub Both : {X : Type 0} → (X → X → Type 0) → Option X → Option X → Type 0
 Both R None None = ⊤
 Both R None (Some y) = ⊥

@@ -72,7 +72,8 @@ silence_before silence None batch = []
 silence_before silence (Some before) batch =
     silence_of silence (silent_bytes before.line (sample_size before) (sample_instant batch 0 -ℤ sample_instant before before.count))
 
--- the bytes of batches of samples, each after its silence; `before` is the batch before the first batch of the list
+-- the bytes of the batches of samples in a list, each batch after its silence; `before` is the batch that precedes the
+-- list
 abbrev pub raw_behind : Silence → Option Presented → List Presented → List ℕ
 raw_behind silence before [] = []
 raw_behind silence before (batch ∷ batches) =

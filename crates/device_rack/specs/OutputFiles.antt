@@ -25,15 +25,16 @@ module _ {S : Type 0} where
   abbrev pub units_outlet : OutputFiles S → Option (Outlet (AnnexBDevice S))
   units_outlet outputs = outputs.units
 
-  -- a device of raw samples was given the items of a list until it failed, whatever its sink held before
+  -- whatever its sink held before, a device of raw samples was given the items of a list up to the first that it did
+  -- not take
   abbrev pub RawHanded : (S → SinkState) → List Shown → Outlet (RawDevice S) → Outlet (RawDevice S) → Type 0
   RawHanded state = AreHandedTo (λ device items. (start : SinkState) × HasTakenRaw state start device items) (λ device. (state (raw_sink device)).faults) (λ device. None)
 
-  -- a device of units was given the items of a list until it failed, whatever its sink held before
+  -- whatever its sink held before, a device of units was given the items of a list up to the first that it did not take
   abbrev pub UnitsHanded : (S → SinkState) → List Shown → Outlet (AnnexBDevice S) → Outlet (AnnexBDevice S) → Type 0
   UnitsHanded state = AreHandedTo (λ device items. (start : SinkState) × HasTakenUnits state start device items) (λ device. (state (annexb_sink device)).faults) (λ device. None)
 
-  -- each of the two devices that exists was given `items` until it failed
+  -- each device that exists was given `items` up to the first item that it did not take
   pub record AreOutput (state : S → SinkState) (items : List Shown) (before after : OutputFiles S) : Type 0 where
     pub raw : Both (RawHanded state items) before.raw after.raw
     pub units : Both (UnitsHanded state items) before.units after.units

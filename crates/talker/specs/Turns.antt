@@ -8,12 +8,12 @@ use Rattle.talker.specs.Talking.{Talking}
 abbrev pub frame_in : Turn → List ℕ → SentFrame
 frame_in turn bytes = record { arrival = turn.arrival; number = turn.number; clock = turn.clock; bytes = bytes }
 
--- the turn of a frame; it has the number of bytes in the frame, but not the bytes
+-- the turn of a frame; the turn holds the number of the frame's bytes, but not the bytes themselves
 abbrev pub turn_of : SentFrame → Turn
 turn_of f = record { arrival = f.arrival; number = f.number; clock = f.clock; size = length f.bytes }
 
--- `turn` is the turn of the talker's next frame. A capture can record this frame: it arrives before the instant 2^32
--- seconds, and has at most 1518 bytes.
+-- `turn` is the turn of the talker's next frame. This frame arrives before the instant 2^32 seconds and has at most
+-- 1518 bytes, so a capture can record it.
 pub record IsTurn (t : Talking) (turn : Turn) : Type 0 where
   pub next : option_map turn_of (slice_get (frames t.plan t.input) t.given) ≡ Some turn
   pub begun : pos 0 ≤ℤ turn.arrival

@@ -31,8 +31,8 @@ pub struct Talker<'a> {
     clock: Option<ClockStream>,
     packets: u64,
     clocks: u64,
-    /// How many packets of the stream were given as next frames, in the order of sending. The next field counts the
-    /// clock's packets in the same way.
+    /// How many of the stream's packets were already given in the order of sending. `given_clocks` counts the clock's
+    /// packets in the same way.
     given_packets: u64,
     given_clocks: u64,
     /// The frame that was lent last.

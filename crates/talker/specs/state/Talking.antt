@@ -49,7 +49,7 @@ pub record BeginsSource (plan : TalkPlan) (input : List ℕ) (result : Result So
   pub fault : IfSome (fault_of plan input) (λ fault. result ≡ Err fault)
   pub only : IfErr result (λ fault. (fault_of plan input ≡ Some fault) ⊎ (fault ≡ Memory))
 
--- the source has a packet n
+-- the stream of the source has a packet with number n
 pub record IsPacketOfSource (source : Source) (n : ℕ) : Type 0 where
   pub source_is : IsSource source
   pub known : n < (stream_in source).journal.times.packets
