@@ -18,7 +18,7 @@ pub record IsPrevious (previous : Previous) (batch : Presented) : Type 0 where
   pub end : previous.end ≡ sample_instant batch batch.count
   pub size : previous.size ≡ sample_size batch
 
--- what is kept of the last batch; nothing if there was no batch
+-- what is kept of the previous batch, or nothing if there was no previous batch
 abbrev pub IsPreviousOf : Option Previous → Option Presented → Type 0
 IsPreviousOf None None = ⊤
 IsPreviousOf None (Some batch) = ⊥

@@ -19,7 +19,7 @@ pub fn units_again()
 /// Assume that the rack was given the items of a list one after another. Each device that is live at the end took all
 /// items, and its count of faults is unchanged. Each device that failed took a proper prefix of the items, and its
 /// count rose. A place that had failed before is unchanged. A device that reported the numbers of its future failing
-/// calls failed exactly if one of the numbers is at most the number of items.
+/// calls failed if and only if one of these numbers is at most the number of items.
 pub fn lists_are_handed(before: &Rack, after: &Rack)
     ensures { (items : List Shown) → HandsAll (λ device. took device) (λ device. faults device) (λ device. failing device) items (places_of before.now) (places_of after.now) → AllZip (AreHanded (λ device. took device) (λ device. faults device) (λ device. failing device) items) (places_of before.now) (places_of after.now) }
 {}

@@ -60,7 +60,7 @@ impl MemoryDevice {
     ghost use Rattle.device_rack.specs.MemoryDevice.{kept_items, is_cut, failing_calls, fault_count};
     ghost use Rattle.device_rack.specs.state.MemoryDevice.{HasTaken};
 
-    /// A device that has taken nothing. The calls whose numbers are in `fails` fail. Allocates nothing.
+    /// A device that has taken nothing. `fails` lists the numbers of the calls that will fail. Allocates nothing.
     pub fn over(alloc: Global, fails: Vec<u64>) -> Self
         ensures empty { kept_items result ≡ [] }
         ensures whole { is_cut result ≡ false }

@@ -9,7 +9,7 @@ use time_unfold::Line;
 #[derive(Clone, Copy)]
 pub struct Previous {
     line: Line,
-    /// The instant of the first sample after the batch.
+    /// The instant just after the batch's last sample.
     end: i64,
     /// The number of bytes in one sample, with all channels.
     size: usize,

@@ -42,8 +42,7 @@ equal-sample a b j at bytes =
     ap (λ v. cond v (cond (bytes_eq (sample_bytes a j) (sample_bytes b j)) None (Some (BytesWay j))) (Some (AtWay j (sample_instant a j) (sample_instant b j)))) (same-is (sample_instant a j) (sample_instant b j) at)
     ∙ ap (λ v. cond v None (Some (BytesWay j))) ((bytes_eq-Decides (sample_bytes a j) (sample_bytes b j)).1 bytes)
 
--- two batches with the same line, the same number of the first sample, the same number of samples and the same bytes do
--- not differ
+-- two batches do not differ if their lines, first sample numbers, counts of samples and bytes are equal
 pub equal-batches : (a b : Presented) (n : ℕ) → a.line ≡ b.line → a.from ≡ b.from → a.count ≡ b.count → a.bytes ≡ b.bytes → first_way a b n ≡ None
 equal-batches a b zero l f c y = first-none a b
 equal-batches a b (suc n) l f c y = first-next a b n (equal-batches a b n l f c y) ∙ equal-sample a b n (cc) (cc)
