@@ -75,7 +75,7 @@ known_of m xs ys = known m.ended_a m.ended_b (merged xs ys)
 abbrev pub batches_of : Which → List Sided → List Presented
 batches_of side list = map (λ x. x.batch) (filter (λ x. is_side side x.side) list)
 
--- x may precede y in a merged list
+-- the merged order allows x before y
 pub record MayPrecede (x y : Sided) : Type 0 where
   pub instants : first_instant x.batch ≤ℤ first_instant y.batch
   pub sides : x.side ≡ B → y.side ≡ A → first_instant x.batch <ℤ first_instant y.batch

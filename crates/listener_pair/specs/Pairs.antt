@@ -16,7 +16,8 @@ abbrev pub are_near : Presented → Presented → Bool
 are_near a b = nat_le (unsigned_abs (first_instant a -ℤ first_instant b) * a.line.den) (64 * a.count * a.line.num)
 
 -- A batch of A and a batch of B are close enough in time to present the same packet or unit. If neither batch is a unit
--- of H.264, `are_near` is true of them. If one is a unit, both are units with the same instant.
+-- of H.264, this means that `are_near` is true of them. Otherwise it means that both batches are units with the same
+-- instant.
 unfoldable pub within_reach : Presented → Presented → Bool
 within_reach a b =
     if is_unit a || is_unit b
@@ -28,8 +29,7 @@ abbrev pub reaches : Which → Presented → Presented → Bool
 reaches A x y = within_reach x y
 reaches B x y = within_reach y x
 
--- Batch x of `side` may be paired with an earlier batch y of the other side: x and y have the same sequence number, and
--- are within reach.
+-- Batch x of `side` and batch y of the other side have the same sequence number and are within reach.
 unfoldable pub fits : Which → Presented → Presented → Bool
 fits side x y = y.seq == x.seq && reaches side x y
 

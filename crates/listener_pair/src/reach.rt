@@ -40,8 +40,7 @@ fn reaches(side: Which, x: &Timed, y: &Timed) -> bool
     }
 }
 
-/// Whether batch `x` of `side` may be paired with the unpaired batch `y` of the other side. `y` must be among the 512
-/// batches before `x`.
+/// Whether batch `x` of `side` and batch `y` of the other side have the same sequence number and are within reach.
 #[tactic(auto, unfolding(crate::specs::Pairs::fits))]
 pub fn fits(side: Which, x: &Timed, y: &Timed) -> bool
     ensures { result ≡ fits_of side x.now y.now }

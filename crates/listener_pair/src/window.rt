@@ -83,7 +83,7 @@ impl Waiting {
         }
     }
 
-    /// Drops the first batch if it is not among the 512 batches before position `place`.
+    /// Drops the first waiting batch if it is not among the 512 batches before position `place`.
     fn drop_passed(&mut self, place: u64)
         ensures { self.new ≡ without_passed place self.old }
     {

@@ -43,8 +43,9 @@ pub record IsDrained (pipe : Pipe) : Type 0 where
   pub ended : IsSome (ended_with pipe)
   pub empty : waiting_in pipe ≡ []
 
--- The work that is left if the receiver can give `left` more items. The work is a push for each item that is not in the
--- ring yet, and a presentation for each item. Every round reduces the work, unless the pipe is drained.
+-- The work that is left if the receiver can give `left` more items. The work counts 1 for each item in the ring, which
+-- is still to be presented, and 2 for each other item, which is still to be pushed and presented. Every round reduces
+-- the work, unless the pipe is drained.
 abbrev pub work : ℕ → Pipe → ℕ
 work left pipe = 2 * (left + length (hand_of pipe.front)) + length (ring_of pipe)
 
@@ -67,8 +68,8 @@ pub record IsRound {R P : Type 0} (gave : R → R → List Shown → Type 0) (le
   pub through_ring : 0 < known_free_of before → popped_by after ≡ popped_by before ++ moved.presented
   pub steps : (IsDrained after → ⊥) → length (pushed_by before) < length (pushed_by after) + length moved.presented
 
--- If the receiver ended in this round, the pipe keeps the answer with which the receiver ended. A receiver that has
--- ended is not called again.
+-- If the receiver ended in this round, the pipe keeps the receiver's final answer. A receiver that has ended is not
+-- called again.
 pub record EndsWith {R : Type 0} (ended : R → Option Pull) (receiver receiver' : R) (before after : Pipe) : Type 0 where
   pub ends : ended_with before ≡ None → ended_with after ≡ ended receiver'
   pub stays : IsSome (ended_with before) → (ended_with after ≡ ended_with before) × (receiver' ≡ receiver)

@@ -99,8 +99,8 @@ impl Front {
     }
 
     /// The receiver's turn in a round: pulls and pushes at most `most` items, as long as the ring has a free slot.
-    /// After the first push, the turn ends as soon as `may_wait` tells that the receiver may have to wait, so that the
-    /// presenter gets the pushed items without delay.
+    /// After the first push, the turn ends as soon as `may_wait` returns `true`, so that the presenter gets the pushed
+    /// items without delay.
     pub fn take_turn<R: Receiver, G: Gate>(&mut self, receiver: &mut R, gate: &G, most: usize)
         requires some { 0 < most }
         requires live { ended_of self.old ≡ None → R.ended receiver.old ≡ None }

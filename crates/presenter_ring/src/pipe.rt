@@ -143,8 +143,8 @@ impl Pipe {
         }
     }
 
-    /// Both sides take their turns. If an item is in `hand` although nothing was pushed or popped, the ring is empty
-    /// and its producer knew of no free slot. The item is then presented directly, without the ring.
+    /// Both sides take their turns. If nothing was pushed or popped and an item is in `hand`, the ring is empty and its
+    /// producer knew of no free slot. The item is then presented directly, without the ring.
     fn advance<T: Threads + Sync, R: Receiver, P: Presenter, G: Gate>(
         &mut self,
         rt: &T,
@@ -177,11 +177,11 @@ impl Pipe {
             && self.back.consumer.cached_slots() == 0
     }
 
-    /// Runs one round, in which each side takes its turn in a thread of its own. The receiver's side pulls items and
-    /// pushes them while there is a free slot, but not more items than the ring can hold in all. The receiver's side
-    /// keeps an item for which there is no free slot. The presenter's side pops and presents items until the ring is
-    /// empty or a presentation fails, but not more items than the ring can hold in all. The gate is called after each
-    /// push and each pop.
+    /// Runs one round, in which each side takes its turn in a thread of its own. The receiver's side pulls and pushes
+    /// at most as many items as the ring can hold. It stops earlier if there is no free slot, if the receiver has
+    /// ended, or if, after the first push, the receiver may have to wait. The receiver's side keeps an item for which
+    /// there is no free slot. The presenter's side pops and presents at most as many items as the ring can hold. It
+    /// stops earlier if the ring is empty or a presentation fails. The gate is called after each push and each pop.
     ///
     /// If `ended` is `None`, the receiver must not have ended. In all rounds together, the receiver may give at most
     /// 2^62 items.

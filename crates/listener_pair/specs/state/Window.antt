@@ -57,7 +57,7 @@ pub record Enters (x : Placed) (next : ℕ) (own other own_then other_then : Lis
   pub others : other_then ≡ without_passed next (without_first (takes x) other)
   pub owns : length (without_passed next own) < 512 → own_then ≡ without_passed next own ++ kept x pair
 
--- batch x was added to a matching, and made this pair, or no pair
+-- batch x was added to a matching; the option is the pair that x made, if any
 abbrev pub EntersSide : Which → Placed → ℕ → MatchingState → MatchingState → Option Paired → Type 0
 EntersSide A x next old new pair = Enters x next old.waiting_a old.waiting_b new.waiting_a new.waiting_b pair
 EntersSide B x next old new pair = Enters x next old.waiting_b old.waiting_a new.waiting_b new.waiting_a pair
@@ -82,7 +82,7 @@ abbrev pub with_pair : Which → Bool → PairCounts → PairCounts
 with_pair A differs counts = record counts { matched = risen counts.matched; only_b = counts.only_b - 1; differ = risen_if differs counts.differ }
 with_pair B differs counts = record counts { matched = risen counts.matched; only_a = counts.only_a - 1; differ = risen_if differs counts.differ }
 
--- the counts after a batch of a side was added, and made this pair, or no pair
+-- the counts after a batch of a side was added; the option is the pair that this batch made, if any
 abbrev pub counted : Which → Option Paired → PairCounts → PairCounts
 counted side None counts = with_alone side counts
 counted side (Some pair) counts = with_pair side (is_some (difference_of pair)) counts

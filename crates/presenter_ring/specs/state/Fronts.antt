@@ -7,8 +7,8 @@ use Rattle.presenter_ring.specs.declared.front.Front.{Front}
 use Rattle.presenter_ring.specs.declared.receiver.Pull.{Pull}
 use Rattle.presenter_ring.specs.Fronts.{hand_of, ended_of}
 
--- What the receiver's side did. Of a receiver, `gave` tells which items it gave, `left` how many items it can still
--- give at most, and `ended` the answer with which it ended.
+-- What the receiver's side did. `gave` tells which items a receiver gave, `left` tells how many items it can still give
+-- at most, and `ended` tells the answer with which it ended, if it has ended.
 pub record HasFed {R : Type 0} (gave : R → R → List Shown → Type 0) (left : R → ℕ) (ended : R → Option Pull) (receiver receiver' : R) (before after : Front) : Type 0 where
   pub given : List Shown
   pub pushed : List Shown
