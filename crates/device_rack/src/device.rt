@@ -15,7 +15,7 @@ pub trait Device: Drop {
     /// The device has taken these items, in this order. A new device has taken no items.
     ghost took: { Self → List ShownValue → Type 0 };
 
-    /// The number of faults so far, which stops at the greatest 64-bit number.
+    /// The number of faults so far; once it has reached the greatest 64-bit number, it stays there.
     ghost faults: { Self → ℕ };
 
     /// The numbers of the device's future failing calls, if the device reports them; the next call has number 1.

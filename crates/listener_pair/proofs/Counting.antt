@@ -202,6 +202,6 @@ count-from s place u (x ∷ xs) =
     let all = length-of s x xs in
     omega arith
 
--- for each side, the number of pairs plus the number of its unpaired batches is the number of all its batches
+-- the number of all batches of a side is the number of pairs plus the number of the side's unpaired batches
 pub count-all : (s : Which) (list : List Sided) → length (pairs list) + alone s (unpaired list) ≡ length (batches_of s list)
 count-all s list = let h = count-from s 0 [] list in omega arith

@@ -46,8 +46,8 @@ pub fn at_most_512_wait()
     ensures b { (xs ys : List Presented) (given : ℕ) (m : MatchingState) → StandsFor xs ys given m → length m.waiting_b ≤ 512 }
 {}
 
-/// Each batch is either in one pair or in no pair. So for each side, the number of pairs plus the number of its batches
-/// in no pair is the number of all its batches.
+/// Each batch is either in one pair or in no pair. So for each side, the number of all its batches is the number of
+/// pairs plus the number of the side's batches in no pair.
 pub fn counts_add_up()
     ensures a { (xs ys : List Presented) → (counts_of (merged xs ys)).matched + (counts_of (merged xs ys)).only_a ≡ length xs }
     ensures b { (xs ys : List Presented) → (counts_of (merged xs ys)).matched + (counts_of (merged xs ys)).only_b ≡ length ys }

@@ -14,7 +14,7 @@ pub trait Presenter: Send {
     /// Giving these items, in this order, took the presenter from the first state to the second state.
     ghost handed: { Self → Self → List ShownValue → Type 0 };
 
-    /// The number of faults so far, which stops at the greatest 64-bit number.
+    /// The number of faults so far; once it has reached the greatest 64-bit number, it stays there.
     ghost faults: { Self → ℕ };
 
     /// Presents an item. Returns `Failed` only if the count of faults rose; even then the item counts as presented.

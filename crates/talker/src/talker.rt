@@ -35,7 +35,7 @@ pub struct Talker<'a> {
     /// packets in the same way.
     given_packets: u64,
     given_clocks: u64,
-    /// The frame that was lent last.
+    /// The memory of the frame that was most recently lent.
     frame: Vec<u8>,
 }
 
