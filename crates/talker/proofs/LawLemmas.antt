@@ -65,7 +65,7 @@ paced_restarting plan packets n e =
     ∙ ap (λ (k : ℕ). nominal_offset plan.rate k) (let z : n % packets * plan.count + 0 ≡ n % packets * plan.count = omega arith in z) in
     omega (arith, paced_by plan n, jumps, before, within)
 
--- ---- by arrival
+-- ---- frames sorted by arrival
 
 later : (f g : SentFrame) → int_le f.arrival g.arrival ≡ false → g.arrival ≤ℤ f.arrival
 later f g e = grind (arith, ints)
