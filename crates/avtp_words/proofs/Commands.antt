@@ -38,7 +38,8 @@ use Rattle.avtp_words.proofs.Numbers.{spells_one}
 use Rattle.avtp_words.proofs.Operands.{names}
 use Rattle.avtp_words.proofs.Steps.{words_before, after_first}
 
--- ---- words that begin with a command's name are a line exactly if the other words fit the command's form
+-- ---- words that begin with a command's name are a line of this command if and only if the other words fit the
+-- command's form
 
 of_rest : (form : Form) (words : List (List ℕ)) (r : IsRest form.rows form.operands words) → IsOf form (form.command ∷ words) r.settings r.names
 of_rest form words r = record { spelled = ap (λ ws. form.command ∷ ws) r.spelled; options = r.options; operands = r.named }
@@ -365,7 +366,7 @@ first_stands words place r none = let t = two_names words place r in let both = 
 pub second_stands : (words : List (List ℕ)) (place : ℕ) → IsRestTo talk_form.rows talk_form.operands words place → slice_get words (place + 1) ≡ None → ⊥
 second_stands words place r none = let t = two_names words place r in let both = sym t.at_second ∙ none in cc
 
--- an option's name is among all words exactly if it is among the words after `talk`
+-- an option's name is among all words if and only if it is among the words after `talk`
 after_talk : (name : List ℕ) (tells : Bool) (words : List (List ℕ)) → BeginsWithDash name → IsTrue tells ↔ Contains words name → IsTrue tells ↔ Contains (codes "talk" ∷ words) name
 after_talk name tells words dash told =
     let all = after_first (codes "talk") name words other in

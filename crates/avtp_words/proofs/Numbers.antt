@@ -91,7 +91,7 @@ mag_below (negsuc n) small = omega (arith, small)
 pub same_spelled : (word : List ℕ) (y z : ℤ) → unsigned_abs y < 2 ^ 63 → unsigned_abs z < 2 ^ 63 → word ≡ signed_decimal y → word ≡ signed_decimal z → y ≡ z
 same_spelled word y z small smaller p q = signed_decimal_injective y z (mag_below y small) (mag_below z smaller) (sym p ∙ q)
 
--- if `word` spells `y`, the word is a valid value exactly if `y` is in range
+-- if `word` spells `y`, the word is a valid value if and only if `y` is in range
 pub signed_is : (most : ℕ) (y : ℤ) (word : List ℕ) → unsigned_abs y < 2 ^ 63 → most < 2 ^ 63 → word ≡ signed_decimal y → IsTrue (nat_le (unsigned_abs y) most) ↔ ((z : ℤ) × IsSigned most word z)
 signed_is most y word small fits spelled = (
   (λ t. (y, record { size = leb-true (unsigned_abs y) most t; spelled = spelled })),
@@ -100,7 +100,7 @@ signed_is most y word small fits spelled = (
       le-leb (unsigned_abs y) most (subst (λ x. unsigned_abs x ≤ most) same is.size),
 )
 
--- a number less than 2^63 away from 0 fits a signed 64-bit integer
+-- a number whose magnitude is less than 2^63 fits a signed 64-bit integer
 pub fits_mag : (z : ℤ) → mag z < 2 ^ 63 → FitsSigned w64 z
 fits_mag (pos n) small = omega (arith, small)
 fits_mag (negsuc n) small = omega (arith, small)
@@ -124,7 +124,7 @@ where_none (Some x) holds = tt
 pub spells_one : (word : List ℕ) (m n : ℕ) → m < 2 ^ 64 → n < 2 ^ 64 → word ≡ decimal n → word ≡ decimal m → m ≡ n
 spells_one word m n small smaller e f = decimal_injective m n small smaller (sym f ∙ e)
 
--- if `word` spells `n`, and `n` is at least `low`, the word is a valid value exactly if `n` is at most `high`
+-- if `word` spells `n`, and `n` is at least `low`, the word is a valid value if and only if `n` is at most `high`
 pub is_number-then : (low high n : ℕ) (word : List ℕ) (least : low ≤ n) (spells : word ≡ decimal n) → n < 2 ^ 64 → high < 2 ^ 64 → IsTrue (nat_le n high) ↔ ((m : ℕ) × IsNumber low high word m)
 is_number-then low high n word least spells small fits = (
   (λ t. (n, record { least = least; most = leb-true n high t; spelled = spells })),

@@ -107,7 +107,8 @@ rest_are Name operands word words single are = are.1
 rest_are Names operands word words single are = absurd cc
 rest_are Packets operands word words single are = are.1
 
--- if the first operand is valid, the first wrong word is the first wrong word among the remaining operands
+-- if the first operand takes one word and this word is valid, the first wrong word after it is the first wrong word of
+-- all
 pub later : (operand : Operand) (operands : List Operand) (word : List ℕ) (words : List (List ℕ)) (place : ℕ) → takes_all operand ≡ false → IsOperand operand word → StopsAt (AreOperands operands) words place → StopsAt (AreOperands (operand ∷ operands)) (word ∷ words) (place + 1)
 later operand operands word words place single is s = record {
   before = word ∷ s.before;
