@@ -38,8 +38,7 @@ use Rattle.avtp_words.proofs.Numbers.{spells_one}
 use Rattle.avtp_words.proofs.Operands.{names}
 use Rattle.avtp_words.proofs.Steps.{words_before, after_first}
 
--- ---- words that begin with a command's name are a line of this command if and only if the other words fit the
--- command's form
+-- ---- a command's name and more words are a line if and only if these words fit the command's form
 
 of_rest : (form : Form) (words : List (List ℕ)) (r : IsRest form.rows form.operands words) → IsOf form (form.command ∷ words) r.settings r.names
 of_rest form words r = record { spelled = ap (λ ws. form.command ∷ ws) r.spelled; options = r.options; operands = r.named }

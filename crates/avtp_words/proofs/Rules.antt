@@ -29,12 +29,12 @@ all_lack words (row ∷ options) none = elim (cases_Bool (has words row)) [
   | inr other ↦ rw other (all_lack words options (All-tail (λ option. Contains (texts words) option → ⊥) row.name.now (names_of options) none))
 ]
 
--- the test finds none of `options` exactly if `words` lack all of them
+-- the test finds none of `options` if and only if `words` lack all of them
 pub lack : (words : List (String Global)) (options : List OptionRow) (one : Bool) → one ≡ list_any (has words) options → IsTrue (not one) ↔ Lacks (texts words) (names_of options)
 lack words options true e = ((λ no. absurd (let f : false ≡ true = no in cc)), λ none. absurd (let f : true ≡ false = e ∙ all_lack words options none in cc))
 lack words options false e = ((λ yes. none_has words options (sym e)), λ none. refl)
 
--- the test does not find `name` exactly if `words` do not contain it
+-- the test does not find `name` if and only if `words` do not contain it
 pub not_contained : (words : List (String Global)) (name : List ℕ) (tells : Bool) → tells ≡ list_any (λ word. bytes_eq (string_bytes word) name) words → IsTrue (not tells) ↔ (Contains (texts words) name → ⊥)
 not_contained words name true e = ((λ no. absurd (let f : false ≡ true = no in cc)), λ none. absurd (none (present words name (sym e))))
 not_contained words name false e = ((λ yes. absent words name (sym e)), λ none. refl)

@@ -58,7 +58,7 @@ present (w ∷ words) name e =
       | inr other ↦ Contains-append_right (string_bytes w ∷ []) (map string_bytes words) name (present words name (rw other at e))
     ]
 
--- the test finds `name` exactly if `words` contain it
+-- the test finds `name` if and only if `words` contain it
 pub contained : (words : List (String Global)) (name : List ℕ) (tells : Bool) → tells ≡ list_any (λ word. bytes_eq (string_bytes word) name) words → IsTrue tells ↔ Contains (texts words) name
 contained words name true e = ((λ yes. present words name (sym e)), λ within. refl)
 contained words name false e = ((λ yes. absurd (cc)), λ within. absurd (absent words name (sym e) within))
@@ -101,7 +101,7 @@ follows rows gs word after options dash t =
       left = n.left;
     }
 
--- a word that begins with a dash is not accepted if no option of this name can follow
+-- a word that begins with a dash is not accepted if no option with this name can follow the options before it
 pub stops_here : (rows : List Row) (words : List (List ℕ)) (place : ℕ) (o : AreOptionsTo rows words place) (word : List ℕ) → slice_get words place ≡ Some word → BeginsWithDash word → ((s : Setting) → IsSetting rows s → All (λ t. t.name ≢ s.name) o.settings → word ≡ s.name → ⊥) → StopsOptions rows words place
 stops_here rows words place o word e dash none =
     let h = here rows words place o word e in

@@ -26,7 +26,7 @@ IsGivenId name default settings id = MatchOption (value_in name settings) (id �
 abbrev pub IsGivenIdIf : List ℕ → List Setting → Option ℕ → Type 0
 IsGivenIdIf name settings given = MatchOption (value_in name settings) (given ≡ None) (λ word. (id : ℕ) × (given ≡ Some id) × IsId word id)
 
--- If the option is given, its value spells `z`, which may be negative and is in the option's range. Otherwise `z` is
+-- If the option is given, its value spells `z`, which is in the option's range and can be negative. Otherwise `z` is
 -- the option's default.
 abbrev pub IsGivenSigned : SignedOption → List Setting → ℤ → Type 0
 IsGivenSigned option settings z = MatchOption (value_in option.name settings) (z ≡ option.default) (λ word. IsSigned option.most word z)

@@ -361,7 +361,7 @@ pub record SaysGateway (words : List (List ℕ)) (asked : Turning) : Type 0 wher
   pub to_given : value_in (codes "--to") settings ≡ Some (gateway_format_name asked.to)
   pub id_given : IsGivenId (codes "--id") asked.listener.stream settings asked.id
 
--- `words` ask for an AAF stream in the sample format `format`. The stream is sparse exactly if `sparse` is true.
+-- `words` ask for an AAF stream in the sample format `format`. The stream is sparse if and only if `sparse` is true.
 pub record SaysAaf (words : List (List ℕ)) (settings : List Setting) (format : AafFormat) (sparse : Bool) : Type 0 where
   pub kind : IfSome (value_in (codes "--kind") settings) (λ word. word ≡ codes "aaf")
   pub format_given : IsGivenFormat (codes "--format") Int16 settings format
@@ -437,14 +437,14 @@ abbrev pub spacing_of : Crf → ℕ → ℕ
 spacing_of crf rate = crf.interval * rate * pull_down crf.pull / (crf.rate * pull_up crf.pull)
 
 -- Between two restarts there are `packets * count` sample frames. These sample frames span a whole number of clock
--- packets, which is a multiple of 8. If there are no restarts, there is no condition.
+-- packets, and this number is a multiple of 8. If there are no restarts, there is no condition.
 abbrev pub HasWholeRuns : Crf → ℕ → ℕ → Option ℕ → Type 0
 HasWholeRuns crf rate count None = ⊤
 HasWholeRuns crf rate count (Some packets) = packets * count % (8 * spacing_of crf rate * crf.points) ≡ 0
 
 -- The clock fits a stream with `rate` sample frames a second and `count` sample frames in a packet. The clock's
--- timestamps are at whole sample frames. Between two restarts there is a whole number of clock packets, which is a
--- multiple of 8.
+-- timestamps are at whole sample frames. Between two restarts there is a whole number of clock packets, and this number
+-- is a multiple of 8.
 pub record FitsStream (crf : Crf) (rate count : ℕ) (restart : Option ℕ) : Type 0 where
   pub whole : crf.interval * rate * pull_down crf.pull % (crf.rate * pull_up crf.pull) ≡ 0
   pub runs : HasWholeRuns crf rate count restart
@@ -543,8 +543,8 @@ pub record Begins (L : List (List ℕ) → Type 0) (words : List (List ℕ)) : T
   pub more : List (List ℕ)
   pub whole : L (words ++ more)
 
--- No line of `L` begins with the words `before` and the word after them. If no word follows, the words `before` are not
--- a line of `L`.
+-- If a word follows the words `before`, no line of `L` begins with `before` and this word. If no word follows, the
+-- words `before` are not a line of `L`.
 abbrev pub Stops : (List (List ℕ) → Type 0) → List (List ℕ) → List (List ℕ) → Type 0
 Stops L before [] = L before → ⊥
 Stops L before (next ∷ _) = Begins L (before ++ next ∷ []) → ⊥
