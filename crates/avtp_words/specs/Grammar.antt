@@ -280,13 +280,13 @@ pub record IsOf (form : Form) (words : List (List ℕ)) (settings : List Setting
 
 -- ---- what the words say
 
--- `words` are a `show` command line that reads at most `limit` bytes of the capture `file`
+-- `words` are a `show` command line that asks to read at most `limit` bytes of the capture `file`
 pub record IsShow (words : List (List ℕ)) (limit : ℕ) (file : List ℕ) : Type 0 where
   pub settings : List Setting
   pub line : IsOf show_form words settings (file ∷ [])
   pub limit_given : IsGiven limits.limit settings limit
 
--- `words` are a `check` command line that reads at most `limit` bytes of each capture of `files`
+-- `words` are a `check` command line that asks to read at most `limit` bytes of each capture of `files`
 pub record IsCheck (words : List (List ℕ)) (limit : ℕ) (files : List (List ℕ)) : Type 0 where
   pub settings : List Setting
   pub line : IsOf check_form words settings files
@@ -562,8 +562,8 @@ pub record StopsAt (L : List (List ℕ) → Type 0) (words : List (List ℕ)) (p
 
 -- The position, counted from 1, of what is wrong with `words`.
 pub data IsOffence (words : List (List ℕ)) (position : ℕ) : Type 0 where
-  -- The position of the first wrong word. The words before the wrong word begin a line. If the wrong word is appended
-  -- to these words, they begin no line. If a word is missing, the position is one past the last word.
+  -- The position of the first wrong word. The words before the wrong word begin a line. These words and the wrong word
+  -- together begin no line. If a word is missing, the position is one past the last word.
   of_a_word : (place : ℕ) → position ≡ place + 1 → StopsAt IsLine words place → IsOffence words position
   -- The position of the command, because no word is wrong by itself, but a rule over several words fails.
   of_a_rule : position ≡ 1 → IsLine words → ((request : Request) → IsCommandLine words request → ⊥) → IsOffence words position

@@ -24,13 +24,13 @@ with_default given default = option given.name given.low given.high (Some defaul
 abbrev pub number : NumberOption → Row
 number option = record { name = option.name; takes = Number option.low option.high }
 
--- an option whose number may be negative: its name, how far from 0 the number may be, and its default
+-- an option that takes a signed number: its name, the greatest magnitude of the number, and its default
 pub record SignedOption : Type 0 where
   pub name : List ℕ
   pub most : ℕ
   pub default : ℤ
 
--- the row of an option whose number may be negative, in the table of a command's options
+-- the row of an option that takes a signed number, in the table of a command's options
 abbrev pub signed : SignedOption → Row
 signed option = record { name = option.name; takes = Signed option.most }
 

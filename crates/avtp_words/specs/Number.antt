@@ -7,8 +7,8 @@ pub record IsNumber (low high : ℕ) (word : List ℕ) (n : ℕ) : Type 0 where
   pub most : n ≤ high
   pub spelled : word ≡ decimal n
 
--- `word` is `z` in decimal digits without leading zeros. A `-` precedes the digits exactly if `z` is negative. `z` is a
--- number from `-most` to `most`.
+-- `word` is `z` in decimal digits without leading zeros. A `-` precedes the digits if and only if `z` is negative. `z`
+-- is a number from `-most` to `most`.
 pub record IsSigned (most : ℕ) (word : List ℕ) (z : ℤ) : Type 0 where
   pub size : unsigned_abs z ≤ most
   pub spelled : word ≡ signed_decimal z

@@ -25,8 +25,8 @@ pub enum Command<'a> {
     Listen(Listen<'a>),
     /// Make a capture of raw samples or of an H.264 byte stream.
     Talk(Talk<'a>),
-    /// Listen to a stream of `packets` packets, 0 to 1,000,000, some of which are late, lost or repeated. Print what
-    /// became of the packets.
+    /// Listen to a stream of `packets` packets, some of which are late, lost or repeated. `packets` is from 0 to
+    /// 1,000,000. Print what became of the packets.
     Soak { packets: u32 },
     /// Listen to a stream in each of two captures. Print where the presented samples differ.
     Agree(Agree<'a>),
@@ -39,7 +39,7 @@ pub enum Command<'a> {
 #[derive(Clone, Copy, Debug, PartialEq, Eq)]
 pub struct Offence {
     /// The position, counted from 1, of the first wrong word. If a word is missing, the position is one past the last
-    /// word. If each word is valid but the words contradict one another, the position is 1.
+    /// word. If no word by itself is wrong or missing, but a rule over several words is broken, the position is 1.
     pub position: usize,
 }
 
@@ -66,13 +66,13 @@ pub fn parse(words: &[String]) -> Result<Command<'_>, Offence>
     // The words are a command line that asks for the result.
     ensures found { IfOk result (λ command. IsCommandLine (texts words.now) (request_of command)) }
 
-    // If the words are a command line, the result is the command that they ask for. Words therefore ask for only one
-    // command.
+    // If the words are a command line, the result is the command that they ask for. A command line therefore asks for
+    // only one command.
     ensures only { (request : Request) → IsCommandLine (texts words.now) request →
         IsOkAnd result (λ command. request_of command ≡ request) }
 
-    // If the words are not a command line, the result is the position of the first wrong word or of a broken rule.
-    // There is only one such position.
+    // If the words are not a command line, the result is the position of the first wrong word or, if a rule over
+    // several words is broken, the position of the command. There is only one such position.
     ensures offence { IfErr result (λ offence. IsOffence (texts words.now) offence.position) }
     ensures only_offence { (position : ℕ) → IsOffence (texts words.now) position →
         IsErrAnd result (λ offence. offence.position ≡ position) }
