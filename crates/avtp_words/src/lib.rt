@@ -1,4 +1,5 @@
-//! Reads the words of the command line: a command with its options and names, or the position of the first wrong word.
+//! Reads the words of the command line. The result is a command with its options and names, or the position of what is
+//! wrong.
 #![tactic(auto)]
 
 mod agree;

@@ -178,13 +178,13 @@ pub const TALK_OPTIONS: [OptionRow; 17] = [
     LAST_STAMP,
 ];
 
-/// The options that AAF does not have.
+/// The options of `talk` that AAF does not allow.
 pub const AAF_LACKS: [OptionRow; 1] = [LAST_STAMP];
 
-/// The options that AM824 does not have.
+/// The options of `talk` that AM824 does not allow.
 pub const AM824_LACKS: [OptionRow; 3] = [FORMAT, SPARSE, LAST_STAMP];
 
-/// The options that H.264 does not have.
+/// The options of `talk` that H.264 does not allow.
 pub const H264_LACKS: [OptionRow; 11] = [
     FORMAT,
     CHANNELS,
