@@ -565,5 +565,6 @@ pub data IsOffence (words : List (List ℕ)) (position : ℕ) : Type 0 where
   -- The position of the first wrong word. The words before the wrong word begin a line. These words and the wrong word
   -- together begin no line. If a word is missing, the position is one past the last word.
   of_a_word : (place : ℕ) → position ≡ place + 1 → StopsAt IsLine words place → IsOffence words position
-  -- The position of the command, because no word is wrong by itself, but a rule over several words fails.
+  -- The position of the command, because the words fit the form of their command but are not a command line: a rule
+  -- over several words fails, or `gateway` lacks `--to`.
   of_a_rule : position ≡ 1 → IsLine words → ((request : Request) → IsCommandLine words request → ⊥) → IsOffence words position

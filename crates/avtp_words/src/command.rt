@@ -39,7 +39,7 @@ pub enum Command<'a> {
 #[derive(Clone, Copy, Debug, PartialEq, Eq)]
 pub struct Offence {
     /// The position, counted from 1, of the first wrong word. If a word is missing, the position is one past the last
-    /// word. If no word by itself is wrong or missing, but a rule over several words is broken, the position is 1.
+    /// word. If no word by itself is wrong or missing, but the words are not a command line, the position is 1.
     pub position: usize,
 }
 
@@ -71,8 +71,8 @@ pub fn parse(words: &[String]) -> Result<Command<'_>, Offence>
     ensures only { (request : Request) → IsCommandLine (texts words.now) request →
         IsOkAnd result (λ command. request_of command ≡ request) }
 
-    // If the words are not a command line, the result is the position of the first wrong word or, if a rule over
-    // several words is broken, the position of the command. There is only one such position.
+    // If the words are not a command line, the result is the position of the first wrong word or, if no word by itself
+    // is wrong or missing, the position of the command. There is only one such position.
     ensures offence { IfErr result (λ offence. IsOffence (texts words.now) offence.position) }
     ensures only_offence { (position : ℕ) → IsOffence (texts words.now) position →
         IsErrAnd result (λ offence. offence.position ≡ position) }

@@ -151,8 +151,9 @@ fn value_len(words: &[String], place: usize, takes: Takes) -> Option<usize>
     }
 }
 
-/// How many of `words`, the words after a command, belong to options. The operands follow the options. If a word is
-/// missing or is not accepted, the error is the word's index.
+/// How many of `words`, the words after a command, belong to options. The operands follow the options. If a word is not
+/// accepted, the error is the word's index. If the words end where an option needs a value, the error is the number of
+/// words.
 pub fn options_len(rows: &[OptionRow], words: &[String]) -> Result<usize, usize>
     requires { IsTrue (are_sound (rows_of rows.now)) }
     ensures ok { IfOk result (EndsOptions (rows_of rows.now) (texts words.now)) }

@@ -139,8 +139,8 @@ pub record AreHeard (options : List (List ℕ)) (asked : Listening) : Type 0 whe
   pub raw : IsReadRaw options asked.raw
   pub annexb : IsReadFile (codes "--annexb") options asked.annexb
 
--- The sample format that is read from the options of an AAF stream is `format`, and `sparse` is `tells`. `tells` says
--- whether `--sparse` is among the words after the command.
+-- The options ask for an AAF stream. The sample format that is read from them is `format`, and `sparse` is `tells`.
+-- `tells` says whether `--sparse` is among the words after the command.
 pub record IsReadAaf (options : List (List ℕ)) (tells : Bool) (format : AafFormat) (sparse : Bool) : Type 0 where
   pub no_blocks : IfSome (value_after (codes "--kind") options) (λ word. word ≢ codes "am824")
   pub no_video : IfSome (value_after (codes "--kind") options) (λ word. word ≢ codes "h264")
