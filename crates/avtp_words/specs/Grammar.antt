@@ -506,8 +506,8 @@ pub record KeepsRules (words : List (List ℕ)) (asked : Talking) : Type 0 where
 abbrev pub of_raw : List (List ℕ)
 of_raw = codes "--silence" ∷ []
 
--- The rules over several words after `listen`. `--silence` needs `--raw`. No file to write has the name of a file to
--- read. If two files are written, their names differ.
+-- The rules over several words after `listen`. `--silence` needs `--raw`. No file that is written has the same name as
+-- a file that is read. If two files are written, their names differ.
 pub record KeepsNames (words : List (List ℕ)) (asked : Listening) : Type 0 where
   pub silence : Need words (codes "--raw") of_raw
   pub new_raw : IfSome asked.raw (λ raw. Contains asked.files raw.file.name → ⊥)
