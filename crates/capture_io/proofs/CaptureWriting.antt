@@ -90,7 +90,7 @@ holds_beside files s t w name bytes h keeps same = record {
 
 -- ---- a capture
 
--- a new file whose only buffered bytes are the file header is a capture without records
+-- a new file for which only the file header is buffered is a capture without records
 pub none_written : (files : Option Files) (s : ShelfState) (v w : Writing) (name : List ℕ) → HoldsFile files s v name [] → w ≡ record v { waiting = v.waiting ++ header_spelling written_style } → HoldsCapture files s w name []
 none_written files s v w name h e = subst (HoldsFile files s w name) (sym (append-nil (header_spelling written_style))) (holds_more files s v w name [] (header_spelling written_style) h e)
 
@@ -184,6 +184,6 @@ pub header_length : length (header_spelling written_style) ≡ 24
 unfolding layout.number_bytes
 header_length = refl
 
--- if nothing was added to the writer's file, its buffer is empty
+-- if nothing was added to its file, the writer's buffer is empty
 pub none_waits : (s t : ShelfState) (w : Writing) (name : List ℕ) → IsWriting s t w name [] → length w.waiting ≡ 0
 none_waits s t w name is = (let whole = ap (λ (l : List ℕ). length l) is.split in let both = length-append is.held w.waiting in omega (arith, whole, both))

@@ -133,7 +133,7 @@ pub if_some : {A : Type 0} {P Q : A → Type 0} (o : Option A) → ((x : A) → 
 if_some None more p = tt
 if_some (Some x) more p = more x p
 
--- releasing the held record and then reading on reads the next record
+-- if a call releases the held record and then reads on, `GivesNext` holds for that call
 pub gives_next : (before after : ShelfState) (old mid next : Sourcing) (result : Option End) → old.ended ≡ None → mid.pieces ≡ old.pieces → Releases old.reader mid.reader → ReadsOn before after mid next result
     → (result ≡ None → IsSome (held_in next)) → GivesNext before after old (record next { ended = result }) result
 gives_next before after old mid next result going same releases on some = record {

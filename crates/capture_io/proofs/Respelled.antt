@@ -83,7 +83,7 @@ arrival_is : (order : Order) (interfaces : List Interface) (bytes : List ℕ) �
 unfolding packet_arrival
 arrival_is order interfaces bytes = refl
 
--- the packet of a block whose fields are accepted can be written in a classic capture
+-- if the fields of a block are accepted, the block's packet can be written in a classic capture
 next_block : (p : Place) (bytes : List ℕ) → AreBytes bytes → p.stage ≡ stage.Block → ng.refusal_here p bytes ≡ None → ng.size_here p bytes ≤ length bytes → IfSome (ng.after_any p bytes).packet (HasSpelling nanoseconds)
 next_block p bytes all is accepted long =
     let order = ng.order_or_little p.order in

@@ -42,8 +42,8 @@ HoldsCapture files shelf writer name records = HoldsFile files shelf writer name
 
 -- ---- all other slots
 
--- In every slot except slot k, the same file stays open, or the slot stays free. If the shelf shows its files, what is
--- left to read changes only in slots of the file `name`.
+-- In every slot except slot k, the same file stays open, or the slot stays free. If the shelf shows its files, the
+-- bytes left to read change only in slots where the file `name` is open.
 pub record KeepsBeside (files : Option Files) (old new : Slots) (k : ℕ) (name : List ℕ) : Type 0 where
   pub same : (j : ℕ) → j ≢ k → option_map file_of (new j) ≡ option_map file_of (old j)
   pub left : IsSome files → (j : ℕ) → j ≢ k → name_in old j ≢ Some name → left_in new j ≡ left_in old j

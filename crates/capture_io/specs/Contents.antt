@@ -35,7 +35,7 @@ pub record ReadsContents (before after : ShelfState) (limit : ℕ) (name : List 
   -- if the shelf shows its files, the bytes that were read are the prefix of the file that `IsContents` describes
   pub read : IfOk result (λ contents. (files : Files) → before.files ≡ Some files → (bytes : List ℕ) × (files name ≡ Some bytes) × IsContents limit bytes contents.stop contents.bytes.items)
   pub bounded : IfOk result (λ contents. length contents.bytes.items ≤ limit)
-  -- the shelf shows its files, and none has the name
+  -- the shelf shows its files, and none of them has the name
   pub missing : IsErrOf result open_fault.Missing → IsMissing before.files name
   pub counted : IsReadCounted before.reading_faults after.reading_faults result
   pub keeps : OnlyReads before after (name ∷ [])

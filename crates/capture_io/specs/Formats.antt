@@ -35,9 +35,10 @@ records_in bytes = (meaning_of (format_in bytes)).records bytes
 unfoldable pub refusal_in : List ℕ → Option Refusal
 refusal_in bytes = (meaning_of (format_in bytes)).refusal bytes
 
--- The first refusal of a capture in either layout, if no later bytes can change it. If a pcapng capture ends after the
--- block type of a section's 257th interface description, and before the total length is complete, bytes are missing,
--- but the capture's refusal is not `short`. Therefore `settled` decides, not `short`.
+-- The first refusal of a capture in either layout, if no later bytes can change it. Suppose that a pcapng capture ends
+-- inside a section's 257th interface description, after the block type but before the block's total length is complete.
+-- Then bytes are missing, but the capture's refusal is not `short`. Therefore `settled`, and not `short`, tells whether
+-- later bytes can change the refusal.
 unfoldable pub certain_in : List ℕ → Option Refusal
 certain_in bytes = (meaning_of (format_in bytes)).certain bytes
 

@@ -43,8 +43,8 @@ pub record OpensSlot (before after : ShelfState) (name : List ℕ) (k : ℕ) : T
   pub asked : Asks (name ∷ []) before after
 
 -- At `Ok(x)` the file `name` was opened in the slot with the number `slot x`. At `Err` the file was not opened, and no
--- file or slot changed. `Missing` means that the shelf shows its files and none has the name. At `Failed` the count of
--- reading faults rose.
+-- file or slot changed. `Missing` means that the shelf shows its files and none of them has the name. At `Failed` the
+-- count of reading faults rose.
 pub record TriesOpen {T : Type 0} (slot : T → ℕ) (before after : ShelfState) (name : List ℕ) (result : Result T OpenFault) : Type 0 where
   pub opened : IfOk result (λ file. OpensSlot before after name (slot file))
   pub refused : OnErr result (OnlyReads before after (name ∷ []))

@@ -40,8 +40,8 @@ pub record HasFed (limit : ℕ) (bytes : List ℕ) (remains : Option (List ℕ))
   pub read : HasRead source.reader prefix records
 
 -- The source has delivered these records from a file with these bytes. At most `limit` bytes of the file may be read.
--- `remains` is what is left to read. If the source holds a record, that is the last of these records. The reading has
--- not ended.
+-- `remains` is what is left to read. If the source holds a record, the held record is the last of these records. The
+-- reading has not ended.
 pub record HasGiven (limit : ℕ) (bytes : List ℕ) (remains : Option (List ℕ)) (source : Sourcing) (records : List Record) : Type 0 where
   pub going : source.ended ≡ None
   pub before : List Record
@@ -49,7 +49,7 @@ pub record HasGiven (limit : ℕ) (bytes : List ℕ) (remains : Option (List ℕ
   pub given : records ≡ before ++ option_to_list (held_in source)
 
 -- The source has delivered these records from a file with these bytes. At most `limit` bytes of the file may be read.
--- What is left to read is what the shelf shows in the source's slot. The reading has not ended.
+-- The bytes left to read are those that the shelf shows for the source's slot. The reading has not ended.
 abbrev pub HasGivenOf : ℕ → List ℕ → ShelfState → Sourcing → List Record → Type 0
 HasGivenOf limit bytes shelf source records = HasGiven limit bytes (remains_of shelf source) source records
 

@@ -13,9 +13,9 @@ pub record Writing : Type 0 where
   pub slot : ℕ
   pub waiting : List ℕ
 
--- Since the state `before`, the file `name` was made and opened in the writer's slot, which was free. `bytes` are the
--- bytes of the file followed by the buffered bytes. All other files are unchanged, if the shelf shows them. All other
--- slots are unchanged, except for what is left to read in slots of this file.
+-- Between the states `before` and `after`, the file `name` was made and opened in the writer's slot, which was free.
+-- `bytes` are the bytes of the file followed by the buffered bytes. All other files are unchanged, if the shelf shows
+-- them. All other slots are unchanged, except for the bytes left to read in slots where this file is open.
 pub record IsWriting (before after : ShelfState) (writer : Writing) (name bytes : List ℕ) : Type 0 where
   pub held : List ℕ
   pub split : bytes ≡ held ++ writer.waiting
@@ -51,8 +51,8 @@ pub record NotMade (before after : ShelfState) : Type 0 where
   pub slots : KeepsSlots before.slots after.slots
   pub reading : after.reading_faults ≡ before.reading_faults
 
--- At `Ok` the file `name` was made, and its buffer is empty. At `Err` the file was not made. At `Failed` the count of
--- writing faults rose. In each case the name was asked for.
+-- At `Ok` the file `name` was made, and the writer's buffer is empty. At `Err` the file was not made. At `Failed` the
+-- count of writing faults rose. In each case the name was asked for.
 pub record CreatesFile (before after : ShelfState) (name : List ℕ) (result : Result Writing OpenFault) : Type 0 where
   pub begun : IfOk result (λ writer. IsWriting before after writer name [])
   pub not_made : OnErr result (NotMade before after)
@@ -72,16 +72,16 @@ pub record PutsPrefix (old new : Option Files) (name bytes : List ℕ) : Type 0 
 abbrev pub MakesPrefix : Option Files → Option Files → List ℕ → List ℕ → Type 0
 MakesPrefix old new name bytes = KeepsFiles old new ⊎ PutsPrefix old new name bytes
 
--- In every slot, the same file stays open, or the slot stays free. If the shelf shows its files, what is left to read
--- changes only in slots of the file `name`.
+-- In every slot, the same file stays open, or the slot stays free. If the shelf shows its files, the bytes left to read
+-- change only in slots where the file `name` is open.
 pub record KeepsSlotsBut (files : Option Files) (old new : Slots) (name : List ℕ) : Type 0 where
   pub same : (j : ℕ) → option_map file_of (new j) ≡ option_map file_of (old j)
   pub left : IsSome files → (j : ℕ) → name_in old j ≢ Some name → left_in new j ≡ left_in old j
 
--- The writer's file was closed, and contains a prefix of all bytes that were added. Since the file was made, no other
--- file changed, the writer's slot became free again, and the other slots changed at most in what is left to read of
--- this file. If the shelf failed, the count of writing faults rose. No reading fault was counted, and no name was asked
--- for.
+-- The writer's file was closed, and contains a prefix of all bytes that were added. No other file has changed after
+-- this file was made. The writer's slot is free again. The other slots have changed at most in the bytes of this file
+-- that are left to read. If the shelf failed, the count of writing faults rose. No reading fault was counted, and no
+-- name was asked for.
 pub record ClosesFile (before after : ShelfState) (writer : Writing) (result : Result Unit Failed) : Type 0 where
   pub prefix : (begun : ShelfState) (name all : List ℕ) → IsWriting begun before writer name all → PutsPrefix begun.files after.files name all
   pub slots : (begun : ShelfState) (name all : List ℕ) → IsWriting begun before writer name all → KeepsSlotsBut begun.files begun.slots after.slots name

@@ -142,8 +142,8 @@ impl CaptureReader {
         }
     }
 
-    /// Whether the piece is assumed to contain the whole next record. In a pcapng capture one byte is enough, because
-    /// programs write whole blocks.
+    /// Whether the piece is assumed to contain the whole next record. In a pcapng capture one byte of the record is
+    /// enough for this assumption, because programs write whole blocks.
     pub fn is_ahead(&self, piece: &[u8]) -> bool {
         match self.format {
             None => false,
@@ -152,8 +152,8 @@ impl CaptureReader {
         }
     }
 
-    /// A view of the next record. The bytes, at the front of the piece, are the record with its header, or the packet's
-    /// whole block.
+    /// A view of the next record. `bytes`, which are the front of the piece, are the record with its header, or the
+    /// packet's whole block.
     #[inline(always)]
     pub fn lend<'a>(&self, bytes: &'a [u8]) -> RecordView<'a>
         requires { IsNext self.now bytes.now }

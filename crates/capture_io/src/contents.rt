@@ -21,8 +21,8 @@ pub struct Contents {
 /// Opens a file, reads until the end of the file, a fault or the limit of `limit` bytes is reached, and closes the
 /// file.
 ///
-/// `Missing` is returned only if the shelf shows its files and none has the name. `Failed` means that the file could
-/// not be opened, and that the reading count rose. `Memory` means that memory ran out.
+/// `Missing` is returned only if the shelf shows its files and none of them has the name. `Failed` means that the file
+/// could not be opened, and that the reading count rose. `Memory` means that memory ran out.
 pub fn read_contents<F: Shelf>(
     alloc: Global,
     limit: u64,

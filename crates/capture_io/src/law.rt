@@ -8,8 +8,8 @@ ghost use Rattle.capture_io.specs.CaptureWriting.{HoldsCapture, KeepsBeside};
 ghost use Rattle.capture_io.specs.Writing.{Writing};
 ghost use Rattle.capture_io.specs.Formats.{AreBytes, as_classic, is_pcapng, records_in, refusal_in};
 
-/// A law: if the records of a pcapng capture are written as a classic capture, little-endian with nanoseconds, that
-/// capture has exactly these records, and nothing in it is refused.
+/// A law: if the records of a pcapng capture are written as a classic capture, little-endian with nanoseconds, the
+/// classic capture has exactly these records, and nothing in it is refused.
 pub fn classic_again()
     ensures { (bytes : List ℕ) → AreBytes bytes → is_pcapng bytes ≡ true → (records_in (as_classic bytes) ≡ records_in bytes) × (refusal_in (as_classic bytes) ≡ None) }
 {}

@@ -66,8 +66,8 @@ impl Pieces {
     }
 
     /// Reads the next piece; no bytes may be buffered before the call. At `None` bytes are buffered now; otherwise the
-    /// result is why reading stopped. Bytes beyond the limit are dropped: once all bytes up to the limit were taken,
-    /// the call returns `Limit`.
+    /// result is why reading stopped. Bytes beyond the limit are dropped. If a read shows that there are any, the call
+    /// returns `Limit` once all bytes up to the limit were taken.
     pub fn read<F: Shelf>(&mut self, shelf: &mut F) -> Option<Stop>
         requires { IsDrained (F.state shelf.old).slots self.old }
         ensures { ReadsPiece (F.state shelf.old) (F.state shelf.new) self.old self.new result }

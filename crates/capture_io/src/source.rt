@@ -42,9 +42,9 @@ impl Model for Source {
 impl Source {
     /// Opens a capture of which at most `limit` bytes may be read; `limit` is at most 2^62. No record is held yet.
     ///
-    /// `Missing` is returned only if the shelf shows its files and none has the name. At `Failed` the reading count
-    /// rose. `Memory` means that memory ran out. After each of these errors the file is not open. The name is asked for
-    /// before memory is reserved, so exactly this name was asked for, whatever the result.
+    /// `Missing` is returned only if the shelf shows its files and none of them has the name. At `Failed` the reading
+    /// count rose. `Memory` means that memory ran out. After each of these errors the file is not open. The name is
+    /// asked for before memory is reserved, so exactly this name was asked for, whatever the result.
     pub fn open<F: Shelf>(
         alloc: Global,
         limit: u64,

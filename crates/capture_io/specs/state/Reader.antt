@@ -70,7 +70,7 @@ pub record EndsHere (r : CaptureReading) (bytes : List ℕ) (records : List Reco
 
 -- ---- a record that is lent
 
--- The reader after it took these bytes, which are the next record. The reader now holds that record.
+-- The state of the reader after it has taken these bytes, which are the next record. The reader now holds that record.
 abbrev pub with_by : Option Format → CaptureReading → List ℕ → CaptureReading
 with_by None r bytes = r
 with_by (Some Classic) r bytes = record r { classic = classic.with_part r.classic bytes }

@@ -52,7 +52,7 @@ pub record FindsAhead (source : Sourcing) (result : Option ℕ) : Type 0 where
   pub ahead : IfSome result (λ size. LiesAhead source size)
   pub none : result ≡ None → (size : ℕ) → LiesAhead source size → ⊥
 
--- The source as contracts see it while it lends the record in the first `size` buffered bytes. At `None` the source
+-- The source, as contracts see it while the record in the first `size` buffered bytes is lent. At `None` the source
 -- lends no record.
 abbrev pub lending : Option ℕ → Sourcing → Sourcing
 lending None source = source

@@ -4,7 +4,8 @@ use Rattle.avtp_base.specs.declared.failed.Failed.{Failed}
 use Rattle.avtp_base.specs.States.{ShelfState}
 use Rattle.capture_io.specs.Writing.{Writing, IsWriting, WritesSlot}
 
--- With `Ok` all buffered bytes were written. With `Err` the shelf failed, and possibly only some of them were written.
+-- With `Ok` all buffered bytes were written. With `Err` the shelf failed, and possibly only some of the buffered bytes
+-- were written.
 pub record WritesOut (before after : ShelfState) (old new : Writing) (result : Result Unit Failed) : Type 0 where
   pub none_waits : OnOk result (new.waiting ≡ [])
   pub kept : (begun : ShelfState) (name all : List ℕ) → IsWriting begun before old name all → IsWriting begun after new name all
