@@ -54,13 +54,13 @@ pub record CountsCall (old new : MemoryShelf) : Type 0 where
 
 -- ---- what a call does in addition to what it does on every shelf
 
--- A call to open or make a file. The call returned `Failed` exactly if its number is one of `failing_calls`. The call
--- was counted.
+-- A call to open or make a file. The call returned `Failed` if and only if its number is one of `failing_calls`. The
+-- call was counted.
 pub record OpensByNumber (old new : MemoryShelf) (result : Result Slot OpenFault) : Type 0 where
   pub failed : IsErrOf result open_fault.Failed ↔ IsToFail old
   pub call : CountsCall old new
 
--- A read of slot k into a buffer of `room` bytes. The read failed exactly if its number is one of `failing_calls`.
+-- A read of slot k into a buffer of `room` bytes. The read failed if and only if its number is one of `failing_calls`.
 -- Otherwise the number of bytes moved is the least of three: the number of bytes left to read, `room`, and the greatest
 -- number of bytes that a call moves. The call was counted.
 pub record ReadsByNumber (old new : MemoryShelf) (k room : ℕ) (result : Result ℕ Failed) : Type 0 where
@@ -68,9 +68,9 @@ pub record ReadsByNumber (old new : MemoryShelf) (k room : ℕ) (result : Result
   pub failed : IsErr result ↔ IsToFail old
   pub call : CountsCall old new
 
--- A write of `piece`. If the number of the write is one of `failing_calls`, the write failed. At `Ok` the write took
--- the whole piece, or, if the piece is longer than the greatest number of bytes that a call moves, that number of
--- bytes. The call was counted.
+-- A write of `piece`. If the number of the write is one of `failing_calls`, the write failed. At `Ok` the number of
+-- bytes taken is the lesser of two: the length of the piece, and the greatest number of bytes that a call moves. The
+-- call was counted.
 pub record WritesByNumber (old new : MemoryShelf) (piece : List ℕ) (result : Result ℕ Failed) : Type 0 where
   pub whole : IfOk result (λ n. n ≡ min (length piece) (most old))
   pub failed : IsToFail old → IsErr result

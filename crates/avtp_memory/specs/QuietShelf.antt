@@ -67,7 +67,7 @@ pub record ReadsQuietly (old new : QuietShelf) (k room : ℕ) (result : Result �
   pub whole : IfSome (left_in (slots_of old) k) (λ left. result ≡ Ok (min (length left) room))
   pub keeps : KeepsKept old new
 
--- A write to slot k took the whole piece. As much of the piece as fits the room of the file is kept.
+-- A write to slot k took the whole piece. The file keeps as much of the piece as fits its room.
 pub record WritesQuietly (old new : QuietShelf) (k : ℕ) (piece : List ℕ) (result : Result ℕ Failed) : Type 0 where
   pub whole : result ≡ Ok (length piece)
   pub kept : KeepsPiece old new (name_in (slots_of old) k) piece

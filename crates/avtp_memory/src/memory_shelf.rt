@@ -115,7 +115,7 @@ impl Shelf for MemoryShelf {
 
     ghost told = { λ shelf k told live. told_of_live shelf.held k live };
 
-    /// Returns `Failed` exactly if this call was chosen to fail.
+    /// Returns `Failed` if and only if this call was chosen to fail.
     fn open_file(&mut self, name: &str) -> Result<Slot, OpenFault> {
         self.asked.note(name);
         if self.calls.next_fails() {
@@ -125,7 +125,7 @@ impl Shelf for MemoryShelf {
         self.held.open(name)
     }
 
-    /// Returns `Failed` exactly if this call was chosen to fail.
+    /// Returns `Failed` if and only if this call was chosen to fail.
     fn create_file(&mut self, name: &str) -> Result<Slot, OpenFault> {
         self.asked.note(name);
         if self.calls.next_fails() {
@@ -138,8 +138,8 @@ impl Shelf for MemoryShelf {
         Ok(slot)
     }
 
-    /// Fails exactly if this call was chosen to fail. Otherwise moves all bytes that are left to read, or fewer if the
-    /// buffer or the limit of a call is smaller.
+    /// Fails if and only if this call was chosen to fail. Otherwise moves all bytes that are left to read, or fewer if
+    /// the buffer or the limit of a call is smaller.
     fn read(&mut self, slot: Slot, buf: &mut [u8]) -> Result<usize, Failed> {
         if self.calls.next_fails() {
             self.reading_faults = self.reading_faults.saturating_add(1);
@@ -149,7 +149,7 @@ impl Shelf for MemoryShelf {
     }
 
     /// Fails if this call was chosen to fail, or if there is no memory to keep the piece. Otherwise takes the whole
-    /// piece, or as many bytes as the limit of a call if the piece is longer.
+    /// piece, or, if the piece is longer than the limit of a call, as many bytes as that limit.
     fn write(&mut self, slot: Slot, piece: &[u8]) -> Result<usize, Failed> {
         if self.calls.next_fails() {
             self.writing_faults = self.writing_faults.saturating_add(1);

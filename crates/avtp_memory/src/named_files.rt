@@ -51,7 +51,7 @@ impl NamedFiles {
         Ok(())
     }
 
-    /// Appends as much of a piece to the file with the name as fits the room, and returns whether it appended all of
+    /// Appends to the file with the name as much of a piece as fits the room, and returns whether it appended all of
     /// the piece.
     pub fn keep(&mut self, name: &str, room: usize, piece: &[u8]) -> bool
         requires named { IsSome (bytes_under self.old.entries.items name.now) }
