@@ -9,6 +9,7 @@ use Rattle.avtp_base.specs.States.{AreNames}
 abbrev pub names_kept : AskedNames → List (List ℕ)
 names_kept asked = map (λ (name : String Global). string_bytes name) asked.names.items
 
--- the kept names are consistent with the shelf having been asked for these names, in this order
+-- The shelf was possibly asked for these names, in this order: they begin with the kept names, and no others follow if
+-- all names were kept.
 abbrev pub StandsForNames : AskedNames → List (List ℕ) → Type 0
 StandsForNames asked names = AreNames asked.all (names_kept asked) names

@@ -18,7 +18,8 @@ files_of shelf = files_in shelf.held
 abbrev pub slots_of : MemoryShelf → Slots
 slots_of shelf = slots_in shelf.held
 
--- the kept names are consistent with the shelf having been asked for these names, in this order
+-- The shelf was possibly asked for these names, in this order: they begin with the kept names, and no others follow if
+-- all names were kept.
 abbrev pub asked_of : MemoryShelf → List (List ℕ) → Type 0
 asked_of shelf = StandsForNames shelf.asked
 

@@ -29,7 +29,8 @@ files_of shelf = told_while (keeps_all shelf) (kept_files shelf)
 abbrev pub slots_of : QuietShelf → Slots
 slots_of shelf = slots_in shelf.held
 
--- the kept names are consistent with the shelf having been asked for these names, in this order
+-- The shelf was possibly asked for these names, in this order: they begin with the kept names, and no others follow if
+-- all names were kept.
 abbrev pub asked_of : QuietShelf → List (List ℕ) → Type 0
 asked_of shelf = StandsForNames shelf.asked
 

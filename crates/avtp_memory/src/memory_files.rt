@@ -74,8 +74,8 @@ impl MemoryFiles {
         Ok(slot)
     }
 
-    /// Opens an empty file for writing: empties the file with the name, or makes one. The file gets memory for `room`
-    /// bytes.
+    /// Opens an empty file with the name for writing: empties the file that has the name, or makes a new one. The file
+    /// gets memory for `room` bytes.
     pub fn create(&mut self, name: &str) -> Result<Slot, NoMemory>
         ensures made { IfOk result (λ slot. IsMade (Some (files_in self.old)) (slots_in self.new slot.0) name.now) }
         ensures fresh { IfOk result (λ slot. slots_in self.old slot.0 ≡ None) }

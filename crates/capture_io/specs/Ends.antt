@@ -52,8 +52,8 @@ abbrev pub CountsFault : Option End → Option End → ℕ → ℕ → Type 0
 CountsFault None (Some end.ReadFault) before after = Rose before after
 CountsFault ended result before after = after ≡ before
 
--- how a read changes the count of reading faults: if a fault stopped the reading, the count rises; otherwise the count
--- is unchanged
+-- how the reading of a file changes the count of reading faults: if a fault stopped the reading, the count rises;
+-- otherwise the count is unchanged
 abbrev pub CountsStop : Option Stop → ℕ → ℕ → Type 0
 CountsStop (Some stop.Fault) before after = Rose before after
 CountsStop result before after = after ≡ before

@@ -78,7 +78,7 @@ pub record KeepsSlotsBut (files : Option Files) (old new : Slots) (name : List �
   pub same : (j : ℕ) → option_map file_of (new j) ≡ option_map file_of (old j)
   pub left : IsSome files → (j : ℕ) → name_in old j ≢ Some name → left_in new j ≡ left_in old j
 
--- The writer's file was closed, and contains a prefix of all bytes that were added. No other file has changed after
+-- The writer's file was closed, and contains a prefix of all bytes that were added. No other file has changed since
 -- this file was made. The writer's slot is free again. The other slots have changed at most in the bytes of this file
 -- that are left to read. If the shelf failed, the count of writing faults rose. No reading fault was counted, and no
 -- name was asked for.

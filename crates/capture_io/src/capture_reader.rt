@@ -142,7 +142,7 @@ impl CaptureReader {
         }
     }
 
-    /// Whether the piece is assumed to contain the whole next record. In a pcapng capture one byte of the record is
+    /// Whether the piece is assumed to contain the whole next record. In a pcapng capture one byte in the piece is
     /// enough for this assumption, because programs write whole blocks.
     pub fn is_ahead(&self, piece: &[u8]) -> bool {
         match self.format {

@@ -9,7 +9,7 @@ use avtp_base::{NoMemory, OpenFault};
 use avtp_files::Shelf;
 use std::alloc::Global;
 
-/// What was read of a file.
+/// The bytes that were read from a file, and where the reading stopped.
 #[derive(Drop)]
 pub struct Contents {
     /// The bytes from the start of the file.
@@ -18,8 +18,7 @@ pub struct Contents {
     pub stop: Stop,
 }
 
-/// Opens a file, reads until the end of the file, a fault or the limit of `limit` bytes is reached, and closes the
-/// file.
+/// Opens a file, reads it up to its end, a fault or the limit of `limit` bytes, and closes it.
 ///
 /// `Missing` is returned only if the shelf shows its files and none of them has the name. `Failed` means that the file
 /// could not be opened, and that the reading count rose. `Memory` means that memory ran out.

@@ -66,7 +66,7 @@ impl Feed {
         }
     }
 
-    /// Feeds the reader the buffered bytes. If no bytes are buffered, reads the next piece.
+    /// Feeds buffered bytes to the reader, or reads the next piece if no bytes are buffered.
     fn step<F: Shelf>(&mut self, shelf: &mut F) -> Option<End>
         requires { IsReady (F.state shelf.old).slots self.old }
         ensures { ReadsOn (F.state shelf.old) (F.state shelf.new) self.old self.new result }
@@ -77,7 +77,7 @@ impl Feed {
         self.feed_piece()
     }
 
-    /// Reads the next piece, if no bytes are buffered.
+    /// Reads the next piece; no bytes may be buffered before the call.
     fn read_piece<F: Shelf>(&mut self, shelf: &mut F) -> Option<End>
         requires ready { IsReady (F.state shelf.old).slots self.old }
         requires none_waits { self.old.pieces.waiting ≡ [] }
@@ -87,7 +87,8 @@ impl Feed {
         Some(stop.end(self.reader.finish().err()))
     }
 
-    /// Feeds the reader buffered bytes, up to the end of one record, or returns the refusal that ends the reading.
+    /// Feeds buffered bytes to the reader, at most up to the end of one record. If the reader refuses them, returns the
+    /// refusal, which ends the reading.
     fn feed_piece(&mut self) -> Option<End>
         requires { 0 < length self.old.pieces.waiting }
         ensures { (shelf : ShelfState) → IsReady shelf.slots self.old → ReadsOn shelf shelf self.old self.new result }

@@ -23,7 +23,7 @@ KeepsNamed old new = (name : List ℕ) → bytes_under new name ≡ bytes_under 
 abbrev pub capacity_under : List (String Global × Vec ℕ) → List ℕ → ℕ
 capacity_under entries name = unwrap_or (option_map (λ entry. vec_capacity entry.1) (find (has_name name) entries)) 0
 
--- no file lost memory
+-- each file has memory for at least as many bytes as before
 abbrev pub KeepsCapacity : List (String Global × Vec ℕ) → List (String Global × Vec ℕ) → Type 0
 KeepsCapacity old new = (name : List ℕ) → capacity_under old name ≤ capacity_under new name
 
