@@ -68,7 +68,7 @@ steps-stay clock plan es more (suc n) le =
     let last : step clock plan (es ++ more) n ≡ step clock plan es n = step-stays clock plan es more n (omega arith) in
     rw (before, last) refl
 
--- ---- the steps of fewer entries come first
+-- ---- the steps of the first `n` entries are the beginning of the steps of the first `n` + `k` entries
 
 steps-first : (clock : Clock) (plan : SchedulePlan) (es : List Entry) (n k : ℕ) → IsPrefix (steps clock plan es n) (steps clock plan es (n + k))
 unfolding steps

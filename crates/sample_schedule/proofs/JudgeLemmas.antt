@@ -143,7 +143,7 @@ all-taken clock entries given s st =
     let a = length-append (option_to_list s.current) s.ahead in
     omega arith
 
--- Nothing is due: batches whose instants have passed were presented, and the other accepted batches wait.
+-- Nothing is due: every accepted batch either has been presented, because its instant has passed, or waits.
 record Settled (clock : Clock) (entries : List Entry) (front : List Accepted) (s : JudgeState) : Type 0 where
   passed : front ≡ by_instant (between (latest (take s.place entries)) s.time (earlier_of clock entries s))
   waiting : s.waiting ≡ by_instant (standing s.time (earlier_of clock entries s))

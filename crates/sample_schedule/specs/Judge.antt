@@ -78,10 +78,10 @@ pub record StandsFor (clock : Clock) (entries : List Entry) (given : ℕ) (judge
   pub left : map pending_of (drop judge.place entries) ≡ option_to_list judge.current ++ judge.ahead
   pub noted : HasNoted judge.plan entries judge.noted
   pub now : judge.time ≡ latest (take (begun judge) entries)
-  -- while more entries may follow, an entry is judged or current exactly if at least `look` entries follow it
+  -- as long as the list has not ended, an entry is judged or current if and only if at least `look` entries follow it
   pub settles : judge.closed ≡ false → begun judge ≡ settled judge.plan entries
-  -- `passed` holds the batches that waited before the current entry was taken and were presented since; the other
-  -- batches still wait
+  -- `passed` holds the batches that have been presented since the current entry was taken; together with the batches
+  -- that still wait, they are all the batches that waited before
   pub passed : List Accepted
   pub waiting : passed ++ judge.waiting ≡ by_instant (standing (latest (take judge.place entries)) (accepted clock judge.plan entries judge.place))
   pub early : is_over judge ≡ false → AllByRecursion (λ a. a.instant <ℤ judge.time) passed

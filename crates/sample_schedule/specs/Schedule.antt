@@ -125,15 +125,15 @@ given clock plan entries = steps clock plan entries (length entries) ++ rest_of 
 abbrev pub shown : Clock → SchedulePlan → List Entry → List Shown
 shown clock plan entries = map shown_of (given clock plan entries)
 
--- how many entries are judged while more entries may follow: those that have at least `look` entries after them
+-- the number of entries that are judged before the list has ended: only entries with at least `look` entries after them
 abbrev pub settled : SchedulePlan → List Entry → ℕ
 settled plan entries = length entries - plan.look
 
--- what is certain while more entries may follow: what the steps of the judged entries show
+-- what is certain before the list has ended: what the steps of the judged entries show
 abbrev pub due : Clock → SchedulePlan → List Entry → List Shown
 due clock plan entries = map shown_of (steps clock plan entries (settled plan entries))
 
--- the accepted items that wait while more entries may follow, sorted by first instant and then by index
+-- the accepted items that wait before the list has ended, sorted by first instant and then by index
 abbrev pub waiting : Clock → SchedulePlan → List Entry → List Accepted
 waiting clock plan entries =
     by_instant (standing (latest (take (settled plan entries) entries)) (accepted clock plan entries (settled plan entries)))

@@ -48,9 +48,9 @@ moved n spot = record spot { from = spot.from +ℤ n }
 abbrev pub nominal_spot : ℕ → Head → Spot
 nominal_spot rate head = record { line = nominal_line head.instant rate; from = head.first }
 
--- The spot of the first sample that is counted from a head. If the plan has no clock, the spot is on the head's nominal
--- line. If the plan has a clock, the spot is on the clock's line that covers the head's instant; if no line covers that
--- instant, the result is `None`.
+-- The spot of a packet's first sample, counted from the packet's head. If the plan has no clock, the spot is on the
+-- head's nominal line. If the plan has a clock, the spot is on the clock's line that covers the head's instant; if no
+-- line covers that instant, the result is `None`.
 abbrev pub spot_of : Clock → SchedulePlan → List Entry → ℕ → Head → Option Spot
 spot_of clock plan prefix rate head =
     if plan.clock

@@ -46,7 +46,7 @@ impl Batch {
         self.line.at(self.from + i64::from(j))
     }
 
-    /// The instant of the first sample. In most batches it is the line's base, and nothing is computed.
+    /// The instant of the first sample. For most batches this is the line's base, so nothing has to be computed.
     #[inline(always)]
     pub(crate) fn first_instant(&self) -> i64
         ensures { result ≡ sample_instant self.now 0 }

@@ -30,7 +30,7 @@ pub struct Packet {
 /// A whole H.264 unit.
 #[derive(Debug, Drop)]
 pub struct Unit {
-    /// The number of the record in the capture that completed the unit, from 1.
+    /// The number of the record that completed the unit; the capture's records are numbered from 1.
     pub frame: u64,
     /// When that record was captured, in nanoseconds of gPTP.
     pub arrival: i64,

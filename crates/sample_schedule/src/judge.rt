@@ -293,8 +293,9 @@ impl Judge {
         }
     }
 
-    /// The next item that is shown of the entries so far. Before `close`, only items that are due are returned; after
-    /// `close`, all items. Returns `None` exactly if none of these items is left. Allocates nothing.
+    /// Of the items that are shown for the entries so far, returns the next one. Before `close`, only items that are
+    /// due are returned; after `close`, all items. Returns `None` if and only if none of these items is left. Allocates
+    /// nothing.
     pub fn next_out(&mut self) -> Option<Shown>
         ensures given { (clock : Clock) (entries : List EntryValue) (given : ℕ) → StandsFor clock entries given self.old → result ≡ slice_get (out clock self.old entries) given }
         ensures stands { (clock : Clock) (entries : List EntryValue) (given : ℕ) → StandsFor clock entries given self.old → StandsFor clock entries (given + length (option_to_list result)) self.new }

@@ -73,7 +73,7 @@ pub fn what_is_not_due_waits()
 {}
 
 /// If a copy arrives in time, the item that it repeats still waits. Hence a search among the waiting items finds that
-/// item exactly if a search among all accepted items does.
+/// item if and only if a search among all accepted items does.
 pub fn copies_wait()
     ensures { (now instant : ℤ) (seq : ℕ) (earlier : List Accepted) → now ≤ℤ instant → list_any (is_copy instant seq) (standing now earlier) ≡ list_any (is_copy instant seq) earlier }
 {}
@@ -84,8 +84,8 @@ pub fn what_waits_is_due_or_held()
     ensures held { (from to : ℤ) (earlier : List Accepted) → from ≤ℤ to → left_of to (by_instant (standing from earlier)) ≡ by_instant (standing to earlier) }
 {}
 
-/// If the clock covers the head of a packet, the packet can be presented: its samples on the clock's line, counted from
-/// the head, are within the limits of every batch.
+/// If the clock covers the head of a packet, the packet can be presented: its samples, counted from the head on the
+/// clock's line, are within the limits that hold for every batch.
 pub fn clock_lines_can_be_presented()
     ensures { (p : Packet) (head : Head) (spot : Spot) → IsPacket p → 1 ≤ p.count → IsCountable head → IsClockLine p.rate head.instant spot → IsPresentable (samples_at p (moved head.first spot)) }
 {}

@@ -6,7 +6,7 @@ use avtp_base::Field;
 /// Why an item is not presented.
 #[derive(Clone, Copy, Debug, PartialEq, Eq)]
 pub enum Reason {
-    /// The packet was refused by this field.
+    /// The packet was refused because of this field.
     Malformed(Field),
     /// The timestamp is uncertain.
     Uncertain,

@@ -23,8 +23,7 @@ abbrev pub IsPending : Pending → Type 0
 IsPending (PendingItem item) = IsItem item
 IsPending (PendingClock arrival) = IsArrival arrival
 
--- `list` holds exactly the items of `entries` that the judge has shown and returned so far, in the order in which they
--- were returned.
+-- `list` holds all items of `entries` that the judge has returned so far, in the order in which it returned them.
 pub record HasGiven (clock : Clock) (entries : List Entry) (list : List Shown) (judge : JudgeState) : Type 0 where
   pub stands : StandsFor clock entries (length list) judge
   pub first : IsPrefix list (out clock judge entries)
@@ -42,7 +41,7 @@ pub record Puts (pending : Pending) (old new : JudgeState) : Type 0 where
   pub fits : length old.ahead < old.plan.look → length new.ahead ≡ length old.ahead + 1
   pub full : old.plan.look ≤ length old.ahead → length new.ahead ≡ length old.ahead
 
--- The invariant of every judge: its parts are within the limits of the plan and of the memory that is reserved.
+-- The invariant of every judge: the judge's parts are within the limits of its plan and of the memory that is reserved.
 pub record IsSound (judge : JudgeState) (capacity : ℕ) (held : Held) : Type 0 where
   pub plan : IsPlan judge.plan
   pub current : IfSome judge.current IsPending
