@@ -57,7 +57,7 @@ middle_of Last inside inner = absurd (inner (inr refl))
 
 -- ---- from a packet back to the first packet of its unit, and forward to the last
 
--- no packet from `from` to below `to` ends a unit
+-- no packet k with `from` ≤ k < `to` ends a unit
 abbrev AreOpen : (ℕ → Part) → ℕ → ℕ → Type 0
 AreOpen part from to = (k : ℕ) → from ≤ k → k < to → Ends (part k) → ⊥
 

@@ -47,14 +47,14 @@ stream_numbers [] = []
 stream_numbers (OfStream n ∷ os) = n ∷ stream_numbers os
 stream_numbers (OfClock m ∷ os) = stream_numbers os
 
--- Each delivery is a copy of a packet of the journal. Packets can be missing, arrive more than once, and arrive in any
--- order.
+-- Each delivery is a copy of a packet of the journal. Packets can be missing, can arrive more than once, and can arrive
+-- in any order.
 pub record AreDelivered (p : PacketJournal) (lead : ℕ) (ds : List Delivery) : Type 0 where
   pub origins : List Origin
   pub copies : AreFrom p lead origins ds
   pub near : AreNear p.times (stream_numbers origins)
 
 -- The records deliver the journal's packets to a listener of its stream. If `clock` names a clock stream, the listener
--- listens to that stream, too. The listener expects packets `lead` nanoseconds before their first instant.
+-- listens to that stream, too. The listener expects each packet `lead` nanoseconds before the packet's first instant.
 abbrev pub Delivers : PacketJournal → Option ℕ → ℕ → List Record → Type 0
 Delivers p clock lead records = AreDelivered p lead (deliveries p.stream clock records)

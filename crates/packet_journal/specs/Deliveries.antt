@@ -20,7 +20,7 @@ stream_kinds =
 abbrev pub clock_kinds : List ℕ
 clock_kinds = crf_subtype ∷ []
 
--- the payload of the frame in a record, from the record's bytes
+-- the payload of the Ethernet frame that a record's bytes hold
 abbrev pub packet_in : List ℕ → List ℕ
 packet_in bytes = (frame_of bytes).payload
 

@@ -45,8 +45,8 @@ pub fn carried_clock_packet_is_delivered()
 {}
 
 /// Records carry some packets of a conforming talker's stream and clock. If the records of the stream were captured in
-/// time, and adjacent fragments are near each other, the records deliver the talker's journal. The records of the clock
-/// may be captured at any time. The law holds for listeners with the clock and without.
+/// time, and adjacent fragments are near each other, the records deliver the talker's journal. The times at which the
+/// records of the clock were captured do not matter. The law holds whether or not a listener uses a clock.
 pub fn records_of_both_are_delivered()
     ensures { (shift : ℤ) (p : PacketJournal) (clock : Option ℕ) (lead : ℕ) (origins : List Origin) (records : List Record) → IsConforming shift p → AllCarryFrom p lead origins records → AreNear p.times (stream_numbers origins) → Delivers p clock lead records }
 {
