@@ -29,8 +29,8 @@ pub fn carried_packet_is_delivered()
     cvf_format::laws::packet_again();
 }
 
-/// Records carry some packets of a conforming talker. If the records were captured in time, and adjacent fragments are
-/// near each other, the records deliver the talker's journal.
+/// Records carry some packets of a conforming talker. If the records were captured in time, and the packet numbers of
+/// adjacent fragments are near each other, the records deliver the talker's journal.
 pub fn carried_packets_are_delivered()
     ensures { (shift : ℤ) (p : PacketJournal) (clock : Option ℕ) (lead : ℕ) (numbers : List ℕ) (records : List Record) → IsConforming shift p → AllCarry p lead numbers records → AreNear p.times numbers → Delivers p clock lead records }
 {
@@ -45,8 +45,9 @@ pub fn carried_clock_packet_is_delivered()
 {}
 
 /// Records carry some packets of a conforming talker's stream and clock. If the records of the stream were captured in
-/// time, and adjacent fragments are near each other, the records deliver the talker's journal. The times at which the
-/// records of the clock were captured do not matter. The law holds whether or not a listener uses a clock.
+/// time, and the packet numbers of adjacent fragments are near each other, the records deliver the talker's journal.
+/// The times at which the records of the clock were captured do not matter. The law holds whether or not a listener
+/// uses a clock.
 pub fn records_of_both_are_delivered()
     ensures { (shift : ℤ) (p : PacketJournal) (clock : Option ℕ) (lead : ℕ) (origins : List Origin) (records : List Record) → IsConforming shift p → AllCarryFrom p lead origins records → AreNear p.times (stream_numbers origins) → Delivers p clock lead records }
 {

@@ -16,7 +16,7 @@ use Rattle.sorted_keys.proofs.BlockLemmas.{all-put_key, length-put}
 use Rattle.sample_schedule.proofs.LawLemmas.{bytes-put_behind}
 use Rattle.sample_schedule.proofs.OrderLemmas.{lt_true, lt_false}
 
--- ---- the batches of keys
+-- ---- the batches to which keys belong
 
 held-cons : (s : Slab Accepted) (k : Key) (ks : List Key) (a : Accepted) → batch_of s k ≡ Some a → held s (k ∷ ks) ≡ a ∷ held s ks
 held-cons s k ks a e = ap (λ (o : Option Accepted). cons_option o (held s ks)) e

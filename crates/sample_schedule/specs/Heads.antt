@@ -64,8 +64,8 @@ want_of plan p far = record {
 
 -- ---- the head
 
--- The head that a packet's own timestamp gives: the timestamp's instant, and the number of the packet's first sample if
--- the stamped sample has number 0.
+-- The head that a packet's own timestamp gives: the timestamp's instant, and the number of the packet's first sample
+-- (the stamped sample has number 0).
 abbrev pub head_at : Packet → ℕ → Head
 head_at p timestamp = record { instant = unfolded timestamp p.arrival; first = neg_ℤ (pos (stamped_index p.rule)) }
 

@@ -328,8 +328,8 @@ impl Judge {
     }
 
     /// How many batches wait: at most the plan's `buffer`. Together they have at most `room` bytes. If nothing is due,
-    /// the waiting batches are all batches that were accepted and not yet returned. If nothing is due after `close`, no
-    /// batch waits.
+    /// the waiting batches are all batches that were accepted and not yet returned. After `close`, no batch waits once
+    /// `next_out` has returned `None`.
     pub fn held(&self) -> u32
         ensures held { result ≡ length self.now.waiting }
         ensures batches { result ≤ self.now.plan.buffer }

@@ -25,7 +25,7 @@ pub fn waiting_is_bounded()
     ensures bytes { (clock : Clock) (plan : SchedulePlan) (entries : List Entry) (i : ℕ) → total_bytes (waiting_at clock plan entries i) ≤ plan.room }
 {}
 
-/// Exactly the accepted items are presented, sorted by first instant and then by index.
+/// All accepted items and no others are presented, sorted by first instant and then by index.
 pub fn accepted_are_presented()
     ensures { (clock : Clock) (plan : SchedulePlan) (entries : List Entry) → presented (given clock plan entries) ≡ by_instant (accepted clock plan entries (length entries)) }
 {}

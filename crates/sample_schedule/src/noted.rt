@@ -67,7 +67,7 @@ impl Noted {
         }
     }
 
-    /// Notes a packet of the clock, if the plan has one. Allocates nothing.
+    /// If the plan has a clock, notes a packet of the clock. Allocates nothing.
     pub fn note_points(&mut self, points: &Points<'_>)
         requires { IsNotable (row_of points.now) }
         ensures { (plan : SchedulePlanValue) (entries : List EntryValue) (arrival : ℤ) → HasNoted plan entries self.old → HasNoted plan (entries ++ OfClock arrival (row_of points.now) ∷ []) self.new }
