@@ -125,7 +125,7 @@ given clock plan entries = steps clock plan entries (length entries) ++ rest_of 
 abbrev pub shown : Clock → SchedulePlan → List Entry → List Shown
 shown clock plan entries = map shown_of (given clock plan entries)
 
--- the number of entries that are judged before the list has ended: only entries with at least `look` entries after them
+-- the number of entries with at least `look` entries after them: before the list has ended, these entries are judged
 abbrev pub settled : SchedulePlan → List Entry → ℕ
 settled plan entries = length entries - plan.look
 
