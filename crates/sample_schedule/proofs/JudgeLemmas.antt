@@ -460,7 +460,7 @@ nothing : by_instant [] ≡ []
 unfolding by_instant
 nothing = refl
 
--- the state of a judge without a current entry, while more entries may follow
+-- the state of a judge without a current entry, if the list has not ended or an entry is left to judge
 pub record Idle (clock : Clock) (entries : List Entry) (given : ℕ) (s : JudgeState) : Type 0 where
   pub count : given ≡ length (steps clock s.plan entries s.place)
   pub waiting : s.waiting ≡ before_of clock entries s

@@ -135,7 +135,7 @@ impl Judge {
     }
 
     /// Takes the next item of the stream. All due items of the entries so far must have been returned, and the judge
-    /// must not be closed. At most 2^62 entries may be taken. Allocates nothing.
+    /// must not be closed. A judge must take at most 2^62 entries. Allocates nothing.
     #[inline(always)]
     pub fn step(&mut self, item: Item)
         requires open { self.old.closed ≡ false }
