@@ -11,8 +11,8 @@ use Rattle.sample_schedule.specs.declared.item.Packet.{Packet}
 use Rattle.sample_schedule.specs.declared.item.Unit.{Unit as WholeUnit}
 use Rattle.sample_schedule.specs.declared.plan.SchedulePlan.{SchedulePlan}
 
--- A plan within its limits. The buffer has 1 to 65,536 batches and 1 to 1,073,741,824 bytes. The look-ahead is at most
--- 64 entries. The lead is at most one second. The shift is from -1 to 1 second.
+-- A plan within its limits. The buffer has room for 1 to 65,536 batches, and for 1 to 1,073,741,824 bytes. The
+-- look-ahead is at most 64 entries. The lead is at most one second. The shift is from -1 to 1 second.
 pub record IsPlan (plan : SchedulePlan) : Type 0 where
   pub some_buffer : 1 ≤ plan.buffer
   pub buffer : plan.buffer ≤ 65536
