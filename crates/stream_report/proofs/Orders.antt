@@ -41,7 +41,7 @@ late-le first (number ∷ later) = more (late first later) (length later) (nat_l
 
 -- ---- what the place of a packet says
 
--- A packet whose number is not ahead of all others. `come` is true exactly if the number has arrived before.
+-- A packet whose number is not ahead of all others. `come` is true if and only if the number has arrived before.
 pub record Behind (first : ℕ) (later : List ℕ) (number : ℕ) (come : Bool) : Type 0 where
   pub within : number ≤ greatest first later
   pub is : has_come first later number ≡ come

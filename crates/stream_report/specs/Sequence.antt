@@ -1,6 +1,6 @@
 -- The numbers of a stream's packets. A talker gives its packets successive numbers without an upper limit. A packet's
 -- sequence number is its number modulo 256. A stream is described by the number of the packet that arrives first, and
--- by a list of the numbers of all later packets. The list begins with the packet that arrived last.
+-- by a list of the numbers of all later packets. The list begins with the number of the packet that arrived last.
 use Rattle.std.specs.Prelude.{◌≡◌, ℕ, zero, suc, ◌+◌, ◌-◌, ◌%◌, ◌≤◌, ◌<◌, ◌==◌, ◌||◌, max, min, nat_lt, Bool, if◌then◌else◌, List, [], ◌∷◌, length, ◌^◌}
 use Rattle.std.specs.Int.{bit_at}
 use Rattle.std.specs.List.{list_any}
@@ -18,20 +18,20 @@ abbrev pub greatest : ℕ → List ℕ → ℕ
 greatest first [] = first
 greatest first (number ∷ later) = max number (greatest first later)
 
--- the packet with this number has arrived
+-- whether the packet with this number has arrived
 abbrev pub has_come : ℕ → List ℕ → ℕ → Bool
 has_come first later number = first == number || list_any (λ come. come == number) later
 
 -- The place of the next packet, given the packet's number. If the number is ahead of all others, the place says how
--- many numbers the packet skips. Otherwise the packet is a repeat, is late because its number was skipped, or is from
--- before the stream's first packet.
+-- many numbers the packet skips. Otherwise the packet is a repeat, or it is late because its number was skipped, or its
+-- number is before the first packet's number.
 abbrev pub place_of : ℕ → List ℕ → ℕ → Place
 place_of first later number =
     if nat_lt (greatest first later) number then Ahead (number - greatest first later - 1) else
     if has_come first later number then Repeat else
     if nat_lt number first then Early else Late
 
--- of the `count` successive numbers that begin with `first`, how many have not arrived
+-- how many of the `count` successive numbers from `first` on have not arrived
 abbrev pub missing_among : ℕ → List ℕ → ℕ → ℕ
 missing_among first later zero = 0
 missing_among first later (suc count) = missing_among first later count + (if has_come first later (first + count) then 0 else 1)
@@ -41,9 +41,9 @@ missing_among first later (suc count) = missing_among first later count + (if ha
 abbrev pub lost : ℕ → List ℕ → ℕ
 lost first later = missing_among first later (greatest first later - first)
 
--- The number of lost packets after one more packet, which has this place. If the new packet is ahead, the number grows
--- by the number of packets that it skips. If the new packet is late, the number falls by one. Otherwise the number does
--- not change.
+-- The count of lost packets after one more packet, which has this place. If the place is `Ahead`, the count grows by
+-- the number of packets that the new packet skips. If the place is `Late`, the count falls by one. Otherwise the count
+-- does not change.
 abbrev pub lost_with : ℕ → Place → ℕ
 lost_with before (Ahead missing) = before + missing
 lost_with before Late = before - 1
@@ -55,8 +55,8 @@ abbrev pub repeats : ℕ → List ℕ → ℕ
 repeats first [] = 0
 repeats first (number ∷ later) = repeats first later + (if has_come first later number then 1 else 0)
 
--- How many packets are late. A late packet is not ahead of all packets that arrived earlier, and its number had not
--- arrived before.
+-- How many packets are late. A packet is late if a packet with a greater number arrived before it, and no packet with
+-- the same number did.
 abbrev pub late : ℕ → List ℕ → ℕ
 late first [] = 0
 late first (number ∷ later) = late first later + (if nat_lt (greatest first later) number then 0 else if has_come first later number then 0 else 1)
@@ -95,8 +95,8 @@ pub record Few (first : ℕ) (later : List ℕ) : Type 0 where
   pub numbers : greatest first later < 2 ^ 64
   pub packets : length later < 2 ^ 64
 
--- The counts of a stream's packets are right: how many packets are lost, repeated and late, and the maximum number of
--- packets that a single packet skipped.
+-- The window of `order` describes a stream's packets, and the counts of `order` are right: how many packets are lost,
+-- repeated and late, and the maximum number of packets that a single packet skipped.
 pub record CountsOf (order : Order) (first : ℕ) (later : List ℕ) : Type 0 where
   pub window : StandsFor order.window first later
   pub lost : order.lost.count ≡ lost first later

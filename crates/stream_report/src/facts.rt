@@ -12,7 +12,7 @@ use iec61883_format::{IecView, anchor_index, rate_of_fdf, syt_interval};
 /// The format of a stream's packets.
 #[derive(Clone, Copy, PartialEq, Eq)]
 pub enum Format {
-    /// PCM of AAF. The depth is the field `bit_depth`: 0 means all bits.
+    /// PCM of AAF. `depth` is the field `bit_depth`, in which 0 means that all bits of a sample are used.
     Aaf {
         format: AafFormat,
         rate: Option<u32>,
@@ -54,9 +54,10 @@ impl Format {
 /// Counts of the labels of a packet's AM824 quadlets.
 #[derive(Clone, Copy)]
 pub struct Labels {
-    /// The number of labels other than 0x40.
+    /// The number of quadlets with a label other than 0x40.
     pub other: u32,
-    /// The number of labels that IEC 61883-6 reserves. `first_reserved` is the first of them.
+    /// The number of quadlets whose label is reserved by IEC 61883-6. `first_reserved` is the label of the first such
+    /// quadlet.
     pub reserved: u32,
     pub first_reserved: u8,
 }

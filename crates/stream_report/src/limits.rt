@@ -31,7 +31,7 @@ pub const LEAST_DRIFT_TIME: u64 = 500_000_000;
 pub const DRIFT_PART: u64 = 4;
 
 /// An arrival is uneven if the time since the previous arrival differs from the previous packet's duration by more than
-/// half of that duration, and by more than 50 microseconds. Capture timestamps that are not made by hardware may
+/// half of that duration, and by more than 50 microseconds. Capture timestamps that are not made by hardware can
 /// themselves be wrong by 50 microseconds.
 pub const LEAST_UNEVEN: u64 = 50_000;
 

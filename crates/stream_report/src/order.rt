@@ -11,7 +11,8 @@ use crate::tally::{At, Tally};
 #[derive(Clone, Copy)]
 pub struct Order {
     window: Window,
-    /// Packets that are missing. `most_lost` is the greatest number of packets that are missing in a row.
+    /// Packets that are missing. `most_lost` is the greatest number of packets that a single packet skipped when it
+    /// arrived.
     pub lost: Tally,
     pub most_lost: u64,
     /// Packets whose sequence number had arrived before.

@@ -135,7 +135,8 @@ pub struct Pace {
     /// way.
     pub by_first: Misses,
     /// The misses of timestamps with swapped bytes, on the assumption of `by_anchor`. `swapped_by_first` holds such
-    /// misses on the assumption of `by_first`. Bytes are swapped only in timestamps that miss with unchanged bytes.
+    /// misses on the assumption of `by_first`. A timestamp is tried with swapped bytes only if, with its bytes as they
+    /// are, it is a miss on both assumptions.
     pub swapped_by_anchor: Misses,
     pub swapped_by_first: Misses,
 }
