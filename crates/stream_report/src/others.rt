@@ -10,7 +10,7 @@ use std::fmt;
 /// A kind of frame other than a packet of a supported stream.
 #[derive(Clone, Copy, PartialEq, Eq)]
 pub enum Other {
-    /// A frame of another EtherType.
+    /// A frame with an EtherType other than AVTP's.
     Ethertype(u16),
     /// AVTP in UDP over IPv4 or IPv6 (IEEE 1722-2016, annex J).
     Udp,
@@ -24,7 +24,7 @@ pub enum Other {
     CvfFormat { format: u8, subtype: u8 },
     /// An IEC 61883 packet of a part other than IEC 61883-6, with its code FMT.
     IecFormat(u8),
-    /// A stream packet whose stream ID is not valid, with its subtype.
+    /// A stream packet whose stream ID is not valid, with the packet's subtype.
     NoStream(u8),
     /// A frame that is cut off, or an AVTP packet that is refused and whose stream is not known.
     Malformed(Field),
@@ -93,7 +93,7 @@ const CONTROL_PORT: u16 = 17221;
 /// The protocol number of UDP in IP.
 const UDP: u8 = 17;
 
-/// The kind of a frame if no AVTP packet follows directly after its header.
+/// The kind of a frame in which no AVTP packet directly follows the header.
 pub fn other_frame(frame: &FrameView<'_>) -> Other {
     match frame.ethertype {
         SERVICE_TAG | OLD_SERVICE_TAG | CUSTOMER_TAG => Other::TwoTags,

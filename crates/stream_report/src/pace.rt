@@ -3,9 +3,9 @@
 use crate::rate::Beat;
 use crate::tally::At;
 
-/// A timestamp is allowed to be off by 1 / `PART_OF_PACKET` of a packet's duration, plus 1 / `PART_OF_ADVANCE` of the
-/// time since the previous timestamp. The reasons are that a talker rounds timestamps, and that a media clock does not
-/// run exactly at its nominal speed.
+/// A timestamp is allowed to be off by 1 / `PART_OF_PACKET` of the duration of the previous packet with a timestamp,
+/// plus 1 / `PART_OF_ADVANCE` of the advance that the timestamp should have. The reasons are that a talker rounds
+/// timestamps, and that a media clock does not run exactly at its nominal speed.
 const PART_OF_PACKET: u64 = 8;
 
 const PART_OF_ADVANCE: u64 = 1024;
@@ -17,7 +17,7 @@ const MOST_ADVANCE: i64 = 1_000_000_000;
 /// A timestamp of 32 or 64 bits.
 #[derive(Clone, Copy)]
 pub enum Stamp {
-    /// A timestamp of an AVTP stream: nanoseconds modulo 2^32.
+    /// The field `avtp_timestamp` of a packet: nanoseconds modulo 2^32.
     Short(u32),
     /// A timestamp of a media clock: nanoseconds.
     Long(u64),
@@ -43,8 +43,8 @@ impl Stamp {
         }
     }
 
-    /// The difference of two leads. For AVTP streams, `difference` is known only modulo 2^32, and the possible value
-    /// that is nearest to 0 is returned.
+    /// The difference of two leads. For timestamps of 32 bits, `difference` is known only modulo 2^32, and the possible
+    /// value that is nearest to 0 is returned.
     pub fn wrapped(self, difference: i64) -> i64 {
         match self {
             Stamp::Short(_) => {
@@ -77,7 +77,7 @@ pub struct Stamped {
     pub first: u64,
     /// The index, among the packet's events, of the event that the timestamp belongs to according to the standard.
     pub anchor: u32,
-    /// The number of the packet's events.
+    /// How many events the packet has.
     pub count: u32,
 }
 
@@ -164,8 +164,8 @@ impl Pace {
         told: 0,
     };
 
-    /// Keeps the next timestamp from being compared with earlier timestamps. This is needed after a restart of the
-    /// media clock, after missing packets, and after a block count that does not continue.
+    /// After this call, the next timestamp is not compared with earlier timestamps. This is needed after a restart of
+    /// the media clock, after missing packets, and if a block count does not continue the previous one.
     pub fn restart(&mut self) {
         self.last = None;
     }
@@ -217,8 +217,8 @@ impl Pace {
         }
     }
 
-    /// Notes a timestamp of a stream with a rate. If `by_anchor` and `by_first` expect the same advance, one comparison
-    /// is enough.
+    /// Notes a timestamp of a stream with a rate. If `by_anchor` and `by_first` expect the same advance, and the
+    /// timestamp has it, one comparison is enough.
     fn note_paced(
         &mut self,
         last: &Stamped,

@@ -15,7 +15,7 @@ const SIDE: usize = 58 * 64;
 const NARROW: u64 = 128;
 
 /// The number of values in each bucket, from the lowest bucket in use to the highest. The values of a bucket differ by
-/// at most a 64th, so a percentile is exact to 1.6 %.
+/// at most a 64th of the smallest magnitude among them, so a percentile is exact to 1.6 %.
 #[derive(Drop)]
 pub struct Spread {
     counts: Vec<u32>,

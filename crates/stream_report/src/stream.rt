@@ -90,7 +90,7 @@ pub struct Stream {
     /// The times between the arrivals of successive packets in the capture, in nanoseconds.
     pub distances: Spread,
     /// The leads: timestamp minus arrival, in nanoseconds. The leads of a media clock are exact. Other leads are known
-    /// modulo 2^32, and are at least -2^31 and below 2^31.
+    /// only modulo 2^32, and are kept as numbers from -2^31 to 2^31 - 1.
     pub leads: Spread,
     /// `None` if no pictures are wanted.
     pub trace: Option<Trace>,
@@ -101,7 +101,7 @@ pub struct Stream {
     pub first: At,
     /// The number of events in the first packet that has any events.
     pub count: u32,
-    /// The leads below 0.
+    /// Packets whose lead is below 0.
     pub late: Tally,
     /// Uneven arrivals: the time since the previous arrival differs too much from the previous packet's duration.
     pub uneven: Tally,
@@ -132,7 +132,7 @@ enum Step {
     Next,
     /// This many packets are missing before the packet.
     After(u64),
-    /// The packet arrived after later packets, and was counted as missing.
+    /// The packet arrived after packets with later numbers, and was counted as missing.
     Late,
     /// The packet's number is before the first packet's number.
     Early,
@@ -288,7 +288,7 @@ impl Stream {
         self.reserved_labels.add(u64::from(labels.reserved), at);
     }
 
-    /// Keeps the rate and the number of events of the first packet that has them.
+    /// Keeps the number of events of the first packet that has any, and the rate of the first packet that has one.
     fn note_time(&mut self, facts: &Facts) {
         if self.count == 0 {
             self.count = facts.count;
@@ -311,13 +311,13 @@ impl Stream {
         }
     }
 
-    /// Packets that are missing. A gap of more than 191 packets is recognized only if the stream paused. Otherwise the
-    /// packet after the gap counts as an earlier packet.
+    /// Packets that are missing. The length of a gap is known modulo 256. If this length exceeds 191 and the stream did
+    /// not pause, the packet after the gap counts as an earlier packet.
     pub fn lost(&self) -> Tally {
         self.counted().lost
     }
 
-    /// The greatest number of packets that are missing in a row.
+    /// The greatest number of packets that a single packet skipped when it arrived.
     pub fn most_lost(&self) -> u64 {
         self.counted().most_lost
     }
@@ -370,8 +370,8 @@ impl Stream {
         }
     }
 
-    /// Counts a restart of the media clock, if `mr` has changed, and keeps the packet as the newest. Returns whether
-    /// there was a restart.
+    /// Counts a restart of the media clock if `mr` has changed. In any case, keeps the packet as the newest. Returns
+    /// whether there was a restart.
     fn note_restart(&mut self, at: At, facts: &Facts, missing: u64) -> bool {
         let (restarted, held) = match &self.last {
             Some(last) => (last.mr != facts.mr, last.held),
@@ -396,7 +396,7 @@ impl Stream {
         restarted
     }
 
-    /// Whether the packet's block count continues the block count of the packet directly before. If it does not, the
+    /// Whether the packet's block count continues the block count of the packet directly before it. If it does not, the
     /// packet is counted in `blocks`. True if one of the block counts is not known.
     fn note_block_count(&mut self, at: At, facts: &Facts, last: Option<Last>) -> bool {
         let Some(last) = last else {
@@ -427,8 +427,8 @@ impl Stream {
         }
     }
 
-    /// Counts a packet that lacks a timestamp or has an unwanted one. Compares the packet's timestamp with the previous
-    /// timestamp.
+    /// Counts the packet if it lacks a timestamp that it should have, or has one that it should not have. Compares the
+    /// packet's timestamp with the previous timestamp, unless the packet's timestamp is uncertain.
     fn note_stamp(&mut self, came: &Came, facts: &Facts, restarted: bool) {
         if facts.stamp_wrong {
             match facts.stamp {

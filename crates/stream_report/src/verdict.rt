@@ -40,7 +40,7 @@ pub enum Verdict {
     Senders {
         packets: Tally,
     },
-    /// Packets that are missing, and the greatest number of packets that are missing in a row.
+    /// Packets that are missing, and the greatest number of packets that a single packet skipped when it arrived.
     Lost {
         packets: Tally,
         most: u64,

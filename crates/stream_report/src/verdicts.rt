@@ -89,10 +89,10 @@ fn order_verdict(stream: &Stream) -> Option<Verdict> {
     })
 }
 
-/// The verdict that presentation times are far from the packets' arrivals. The verdict is given if the median lead is
-/// negative or above a quarter of a second. For a media clock, the verdict is given if the median lead is more than a
-/// quarter of a second away from 0. A median that is slightly negative is normal for a media clock, because its
-/// timestamps are the times of the clock's events, which can be in the past.
+/// The verdict that presentation times are far from the packets' arrivals. For a stream that is not a media clock, the
+/// verdict is given if the median lead is negative or above a quarter of a second. For a media clock, the verdict is
+/// given if the median lead is more than a quarter of a second away from 0. A median that is slightly negative is
+/// normal for a media clock, because its timestamps are the times of the clock's events, which can be in the past.
 fn clocks_verdict(stream: &Stream) -> Option<Verdict> {
     let lead = stream.leads.percentile(50)?;
     let exact = stream.key.subtype == subtype::CRF;
@@ -131,8 +131,8 @@ fn near_zero(number: i64) -> i64 {
     i64::from(u32::try_from(low).unwrap_or(0).cast_signed())
 }
 
-/// The verdict that packets arrived after their presentation time. The verdict is given if these packets outnumber the
-/// timestamps that do not advance as they should.
+/// The verdict that packets arrived after their presentation time. The verdict is given if the stream is not a media
+/// clock and these packets outnumber the timestamps that do not advance as they should.
 fn late_verdict(stream: &Stream) -> Option<Verdict> {
     let explained = stream.pace.misses().count;
     if stream.key.subtype == subtype::CRF || stream.late.count <= explained {
@@ -220,7 +220,7 @@ fn labels_verdict(stream: &Stream) -> Option<Verdict> {
     (quadlets.count > 0).then_some(Verdict::Labels { quadlets, label })
 }
 
-/// Adds a verdict for each count of something that is always wrong.
+/// For each thing that is always wrong, adds a verdict if the thing was counted at least once.
 fn add_counted(verdicts: &mut Vec<Verdict>, stream: &Stream) -> Result<(), NoMemory> {
     add_if_any(
         verdicts,
