@@ -66,8 +66,8 @@ abbrev pub most_passed : ℕ → List ℕ → ℕ
 most_passed first [] = 0
 most_passed first (number ∷ later) = max (most_passed first later) (number - greatest first later - 1)
 
--- `number` exceeds the greatest number by at most 192, or is one of the 64 numbers that end with the greatest. The
--- packet's sequence number therefore determines `number`.
+-- `number` exceeds the greatest number by at most 192, or is one of the 64 numbers up to and including the greatest.
+-- The packet's sequence number therefore determines `number`.
 pub record Follows (first : ℕ) (later : List ℕ) (number : ℕ) : Type 0 where
   pub most : number ≤ greatest first later + 192
   pub least : greatest first later < number + 64
@@ -83,8 +83,8 @@ pub record Returns (first : ℕ) (later : List ℕ) (number behind : ℕ) : Type
   pub near : behind < 64
 
 -- A window describes the packets of a stream. The window holds the greatest number modulo 256. It knows which of the 64
--- numbers that end with the greatest have arrived. It also knows how far the first number is before the greatest, up to
--- 64.
+-- numbers up to and including the greatest have arrived. It also knows how far the first number is before the greatest,
+-- up to 64.
 pub record StandsFor (window : Window) (first : ℕ) (later : List ℕ) : Type 0 where
   pub newest : window.newest ≡ greatest first later % 256
   pub came : (number behind : ℕ) → Returns first later number behind → (bit_at window.came behind == 1) ≡ has_come first later number

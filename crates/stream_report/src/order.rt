@@ -1,4 +1,5 @@
-//! How many packets of a stream are lost, how many arrived more than once, and how many arrived after later packets.
+//! How many packets of a stream are lost, how many arrived more than once, and how many arrived after packets with
+//! later numbers.
 
 ghost use Rattle.std.specs.Prelude.{◌≡◌, ◌-◌, ◌%◌, ◌≤◌, ℕ, List, [], ◌∷◌};
 ghost use Rattle.stream_report.specs.Sequence.{CountsOf, Few, Follows, Passes, StandsFor, greatest, place_of};
@@ -17,7 +18,7 @@ pub struct Order {
     pub most_lost: u64,
     /// Packets whose sequence number had arrived before.
     pub repeated: Tally,
-    /// Packets that arrived after later packets.
+    /// Packets that arrived after packets with later numbers.
     pub late: Tally,
 }
 

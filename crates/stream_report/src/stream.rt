@@ -311,8 +311,8 @@ impl Stream {
         }
     }
 
-    /// Packets that are missing. The length of a gap is known modulo 256. If this length exceeds 191 and the stream did
-    /// not pause, the packet after the gap counts as an earlier packet.
+    /// Packets that are missing. The length of a gap is known only modulo 256, as a number from 0 to 255. If this
+    /// number exceeds 191 and the stream did not pause, the packet after the gap counts as an earlier packet.
     pub fn lost(&self) -> Tally {
         self.counted().lost
     }
@@ -327,7 +327,7 @@ impl Stream {
         self.counted().repeated
     }
 
-    /// Packets that arrived after later packets.
+    /// Packets that arrived after packets with later numbers.
     pub fn reordered(&self) -> Tally {
         self.counted().late
     }

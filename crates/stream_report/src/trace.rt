@@ -4,7 +4,8 @@ use avtp_base::NoMemory;
 use std::alloc::Global;
 use std::mem;
 
-/// The maximum number of columns of a stream. If one more column is needed, each pair of columns is merged into one.
+/// The maximum number of columns of a stream. When there are so many, the columns are made twice as wide, which merges
+/// neighboring columns.
 const MOST_COLUMNS: usize = 512;
 
 /// At first, each column is 2^16 ns wide, some 66 microseconds.
@@ -48,11 +49,12 @@ fn either(one: Option<Range>, other: Option<Range>) -> Option<Range> {
 /// The packets of one interval of time.
 #[derive(Clone, Copy)]
 pub struct Column {
-    /// The index of the interval, which begins `slot` column widths after the capture's first packet.
+    /// The index of the interval, which begins `slot` column widths after the arrival of the capture's first frame.
     pub slot: u64,
     pub lead: Option<Range>,
     pub distance: Option<Range>,
-    /// The number of packets that are missing before a packet of the interval, and did not arrive late.
+    /// The number of packets that are missing directly before packets of the interval. `take_back` subtracts packets
+    /// that arrived late.
     pub lost: u64,
 }
 
@@ -90,7 +92,7 @@ impl Trace {
         1u64.checked_shl(self.shift).unwrap_or(u64::MAX)
     }
 
-    /// Notes a packet that arrived `since` nanoseconds after the capture's first packet.
+    /// Notes a packet that arrived `since` nanoseconds after the capture's first frame.
     pub fn note(&mut self, since: u64, mut added: Column) -> Result<(), NoMemory> {
         for _ in FIRST_SHIFT..LAST_SHIFT {
             if self.columns.len() < MOST_COLUMNS {

@@ -26,7 +26,7 @@ pub enum Verdict {
         swapped: bool,
     },
     /// Presentation times are far from the packets' arrivals. `lead` is the median distance. If `exact` is true, the
-    /// distance is exact. Otherwise the distance is known modulo 2^32.
+    /// distance is exact. Otherwise the distance is known only modulo 2^32.
     Clocks {
         lead: i64,
         guess: ClockGuess,
@@ -70,7 +70,7 @@ pub enum Verdict {
     Repeated {
         packets: Tally,
     },
-    /// Packets that arrived after later packets.
+    /// Packets that arrived after packets with later numbers.
     Reordered {
         packets: Tally,
     },

@@ -220,7 +220,7 @@ fn labels_verdict(stream: &Stream) -> Option<Verdict> {
     (quadlets.count > 0).then_some(Verdict::Labels { quadlets, label })
 }
 
-/// For each thing that is always wrong, adds a verdict if the thing was counted at least once.
+/// For each count of something that is always wrong, adds a verdict if the count is above 0.
 fn add_counted(verdicts: &mut Vec<Verdict>, stream: &Stream) -> Result<(), NoMemory> {
     add_if_any(
         verdicts,
