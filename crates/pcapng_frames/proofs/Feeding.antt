@@ -183,7 +183,7 @@ block_ends c d interfaces others part tail front next clear whole refusal none p
       ∙ sym (going (place_of d others next) d.skip (part_at d.stage next clear) whole refusal more none partial))));
 }
 
--- after the needed bytes of a block, the reader is before an option or a trailer of which no byte was taken
+-- once the needed bytes of a block were taken, the reader is before an option or a trailer, and has taken no byte of it
 pub inside_part : (d : Cursor) (others : List Interface) (next clear front : List ℕ) (passed : ℕ) → HasEntered d front passed → IfSome d.interface (λ i. length others < 256) → clear ≡ []
     → IsPart (place_of d others next) d.skip (part_at d.stage next clear)
 inside_part d others next clear front passed entered room empty =
@@ -379,7 +379,7 @@ trailer_whole c interfaces part tail refusal whole none held is zero total size 
 and_nothing : (packet : Option Record) (rest : Contents) → packet ≡ None → and_then packet rest ≡ rest
 and_nothing packet rest e = rw e refl
 
--- after the trailer of a block without a packet, the reader moves to the next place
+-- once the trailer of a block that holds no packet is complete, the reader moves to the next place
 pub trailer_ends : (c : Cursor) (interfaces : List Interface) (part tail more : List ℕ) (q : Place) → c.stage ≡ stage.Trailer → length tail ≡ 4 → trailer_refused (order_or_little c.order) (c.start + (c.total - 4)) c.total tail ≡ None → is_some c.packet ≡ false → q ≡ after_trailer (place_of c interfaces part)
     → contents_past 0 (place_of c interfaces part) tail more ≡ contents_past 0 q [] more
 trailer_ends c interfaces part tail more q is size accepted free next =

@@ -193,7 +193,7 @@ free_held : (refusal : Option Refusal) (whole : Bool) (packet : Option Record) �
 free_held (Some why) whole packet free = refl
 free_held None whole packet free = rw free refl
 
--- before the next block, the reader has taken exactly the bytes before that block
+-- if the reader is before the block of the next packet, it has taken all bytes before that block and no others
 pub before_block : (r : Reading) (block : List ℕ) → IsNext r block → taken r ≡ r.place.start
 before_block r block next = omega (arith, passed_none r.place.stage r.skip r.place.left r.place.total next.before, ap length next.untaken)
 

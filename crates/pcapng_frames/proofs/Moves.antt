@@ -74,7 +74,7 @@ pub read_nothing : (r : Reading) → r ≡ nothing_read → HasRead r [] []
 unfolding contents
 read_nothing r e = record { read = λ more. rw e (sym (past_none first_place [] more)) }
 
--- before a block of which no byte was taken, the reader's invariant holds
+-- if the reader is before a block and has taken no byte of it, the reader's invariant holds
 pub block_begins : (c : Cursor) (interfaces : List Interface) (front part : List ℕ) → c.stage ≡ stage.Block → c.skip ≡ 0 → c.interface ≡ None → c.packet ≡ None → part ≡ [] → IsPart (place_of c interfaces front) c.skip part
 unfolding refusal_here block_need block_refused
 block_begins c interfaces front part at_block none no_interface no_packet e = rw (at_block, none, no_interface, no_packet, e) (record { accepted = refl; partial = omega arith; ahead = refl; room = tt; free = (refl, refl) })

@@ -119,14 +119,14 @@ size_eight kind.Interface total = omega arith
 size_eight kind.Packet total = omega arith
 size_eight kind.Other total = omega arith
 
--- while needed bytes of an accepted block are missing, the bytes so far end before the next place
+-- if needed bytes of an accepted block are missing, the bytes that are present end before the next place
 pub block_lacks : (order : Option Order) (interfaces : List Interface) (start : ℕ) (bytes : List ℕ) → block_refused order interfaces start bytes ≡ None → length bytes < block_need order bytes → length bytes < size_of_any order bytes
 block_lacks order interfaces start bytes h partial = elim (cases_lt (length bytes) 8) [
   | inl short ↦ omega (arith, size_eight (kind_at order bytes) (number_at (order_at (kind_at order bytes) order bytes) 4 4 bytes))
   | inr long ↦ head_lacks (kind_at order bytes) order interfaces start bytes (kind_accepted (kind_at order bytes) order interfaces start bytes refl (omega arith) h) (omega (arith, need_long order bytes long))
 ]
 
--- if a piece completes the needed bytes of a block, exactly the needed bytes were taken
+-- if a piece completes the needed bytes of a block, these bytes and no others were taken
 pub block_came : (order : Option Order) (part piece next : List ℕ) (n : ℕ) → length part < block_need order part → n ≡ min (length piece) (block_need order part - length part) → next ≡ part ++ take n piece → block_need order next ≤ length next
     → (8 ≤ length next) × (length next ≡ block_need order next)
 block_came order part piece next n partial is grown came =
@@ -135,7 +135,7 @@ block_came order part piece next n partial is grown came =
     let kept = rw (← grown) at keeps in
     (omega (arith, kept, need_eight order next), omega (arith, kept))
 
--- if a piece completes the needed bytes of an option, exactly the needed bytes were taken
+-- if a piece completes the needed bytes of an option, these bytes and no others were taken
 pub option_came : (order : Order) (part piece next : List ℕ) (n : ℕ) → length part < option_need order part → n ≡ min (length piece) (option_need order part - length part) → next ≡ part ++ take n piece → option_need order next ≤ length next
     → (4 ≤ length next) × (length next ≡ option_need order next)
 option_came order part piece next n partial is grown came =

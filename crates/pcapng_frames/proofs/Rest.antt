@@ -52,7 +52,8 @@ settled_cut p bytes = settled_if (ends_at p.stage p.order p.start (length bytes)
 less_true : {X : Type 0} (n m : ℕ) (x y : X) → n < m → (if nat_lt n m then x else y) ≡ x
 less_true n m x y h = grind (arith, nat_tests)
 
--- if nothing at a place is refused and the bytes end before the next place, the contents end there
+-- if nothing at a place is refused and the bytes end before the next place, `cut_short` gives the contents from the
+-- place on
 pub cut_at : (p : Place) (bytes : List ℕ) → refusal_here p bytes ≡ None → length bytes < size_here p bytes → contents_at p bytes ≡ cut_short p bytes
 cut_at p bytes none short =
     unroll p bytes

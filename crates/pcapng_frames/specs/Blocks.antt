@@ -94,8 +94,8 @@ option_refused order at left bytes = first_refused at (length bytes) (option_row
 abbrev pub trailer_rows : Order → ℕ → List ℕ → List Row
 trailer_rows order total bytes = row BlockTrailer 0 4 (not (nat_eq (number_at order 0 4 bytes) total)) ∷ []
 
--- If the bytes contain the whole trailer of a block and it does not repeat the block's total length, the refusal of the
--- trailer.
+-- The refusal of a block's trailer, if the bytes contain the whole trailer and it does not repeat the block's total
+-- length.
 unfoldable pub trailer_refused : Order → ℕ → ℕ → List ℕ → Option Refusal
 trailer_refused order at total bytes = first_refused at (length bytes) (trailer_rows order total bytes)
 
@@ -139,7 +139,7 @@ size_by stage.Trailer p bytes = 4
 unfoldable pub size_here : Place → List ℕ → ℕ
 size_here p bytes = size_by p.stage p bytes
 
--- the packet of the enhanced packet block that the bytes begin with, if it has an arrival
+-- the packet of the enhanced packet block that the bytes begin with, if the packet has an arrival
 abbrev pub record_by : Option ℤ → Order → List ℕ → Option Record
 record_by None order bytes = None
 record_by (Some arrival) order bytes = Some (record {
@@ -148,8 +148,8 @@ record_by (Some arrival) order bytes = Some (record {
   bytes = take (number_at order 20 4 bytes) (drop 28 bytes);
 })
 
--- The place after the fixed fields of an interface description, after the body of another block, or after an option. If
--- bytes of options remain, an option follows; otherwise the trailer follows.
+-- The place after the fixed fields of an interface description, after the body of a block of another kind, or after an
+-- option. If bytes of options remain, an option follows; otherwise the trailer follows.
 abbrev pub in_block : Place → Option Order → List Interface → Option Interface → ℕ → ℕ → Option Record → Place
 in_block p order interfaces interface total left packet = record {
   stage = if nat_eq left 0 then stage.Trailer else stage.Option;

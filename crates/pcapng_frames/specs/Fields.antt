@@ -21,7 +21,7 @@ kind_of n =
     else if nat_eq n 6 then kind.Packet
     else kind.Other
 
--- the byte order of a section whose magic number is this number when read as little-endian
+-- the byte order of a section whose magic number, read as little-endian, has this value
 abbrev pub order_of_magic : ℕ → Option Order
 order_of_magic n = if nat_eq n 0x1A2B3C4D then Some Little else if nat_eq n 0x4D3C2B1A then Some Big else None
 
@@ -51,9 +51,9 @@ row field offset end refuses = record { field = field; offset = offset; end = en
 abbrev pub refusal_at : Field → ℕ → Refusal
 refusal_at field at = record { field = field; at = at; short = false }
 
--- The first refusal of a table's rows. A row is checked only if its `end` is at most `len`. The rows of each table are
--- ordered by `end`. Therefore no row is checked after a row whose bytes are missing. The bytes begin at offset `start`
--- of the capture.
+-- The first refusal among the rows of a table. A row is checked only if its `end` is at most `len`. The rows of each
+-- table are ordered by `end`. Therefore no row is checked after a row whose bytes are missing. The bytes begin at
+-- offset `start` of the capture.
 abbrev pub first_refused : ℕ → ℕ → List Row → Option Refusal
 first_refused start len [] = None
 first_refused start len (r ∷ rows) =
@@ -72,7 +72,8 @@ section_rows order bytes =
     ∷ row SectionVersion 12 14 (not (nat_eq (number_at order 12 2 bytes) 1))
     ∷ []
 
--- the fields that are checked in an interface description, if the section has `count` interfaces before it
+-- the fields that are checked in an interface description that follows `count` other interface descriptions in its
+-- section
 abbrev pub interface_rows : Order → ℕ → List ℕ → List Row
 interface_rows order count bytes =
     row BlockLength 4 8 (bad_length kind.Interface (number_at order 4 4 bytes))
@@ -126,7 +127,7 @@ option_rows code len left bytes =
     ∷ row IfTsresol 0 5 (nat_eq code 9 && not (is_resolution (slice_index bytes 4)))
     ∷ []
 
--- The interface after the option that the bytes begin with. If an option occurs twice, the later one counts.
+-- The interface once the option that the bytes begin with was read. If an option occurs twice, the later one counts.
 abbrev pub with_option : Order → ℕ → Interface → List ℕ → Interface
 with_option order code interface bytes =
     if nat_eq code 9 then record interface { resolution = slice_index bytes 4 }
