@@ -19,7 +19,8 @@ use Rattle.pcapng_frames.specs.state.Fields.{AllResolved}
 pub power_some : (a k : ℕ) → 1 ≤ a → 1 ≤ a ^ k
 power_some a k h = one-le-pow k a h
 
--- if a unit is at least a nanosecond, the instant in nanoseconds is the timestamp times a power of 10
+-- if the unit is 10^-k seconds and at least a nanosecond, the instant in nanoseconds is the timestamp times a power of
+-- 10
 pub long_units : (x k : ℕ) → k ≤ 9 → x * 10 ^ (9 - k) ≡ x * 1000000000 / 10 ^ k
 long_units x k h =
     let nine : (9 - k) + k ≡ 9 = omega arith in
@@ -27,7 +28,8 @@ long_units x k h =
     let all : x * 1000000000 ≡ x * 10 ^ (9 - k) * 10 ^ k = ap (λ (n : ℕ). x * n) (sym whole) ∙ sym (mul_assoc x (10 ^ (9 - k)) (10 ^ k)) in
     sym (div-eq_of_eq-mul_left (power_some 10 k (omega arith)) all)
 
--- if a unit is at most a nanosecond, the instant in nanoseconds is the timestamp divided by a power of 10, rounded down
+-- if the unit is 10^-k seconds and at most a nanosecond, the instant in nanoseconds is the timestamp divided by a power
+-- of 10, rounded down
 pub short_units : (x k : ℕ) → 9 ≤ k → x / 10 ^ (k - 9) ≡ x * 1000000000 / 10 ^ k
 short_units x k h =
     let more : k ≡ (k - 9) + 9 = omega arith in
@@ -54,14 +56,14 @@ microsecond_instant interface x epoch unit =
     let long : x * 1000 ≡ x * 1000000000 / 1000000 = long_units x 6 (omega arith) in
     instant_is interface x (x * 1000) epoch (ap (λ (k : ℕ). x * 1000000000 / units k) unit ∙ sym long)
 
--- if a clock counts nanoseconds from the epoch, the arrival is the timestamp
+-- if a clock counts nanoseconds from the epoch and the timestamp is in range, the arrival is the timestamp
 pub nanosecond_arrival : (interface : Interface) (x : ℕ) → interface.offset ≡ pos 0 → interface.resolution ≡ 9 → x < 4294967296000000000 → arrival_of interface x ≡ Some (pos x)
 nanosecond_arrival interface x epoch unit early = in_time (instant interface x) x (nanosecond_instant interface x epoch unit) early
 
 pub nanosecond_late : (interface : Interface) (x : ℕ) → interface.offset ≡ pos 0 → interface.resolution ≡ 9 → 4294967296000000000 ≤ x → arrival_of interface x ≡ None
 nanosecond_late interface x epoch unit late = out_of_time (instant interface x) x (nanosecond_instant interface x epoch unit) late
 
--- if a clock counts microseconds from the epoch, the arrival is 1000 times the timestamp
+-- if a clock counts microseconds from the epoch and the timestamp is in range, the arrival is 1000 times the timestamp
 pub microsecond_arrival : (interface : Interface) (x : ℕ) → interface.offset ≡ pos 0 → interface.resolution ≡ 6 → x < 4294967296000000 → arrival_of interface x ≡ Some (pos (x * 1000))
 microsecond_arrival interface x epoch unit early = in_time (instant interface x) (x * 1000) (microsecond_instant interface x epoch unit) (omega arith)
 

@@ -1,4 +1,5 @@
--- Further bytes do not change what the rows of a block's kind refuse.
+-- If a field of an interface description, a packet's block or a skipped block is refused, or if all its checked fields
+-- are present, further bytes do not change its first refusal.
 use Rattle.std.proofs.Common.{◌≡◌, ℕ, ◌≤◌, List, ◌++◌, length, Option, None, refl, arith, length-append}
 use Rattle.std.proofs.lemmas.Bool.Decides.{nat_tests}
 use Rattle.avtp_base.specs.declared.refusal.Refusal.{Refusal}

@@ -25,7 +25,8 @@ pub const INTERFACE_DESCRIPTION: u32 = 1;
 
 pub const ENHANCED_PACKET: u32 = 6;
 
-/// The magic number of a section, and the same number with its bytes swapped, as it reads in the other byte order.
+/// The magic number of a section. `SWAPPED_MAGIC` is the value that is read if the magic number was written in the
+/// other byte order.
 const MAGIC: u32 = 0x1A2B_3C4D;
 
 const SWAPPED_MAGIC: u32 = 0x4D3C_2B1A;
@@ -70,7 +71,7 @@ pub fn kind_of(block_type: u32) -> Kind
     }
 }
 
-/// The byte order of a section with this magic number, read as little-endian.
+/// The byte order of a section whose magic number, read as little-endian, is `magic`.
 pub fn order_of_magic(magic: u32) -> Option<Order>
     ensures { result ≡ order_of_number magic }
 {

@@ -84,11 +84,11 @@ impl Ng {
 
     /// Takes bytes up to the end of one packet's block or of the piece, and returns how many it took.
     ///
-    /// While nothing is refused, the call returns `Ok(0)` exactly if the piece is empty or a whole packet is held. As
-    /// soon as the bytes so far show the first refusal of the capture, the call returns that refusal. From then on
+    /// While nothing is refused, the call returns `Ok(0)` if and only if the piece is empty or a whole packet is held.
+    /// As soon as the bytes so far show the first refusal of the capture, the call returns that refusal. From then on
     /// every `feed` and every `finish` returns the same refusal.
     ///
-    /// At most 2^62 bytes may be taken in all, including the piece.
+    /// The bytes taken before and the bytes of the piece must together number at most 2^62.
     pub fn feed(&mut self, piece: &[u8]) -> Result<usize, Refusal>
         requires { taken self.old + length piece.now ≤ 2 ^ 62 }
         ensures { Feeds meaning (progress self.old) piece.now result (progress self.new) }
@@ -161,7 +161,7 @@ impl Ng {
     /// yet.
     ///
     /// The result is `None` if a block of another kind comes first, some bytes of the block were taken, a field is
-    /// refused, or the block continues after the piece. At `None` the piece must be fed.
+    /// refused, or the block continues after the piece. If the result is `None`, feed the piece.
     #[inline(always)]
     pub fn whole_ahead(&self, piece: &[u8]) -> Option<usize>
         ensures within { IfSome result (λ size. size ≤ length piece.now) }
@@ -193,7 +193,7 @@ impl Ng {
 
     /// Skips the block of the next packet, as if its bytes had been fed and the packet released.
     ///
-    /// At most 2^62 bytes may be taken in all, including these.
+    /// The bytes taken before and the bytes of this block must together number at most 2^62.
     #[inline(always)]
     pub fn pass(&mut self, block: &[u8])
         requires next { IsNext self.old block.now }

@@ -49,8 +49,8 @@ pub fn section_refusal(order: Order, start: u64, bytes: &[u8]) -> Option<Refusal
     None
 }
 
-/// The first refused field of an interface description, among the fields that these bytes contain. The section has
-/// `count` interfaces before it.
+/// The first refused field of an interface description, among the fields that these bytes contain. `count` other
+/// interface descriptions precede this one in its section.
 pub fn interface_refusal(order: Order, count: usize, start: u64, bytes: &[u8]) -> Option<Refusal>
     requires { start < 2 ^ 63 }
     ensures { result ≡ first_refused start (length bytes.now) (interface_rows order count bytes.now) }
@@ -70,8 +70,8 @@ pub fn interface_refusal(order: Order, count: usize, start: u64, bytes: &[u8]) -
     None
 }
 
-/// The first refused field of an enhanced packet, among the fields that these bytes contain, in a section with these
-/// interfaces.
+/// In a section with these interfaces, the first refused field of an enhanced packet block, among the fields that these
+/// bytes contain.
 pub fn packet_refusal(
     order: Order,
     interfaces: &[Interface],
@@ -112,7 +112,7 @@ pub fn packet_refusal(
     None
 }
 
-/// Refuses a skipped block because of its total length.
+/// The refusal of a skipped block's total length, if these bytes contain the total length and its value is refused.
 pub fn other_refusal(order: Order, start: u64, bytes: &[u8]) -> Option<Refusal>
     requires { start < 2 ^ 63 }
     ensures { result ≡ first_refused start (length bytes.now) (other_rows order bytes.now) }
@@ -218,7 +218,7 @@ pub fn block_refusal(
     kind_refusal(kind, order, interfaces, start, bytes)
 }
 
-/// Refuses a trailer that is complete and differs from the total length.
+/// The refusal of a trailer, if the trailer is complete and differs from the total length.
 #[tactic(auto, unfolding(crate::specs::Blocks::trailer_refused))]
 pub fn trailer_refusal(order: Order, at: u64, total: u32, tail: &[u8]) -> Option<Refusal>
     ensures { result ≡ refused_in_trailer order at total tail.now }

@@ -186,8 +186,8 @@ fn accepts_packet(order: Order, interfaces: &[Interface], bytes: &[u8]) -> bool
         && packet_arrival(order, interfaces, bytes).is_some()
 }
 
-/// The size of the enhanced packet's block that the bytes begin with, if the bytes contain the whole block and nothing
-/// in the block is refused.
+/// The size of the enhanced packet block that the bytes begin with, if the bytes contain the whole block and nothing in
+/// the block is refused.
 #[inline(always)]
 pub fn packet_size(order: Order, interfaces: &[Interface], bytes: &[u8]) -> Option<usize>
     requires { AllResolved interfaces.now }
@@ -202,7 +202,7 @@ pub fn packet_size(order: Order, interfaces: &[Interface], bytes: &[u8]) -> Opti
     }
 }
 
-/// The size of the enhanced packet's block that the bytes begin with, in a byte order that the compiler knows.
+/// The size of the enhanced packet block that the bytes begin with, for a byte order that the compiler knows.
 #[inline(always)]
 fn size_in(order: Order, interfaces: &[Interface], bytes: &[u8]) -> Option<usize>
     requires { AllResolved interfaces.now }
@@ -348,8 +348,8 @@ pub fn after_option(cursor: Cursor, at: u64, tail: &[u8]) -> Cursor
     }
 }
 
-/// Updates the interfaces of the section after the fixed fields of a block: a section header begins a section without
-/// interfaces.
+/// Once the fixed fields of a block were read, updates the interfaces of the section: a section header begins a section
+/// without interfaces.
 pub fn settle(kind: Kind, interfaces: &mut Vec<Interface>)
     requires resolved { AllResolved interfaces.old.items }
     ensures exact { interfaces.new.items ≡ interfaces_after kind interfaces.old.items }

@@ -195,7 +195,7 @@ pub packets_eight : (r : Option ℕ) (crf : CrfPlan) (rate count : ℕ) → AreW
 packets_eight None crf rate count is = tt
 packets_eight (Some packets) crf rate count is = is.eight
 
--- ---- the run of point s, and its index in the run
+-- ---- the run of point s, and the index of the point in that run
 
 abbrev pub per : TalkPlan → CrfPlan → Option ℕ
 per plan crf = points_per crf plan.rate plan.count plan.restart
@@ -239,7 +239,7 @@ beside plan crf s e =
     let first : first_by (per plan crf) (run_at plan crf (suc s)) ≡ first_by (per plan crf) (run_at plan crf s) = ap (first_by (per plan crf)) e in
     record { run = e; place = omega arith }
 
--- ---- a run starts late enough after the one before it
+-- ---- a run starts at least 4 ns after the end of the run before it
 
 apart_by : (rate base jump a c d g h : ℕ) → 0 < rate → 4 ≤ jump → g < h → a + c ≤ d
     → base + g * jump + nominal_offset rate a + nominal_offset rate c + 4 ≤ base + h * jump + nominal_offset rate d

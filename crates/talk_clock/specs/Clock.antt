@@ -73,7 +73,7 @@ clock_packet crf plan packets m = record {
   reserved = false;
 }
 
--- the time at which clock packet m is sent: earlier than the packet's first point by the plan's lead
+-- the time at which clock packet m is sent: the instant of the packet's first point minus the plan's lead
 abbrev pub clock_arrival : CrfPlan → TalkPlan → ℕ → ℕ
 clock_arrival crf plan m = clock_point crf plan (first_point crf m) - plan.lead
 

@@ -27,7 +27,7 @@ pub record IsClockIn (c : ClockStream) (plan : TalkPlan) (packets : ℕ) : Type 
   pub stream : c.stream ≡ packets
   pub clock : IsClockStream c
 
--- the clock is that of the plan; `None` if the plan has no clock
+-- the clock is that of the plan, or is `None` if the plan has no clock
 abbrev pub IsClockOf : Option ClockStream → TalkPlan → ℕ → Type 0
 IsClockOf None plan packets = plan.crf ≡ None
 IsClockOf (Some c) plan packets = IsClockIn c plan packets

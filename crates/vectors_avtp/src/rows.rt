@@ -5,7 +5,7 @@ use avtp_base::Refusal;
 use std::alloc::{AllocError, Global};
 use std::test::Fail;
 
-/// The offset of the frame in the first vector. `PACKET` is the offset of the frame's packet.
+/// The offset of the frame in the first vector. `PACKET` is the offset of the frame's packet in the same vector.
 const FRAME: usize = 40;
 
 const PACKET: usize = 58;
@@ -13,7 +13,7 @@ const PACKET: usize = 58;
 /// The bytes that a row gives. Each word adds to the bytes of the words before it, or changes them:
 ///
 /// - `pcap`, `pcapng`, `iec`, `h264` and `crf` add a vector; `frame` and `aaf` add the frame and the packet of the first vector.
-/// - Hexadecimal digits add these bytes.
+/// - Hexadecimal digits add the bytes that they denote.
 /// - `17=53ff` overwrites the bytes from offset 17 on with 53 and ff.
 /// - `len=47` cuts the bytes to this length, or adds zeros up to it.
 pub fn bytes_of(alloc: Global, row: &str) -> Result<Vec<u8>, Fail> {

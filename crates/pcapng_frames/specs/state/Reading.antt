@@ -146,8 +146,8 @@ pub record IsGoing (r : Reading) (piece : List ℕ) : Type 0 where
   pub more : 0 < length piece
   pub bounded : taken r + length piece ≤ 2 ^ 62
 
--- A reader at a place where a block, an option or a trailer begins has nothing to skip and can take the bytes of a
--- piece.
+-- The reader is at a place where a block, an option or a trailer begins, as `next` says. It has nothing to skip and can
+-- take bytes of the piece.
 pub record IsAt (next : Stage) (r : Reading) (piece : List ℕ) : Type 0 where
   pub going : IsGoing r piece
   pub stage : r.place.stage ≡ next
