@@ -206,9 +206,9 @@ impl Ng {
     /// Whether the bytes so far are a whole capture: whole blocks, the first of which is a section header.
     ///
     /// If the capture is not whole, the call returns the refusal that an earlier `feed` returned, if there is one.
-    /// Otherwise the call refuses the first field of which a byte is missing, with `short` set; or it refuses the 257th
-    /// interface of a section, if only the type of its block is present. The call changes nothing, and more bytes can
-    /// be fed afterwards.
+    /// Otherwise the call refuses the first field of which a byte is missing, with `short` set; or, if only the block
+    /// type of a section's 257th interface description is present, it refuses that interface. The call changes nothing,
+    /// and more bytes can be fed afterwards.
     pub fn finish(&self) -> Result<(), Refusal>
         ensures { Ends meaning (progress self.now) result }
     {

@@ -44,8 +44,8 @@ next_pair plan crf packets a b d p e f g first second =
 spaced_by : (nominal p q up : ℕ) → 7 * nominal ≤ 8 * (p * up) → p ≤ q → 3 * nominal ≤ 4 * (q * up)
 spaced_by nominal p q up least more = let times : p * up ≤ q * up = mul-le-mul_right up more in omega arith
 
--- If point b is the first of a run, its instant is the start of that run. The instant of the point before b, which is
--- point a, follows from the start of the earlier run.
+-- Point b follows point a and is the first of a run, so the instant of b is the start of that run. The instant of a is
+-- computed from the start of the run before that one and the index of a in it.
 first_later : (plan : TalkPlan) (crf : CrfPlan) (packets : ℕ) (a b : Place) → IsAudioPlan plan → plan.crf ≡ Some crf
     → Follows (clock_times crf plan packets) a b → IsRunEnd plan crf (number crf a)
     → (point (clock_times crf plan packets) a
