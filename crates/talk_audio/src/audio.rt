@@ -143,8 +143,8 @@ impl AudioStream {
         }
     }
 
-    /// Writes the frame of packet `n`, which is sent at `arrival`. The packet's samples are the end of the input, which
-    /// is `rest`, and then silence.
+    /// Writes the frame of packet `n`, which is sent at `arrival`. The packet's samples are `rest`, which is the end of
+    /// the input, and then silence.
     // This code seldom runs while audio is sent. It is marked cold, so that it takes no registers from the code that
     // runs often. The code for clock packets, for stamps on a clock and for H.264 is marked cold for the same reason.
     #[cold]

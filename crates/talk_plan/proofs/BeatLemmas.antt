@@ -100,7 +100,7 @@ renewed b start m next is far =
 
 -- ---- the instant with which an event is stamped
 
--- the stamped time from point k + 1 to the r-th event after it, in nanoseconds
+-- the time from point k + 1 to the stamp of the r-th event after that point, in nanoseconds
 abbrev pub part_of : Beat → ℕ → ℕ → ℕ → ℕ
 part_of b start k r = r * (point_at b start (suc k) - point_at b start k) / b.spacing
 
@@ -161,7 +161,8 @@ pub record IsStamped (b : Beat) (start e instant : ℕ) : Type 0 where
   pub under : instant * b.rate ≤ start * b.rate + e * 1000000000 + b.rate
   pub over : start * b.rate + e * 1000000000 < instant * b.rate + 3 * b.rate
 
--- the stamped time from point k + 1 to the r-th event after it is r / `spacing` of the period `p`, rounded down
+-- the time from point k + 1 to the stamp of the r-th event after that point is the period `p` times r / `spacing`,
+-- rounded down
 pub record IsPart (b : Beat) (start k r p : ℕ) : Type 0 where
   pub under : part_of b start k r * b.spacing ≤ r * p
   pub over : r * p < part_of b start k r * b.spacing + b.spacing

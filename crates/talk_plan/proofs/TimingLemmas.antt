@@ -61,7 +61,8 @@ few_jumps plan n p events =
     let packets : n * 1 ≤ n * plan.count = mul-le-mul_left n p.some_count in
     omega (arith, in_its.jumps)
 
--- each instant of a packet is less than the lead plus 2^32 seconds, so a capture can record when the packet is sent
+-- each nominal instant of a packet, minus the lead, is below 2^32 seconds, so a capture can record when the packet is
+-- sent
 pub in_time : (plan : TalkPlan) (n i : ℕ) → IsAudioPlan plan → n * plan.count ≤ 268435456 → i < plan.count
     → nominal_instant plan n i < plan.lead + 2 ^ 32 * 1000000000
 unfolding nominal_instant

@@ -61,13 +61,13 @@ HasRate Am824 rate = IsSome (fdf_of rate)
 HasRate (H264 last_stamp) rate = ⊥
 
 -- The data blocks of an AM824 packet have at most 256 quadlets each, and fit an Ethernet frame. A packet has at least
--- SYT_INTERVAL / 8 data blocks, so any 8 packets in a row have a stamped block.
+-- SYT_INTERVAL / 8 data blocks, so among any 8 packets in a row, at least one has a stamped block.
 pub record FitsBlocks (plan : TalkPlan) : Type 0 where
   pub quadlets : plan.channels ≤ 256
   pub some : interval_of plan.rate ≤ 8 * plan.count
   pub size : plan.count * block_size plan.channels ≤ most_blocks
 
--- a packet of the plan's sample frames fits an Ethernet frame
+-- a packet of the plan's sample frames fits an Ethernet frame; for AM824, the other limits of `FitsBlocks` are kept too
 abbrev pub FitsPacket : TalkKind → TalkPlan → Type 0
 FitsPacket (Aaf format sparse) plan = plan.count * frame_size plan.channels format ≤ most_samples
 FitsPacket Am824 plan = FitsBlocks plan

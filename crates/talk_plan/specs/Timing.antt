@@ -37,7 +37,7 @@ run_start plan g =
 
 -- ---- packets
 
--- the event of sample frame i of packet n, in the packet's run
+-- sample frame i of packet n is this event of the packet's run
 abbrev pub event_of : TalkPlan → ℕ → ℕ → ℕ
 event_of plan n i = (n - first_packet plan (run_of plan n)) * plan.count + i
 

@@ -14,7 +14,7 @@ use clock_track::{pull_down, pull_up};
 
 const NANOSECONDS: u64 = 1_000_000_000;
 
-/// How long `parts` of the `whole` equal parts of a period take, rounded down.
+/// If a period is divided into `whole` equal parts, how long `parts` of them take, rounded down.
 fn part(parts: u64, period: u64, whole: u64) -> u64
     requires { parts < whole }
     ensures value { result ≡ parts * period / whole }
@@ -36,7 +36,7 @@ impl TalkPlan {
         }
     }
 
-    /// The first packet of the run of packet `n`.
+    /// The number of the first packet in packet `n`'s run.
     #[tactic(auto, using(crate::proofs::RunLemmas::some_packets, crate::proofs::RunLemmas::begun))]
     fn first_packet(&self, n: u64) -> u64
         requires { IsAudioPlan self.now }
@@ -49,7 +49,7 @@ impl TalkPlan {
         }
     }
 
-    /// How far the restarts before packet `n` set presentation times forward, in nanoseconds.
+    /// How far all restarts up to packet `n` set presentation times forward in total, in nanoseconds.
     #[tactic(auto, using(crate::proofs::TimingLemmas::few_jumps))]
     fn jumps(&self, n: u64) -> u64
         requires { IsPacketOf self.now n }
@@ -77,7 +77,7 @@ impl TalkPlan {
         }
     }
 
-    /// The instant of event 0 of the run of packet `n`, in nanoseconds of gPTP.
+    /// The instant of event 0 in packet `n`'s run, in nanoseconds of gPTP.
     #[tactic(auto, using(crate::proofs::RunLemmas::in_run))]
     fn run_start(&self, n: u64) -> u64
         requires { IsPacketOf self.now n }
@@ -92,7 +92,7 @@ impl TalkPlan {
         start + self.jumps(n) + self.offset(first * u64::from(self.count))
     }
 
-    /// The event of sample frame `i` of packet `n` in the packet's run.
+    /// Sample frame `i` of packet `n` is this event of the packet's run.
     #[tactic(auto, using(crate::proofs::RunLemmas::in_run))]
     fn event(&self, n: u64, i: u32) -> u64
         requires { IsFrameOf self.now n i }

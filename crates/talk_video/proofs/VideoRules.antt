@@ -108,7 +108,7 @@ access_known bytes units n sent h limit =
 
 -- ---- parts
 
--- fragment k begins its unit exactly if k is 0, and ends it exactly if fragment k is the last
+-- fragment k begins its unit if and only if k is 0, and ends the unit if and only if it is the last fragment
 pub record IsPartOf (part : NalPart) (packets k : ℕ) : Type 0 where
   pub begins : Begins (part_of part) → k ≡ 0
   pub begun : k ≡ 0 → Begins (part_of part)

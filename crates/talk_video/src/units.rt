@@ -78,8 +78,8 @@ fn is_first_slice(bytes: &[u8], from: usize, to: usize) -> bool
     from + 1 < to && bit_at(bytes, from + 1, 0)
 }
 
-/// Whether a unit can begin an access unit (ITU-T H.264, 7.4.1.2.3). A unit that can do so begins an access unit
-/// exactly if the current access unit has a slice.
+/// Whether a unit can begin an access unit (ITU-T H.264, 7.4.1.2.3). A unit that can begin an access unit does so if
+/// and only if the current access unit already has a slice.
 #[tactic(auto, unfolding(crate::specs::AccessUnits::may_begin))]
 fn may_begin(bytes: &[u8], from: usize, to: usize) -> bool
     requires { IsInside bytes.now (from, to) }

@@ -40,7 +40,8 @@ const FULL_BODY: usize = 1398;
 /// How many bytes of a packet are not counted in the packet's stated length.
 const UNCOUNTED: usize = 24;
 
-/// Whether fragment `k` of a unit is the whole unit, or the first, a middle or the last of `packets` fragments.
+/// If a unit has `packets` fragments, whether fragment `k` is the whole unit, the first fragment, a middle one or the
+/// last one.
 #[tactic(auto, unfolding(crate::specs::Fragments::part_by))]
 fn part_by(packets: u64, k: u64) -> NalPart
     requires { k < packets }
