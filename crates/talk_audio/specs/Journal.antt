@@ -23,8 +23,8 @@ nominal_times kind plan packets = record {
   clock = clock_by plan.crf plan packets;
 }
 
--- When packet n is due: at the instant of its first sample, counted from its head. A packet without a head is due at
--- the time that `j` lists for the packet.
+-- When packet n with this head is due: at the instant of its first sample, counted from the head. A packet without a
+-- head is due at the time that `j` lists for the packet.
 abbrev pub due_by : Journal → ℕ → Option Head → ℕ
 due_by j n None = j.due n
 due_by j n (Some head) = nat_abs (nominal_instant j head 0)

@@ -59,7 +59,7 @@ short_body First k rest short = let size = length-take 1398 (drop (k * 1398) res
 short_body Middle k rest short = let size = length-take 1398 (drop (k * 1398) rest) in omega arith
 short_body Last k rest short = let size = length-take 1398 (drop (k * 1398) rest) in omega arith
 
--- the headers and the body of a packet have at most 1428 bytes
+-- the headers and the body of a packet together have at most 1428 bytes
 pub short_at : (bytes : List ℕ) (units : List (ℕ × ℕ)) (p : Place) → header_size (part_at units p) + length (body_at bytes units p) ≤ 1428
 unfolding body_at
 short_at bytes units p =

@@ -30,9 +30,9 @@ is_first_slice bytes unit = nat_lt (unit.0 + 1) unit.1 && is_set (unit.0 + 1) 0 
 abbrev pub is_in : ℕ → ℕ → ℕ → Bool
 is_in low high type = nat_le low type && nat_le type high
 
--- The unit can begin an access unit: its type is 6 to 9 or 14 to 18, or its type is 1, 2 or 5 and it is the first slice
--- of a picture. A unit that can begin an access unit begins one exactly if an earlier unit of the current access unit
--- has a slice.
+-- The unit can begin an access unit: its type is 6 to 9 or 14 to 18, or its type is 1, 2 or 5 and its slice is the
+-- first of a picture. A unit that can begin an access unit does so if and only if an earlier unit of the current access
+-- unit has a slice.
 unfoldable pub may_begin : List ℕ → ℕ × ℕ → Bool
 may_begin bytes unit =
     is_in 6 9 (type_in bytes unit) || is_in 14 18 (type_in bytes unit)

@@ -48,7 +48,8 @@ access_unit_of bytes units n = access_unit bytes units (place_of units n).unit
 abbrev pub ends_access_unit : List ℕ → List (ℕ × ℕ) → ℕ → Bool
 ends_access_unit bytes units n = (suc n == all_packets units) || not (access_unit_of bytes units (suc n) == access_unit_of bytes units n)
 
--- whether fragment k of a unit is the whole unit, or the first, a middle or the last of `packets` fragments
+-- if a unit has `packets` fragments, whether fragment k is the whole unit, the first fragment, a middle one or the last
+-- one
 unfoldable pub part_by : ℕ → ℕ → NalPart
 part_by packets k = if packets == 1 then Single else if k == 0 then First else if k + 1 == packets then Last else Middle
 

@@ -42,7 +42,7 @@ pub struct Units {
     /// How many units the walk has passed, and the offset after the last passed unit.
     number: usize,
     at: usize,
-    /// Whether the access unit of the last passed unit has a slice.
+    /// Whether the current access unit, to which the last passed unit belongs, already has a slice.
     sliced: bool,
     /// How many of the passed units begin a new access unit.
     begun: u64,
