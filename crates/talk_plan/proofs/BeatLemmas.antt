@@ -19,7 +19,8 @@ use Rattle.clock_track.proofs.LineFacts.{less, at_most}
 
 -- ---- the period from one point to the next
 
--- `spacing` events take `p` nanoseconds, to within a nanosecond.
+-- The time from point m to point m + 1 is `p` nanoseconds, and `p` differs by at most a nanosecond from the exact time
+-- of `spacing` events.
 pub record IsPeriod (b : Beat) (start m p : ℕ) : Type 0 where
   pub next : point_at b start m + p ≡ point_at b start (suc m)
   pub under : p * b.rate ≤ b.spacing * 1000000000 + b.rate

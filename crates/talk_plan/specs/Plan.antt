@@ -176,8 +176,8 @@ pub record IsNearLead (plan : TalkPlan) (lead : ℕ) : Type 0 where
   pub from : plan.lead * plan.rate < lead * plan.rate + 127 * (plan.count * 1000000000)
   pub to : lead * plan.rate < plan.lead * plan.rate + 127 * (plan.count * 1000000000)
 
--- What a stream of this kind demands of a listener's lead. If some packets of audio have no timestamp, the lead must be
--- near the plan's lead. Otherwise, any lead will do.
+-- What a stream of this kind demands of a listener's lead. If some packets of audio have no timestamp, the listener's
+-- lead must be near the plan's lead. Otherwise, any lead will do.
 abbrev pub ExpectsBy : TalkKind → TalkPlan → ℕ → Type 0
 ExpectsBy (Aaf format false) plan lead = ⊤
 ExpectsBy (Aaf format true) plan lead = IsNearLead plan lead

@@ -42,9 +42,10 @@ pub struct TalkPlan {
     pub id: u64,
     /// When the first packet is sent, in nanoseconds of gPTP.
     pub start: i64,
-    /// The maximum transit time in nanoseconds: a packet is sent this long before its first presentation time.
+    /// The maximum transit time in nanoseconds: a packet is sent this long before the nominal instant of its first
+    /// sample frame or, for H.264, of its access unit.
     pub lead: u32,
-    /// The number of packets after which the media clock restarts.
+    /// The number of packets from one restart of the media clock to the next, if the media clock restarts.
     pub restart: Option<u32>,
     /// How far a restart sets presentation times forward, in nanoseconds.
     pub jump: u32,

@@ -126,8 +126,9 @@ impl TalkPlan {
     }
 
     /// The instant in the timestamp of sample frame `i` of packet `n`, computed from the plan's clock, in nanoseconds
-    /// of gPTP. The instant is computed from the clock's last point up to the sample frame, with the period that ends
-    /// at that point. If the sample frame is before the second point, the instant is its nominal instant.
+    /// of gPTP. If the sample frame is before the run's second point, the instant is the sample frame's nominal
+    /// instant. Otherwise, the instant is computed from the clock's last point up to the sample frame, with the period
+    /// that ends at that point.
     #[cold]
     #[inline(never)]
     fn clocked_instant(&self, crf: &CrfPlan, n: u64, i: u32) -> u64

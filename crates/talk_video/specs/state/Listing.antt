@@ -11,7 +11,7 @@ use Rattle.talk_video.specs.Units.{most_packets}
 use Rattle.talk_video.specs.declared.video.VideoStream.{VideoStream}
 use Rattle.talk_plan.specs.Plan.{most_input}
 
--- how many packets precede the access unit of unit i - 1
+-- how many packets precede the access unit of unit i - 1; 0 if i is 0
 abbrev pub packets_behind : List ℕ → List (ℕ × ℕ) → ℕ → ℕ
 packets_behind bytes units zero = 0
 packets_behind bytes units (suc i) = if begins bytes units i then packets_before units i else packets_behind bytes units i
