@@ -45,7 +45,7 @@ pub struct TalkPlan {
     /// The maximum transit time in nanoseconds: a packet is sent this long before the nominal instant of its first
     /// sample frame or, for H.264, of its access unit.
     pub lead: u32,
-    /// The number of packets from one restart of the media clock to the next, if the media clock restarts.
+    /// The media clock restarts after each run of this many packets; with `None`, it never restarts.
     pub restart: Option<u32>,
     /// How far a restart sets presentation times forward, in nanoseconds.
     pub jump: u32,

@@ -24,7 +24,7 @@ fn part(parts: u64, period: u64, whole: u64) -> u64
 }
 
 impl TalkPlan {
-    /// The run of packet `n`. A run begins at the start of the stream and at each restart.
+    /// The number of packet `n`'s run. A run begins at the start of the stream and at each restart.
     #[tactic(auto, using(crate::proofs::RunLemmas::some_packets))]
     fn run(&self, n: u64) -> u64
         requires { Restarts self.now.restart self.now.jump }
