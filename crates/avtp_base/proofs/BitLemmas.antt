@@ -54,7 +54,7 @@ pub bits-below : (at first width : ℕ) (xs : List ℕ) → bits at first width 
 unfolding bits
 bits-below at first width xs = mod_below (big_from at ((first + width + 7) / 8) xs / 2 ^ (8 * ((first + width + 7) / 8) - (first + width))) (2 ^ width) (pow_pos width)
 
--- a flag is true exactly if its number is 1
+-- a flag is true if and only if its number is 1
 pub bit_of_flag : (n : ℕ) (b : Bool) → n ≡ flag b → eqb n 1 ≡ b
 bit_of_flag n true e = rw e refl
 bit_of_flag n false e = rw e refl

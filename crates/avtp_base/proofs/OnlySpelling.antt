@@ -1,4 +1,5 @@
--- If bytes hold the values that a writer writes for a view, they are the bytes that the writer writes.
+-- If each field of a header holds the value that a writer writes for a view, the bytes begin with exactly what the
+-- writer writes.
 use Rattle.std.proofs.Common.{◌≡◌, ℕ, zero, suc, ◌+◌, ◌-◌, ◌*◌, ◌/◌, ◌%◌, ◌^◌, ◌<◌, ◌≤◌, List, [], ◌∷◌, ◌++◌, length, take, drop, get_or, refl, sym, ap, subst, ◌∙◌, append_assoc, inl, inr, arith}
 use Rattle.std.specs.Int.{bytes_high_first}
 use Rattle.std.proofs.Math.Nat.{div-eq_of_lt, div-one}
@@ -120,7 +121,8 @@ length-spelling (p ∷ parts) v =
     let here : List ℕ = big_bytes (size_of p) (packed p.bits v) in
     omega (arith, length-append here (spelling parts v), length-bytes_high_first (size_of p) (packed p.bits v), length-spelling parts v)
 
--- If the bytes hold the values that a writer writes for the view, they begin with the bytes that the writer writes.
+-- If each field of the header holds the value that a writer writes for the view, the bytes begin with exactly what the
+-- writer writes.
 pub only_spelling : {V : Type 0} (layout : Layout V) (v : V) (bytes : List ℕ) (size : ℕ) → IsLaid 0 layout → layout_size layout ≡ size
     → AreBytes bytes → size ≤ length bytes → Holds layout v bytes → bytes ≡ spelling layout v ++ drop size bytes
 only_spelling layout v bytes size laid len fits long h =
