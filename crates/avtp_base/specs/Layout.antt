@@ -113,7 +113,7 @@ abbrev pub Fits : {V : Type 0} → Layout V → V → Type 0
 Fits [] v = ⊤
 Fits (p ∷ parts) v = FitsBits p.bits v × Fits parts v
 
--- the number whose highest bits are n, and whose other bits are the values that a writer puts into these bits
+-- the number made of n and of the values that a writer puts into these bits, with n highest
 abbrev pub packed_behind : {V : Type 0} → ℕ → List (Bits V) → V → ℕ
 packed_behind n [] v = n
 packed_behind n (b ∷ bs) v = packed_behind (n * 2 ^ b.width + written b v) bs v

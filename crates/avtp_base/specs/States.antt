@@ -2,7 +2,7 @@
 use Rattle.std.specs.Prelude.{◌≡◌, ℕ, ⊤, Bool, true, false, List, ◌++◌, Option, None, Some}
 use Rattle.avtp_base.specs.Files.{Files, Slots}
 
--- the names that a shelf was asked for: those that it kept, and whether it kept all of them
+-- a shelf's account of the names that it was asked for: the names that it kept, and whether it kept all names
 pub record Account : Type 0 where
   pub kept : List (List ℕ)
   pub all : Bool
@@ -26,8 +26,8 @@ pub record SinkState : Type 0 where
   -- the number of faults so far
   pub faults : ℕ
 
--- The shelf can have been asked for exactly the names `names`, in this order. If all names were kept, `names` equals the
--- kept names. Otherwise `names` begins with the kept names.
+-- It is possible that the shelf was asked for exactly the names `names`, in this order. If all names were kept, `names`
+-- equals the kept names. Otherwise `names` begins with the kept names.
 abbrev pub AreNames : Bool → List (List ℕ) → List (List ℕ) → Type 0
 AreNames true kept names = names ≡ kept
 AreNames false kept names = (rest : List (List ℕ)) × (names ≡ kept ++ rest)

@@ -1,6 +1,6 @@
--- What an object outside the program shows of the bytes that it holds. The object may or may not show the bytes. If the
--- object stops showing them, it never shows them again. A statement about the bytes applies only if the bytes are shown
--- both before and after the call.
+-- What an object outside the program shows of the bytes that it holds. An object does not have to show the bytes. If
+-- the object stops showing them, it never shows them again. A statement about the bytes applies only if the bytes are
+-- shown both before and after the call.
 use Rattle.std.specs.Prelude.{◌≡◌, ℕ, List, ◌++◌, take, ⊤, Option, None, Some, Result, MatchResult, option_map}
 
 -- the bytes are unchanged, if they are shown

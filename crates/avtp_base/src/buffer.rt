@@ -45,7 +45,7 @@ impl Buffer {
         }
     }
 
-    /// How many more bytes may be added.
+    /// How many more bytes fit into the buffer.
     pub fn room(&self) -> usize
         ensures { length self.now + result ≡ Self.ROOM }
     {
@@ -63,8 +63,8 @@ impl Buffer {
         self.len = end;
     }
 
-    /// Adds the first `len` of these bytes at the end. All of `bytes` are copied, because a copy whose length the
-    /// compiler knows needs no call. Therefore there must be room for all of `bytes`.
+    /// Adds the first `len` of these bytes at the end. All of `bytes` are copied, because a copy needs no function call
+    /// if the compiler knows its length. Therefore there must be room for all of `bytes`.
     #[inline(always)]
     pub fn push_first(&mut self, bytes: &[u8], len: usize)
         requires some { len ≤ length bytes.now }

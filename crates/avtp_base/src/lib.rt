@@ -1,4 +1,4 @@
-//! The base of every crate: the state of files and devices as contracts see it, refusals, and numbers in bytes.
+//! The base of every crate: refusals, numbers in bytes, and the state of files and devices as contracts see it.
 #![tactic(auto)]
 
 mod buffer;

@@ -53,7 +53,7 @@ or_first : (a b : Bool) → (a || b) ≡ true → b ≡ false → a ≡ true
 or_first true b e none = refl
 or_first false b e none = absurd cc
 
--- a stream is among the distinct streams of a list exactly if it is in the list
+-- a stream is among the distinct streams of a list if and only if it is in the list
 pub any-distinct : (stream : StreamKey) (streams : List StreamKey) → list_any (same_stream stream) (distinct streams) ≡ list_any (same_stream stream) streams
 unfolding others
 any-distinct stream [] = refl
