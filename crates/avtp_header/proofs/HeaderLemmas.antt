@@ -116,8 +116,8 @@ header_again h rest fits =
     let spells : Spells header_layout h bytes = held_spells header_layout h bytes refl f in
     record { accepted = rw (whole, spelled_version bytes h spells) refl; fields = spells }
 
--- If bytes begin with a header and all reserved bits of the header are 0, the bytes begin with the bytes written for
--- that header.
+-- If bytes spell a header and all reserved bits of the header are 0, the bytes begin with exactly what a writer writes
+-- for that header.
 pub header_only : (bytes : List ℕ) (h : StreamHeader) → AreBytes bytes → SpellsHeader bytes h → 24 ≤ length bytes
     → any_set (reserved_ranges header_layout) bytes ≡ false → bytes ≡ spelling header_layout h ++ drop 24 bytes
 header_only bytes h fits s long plain =

@@ -17,8 +17,8 @@ pub fn header_again()
     ensures { (h : StreamHeader) (trail : List ℕ) → Fits header_layout h → SpellsHeader (spelling header_layout h ++ trail) h }
 {}
 
-/// Suppose that bytes begin with a header, all reserved bits are 0, and bytes 16 to 19, 22 and 23 are 0. Then the bytes
-/// begin with the bytes written for that header.
+/// Suppose that bytes begin with a header, all reserved bits are 0, and bytes 16 to 19, 22 and 23 are 0. Then they
+/// begin with exactly what a writer writes for that header.
 pub fn one_spelling()
     ensures { (bytes : List ℕ) (h : StreamHeader) → AreBytes bytes → SpellsHeader bytes h → 24 ≤ length bytes
         → any_set (reserved_ranges header_layout) bytes ≡ false → bytes ≡ spelling header_layout h ++ drop 24 bytes }

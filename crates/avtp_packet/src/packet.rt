@@ -32,8 +32,9 @@ pub enum Packet<'a> {
 
 /// Reads a packet in the format that its subtype names.
 ///
-/// An empty slice is refused, because it cuts off the subtype. A slice of a supported format is refused exactly if that
-/// format refuses it. A packet of another format is never refused. A clock reference packet has at least one timestamp.
+/// An empty slice is refused, because it cuts off the subtype. A slice of a supported format is refused if and only if
+/// that format refuses it. A packet of another format is never refused. A clock reference packet has at least one
+/// timestamp.
 #[inline(always)]
 pub fn read_packet(pdu: &[u8]) -> Result<Packet<'_>, Refusal>
     ensures exact { Reads packet_shape (packet_refusal pdu.now) (packet_of pdu.now) result }

@@ -1,4 +1,4 @@
--- How one more note changes which streams a list of notes has, and which notes each stream has.
+-- How one more note changes the streams that occur in a list of notes, and the notes of each stream.
 use Rattle.std.proofs.Common.{◌≡◌, ℕ, ◌==◌, Bool, true, false, not, ◌||◌, cond, List, [], ◌∷◌, ◌++◌, map, filter, reverse, refl, sym, ap, ◌∙◌, subst}
 use Rattle.std.specs.List.{list_any}
 use Rattle.std.proofs.lemmas.Bool.{and_parts, and_from, eqb-true, eq-eqb, or_parts, both_ways}

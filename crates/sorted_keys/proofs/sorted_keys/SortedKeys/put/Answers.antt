@@ -1,5 +1,5 @@
--- A full block is split, and its upper half goes into a spare block. While a block is full, there are too few keys for
--- all blocks to be in use, so a spare block is left.
+-- A full block is split, and its upper half goes into a spare block. If a block is full, the keys are too few to need
+-- all blocks, so there is a spare block.
 use Rattle.std.proofs.Common.{◌≡◌, ◌≤◌, ◌<◌, List, [], ◌∷◌, ℕ, true, false, length, get_or, arith, rules, ap, sym, subst, ◌∙◌}
 use Rattle.std.specs.Prelude.{nat_le}
 use Rattle.std.specs.List.{AllByRecursion}
