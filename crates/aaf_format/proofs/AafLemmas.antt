@@ -56,7 +56,7 @@ format_shown bytes f e = rw (e, named-code f) refl
 
 -- ---- what follows if no row refuses the bytes
 
--- What is known of bytes that no row refuses.
+-- What is known about bytes that no row refuses.
 record Accepted (bytes : List ℕ) : Type 0 where
   header : header_refusal bytes ≡ None
   version : bits 1 1 3 bytes ≡ 0
@@ -242,8 +242,8 @@ accepted_again bytes v whole j long =
     ) in
     or_else-accepted _ _ (or_else-accepted _ _ start shared) (or_else-accepted _ _ samples lengths)
 
--- if bytes hold the header as the writer writes it, followed by the payload, they spell the packet with every reserved
--- bit 0
+-- If bytes hold the header as the writer writes it, followed by the payload, they spell the packet, with its reserved
+-- bits changed to 0.
 held : (bytes : List ℕ) (v : Aaf) → IsWritableAaf v → Holds aaf_layout v bytes → 24 + v.header.data_length ≤ length bytes
     → v.payload ≡ take v.header.data_length (drop 24 bytes) → SpellsAaf bytes (plain_aaf v)
 held bytes v whole f long payload =
@@ -332,7 +332,7 @@ fits_whole v samples flags whole (subtype, (second, (seq, (tu, (id, (timestamp, 
       ),
     )
 
--- ---- bytes that set no reserved bit and end with their packet are the bytes that are written for it
+-- ---- bytes that spell a packet, set no reserved bit and end where the packet ends are exactly what a writer writes
 
 pub aaf_only : (bytes : List ℕ) (v : Aaf) → AreBytes bytes → SpellsAaf bytes v → v.reserved ≡ false → length bytes ≡ 24 + v.header.data_length
     → bytes ≡ aaf_spelling v

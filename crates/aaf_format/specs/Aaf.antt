@@ -100,8 +100,8 @@ aaf_layout = stream_layout (λ v. v.header)
 abbrev pub sets_reserved : List ℕ → Bool
 sets_reserved bytes = any_set (reserved_ranges aaf_layout) bytes
 
--- The rows of format, sample rate, channels and bit depth, in this order. These rows follow the rows that all formats
--- share.
+-- The rows for the format, the sample rate, the channels and the bit depth, in this order. These rows follow the rows
+-- that all formats share.
 abbrev pub sample_rows : List ℕ → List Row
 sample_rows bytes =
     row Format 16 (is_none (named_format (bits 16 0 8 bytes))) ∷
@@ -109,7 +109,7 @@ sample_rows bytes =
     row ChannelsPerFrame 17 (bits 17 6 10 bytes == 0) ∷
     row BitDepth 19 (nat_lt (8 * width_of (format_of bytes)) (bits 19 0 8 bytes)) ∷ []
 
--- The rows of the stated length, which come last. The length is refused if it exceeds the bytes after the header, or is
+-- The last rows, which check the stated length. The length is refused if it exceeds the bytes after the header, or is
 -- not a whole number of sample frames.
 abbrev pub length_rows : List ℕ → List Row
 length_rows bytes =
@@ -125,7 +125,7 @@ aaf_refusal bytes =
     or_else (kind_refusal aaf_subtype bytes)
     (or_else (first_row (sample_rows bytes)) (first_row (length_rows bytes)))
 
--- The bytes spell this PCM packet. Any bytes may follow the stated length.
+-- The bytes spell this PCM packet. Any bytes can follow the payload, which has the stated length.
 pub record SpellsAaf (bytes : List ℕ) (v : Aaf) : Type 0 where
   pub accepted : aaf_refusal bytes ≡ None
   pub fields : Spells aaf_layout v bytes
@@ -163,6 +163,6 @@ pub record IsWritableAaf (v : Aaf) : Type 0 where
 abbrev pub plain_aaf : Aaf → Aaf
 plain_aaf v = record v { header = record v.header { format_bits = 0 }; reserved = false }
 
--- the bytes that are written for a PCM packet: every reserved bit is 0, and nothing follows the stated length
+-- the bytes that are written for a PCM packet: every reserved bit is 0, and nothing follows the payload
 abbrev pub aaf_spelling : Aaf → List ℕ
 aaf_spelling v = spelling aaf_layout v ++ v.payload

@@ -11,12 +11,13 @@ pub fn one_packet()
     ensures { (bytes : List ℕ) → IsSpelledOnce (aaf_refusal bytes) (λ (v : Aaf). SpellsAaf bytes v) }
 {}
 
-/// Whatever bytes follow, the bytes written for a packet spell that packet with every reserved bit 0.
+/// Whatever bytes follow, the bytes written for a packet spell that packet, with its reserved bits changed to 0.
 pub fn packet_again()
     ensures { (v : Aaf) (trail : List ℕ) → IsWritableAaf v → Fits aaf_layout v → SpellsAaf (aaf_spelling v ++ trail) (plain_aaf v) }
 {}
 
-/// If bytes spell a packet, set no reserved bit, and end with the packet, they are the bytes written for the packet.
+/// If bytes spell a packet, set no reserved bit, and end where the packet ends, they are exactly what a writer writes
+/// for it.
 pub fn one_spelling()
     ensures { (bytes : List ℕ) (v : Aaf) → AreBytes bytes → SpellsAaf bytes v → v.reserved ≡ false
         → length bytes ≡ 24 + v.header.data_length → bytes ≡ aaf_spelling v }

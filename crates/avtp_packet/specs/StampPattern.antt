@@ -22,9 +22,10 @@ must_stamp_aaf v = if v.sparse then v.header.seq % 8 == 0 else true
 abbrev pub aaf_is_off : Aaf → Bool
 aaf_is_off v = is_off v.count v.header.tv (must_stamp_aaf v)
 
--- An AM824 packet with this SYT_INTERVAL has a timestamp that it must not have, or lacks one that it must have. It must
--- have a timestamp if one of its data blocks has a block count that is a multiple of SYT_INTERVAL; otherwise it must
--- have none. A no-data packet has no interval. A packet without data blocks may have a timestamp or not.
+-- An AM824 packet with this SYT_INTERVAL has a timestamp that it must not have, or lacks one that it must have. A
+-- packet with data blocks must have a timestamp if the block count of one of them is a multiple of SYT_INTERVAL;
+-- otherwise it must have none. A no-data packet has no SYT_INTERVAL, so there is no rule for it. A packet without data
+-- blocks may have a timestamp or not.
 abbrev pub iec_is_off_by : Option ℕ → Iec → Bool
 iec_is_off_by None v = false
 iec_is_off_by (Some interval) v = is_off v.count v.header.tv (nat_lt (anchor_index v.cip.dbc interval) v.count)

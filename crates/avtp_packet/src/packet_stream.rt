@@ -34,7 +34,7 @@ fn stream_by(subtype: u8, header: &StreamHeader) -> PacketStream
     }
 }
 
-/// The stream of a packet. `None` exactly for packets of an unsupported format.
+/// The stream of a packet. `None` if and only if the packet's format is not supported.
 pub fn stream_of(packet: &Packet<'_>) -> Option<PacketStream>
     ensures { result ≡ stream_of_packet (packet_shape packet.now) }
 {

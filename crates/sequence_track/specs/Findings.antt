@@ -59,7 +59,7 @@ least_hold = 8
 
 -- `all` is the number of the stream's packets. `packets` is how many of them in a row, counted back from the newest,
 -- have the same media clock restart bit. If `packets` is less than 8 and less than `all`, the answer is `packets`.
--- Otherwise the answer is `None`. If `packets` equals `all`, the value of the bit did not begin with a change.
+-- Otherwise the answer is `None`. If `packets` equals `all`, the bit has never changed.
 abbrev pub early : ℕ → ℕ → Option ℕ
 early packets all = if nat_lt packets all && nat_lt packets least_hold then Some packets else None
 

@@ -6,8 +6,8 @@ use Rattle.sequence_track.specs.declared.stream.StreamKey.{StreamKey}
 use Rattle.sequence_track.specs.declared.stream.StreamState.{StreamState}
 use Rattle.sequence_track.specs.Findings.{same_stream, tracked, is_tracked, recent, stood, least_hold}
 
--- For how many packets, counted up to 8, the media clock restart bit has kept its value. `None` if the value did not
--- begin with a change.
+-- The number of packets for which the media clock restart bit has kept its value, or 8 if the number is greater. `None`
+-- if the bit has never changed.
 abbrev pub held_of : ℕ → ℕ → Option ℕ
 held_of packets all = if nat_lt packets all then Some (min packets least_hold) else None
 

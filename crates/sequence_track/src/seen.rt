@@ -3,7 +3,7 @@
 ghost use Rattle.std.specs.Prelude.{◌≡◌};
 ghost use Rattle.sequence_track.specs.Findings.{untracked_findings};
 
-/// The facts of a packet that a tracker needs.
+/// What a tracker needs to know about a packet.
 #[derive(Clone, Copy, Debug, PartialEq, Eq)]
 pub struct Seen {
     /// The stream ID.

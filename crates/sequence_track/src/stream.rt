@@ -36,8 +36,8 @@ pub struct StreamState {
     seq: u8,
     /// The media clock restart bit of the newest packet.
     mr: bool,
-    /// For how many packets, counted up to 8, the media clock restart bit has kept its value. `None` if the value did
-    /// not begin with a change.
+    /// The number of packets for which the media clock restart bit has kept its value, or 8 if the number is greater.
+    /// `None` if the bit has never changed.
     held: Option<u32>,
 }
 

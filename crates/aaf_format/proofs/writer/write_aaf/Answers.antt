@@ -7,7 +7,8 @@ use Rattle.aaf_format.specs.Aaf.{Aaf, SpellsAaf, aaf_layout, aaf_shape, aaf_spel
 use Rattle.aaf_format.proofs.AafLemmas.{aaf_again, fits_whole, same_spelling}
 use Rattle.aaf_format.proofs.writer.write_aaf.Goals as goal
 
--- if the header bytes that the code wrote are the header's spelling, the code wrote the packet's spelling
+-- If the header bytes that the code wrote are the header's spelling, these bytes and the payload are the packet's
+-- spelling.
 respelled : (head spelled payload old new : List ℕ) (r : Result ℕ Room) → head ≡ spelled
     → Writes (head ++ payload) old new r → Writes (spelled ++ payload) old new r
 respelled head spelled payload old new r e written = subst (λ (xs : List ℕ). Writes (xs ++ payload) old new r) e written
