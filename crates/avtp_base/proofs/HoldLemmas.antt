@@ -14,7 +14,7 @@ unset-split (x ∷ xs) ys bytes e =
     let rest = unset-split xs ys bytes parts.1 in
     (rw (parts.0) rest.0, rest.1)
 
--- ---- bytes that spell a view hold the values that a writer writes for it
+-- ---- if bytes spell a view, each field holds the value that a writer writes for the view
 
 -- each bit of the table is reserved, or a view shows its value
 abbrev pub bits_told : {V : Type 0} → List (Bits V) → Bool
@@ -42,7 +42,7 @@ held_bits (b ∷ bs) v at first bytes told spells unset =
     let here = held_bit b.free b.shown v at first b.width (free_ranges at (first + b.width) bs) bytes parts.0 spells.0 unset in
     (here.0, held_bits bs v at (first + b.width) bytes parts.1 spells.1 here.1)
 
--- If the bytes spell the view and no reserved bit is set, the bytes hold the values that a writer writes for the view.
+-- If the bytes spell the view and no reserved bit is set, each field holds the value that a writer writes for the view.
 pub spelled_holds : {V : Type 0} (layout : Layout V) (v : V) (bytes : List ℕ) → is_told layout ≡ true
     → Spells layout v bytes → any_set (reserved_ranges layout) bytes ≡ false → Holds layout v bytes
 spelled_holds [] v bytes told spells unset = tt
@@ -51,7 +51,7 @@ spelled_holds (p ∷ parts) v bytes told spells unset =
     let split = unset-split (free_ranges p.at 0 p.bits) (reserved_ranges parts) bytes unset in
     (held_bits p.bits v p.at 0 bytes both_told.0 spells.0 split.0, spelled_holds parts v bytes both_told.1 spells.1 split.1)
 
--- ---- bytes that hold the values that a writer writes for a view spell that view
+-- ---- if each field holds the value that a writer writes for a view, the bytes spell the view
 
 -- the view shows 0 for each reserved bit that it shows
 abbrev pub bits_plain : {V : Type 0} → List (Bits V) → V → Bool
@@ -73,7 +73,7 @@ shown_bits (b ∷ bs) v at first bytes plain holds =
     let parts = and_parts (cond b.free (eqb (value_of b.shown v) 0) true) (bits_plain bs v) plain in
     (shown_bit b.free b.shown v (bits at first b.width bytes) parts.0 holds.0, shown_bits bs v at (first + b.width) bytes parts.1 holds.1)
 
--- If the bytes hold the values that a writer writes for the view, they spell the view. The view must show 0 for
+-- If each field holds the value that a writer writes for the view, the bytes spell the view. The view must show 0 for
 -- reserved bits.
 pub held_spells : {V : Type 0} (layout : Layout V) (v : V) (bytes : List ℕ) → is_plain layout v ≡ true → Holds layout v bytes → Spells layout v bytes
 held_spells [] v bytes plain holds = tt

@@ -8,7 +8,7 @@ use Rattle.avtp_base.specs.Layout.{Bits, Layout, part, holds, reserved, Spells, 
 use Rattle.avtp_header.specs.declared.header.StreamHeader.{StreamHeader}
 use Rattle.avtp_header.specs.declared.header.Peeked.{Peeked}
 
--- The table of the stream header in packets of a format whose view contains that header. Each format defines the
+-- The table of the stream header, for a format whose view of type `V` contains that header. Each format defines the
 -- meaning of three parts: two bits of byte 1; bytes 16 to 19; and bytes 22 and 23.
 abbrev pub stream_layout : {V : Type 0} → (V → StreamHeader) → List (Bits V) → Layout V → Layout V → Layout V
 stream_layout header format_bits format_data format_flags =
