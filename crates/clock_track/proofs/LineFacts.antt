@@ -150,7 +150,7 @@ event_to z d i some h =
     (λ g. g)
     (λ g. let m = times_more (pos i) q (2 * d) (omega (arith, ints)) in absurd (omega (arith, ints)))
 
--- the number of the nearest event is from 0 to below the interval
+-- the number of the nearest event is at least 0 and less than the interval
 pub record IsEvent (p : Pair) (instant : ℤ) : Type 0 where
   pub from : pos 0 ≤ℤ nearest_event p instant
   pub to : nearest_event p instant <ℤ pos p.interval

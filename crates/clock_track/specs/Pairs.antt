@@ -88,7 +88,7 @@ event_line p = record { base = p.later; num = period p; den = p.interval }
 abbrev pub nearest_event : Pair → ℤ → ℤ
 nearest_event p instant = floor_of ((instant -ℤ p.later) *ℤ pos (2 * p.interval) +ℤ pos (period p)) (2 * period p)
 
--- According to a pair: the line of a sample with this presentation time, and the sample's number on that line. If the
+-- The line on which a pair places a sample with this presentation time, and the sample's number on that line. If the
 -- clock's frequency is the stream's rate, the sample is at the nearest event. Otherwise the sample is sample 0 of a
 -- line that begins at the presentation time and has the pair's spacing.
 abbrev pub spot_by : Pair → ℕ → ℤ → Spot

@@ -6,8 +6,8 @@ ghost use Rattle.clock_track.specs.state.Bounds.{IsOutside, IsPair, IsWithin, Wi
 
 use crate::pair::Pair;
 
-/// Bounds of some pairs. The later point of each pair is at or after `earliest`. Each pair ends one period after its
-/// later point, at or before `latest`.
+/// Bounds of some pairs. The later point of each pair is at or after `earliest`. The end of each pair, which is one
+/// period after its later point, is at or before `latest`.
 #[derive(Clone, Copy, Debug)]
 pub struct Bounds {
     pub earliest: i64,

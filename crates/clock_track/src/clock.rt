@@ -222,7 +222,7 @@ impl Clock {
 
     /// The line of the sample whose presentation time is `instant`, in nanoseconds of gPTP, and the sample's number on
     /// that line. The stream has `rate` samples a second, at least 1. The answer is that of `line_over` for all packets
-    /// that were noted. The answer is `NoClock` exactly if no pair covers the instant. Allocates nothing.
+    /// that were noted. The answer is `NoClock` if and only if no pair covers the instant. Allocates nothing.
     pub fn line_for(&self, instant: i64, rate: u32) -> ClockAnswer
         requires { 1 ≤ rate }
         ensures value { (rows : List ClockRowValue) → StandsFor self.now rows → answered result ≡ clock_spot rows self.now.shift instant rate }

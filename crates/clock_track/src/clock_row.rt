@@ -13,7 +13,7 @@ pub struct Points<'a> {
     pub mr: bool,
     /// The base frequency in Hz, before it is pulled.
     pub base_frequency: u32,
-    /// The code of the factor by which the base frequency is multiplied, 0 to 5.
+    /// The code, from 0 to 5, of the factor by which the base frequency is multiplied.
     pub pull: u8,
     /// The number of events from one timestamp to the next.
     pub interval: u16,

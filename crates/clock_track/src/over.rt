@@ -82,14 +82,14 @@ pub fn line_among<R: Rows>(rows: &R, query: &Query) -> ClockAnswer
 /// in nanoseconds, at most a second forward or back.
 ///
 /// Two adjacent timestamps are a pair if both are below 2^62 and the time between them differs from the nominal time of
-/// the interval by at most 1/8. Successive timestamps of one packet are adjacent. The last timestamp of a packet and
-/// the first timestamp of the next packet are adjacent, too. A packet is the next one if it has the next sequence
-/// number, and the same restart bit, frequency and interval.
+/// the interval by at most 1/8 of that nominal time. Successive timestamps of one packet are adjacent. The last
+/// timestamp of a packet and the first timestamp of the next packet are adjacent, too. A packet is the next one if it
+/// has the next sequence number, and the same restart bit, frequency and interval.
 ///
 /// A pair covers the instants of one period. The period begins half a sample before the pair's later point. If several
 /// pairs cover the instant, the last of these pairs gives the line. Pairs are ordered by the positions of their later
 /// points in the packets. Pairs with the same later point are ordered by the positions of their earlier points. The
-/// answer is `NoClock` exactly if no pair covers the instant.
+/// answer is `NoClock` if and only if no pair covers the instant.
 ///
 /// If the clock's frequency is `rate`, the line is that of the clock's events, and the sample is the event nearest to
 /// the instant. Otherwise the sample is sample 0 of a line that begins at the instant and has the pair's spacing.

@@ -17,7 +17,7 @@ ghost use Rattle.stream_journal.specs.Known.{IsKnown};
 ghost use Rattle.stream_journal.specs.Heads.{IsTrue, IsUnstamped, stamp_at, wanted};
 ghost use Rattle.stream_journal.specs.Journal.{IsAt, head_of};
 
-/// Three packets of 6 samples at 48 kHz take 125,000 ns each. The talker keeps the rules exactly if the instants at
+/// Three packets of 6 samples at 48 kHz take 125,000 ns each. The talker keeps the rules if and only if the instants at
 /// which adjacent packets are due differ by at least 3/4 of 125,000 ns.
 pub fn three_packets_conform()
     ensures { (spacing : ℕ) → Conforms (three_packets spacing) ↔ 93750 ≤ spacing }
