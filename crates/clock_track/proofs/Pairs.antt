@@ -11,7 +11,7 @@ by_difference : (a b : ℕ) (z : ℤ) → z ≡ pos b -ℤ pos a → at_least_0 
 by_difference a b (pos n) e = omega (arith, ints)
 by_difference a b (negsuc n) e = omega (arith, ints)
 
--- if no point is negative, the period is the difference of the points
+-- if no point is negative, the period is the difference of the points, or 0 if `b` is less than `a`
 pub period-natural : (a b : ℕ) → at_least_0 (pos b -ℤ pos a) ≡ b - a
 period-natural a b = by_difference a b (pos b -ℤ pos a) refl
 

@@ -133,7 +133,7 @@ fn covering(row: &Points<'_>, query: &Query, first: u64, second: u64) -> Option<
     }
 }
 
-/// Of the pairs inside a packet, the bounds of those pairs whose earlier timestamp has an index from `first` to below
+/// The bounds of those pairs inside a packet whose earlier timestamp has an index of at least `first` and less than
 /// `end`.
 fn bounds_inside(row: &Points<'_>, shift: i64, first: usize, end: usize) -> Bounds
     requires row { IsRow (row_of row.now) }
@@ -206,8 +206,8 @@ pub fn bounds_of(row: &Points<'_>, shift: i64) -> Bounds
     )
 }
 
-/// The last pair inside a packet that covers the instant, among the pairs whose earlier timestamp has an index from
-/// `first` to below `end`.
+/// Of the pairs inside a packet whose earlier timestamp has an index of at least `first` and less than `end`, the last
+/// that covers the instant.
 fn latest_between(row: &Points<'_>, first: usize, end: usize, query: &Query) -> Option<Pair>
     requires row { IsRow (row_of row.now) }
     requires shift { IsShift query.now.shift }
@@ -399,8 +399,8 @@ fn latest_at<R: Rows>(rows: &R, place: usize, query: &Query) -> Option<Pair>
     latest_across(rows, &row, query)
 }
 
-/// Of the joined pairs of a clock's packets, the last that covers the instant. The search goes backwards through all
-/// joined pairs, and stops at the first pair that covers the instant.
+/// Of the joined pairs of a clock's packets, the last that covers the instant. The search goes through the joined pairs
+/// from the last to the first, and stops as soon as it finds a pair that covers the instant.
 pub fn latest<R: Rows>(rows: &R, query: &Query) -> Option<Pair>
     requires rows { All IsNotable (R.rows rows.now) }
     requires bounded { R.bounded rows.now query.now.shift }

@@ -100,7 +100,7 @@ on_line j is clock agrees n instant p q x = cases (pair.up == j.rate * pair.down
       at = at_start (pos instant) (step_num pair) (step_den pair j.rate);
     }
 
--- ---- a number of samples later on a line
+-- ---- two samples of one line
 
 -- the absolute value of `z` nanoseconds is less than the time of 9 packets; a packet's time is w / rate nanoseconds
 pub record IsClose (rate w : ℕ) (z : ℤ) : Type 0 where

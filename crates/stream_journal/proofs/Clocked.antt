@@ -153,7 +153,7 @@ agrees base = record {
   exact = λ n instant p q x own. exact base n instant p q x (omega arith);
 }
 
--- ---- all of it
+-- ---- all rules together
 
 due_by : (base n : ℕ) (head : Head) → head_of (clocked base) n ≡ Some head → pos (1002000000 + n * 125000) ≡ nominal_instant (clocked base) head 0
 due_by base n head e =

@@ -89,7 +89,7 @@ near_true x p r count h = rw (difference x p) (le-leb (((x - p) + (p - x)) * r) 
 near_only : (x p r count : ℕ) → nat_le (unsigned_abs (pos x -ℤ pos p) * r) (60 * count * 1000000000) ≡ true → ((x - p) + (p - x)) * r ≤ 60 * (count * 1000000000)
 near_only x p r count e = rw (one_reach count) at (le_so (((x - p) + (p - x)) * r) (60 * count * 1000000000) (rw (difference x p) at e))
 
--- ---- the block counts
+-- ---- the data block counters
 
 blocks_on : (interval : ℕ) (dbc : ℕ → ℕ) (count packets : ℕ) → BlocksGoOn interval dbc count packets → (k m : ℕ) → k + m < packets → dbc (k + m) % 256 ≡ (dbc k + m * count) % 256
 blocks_on interval dbc count packets is k zero known = let e : k + 0 ≡ k = omega arith in rw e (omega arith)

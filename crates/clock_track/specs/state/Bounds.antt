@@ -18,7 +18,7 @@ pub record IsWithin (bounds : Bounds) (pair : Pair) : Type 0 where
   pub from : bounds.earliest ≤ℤ pair.later
   pub to : (pair.later +ℤ pos (period pair)) ≤ℤ bounds.latest
 
--- the bounds `new` hold each pair that `old` holds, and a pair with this later point and this end
+-- the bounds `new` hold each pair that `old` holds, and each pair with this later point and this end
 pub record Widens (old new : Bounds) (later end : ℤ) : Type 0 where
   pub earliest : new.earliest ≤ℤ old.earliest
   pub from : new.earliest ≤ℤ later
@@ -30,8 +30,8 @@ abbrev pub IsOutside : Bounds → ℤ → ℕ → Type 0
 IsOutside bounds instant lead = (bounds.latest ≤ℤ instant) ⊎ ((instant +ℤ pos lead) <ℤ bounds.earliest)
 
 -- In a stream of this rate, if an instant is before a joined pair's later point by more than the lead, the pair does
--- not cover the instant. The lead is at least 9/8 of half the nominal spacing of samples, rounded down to a whole
--- nanosecond.
+-- not cover the instant. The lead is at least the following bound: 9/8 of half the nominal spacing of samples, rounded
+-- down to a whole nanosecond.
 abbrev pub IsLead : ℕ → ℕ → Type 0
 IsLead rate lead = (d : ℕ) → rate * d ≤ 562500000 → d ≤ lead
 
