@@ -12,7 +12,7 @@ use Rattle.stream_journal.specs.Journal.{Journal, Kind, DenseAaf, SparseAaf, Am8
 
 -- ---- rules for every stream
 
--- The restart bit keeps a new value for at least 8 packets.
+-- If the restart bit changes, it keeps the new value for at least 8 packets, or until the stream ends.
 abbrev pub HoldsEight : ℕ → (ℕ → Bool) → Type 0
 HoldsEight packets mr =
     (n k : ℕ) → mr (suc n) ≢ mr n → k < 8 → suc n + k < packets → mr (suc n + k) ≡ mr (suc n)
@@ -47,7 +47,7 @@ IsApart j quarters from to = 4 * (from * j.rate) + quarters * (j.count * 1000000
 -- An audio stream: its packets have one kind, one rate and one count, have timestamps as the format says, and are
 -- evenly spaced.
 pub record IsAudio (j : Journal) : Type 0 where
-  -- the nominal rates that the formats name are from 8,000 to 192,000 Hz
+  -- the rate is from 8,000 to 192,000 Hz, as is each nominal rate that the formats name
   pub rate_from : 8000 ≤ j.rate
   pub rate_to : j.rate ≤ 192000
   pub some : 1 ≤ j.count
@@ -69,14 +69,14 @@ Begins part = (part ≡ Single) ⊎ (part ≡ First)
 abbrev pub Ends : Part → Type 0
 Ends part = (part ≡ Single) ⊎ (part ≡ Last)
 
--- Either each packet has a timestamp, or exactly the packets that end a NAL unit have one.
+-- Either each packet has a timestamp, or a packet has one if and only if it ends a NAL unit.
 abbrev pub StampsUnits : Journal → (ℕ → Part) → Type 0
 StampsUnits j part =
     ((n : ℕ) → n < j.packets → is_some (j.stamp n) ≡ true)
     ⊎ ((n : ℕ) → n < j.packets → (is_some (j.stamp n) ≡ true) ↔ Ends (part n))
 
--- A stream of H.264. The packets of one access unit share one instant, and different access units have different
--- instants. Packets that are due at the same instant belong to one access unit.
+-- A stream of H.264. Packets belong to one access unit if and only if they are due at the same instant. If a packet has
+-- a timestamp, the timestamp is the instant at which the packet is due.
 pub record IsVideo (j : Journal) (part : ℕ → Part) : Type 0 where
   pub stamps : StampsUnits j part
   pub one_instant : (n instant : ℕ) → n < j.packets → j.stamp n ≡ Some instant → instant ≡ j.due n
@@ -95,7 +95,7 @@ pub record IsVideo (j : Journal) (part : ℕ → Part) : Type 0 where
 -- new run begins with a new packet, whose `mr` differs from that of the packet before it.
 pub record IsClock (c : ClockJournal) : Type 0 where
   pub interval : 1 ≤ c.interval
-  -- each packet has a point
+  -- each packet has at least one point
   pub some : (n : ℕ) → n < c.packets → IsPlace c (record { packet = n; at = 0 })
   -- from each point to the next, at least 3/4 of the nominal time of the interval passes, even if the next point begins
   -- a new run
@@ -121,7 +121,7 @@ pub record AgreesWithClock (j : Journal) : Type 0 where
   pub exact : (n instant : ℕ) (p q : Place) → IsCovered j n instant p q → IsOfRate (pair_at j.clock p q) j.rate
       → instant_at (spot_by (pair_at j.clock p q) j.rate (pos instant)).line (spot_by (pair_at j.clock p q) j.rate (pos instant)).from ≡ pos instant
 
--- ---- all of it
+-- ---- all rules together
 
 -- the rules for streams of this kind: those of audio and of its clock, or those of H.264
 abbrev pub IsOfKind : Kind → Journal → Type 0

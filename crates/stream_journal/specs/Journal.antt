@@ -24,7 +24,7 @@ pub data Part : Type 0 where
 pub data Kind : Type 0 where
   DenseAaf : Kind
   SparseAaf : Kind
-  -- IEC 61883-6, with the SYT interval and the block count of each packet's first block, modulo 256
+  -- IEC 61883-6, with the SYT interval, and with the count, modulo 256, of each packet's first block
   Am824 : ℕ → (ℕ → ℕ) → Kind
   -- H.264, with the part of a unit that each packet carries
   H264 : (ℕ → Part) → Kind

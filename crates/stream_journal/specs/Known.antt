@@ -47,9 +47,10 @@ pub record IsCoveredBy (c : ClockJournal) (shift : ℤ) (rate : ℕ) (came : Lis
   pub covers : Covers (pair_at c earlier later) rate instant
 
 -- `c` is a copy of an audio packet. A listener to which the stream's packets `came` and the clock's packets
--- `clock_came` were delivered knows the instants of the samples of `c`. The packet has a timestamp, or the packet is
--- counted from one of the last 16 + `look` timestamps that arrived. If the listener has the clock, two of the clock's
--- points cover that timestamp.
+-- `clock_came` were delivered knows the instants of the samples of `c`. The conditions are these: the packet has a
+-- timestamp, or is counted from one of the last 16 + `look` timestamps that arrived. If the listener has the clock, two
+-- of the clock's points also cover this timestamp, which is the packet's own or the one from which the packet is
+-- counted.
 pub record IsKnown (by_clock : Bool) (j : Journal) (shift : ℤ) (lead look : ℕ) (c : Copy) (came clock_came : List ℕ) : Type 0 where
   pub timed : IsTimed j lead (look + 16) c came
   pub covered : by_clock ≡ true → (head : Head) → head_of j c.number ≡ Some head → IsCoveredBy j.clock shift j.rate clock_came head.instant

@@ -60,7 +60,7 @@ pub fn block_copies_are_delivered()
 {}
 
 /// A talker sends a stream of 48 kHz and a clock whose timestamps are 2 ms apart, with an interval of 96 events. The
-/// talker keeps the rules exactly if 2 ms are within 1/8 of the nominal time of 96 events.
+/// talker keeps the rules if and only if 2 ms is within 1/8 of the nominal time of 96 events.
 pub fn clocked_talkers_conform()
     ensures { (base : ℕ) → Conforms (clocked base) ↔ (42000 ≤ base) × (base ≤ 54000) }
 {}
@@ -76,8 +76,8 @@ pub fn samples_are_clocked()
 {}
 
 /// The rules at their limits. Pull codes are 0 to 5. Adjacent periods differ by at most a quarter of the 20,833 ns
-/// between two events of 48 kHz. If a stream agrees with its clock, each timestamp of the stream is covered by at most
-/// one joined pair. An access unit has at most 255 packets.
+/// between two events of a 48 kHz clock. If a stream agrees with its clock, each timestamp of the stream is covered by
+/// at most one joined pair. An access unit has at most 255 packets.
 pub fn rules_have_limits()
     ensures pull { (pull : ℕ) → IsRegularClock (pulled pull) ↔ pull ≤ 5 }
     ensures steady { (late : ℕ) → IsRegularClock (unsteady late) ↔ late ≤ 5208 }

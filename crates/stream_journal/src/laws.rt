@@ -42,8 +42,8 @@ pub fn other_stamps_are_far()
 {}
 
 /// A listener has a copy of a packet without a timestamp. If the stamp of another packet has the right sequence number,
-/// the listener refuses this stamp. The copy arrives too long before or after the instant that would be counted from
-/// this stamp.
+/// the listener refuses this stamp. The first instant that would be counted from this stamp is too far from the copy's
+/// arrival plus `lead`.
 pub fn other_stamps_are_refused()
     ensures candidate { (j : Journal) (lead : ℕ) (c : Copy) (far : Distance) (k : ℕ) (stamp : Stamp) (is : IsStampOf j k stamp) → candidate (wanted j lead c far) stamp ≡ pos (behind j is.instant far.samples) }
     ensures refused { (j : Journal) (lead : ℕ) (c : Copy) (far : Distance) (k : ℕ) (stamp : Stamp) → IsAudio j → IsUnstamped j lead c far → IsStampOf j k stamp → IsOther c.number k far → is_near (wanted j lead c far) stamp ≡ false }
@@ -96,10 +96,10 @@ pub fn near_packets_are_one()
     ensures { (j : Journal) (by_clock : Bool) (n m : ℕ) (x y : ℤ) → Conforms j → IsAudioKind j.kind → n < j.packets → m < j.packets → n % 256 ≡ m % 256 → IsAt by_clock j n 0 x → IsAt by_clock j m 0 y → IsNear j 72 x y → n ≡ m }
 {}
 
-/// For a copy of a packet without a timestamp, a listener finds a stamp exactly if three conditions hold. The stamp is
-/// that of the packet from which the copy is counted, and is among the last `room` stamps. There is no restart between
-/// the two packets. The copy's arrival plus `lead` differs from the packet's first instant by at most the time of 60
-/// packets.
+/// For a copy of a packet without a timestamp, a listener finds a given stamp if and only if three conditions hold. The
+/// stamp is that of the packet from which the copy is counted, and is among the last `room` stamps. There is no restart
+/// between the two packets. The copy's arrival plus `lead` differs from the packet's first instant by at most the time
+/// of 60 packets.
 pub fn heads_are_found()
     ensures { (j : Journal) (lead room : ℕ) (c : Copy) (far : Distance) (stamps : List Stamp) (stamp : Stamp) → IsAudio j → HoldsEight j.packets j.mr → IsUnstamped j lead c far → All (IsTrue j) stamps → (found room (wanted j lead c far) stamps ≡ Some stamp) ↔ (IsExpected j lead c × IsAtHand j room c.number far stamps stamp) }
 {}
