@@ -23,7 +23,7 @@ use Rattle.clock_track.proofs.TooLate.{none-found, none-more}
 
 -- ---- one pair
 
--- half the spacing of samples, according to a joined pair, is at most the lead
+-- half the spacing of samples that a joined pair gives is at most the lead
 led : (i down rate lead s : ℕ) → IsLead rate lead → 8 * s ≤ 9 * (i * 1000000000 * down) → 1 ≤ i * down → s < 2 * ((lead + 1) * (i * rate * down))
 led i down rate lead s is most some =
     elim (cases_lt 562500000 (rate * (lead + 1))) [

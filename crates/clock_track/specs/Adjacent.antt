@@ -34,7 +34,7 @@ pub record AreAcross (shift : ℤ) (row before : ClockRow) : Type 0 where
   pub some : 0 < timestamps row
   pub taken : AreTaken shift row (timestamp before (timestamps before - 1)) (timestamp row 0)
 
--- ---- the last packets
+-- ---- the worked example with further packets
 
 -- a packet of the worked example that is joined with no other packet, because no packet of the example has an adjacent
 -- sequence number

@@ -188,8 +188,8 @@ impl Model for Clock {
 }
 
 impl Clock {
-    /// A clock without packets. `shift` is added to each timestamp of the clock. It is in nanoseconds, at most a second
-    /// forward or back.
+    /// A clock without packets. `shift` is added to each timestamp of the clock. The shift is in nanoseconds, and is at
+    /// most a second, forward or back.
     pub fn new(alloc: Global, shift: i64) -> Result<Self, NoMemory>
         requires { IsShift shift }
         ensures empty { IfOk result (λ clock. StandsFor clock []) }

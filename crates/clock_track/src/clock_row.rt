@@ -5,7 +5,7 @@ use avtp_base::Bytes;
 /// A clock packet (IEEE 1722-2016, 10), with borrowed timestamps.
 #[derive(Clone, Copy, Debug)]
 pub struct Points<'a> {
-    /// The packet gives points: it is well formed, of the type for audio samples, and its timestamps are certain.
+    /// The packet gives points: it is well formed, it is of the type for audio samples, and its timestamps are certain.
     pub usable: bool,
     /// The sequence number, modulo 256.
     pub seq: u8,

@@ -78,8 +78,8 @@ pub fn line_among<R: Rows>(rows: &R, query: &Query) -> ClockAnswer
 
 /// The line of the sample whose presentation time is `instant`, in nanoseconds of gPTP, and the sample's number on that
 /// line, according to a media clock (IEEE 1722-2016, 10). The stream has `rate` samples a second, at least 1. The
-/// clock's packets are the last 64 of `rows` that give points. `shift` is added to each timestamp of the clock. It is
-/// in nanoseconds, at most a second forward or back.
+/// clock's packets are the last 64 of `rows` that give points. `shift` is added to each timestamp of the clock. The
+/// shift is in nanoseconds, and is at most a second, forward or back.
 ///
 /// Two adjacent timestamps are a pair if both are below 2^62 and the time between them differs from the nominal time of
 /// the interval by at most 1/8 of that nominal time. Successive timestamps of one packet are adjacent. The last

@@ -50,8 +50,8 @@ IsNear j n m =
     IsFragment j.kind n → IsFragment j.kind m → ((j.stamp n ≡ None) ⊎ (j.stamp m ≡ None)) →
     (n ≤ m + 254) × (m ≤ n + 254)
 
--- `IsNear` holds for any two adjacent packets of the list. For any two packets of a run of fragments, `IsNear` follows
--- by induction.
+-- `IsNear` holds for any two adjacent packets of the list. So if at least one of two adjacent fragments has no
+-- timestamp, and the second has the next sequence number modulo 256, the second is the next packet.
 abbrev pub AreNear : Journal → List ℕ → Type 0
 AreNear j [] = ⊤
 AreNear j (n ∷ []) = ⊤

@@ -105,7 +105,8 @@ pub fn heads_are_found()
 {}
 
 /// If two adjacent points of one run cover a packet's timestamp, and the points' packets are among the clock's last 64,
-/// a listener finds a line for the timestamp. The line is that of these two points.
+/// a listener finds a line for the timestamp. If the stream agrees with the clock, the line is that of these two
+/// points.
 pub fn lines_are_found()
     ensures some { (c : ClockJournal) (shift instant : ℤ) (rate : ℕ) (rows : List ClockRow) (p q : Place) → IsClock c → ArePointsAtHand c shift rows p q → Covers (pair_at c p q) rate instant → clock_spot rows shift instant rate ≢ None }
     ensures found { (j : Journal) (shift : ℤ) (rows : List ClockRow) (n : ℕ) (head : Head) (p q : Place) → IsClock j.clock → AgreesWithClock j → All (IsTrueRow j.clock shift) rows → n < j.packets → head_of j n ≡ Some head → ArePointsAtHand j.clock shift rows p q → Covers (pair_at j.clock p q) j.rate head.instant
