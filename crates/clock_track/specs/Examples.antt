@@ -8,8 +8,8 @@ use Rattle.clock_track.specs.declared.pair.Pair.{Pair}
 abbrev pub second_pair : Pair
 second_pair = record { earlier = pos 1002000000; later = pos 1005333333; interval = 147; up = 44100; down = 1 }
 
--- a clock packet with one timestamp and an interval of 96 events, from its sequence number, restart bit, base frequency
--- in Hz and timestamp
+-- a clock packet with this sequence number, restart bit, base frequency in Hz and timestamp; it has no other timestamp,
+-- and its interval is 96 events
 abbrev pub worked_row : ℕ → Bool → ℕ → ℕ → ClockRow
 worked_row seq mr base timestamp = record {
   usable = true;

@@ -134,8 +134,8 @@ video_part (suc zero) = First
 video_part (suc (suc zero)) = Middle
 video_part (suc (suc (suc n))) = Last
 
--- Four packets of H.264: a whole NAL unit, and a unit of three fragments of which the last has a timestamp. The two
--- units belong to different access units, whose instants differ by a thirtieth of a second.
+-- Four packets of H.264: a whole NAL unit, and a unit of three fragments. The last packet of each unit has a timestamp.
+-- The two units belong to different access units, whose instants differ by a thirtieth of a second.
 abbrev pub video : Journal
 video = record {
   kind = H264 video_part;

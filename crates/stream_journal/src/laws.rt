@@ -33,9 +33,10 @@ pub fn packets_are_spaced()
     ensures apart { (j : Journal) (n m : ℕ) → IsAudio j → n + m < j.packets → IsApart j (3 * m) (j.due n) (j.due (n + m)) }
 {}
 
-/// Packet k has the sequence number of the packet from which packet n is counted, but is another packet. The numbers of
-/// packet k and of the packet from which packet n is counted differ by at least 256. An instant counted from packet k's
-/// timestamp differs from the instant at which packet n is due by more than the time of 189 packets.
+/// Suppose that packet k has the sequence number of the packet from which packet n is counted, but is another packet.
+/// Then the numbers of packet k and of the packet from which packet n is counted differ by at least 256. An instant
+/// counted from packet k's timestamp differs from the instant at which packet n is due by more than the time of 189
+/// packets.
 pub fn other_stamps_are_far()
     ensures numbers { (n k : ℕ) (far : Distance) → IsOther n k far → (k + far.packets + 256 ≤ n) ⊎ (n + 256 ≤ k + far.packets) }
     ensures instants { (j : Journal) (n k instant : ℕ) (far : Distance) → IsAudio j → n < j.packets → k < j.packets → j.stamp k ≡ Some instant → distance (rule_of j.kind n) n j.count ≡ Some far → IsOther n k far → AreApart j 189 (j.due n) (behind j instant far.samples) }
