@@ -114,7 +114,7 @@ passes r bytes next =
       refusal = refl;
     }
 
--- after the next record was skipped, the reader's invariant holds
+-- after the next record is skipped, the reader's invariant holds
 pub passed : (refusal : Option Refusal) (style : Option Style) (start next : ℕ) (part bytes : List ℕ) → IsNext (reading refusal style start part) bytes → IsReading refusal style next part
 passed refusal style start next part bytes is =
     let styled = holds_styled refusal style start bytes is.whole in

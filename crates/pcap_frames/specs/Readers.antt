@@ -34,7 +34,7 @@ pub record IsRefusedAfter (meaning : Meaning) (bytes : List ℕ) (records : List
   pub certain : meaning.certain bytes ≡ Some refusal
 
 -- What feeding a piece does. The reader takes bytes from the front of the piece, up to the end of one record or of the
--- piece. The reader takes no byte exactly if the piece is empty or a record is held. As soon as the bytes so far
+-- piece. The reader takes no byte if and only if the piece is empty or a record is held. As soon as the bytes so far
 -- determine the capture's first refusal, the call returns this refusal instead of a number of bytes, and every later
 -- call returns it again.
 pub record Feeds (meaning : Meaning) (old : Progress) (piece : List ℕ) (result : Result ℕ Refusal) (new : Progress) : Type 0 where

@@ -17,7 +17,7 @@ pub const FILE_HEADER: usize = 24;
 /// The length in bytes of a record's header.
 pub const RECORD_HEADER: usize = 16;
 
-/// The greatest number of bytes that a record may have.
+/// The greatest number of captured bytes in a record, not counting the record's header.
 pub const RECORD_LIMIT: u32 = 262_144;
 
 /// The magic number of a capture that counts microseconds.
@@ -26,7 +26,7 @@ pub const MAGIC_MICRO: u32 = 0xA1B2_C3D4;
 /// The magic number of a capture that counts nanoseconds.
 pub const MAGIC_NANO: u32 = 0xA1B2_3C4D;
 
-/// The two magic numbers as they read in little-endian order if the capture is big-endian: with their bytes swapped.
+/// The two magic numbers of a big-endian capture, read as little-endian: their bytes are swapped.
 const SWAPPED_MICRO: u32 = 0xD4C3_B2A1;
 
 const SWAPPED_NANO: u32 = 0x4D3C_B2A1;

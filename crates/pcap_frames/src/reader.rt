@@ -48,7 +48,7 @@ impl Model for Reader {
 }
 
 impl Reader {
-    /// A reader that has taken nothing. This call allocates the memory of one record. Later calls allocate nothing.
+    /// A reader that has taken nothing. This call allocates memory for one record. Later calls allocate nothing.
     #[tactic(auto, using(crate::proofs::Fields::header_begins, crate::proofs::Steps::read_nothing))]
     pub fn new(alloc: Global) -> Result<Self, NoMemory>
         ensures empty { IfOk result (λ reader. reader ≡ nothing_read) }
@@ -68,8 +68,8 @@ impl Reader {
 
     /// Takes bytes up to the end of one record or of the piece, and returns how many it took.
     ///
-    /// While nothing is refused, the call returns `Ok(0)` exactly if the piece is empty or a whole record is held. As
-    /// soon as the bytes so far show the first refusal of the capture, the call returns that refusal. From then on
+    /// While nothing is refused, the call returns `Ok(0)` if and only if the piece is empty or a whole record is held.
+    /// As soon as the bytes so far show the first refusal of the capture, the call returns that refusal. From then on
     /// every `feed` and every `finish` returns the same refusal without looking at further bytes, and each fed piece
     /// counts as read.
     ///
