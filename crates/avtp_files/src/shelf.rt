@@ -12,9 +12,9 @@ pub struct Slot(pub u32);
 /// Files by name, read and written in pieces through slots. A shelf counts faults of reading (`open_file` and `read`)
 /// and of writing (`create_file` and `write`) separately. A call raises only its own count.
 ///
-/// For each call, one relation says what the call does to every shelf. Each call also has a ghost member: `opens`,
-/// `makes`, `reads`, `writes` or `closes`. The ghost member says what else the call does on a shelf of the implementing
-/// type. By default the ghost member says nothing.
+/// For each call, one relation says what the call does, whichever type implements the shelf. Each call also has a ghost
+/// member: `opens`, `makes`, `reads`, `writes` or `closes`. The ghost member says what else the call does on a shelf of
+/// the implementing type. By default the ghost member says nothing.
 pub trait Shelf {
     ghost use Rattle.std.specs.Prelude.{ℕ, List, Result};
     ghost use Rattle.avtp_base.specs.declared.failed.Failed.{Failed};
@@ -40,14 +40,14 @@ pub trait Shelf {
     /// Opens a file for reading, in a slot that was not live.
     ///
     /// Returns `Missing` only if the shelf shows its files and none has the name. If a shelf does not show its files,
-    /// it returns `Failed` or `Memory` for a missing name. At `Failed` the reading count rose.
+    /// it returns `Failed` or `Memory` for a missing name. At `Failed` the count of reading faults rose.
     fn open_file(&mut self, name: &str) -> Result<Slot, OpenFault>
         ensures does { OpensInSlot (state self.old) (state self.new) name.now result }
         ensures own { opens self.old self.new name.now result };
 
     /// Makes a file, or empties it, and opens it for writing in a slot that was not live.
     ///
-    /// At `Failed` the writing count rose. Never returns `Missing`.
+    /// At `Failed` the count of writing faults rose. Never returns `Missing`.
     fn create_file(&mut self, name: &str) -> Result<Slot, OpenFault>
         ensures does { MakesInSlot (state self.old) (state self.new) name.now result }
         ensures own { makes self.old self.new name.now result };
@@ -55,7 +55,7 @@ pub trait Shelf {
     /// If nothing is left to read, returns 0. Otherwise moves at least one byte from the front of what is left into the
     /// buffer, and returns how many bytes it moved.
     ///
-    /// At `Failed` the reading count rose, and nothing was moved.
+    /// At `Failed` the count of reading faults rose, and nothing was moved.
     fn read(&mut self, slot: Slot, buf: &mut [u8]) -> Result<usize, Failed>
         requires live { IsSome ((state self.old).slots slot.0) }
         requires room { 0 < length buf.old }
@@ -64,7 +64,7 @@ pub trait Shelf {
 
     /// Appends a prefix of the piece, at least one byte, to the file of the slot, and returns the length of the prefix.
     ///
-    /// At `Failed` the writing count rose, and nothing was appended.
+    /// At `Failed` the count of writing faults rose, and nothing was appended.
     fn write(&mut self, slot: Slot, piece: &[u8]) -> Result<usize, Failed>
         requires live { IsMadeIn (state self.old).slots slot.0 }
         requires some { 0 < length piece.now }

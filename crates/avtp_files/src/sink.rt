@@ -15,12 +15,12 @@ pub trait Sink {
     /// number. If a sink stops showing its bytes, it never shows them again.
     ghost state: { Self → SinkState };
 
-    /// What a write to this kind of sink does in addition to what it does to every sink.
+    /// What `write` does on a sink of the implementing type, beyond what `write` does on every sink.
     ghost writes: { Self → Self → List ℕ → Result ℕ Failed → Type 0 } = { λ _ _ _ _. Unit {0} };
 
     /// Appends a prefix of the piece, at least one byte, and returns the length of the prefix.
     ///
-    /// At `Failed` the count rose, and nothing was appended.
+    /// At `Failed` the count of faults rose, and nothing was appended.
     fn write(&mut self, piece: &[u8]) -> Result<usize, Failed>
         requires { 0 < length piece.now }
         ensures does { WritesPiece (state self.old) (state self.new) piece.now result }

@@ -104,7 +104,8 @@ anchor_index dbc interval = stamped_index (Blocks dbc interval)
 abbrev pub block_size : ℕ → ℕ
 block_size dbs = 4 * dbs
 
--- how many of the `size` bytes after the CIP header belong to data blocks: all, or none in a no-data packet
+-- how many of the `size` bytes after the CIP header belong to data blocks: none in a no-data packet, and all in any
+-- other packet
 abbrev pub data_size : ℕ → ℕ → ℕ
 data_size fdf size = if fdf == no_data then 0 else size
 
@@ -124,7 +125,7 @@ cip_layout cip =
     part StreamDataLength 30 (holds 16 (λ v. (cip v).syt) ∷ []) ∷ []
 
 -- The table of an IEC 61883-6 packet. The first of the two format bits of the stream header is reserved in this format,
--- but a view shows it. The second says whether `gateway_info` is valid.
+-- but a view shows it. The second format bit says whether `gateway_info` is valid.
 abbrev pub iec_layout : Layout Iec
 iec_layout = stream_layout (λ v. v.header)
     (reserved_shown 1 (λ v. v.header.format_bits / 2) ∷ holds 1 (λ v. v.header.format_bits % 2) ∷ [])

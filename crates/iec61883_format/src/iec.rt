@@ -2,7 +2,8 @@
 
 use avtp_header::StreamHeader;
 
-/// The header of a common isochronous packet (IEC 61883-1), without the bits that are equal in all accepted packets.
+/// The header of a common isochronous packet (IEC 61883-1), without the bits that have the same value in all accepted
+/// packets.
 #[derive(Clone, Copy, Debug, PartialEq, Eq)]
 pub struct Cip {
     /// The node ID of the source on its bus, 0 to 63.
@@ -13,7 +14,7 @@ pub struct Cip {
     pub dbc: u8,
     /// The code of the sample rate, 0 to 6, or 255 in a no-data packet.
     pub fdf: u8,
-    /// The timestamp of the bus, which AVTP does not use.
+    /// The timestamp that is used on an IEEE 1394 bus, but not in AVTP.
     pub syt: u16,
 }
 

@@ -23,14 +23,16 @@ fn dbs_of(byte: u8) -> u16
     if byte == 0 { 256 } else { u16::from(byte) }
 }
 
-/// How many of the `size` bytes after the CIP header belong to data blocks: all, or none in a no-data packet.
+/// How many of the `size` bytes after the CIP header belong to data blocks: none in a no-data packet, and all in any
+/// other packet.
 fn data_size(fdf: u8, size: u32) -> u32
     ensures { result ≡ data_size_of fdf size }
 {
     if fdf == NO_DATA { 0 } else { size }
 }
 
-/// The refusal of the tag, or of a stated length that is shorter than a CIP header or exceeds the packet.
+/// The refusal of the tag, or of a stated length that is less than the length of a CIP header or exceeds the number of
+/// bytes after the stream header.
 fn refused_by_carrier(pdu: &[u8], stated: u16) -> Option<Refusal>
     requires whole { 24 ≤ length pdu.now }
     requires stated { stated ≡ bits 20 0 16 pdu.now }
