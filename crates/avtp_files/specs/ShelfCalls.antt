@@ -15,8 +15,8 @@ abbrev pub IsMadeIn : Slots → ℕ → Type 0
 IsMadeIn slots k = option_map (λ o. o.made) (slots k) ≡ Some true
 
 -- At `Ok` the file with this name was opened for reading in a slot that was free, and every other slot is unchanged. At
--- `Err` every slot is unchanged. `Missing` means that the shelf shows its files and none has the name. At `Failed` the
--- count of reading faults rose. In each case all files are unchanged, and the shelf was asked for exactly this name.
+-- `Err` every slot is unchanged. `Missing` means that the shelf shows its files and none has the name. At `Failed` a
+-- reading fault was counted. In each case all files are unchanged, and the shelf was asked for exactly this name.
 pub record OpensInSlot (before after : ShelfState) (name : List ℕ) (result : Result Slot OpenFault) : Type 0 where
   pub opened : IfOk result (λ slot. IsOpened before.files (after.slots slot.0) name)
   pub fresh : IfOk result (λ slot. before.slots slot.0 ≡ None)
@@ -30,8 +30,8 @@ pub record OpensInSlot (before after : ShelfState) (name : List ℕ) (result : R
 
 -- At `Ok` the file with this name is now empty, and open for writing in a slot that was free. Every other slot keeps
 -- its file, and what is left to read changes only in slots of this file. At `Err` every file and slot is unchanged. At
--- `Failed` the count of writing faults rose. `Missing` is never returned. In each case the shelf was asked for exactly
--- this name.
+-- `Failed` a writing fault was counted. `Missing` is never returned. In each case the shelf was asked for exactly this
+-- name.
 pub record MakesInSlot (before after : ShelfState) (name : List ℕ) (result : Result Slot OpenFault) : Type 0 where
   pub made : IfOk result (λ slot. IsMade before.files (after.slots slot.0) name)
   pub fresh : IfOk result (λ slot. before.slots slot.0 ≡ None)

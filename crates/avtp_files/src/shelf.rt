@@ -40,14 +40,14 @@ pub trait Shelf {
     /// Opens a file for reading, in a slot that was not live.
     ///
     /// Returns `Missing` only if the shelf shows its files and none has the name. If a shelf does not show its files,
-    /// it returns `Failed` or `Memory` for a missing name. At `Failed` the count of reading faults rose.
+    /// it returns `Failed` or `Memory` for a missing name. At `Failed` a reading fault was counted.
     fn open_file(&mut self, name: &str) -> Result<Slot, OpenFault>
         ensures does { OpensInSlot (state self.old) (state self.new) name.now result }
         ensures own { opens self.old self.new name.now result };
 
     /// Makes a file, or empties it, and opens it for writing in a slot that was not live.
     ///
-    /// At `Failed` the count of writing faults rose. Never returns `Missing`.
+    /// At `Failed` a writing fault was counted. Never returns `Missing`.
     fn create_file(&mut self, name: &str) -> Result<Slot, OpenFault>
         ensures does { MakesInSlot (state self.old) (state self.new) name.now result }
         ensures own { makes self.old self.new name.now result };
@@ -55,7 +55,7 @@ pub trait Shelf {
     /// If nothing is left to read, returns 0. Otherwise moves at least one byte from the front of what is left into the
     /// buffer, and returns how many bytes it moved.
     ///
-    /// At `Failed` the count of reading faults rose, and nothing was moved.
+    /// At `Failed` a reading fault was counted, and nothing was moved.
     fn read(&mut self, slot: Slot, buf: &mut [u8]) -> Result<usize, Failed>
         requires live { IsSome ((state self.old).slots slot.0) }
         requires room { 0 < length buf.old }
@@ -64,7 +64,7 @@ pub trait Shelf {
 
     /// Appends a prefix of the piece, at least one byte, to the file of the slot, and returns the length of the prefix.
     ///
-    /// At `Failed` the count of writing faults rose, and nothing was appended.
+    /// At `Failed` a writing fault was counted, and nothing was appended.
     fn write(&mut self, slot: Slot, piece: &[u8]) -> Result<usize, Failed>
         requires live { IsMadeIn (state self.old).slots slot.0 }
         requires some { 0 < length piece.now }

@@ -20,7 +20,7 @@ pub trait Sink {
 
     /// Appends a prefix of the piece, at least one byte, and returns the length of the prefix.
     ///
-    /// At `Failed` the count of faults rose, and nothing was appended.
+    /// At `Failed` a fault was counted, and nothing was appended.
     fn write(&mut self, piece: &[u8]) -> Result<usize, Failed>
         requires { 0 < length piece.now }
         ensures does { WritesPiece (state self.old) (state self.new) piece.now result }

@@ -25,7 +25,7 @@ pub struct IecView<'a> {
     /// valid.
     pub header: StreamHeader,
     pub gateway_info: u32,
-    /// The channel of the bus, 0 to 63; 31 for a stream that originates on no bus.
+    /// The channel on the IEEE 1394 bus, 0 to 63; 31 for a stream that originates on no such bus.
     pub channel: u8,
     /// The transaction code of the bus, 0 to 15.
     pub tcode: u8,
