@@ -41,8 +41,8 @@ pub record IsCapture (style : Style) (records : List Record) (bytes : List ℕ) 
   pub is_header : IsFileHeader style header
   pub spelled : SpellsAll style records body
 
--- The bytes are a capture of these records, followed by at least one byte. If the bytes after the capture are read as a
--- record, the refusal is at the record's first field that is cut off or refused.
+-- The bytes are a capture of these records, followed by at least one byte. When the bytes after the capture are read as
+-- a record, `refusal` is at the first field that is cut off or whose value is refused.
 pub record IsRefusedInRecord (bytes : List ℕ) (records : List Record) (refusal : Refusal) : Type 0 where
   pub style : Style
   pub front : List ℕ

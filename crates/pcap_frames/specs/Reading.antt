@@ -106,8 +106,8 @@ pub record IsNext (r : Reading) (bytes : List ℕ) : Type 0 where
   pub reading : IsReading r.refusal r.style r.start bytes
   pub whole : IsSome (held (with_part r bytes))
 
--- The reader skipped a borrowed record with these bytes. The reader has taken these bytes, has released their record,
--- and holds no record.
+-- These bytes are a borrowed record, which the reader skipped. The reader has taken these bytes, has released their
+-- record, and holds no record.
 pub record Passes (old : Reading) (bytes : List ℕ) (new : Reading) : Type 0 where
   pub read : (before : List ℕ) (records : List Record) → HasRead old before records → HasRead new (before ++ bytes) (records ++ option_to_list (held (with_part old bytes)))
   pub counted : taken new ≡ taken old + length bytes
