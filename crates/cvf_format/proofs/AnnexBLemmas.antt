@@ -107,7 +107,7 @@ third_passes bytes at two many =
     not_there : (c : ℕ) → c ≤ 1 → OccursAt bytes (0 ∷ 0 ∷ c ∷ []) at → ⊥
     not_there c few o = let third : get_or bytes (at + 2) 0 ≡ c = o.reads 2 (omega arith) in let fits : at + 2 < length bytes = omega (arith, o.fits) in let more = many fits in absurd (omega arith)
 
--- if two zero bytes do not begin at `at`, no unit ends there
+-- if two zero bytes do not begin at `at`, `is_end` is false there
 passes_without : (bytes : List ℕ) (at : ℕ) → ¬ OccursAt bytes (0 ∷ 0 ∷ []) at → is_end bytes at ≡ false
 passes_without bytes at none =
     or_from (occurs_at bytes start_code at) (occurs_at bytes three_zeros at)
@@ -137,7 +137,7 @@ end_none bytes at within none =
     let rest : NonePasses (is_end bytes) at (at + (length bytes - at)) = λ k low high. none k low (omega arith) in
     ap (λ (o : Option ℕ). unwrap_or o (length bytes)) (find_none (is_end bytes) (length bytes - at) at rest)
 
--- the byte after two zero bytes is at most 1 exactly if a unit ends before these zero bytes
+-- the byte after two zero bytes is at most 1 if and only if a unit ends before these zero bytes
 pub third_tells : (bytes : List ℕ) (at : ℕ) → OccursAt bytes (0 ∷ 0 ∷ []) at → at + 2 < length bytes → leb (get_or bytes (at + 2) 0) 1 ≡ is_end bytes at
 third_tells bytes at two more =
     elim (leb_tells (get_or bytes (at + 2) 0) 1) [

@@ -94,10 +94,10 @@ stays_long g gs f e = by (is_within (g ∷ (gs ++ f ∷ []))) refl
         let l = within_lengths (g ∷ (gs ++ f ∷ [])) k in
         absurd (within_fails (g ∷ gs) e (omega (arith, length_unit_more g gs f, l.0)) (omega (arith, length-append gs (f ∷ []), l.1)))
 
--- ---- what is returned for a stretch: empty or too long, just too long, or within the limits
+-- ---- what is returned for a stretch that is empty, too long or within the limits
 
--- What follows if a stretch is empty, or exceeded the limits before its last packet. No packet waits, and the last
--- packet is lost as `Broken`.
+-- What follows if a stretch is empty, or exceeds the limits even without its last packet. No packet waits, and the
+-- newest packet is lost as `Broken`.
 record Overlong (r : List Fragment) : Type 0 where
   waits : waiting r ≡ []
   apart : is_joined r ≡ false
@@ -328,7 +328,7 @@ room_is a g gs f k =
     let most = lt_le (length a.held) (length (g ∷ (gs ++ f ∷ []))) most_fragments count in
     rw (bytes, most) refl
 
--- The waiting packets `r` are `first`, followed by `rest`, and the packet `f` continues their unit.
+-- The waiting packets `r` are `first` and then `rest`; the packet `f` continues their unit.
 record Waits (a : Assembly) (r : List Fragment) (f : Fragment) : Type 0 where
   first : Fragment
   rest : List Fragment

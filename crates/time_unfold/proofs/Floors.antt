@@ -52,7 +52,7 @@ floor_only z q r d a b c e =
     (λ g. let m = times_more (r +ℤ pos 1) q d (omega (arith, ints)) in absurd (omega (arith, ints)))
     (λ g. omega (arith, ints)))
 
--- if z is a multiple of d plus r, and r is from 0 to below d, then r is the remainder of z
+-- if z is r plus a multiple of d, and r is from 0 to below d, then r is the remainder of z
 pub rest_only : (z q r : ℤ) (d : ℕ) → 0 < d → z ≡ q *ℤ pos d +ℤ r → pos 0 ≤ℤ r → r <ℤ pos d → int_rem_euclid z (pos d) ≡ r
 rest_only z q r d some e natural below =
     let m = one_more q d in

@@ -1,4 +1,4 @@
--- The stamps that were noted last.
+-- The most recently noted stamps.
 use Rattle.std.specs.Prelude.{◌≡◌, ◌≤◌, ℕ, List}
 use Rattle.time_unfold.specs.declared.stamp.Stamp.{Stamp}
 use Rattle.time_unfold.specs.Stamps.{last_of}

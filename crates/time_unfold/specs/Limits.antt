@@ -7,14 +7,14 @@ use Rattle.time_unfold.specs.declared.stamp.Stamp.{Stamp}
 use Rattle.time_unfold.specs.declared.stamp.Want.{Want}
 use Rattle.time_unfold.specs.Time.{IsArrival}
 
--- the instant of a stamp is from -2^62 to below 2^62 + 2^31 ns; it is less than 2^31 ns after an arrival, and an
--- arrival is at most 2^62
+-- the instant of a stamp is from -2^62 to below 2^62 + 2^31 ns: an arrival is at most 2^62 ns, and the instant is less
+-- than 2^31 ns after the arrival of its packet
 pub record IsStamp (stamp : Stamp) : Type 0 where
   pub from : neg_ℤ (pos (2 ^ 62)) ≤ℤ stamp.instant
   pub to : stamp.instant <ℤ pos (2 ^ 62 + 2 ^ 31)
 
--- The packet has a valid arrival, a rate of at least 1 Hz, and at most 65,535 samples. From the stamped sample to the
--- packet's first sample, there are at most 7 times as many samples as the packet has.
+-- The packet's arrival is valid, its rate is at least 1 Hz, and it has at most 65,535 samples. From the stamped sample
+-- to the packet's first sample, there are at most 7 times as many samples as the packet has.
 pub record IsWant (want : Want) : Type 0 where
   pub arrival : IsArrival want.arrival
   pub rate : 1 ≤ want.rate

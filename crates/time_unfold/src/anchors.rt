@@ -53,7 +53,7 @@ impl Anchors {
     }
 
     /// The stamp from which a packet without a timestamp is counted: what `head_among` returns for all stamps that were
-    /// noted. `None` exactly if no kept stamp fits. Allocates nothing.
+    /// noted. `None` if and only if no kept stamp fits. Allocates nothing.
     pub fn find(&self, want: &Want) -> Option<Stamp>
         requires { IsWant want.now }
         ensures value { (stamps : List StampValue) → KeepsLast self.now stamps → result ≡ found self.now.room want.now stamps }

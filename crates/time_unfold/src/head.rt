@@ -67,15 +67,16 @@ pub fn last_fit(stamps: &[Stamp], want: &Want) -> Option<Stamp>
 }
 
 /// The stamp from which a packet without a timestamp is counted: of the last `room` stamps of the list, the last that
-/// fits. `None` exactly if none of these stamps fits.
+/// fits. `None` if and only if none of these stamps fits.
 ///
 /// A stamp fits if it has the wanted sequence number, media clock restart bit, rate and block count, and is near (IEEE
 /// 1722-2016, 7, sparse timestamps; IEC 61883-6, block counts). A stamp is near if the packet's first sample, counted
 /// from the stamp, is at most 60 packet durations away from its expected instant, which is the packet's arrival plus
 /// the lead.
 ///
-/// The stamps are in the order of their arrival, with instants from -2^62 to below 2^62 + 2^31 ns. The packet has a
-/// rate of at least 1 Hz and at most 65,535 samples. `want.back` is at most 7 times the packet's number of samples.
+/// The stamps are in the order in which their packets arrived, and their instants are from -2^62 to below 2^62 + 2^31
+/// ns. The packet has at most 65,535 samples, and its rate is at least 1 Hz. `want.back` is at most 7 times the
+/// packet's number of samples.
 pub fn head_among(stamps: &[Stamp], room: u32, want: &Want) -> Option<Stamp>
     requires stamps { All IsStamp stamps.now }
     requires want { IsWant want.now }
