@@ -330,7 +330,7 @@ length_of_headers First v = refl
 length_of_headers Middle v = refl
 length_of_headers Last v = refl
 
--- if bytes hold the headers as the writer writes them, they spell the headers of the packet with every reserved bit 0
+-- if bytes hold the headers as they are written for `v`, these bytes spell the headers of `plain_cvf v`
 held_plain : (part : NalPart) (v : Cvf) (bytes : List ℕ) → Holds (layout_of part) v bytes → Spells (layout_of part) (plain_cvf v) bytes
 held_plain Single v bytes h = held_spells (layout_of Single) (plain_cvf v) bytes refl h
 held_plain First v bytes h = held_spells (layout_of First) (plain_cvf v) bytes refl h
@@ -396,8 +396,7 @@ accepted_again bytes v whole s h long =
     let nal = headers_accepted v.part v bytes refl whole.type (omega (arith, whole.data_length)) h in
     or_else-accepted _ _ (or_else-accepted _ _ start shared) (or_else-accepted _ _ format nal)
 
--- if bytes hold the headers as the writer writes them, followed by the body, they spell the packet with every reserved
--- bit 0
+-- if bytes hold the headers as they are written for `v`, followed by the body of `v`, these bytes spell `plain_cvf v`
 held : (bytes : List ℕ) (v : Cvf) → IsWritableCvf v → Holds (layout_of v.part) v bytes → 24 + v.header.data_length ≤ length bytes
     → v.body ≡ body_of v.part v.header.data_length bytes → SpellsCvf bytes (plain_cvf v)
 held bytes v whole f long body =
@@ -423,7 +422,7 @@ cvf_again v rest whole fits =
     let body : v.body ≡ body_of v.part v.header.data_length bytes = rw behind (sym (take_at v.body rest (24 + v.header.data_length - header_size v.part) (omega (arith, whole.data_length)))) in
     rw regrouped (held bytes v whole f long body)
 
--- ---- bytes that set no reserved bit and end with their packet are the bytes that are written for it
+-- ---- bytes that set no reserved bit and end with their packet are the packet's `cvf_spelling`
 
 all_told : (part : NalPart) → is_told (layout_of part) ≡ true
 all_told Single = refl

@@ -17,7 +17,7 @@ joined at xs =
     let whole : bits 28 0 3 xs * 32 % 256 ≡ bits 28 0 3 xs * 2 ^ 5 = omega arith in
     rw whole (or_shifted (bits 28 0 3 xs) 5 (bits at 3 5 xs) b)
 
--- if no bit of the ranges `xs` is set, a bit of `xs ++ ys` is set exactly if a bit of `ys` is set
+-- if no bit of the ranges `xs` is set, a bit of `xs ++ ys` is set if and only if a bit of `ys` is set
 unset_before : (xs ys : List Range) (bytes : List ℕ) → any_set xs bytes ≡ false → any_set (xs ++ ys) bytes ≡ any_set ys bytes
 unset_before [] ys bytes unset = refl
 unset_before (x ∷ xs) ys bytes unset =
@@ -28,8 +28,8 @@ not_unset : (unset : Bool) → cond unset false true ≡ not unset
 not_unset true = refl
 not_unset false = refl
 
--- if the reserved bits that all packets share are 0, a fragment sets a reserved bit exactly if the reserved bit of its
--- FU header is set
+-- if the reserved bits that all packets share are 0, a fragment sets a reserved bit if and only if the reserved bit of
+-- its FU header is set
 pub fragment_reserved : (part : NalPart) (bytes : List ℕ) → (part ≡ First) ⊎ ((part ≡ Middle) ⊎ (part ≡ Last))
     → any_set (reserved_ranges (cvf_layout [])) bytes ≡ false → sets_reserved part bytes ≡ not (eqb (bits 29 2 1 bytes) 0)
 fragment_reserved part bytes is unset =

@@ -1,4 +1,4 @@
--- Each packet is settled once, and a list of events ends with at most one stretch.
+-- Each packet is settled once or still waits, and a list of events ends with at most one stretch.
 use Rattle.std.proofs.Common.{◌≡◌, Bool, true, false, List, [], ◌∷◌, ◌++◌, length, refl, sym, ap, ◌∙◌, append_assoc}
 use Rattle.std.specs.Prelude.{not, nat_lt, map}
 use Rattle.std.proofs.Math.Bool.{and-false}
@@ -21,7 +21,7 @@ lost_itself g gs f e = by (is_within (before_last (g ∷ gs))) refl
     by true p = rw (e, p) refl
     by false p = rw (e, p) refl
 
--- if a packet is lost and does not join the waiting packets, it settles them and itself
+-- if a packet does not join the waiting packets and is itself settled at once, it settles all of them, too
 adds_lost : (before : List Fragment) (f : Fragment) (after : List Fragment) → is_joined after ≡ false → settled_as (piece_of after) f after ≡ f ∷ [] → waiting after ≡ [] → AddsUp before f after
 adds_lost before f after j s w = rw (j, s, w) (sym (append_none (waiting before ++ f ∷ [])))
 
@@ -36,7 +36,8 @@ adds_one before f = by (is_within (f ∷ [])) (is_complete (f ∷ [])) refl refl
     by true true p q = adds_lost before f (f ∷ []) refl (rw (p, q) refl) (rw (p, q) refl)
     by true false p q = rw (p, q) (ap (λ (xs : List Fragment). xs ++ f ∷ []) (sym (append_none (waiting before))))
 
--- if a stretch is within the limits after one more packet continued it, all its earlier packets were waiting
+-- if a packet continues a stretch, and the longer stretch is within the limits, all packets of the shorter one were
+-- waiting
 was_waiting : (g : Fragment) (gs : List Fragment) (f : Fragment) → continues g gs f ≡ true → is_within (g ∷ (gs ++ f ∷ [])) ≡ true → waiting (g ∷ gs) ≡ g ∷ gs
 was_waiting g gs f goes within = by (is_within (g ∷ gs)) (is_complete (g ∷ gs)) refl refl
   where

@@ -128,7 +128,7 @@ follows_goes_on : (f g : Fragment) → follows f g ≡ true → goes_on g.part �
 follows_goes_on f g e =
     and_right _ _ (and_left _ _ (and_left _ _ e))
 
--- if each packet of `rest` continues the unit of the packet before it, no stretch is at the end of `rest`
+-- if each packet of `rest` continues the unit of the packet before it, `rest` ends with no stretch
 rest_none : (f : Fragment) (rest : List Fragment) → are_linked f rest ≡ true → stretch_of rest ≡ []
 rest_none f [] e = refl
 rest_none f (g ∷ rest) e =

@@ -48,7 +48,8 @@ is_start_code bytes at = occurs_at bytes start_code at
 abbrev pub is_end : List ℕ → ℕ → Bool
 is_end bytes at = occurs_at bytes start_code at || occurs_at bytes three_zeros at
 
--- the first index from `from` on at which a NAL unit can end; zero bytes just before this index are not yet dropped
+-- the first index from `from` on at which a NAL unit can end; this is `end` in `IsUnit`, so the unit excludes any zero
+-- bytes just before it
 abbrev pub end_behind : List ℕ → ℕ → ℕ
 end_behind bytes from = unwrap_or (find (is_end bytes) (range_with_len from (length bytes - from))) (length bytes)
 
@@ -56,8 +57,8 @@ end_behind bytes from = unwrap_or (find (is_end bytes) (range_with_len from (len
 abbrev pub is_other_byte : List ℕ → ℕ → Bool
 is_other_byte bytes at = not (slice_index bytes at == 0)
 
--- The NAL unit after the start code at this index. The unit's last byte is the last nonzero byte before the index
--- `end_behind`. If there is no such byte, there is no unit.
+-- The NAL unit after the start code at this index. Of the bytes after the start code and before the index `end_behind`,
+-- the last nonzero one is the unit's last byte. If all of them are 0, or there are none, there is no unit.
 abbrev pub unit_behind : List ℕ → ℕ → Option (ℕ × ℕ)
 unit_behind bytes code =
     option_map (λ last. (code + 3, last + 1))

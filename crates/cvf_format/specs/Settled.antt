@@ -1,4 +1,4 @@
--- Packets are settled in the order of their arrival, each once, and packets that are not settled yet wait. A packet is
+-- Packets are settled in the order of their arrival, none twice, and packets that are not settled yet wait. A packet is
 -- settled when a later event gives it up, when it is lost as it arrives, or when its unit is complete.
 use Rattle.std.specs.Prelude.{List, [], ◌∷◌, ◌++◌}
 use Rattle.cvf_format.specs.declared.piece.Piece.{Piece}

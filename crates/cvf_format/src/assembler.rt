@@ -20,8 +20,8 @@ const MOST_FRAGMENTS: usize = 4_096;
 /// Puts NAL units together from the packets of a stream, which are pushed in the order of their arrival.
 ///
 /// A unit is in one packet, or is split into a first fragment, any number of middle fragments, and a last fragment. All
-/// fragments carry the same first byte of the unit, and each has the next sequence number. All fragments with a
-/// timestamp must have the same presentation time.
+/// fragments carry the same first byte of the unit, and their sequence numbers are consecutive modulo 256. All
+/// fragments with a timestamp must have the same presentation time.
 ///
 /// A stretch is a packet that begins a unit, followed by packets that each continue this unit. What becomes of a packet
 /// depends on the longest stretch that ends with it. The assembler keeps only that stretch.

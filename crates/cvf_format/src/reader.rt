@@ -18,7 +18,7 @@ fn is_single_type(kind: u8) -> bool
     0 < kind && kind < 24
 }
 
-/// Why a field that comes before the NAL unit is refused; `None` if none of them is.
+/// Why the format, the format subtype or the stated length is refused; `None` if none of them is.
 fn refused_by_format(pdu: &[u8], stated: u16) -> Option<Refusal>
     requires whole { 24 ≤ length pdu.now }
     requires length { stated ≡ bits 20 0 16 pdu.now }
