@@ -27,7 +27,7 @@ const MOST_FRAGMENTS: usize = 4_096;
 /// depends on the longest stretch that ends with it. The assembler keeps only that stretch.
 #[derive(Drop)]
 pub struct Assembler {
-    /// The bytes of the unit so far, or of a complete unit if `whole` is true.
+    /// The bytes of the unit so far; if `whole` is true, the unit is complete.
     bytes: Vec<u8>,
     /// The marks of the fragments that wait for the rest of their unit.
     held: Vec<Mark>,

@@ -22,7 +22,7 @@ stamped_block (Blocks dbc interval) = Some ((dbc + stamped_index (Blocks dbc int
 -- How far back the stamped sample is if packet n, which has `count` samples, has no timestamp. In sparse AAF, the
 -- stamped sample is the first sample of the nearest earlier packet whose number is a multiple of 8. In IEC 61883-6, it
 -- is the nearest earlier block whose block count is a multiple of the interval. `None` for AAF that is not sparse. Also
--- `None` if the stamped sample would be the packet's own first sample, or is more than 7 packets back.
+-- `None` if the packet's own first sample should be stamped, or if the stamped sample is more than 7 packets back.
 abbrev pub distance : HeadRule → ℕ → ℕ → Option Distance
 distance Own n count = None
 distance Eight n count =

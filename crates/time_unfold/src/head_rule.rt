@@ -122,8 +122,8 @@ impl HeadRule {
     /// first sample of the nearest earlier packet whose sequence number is a multiple of 8. In IEC 61883-6, it is the
     /// nearest earlier block whose block count is a multiple of the interval.
     ///
-    /// `None` for AAF that is not sparse. Also `None` if the stamped sample would be the packet's own first sample, or
-    /// is more than 7 packets back. The packet has 1 to 65,535 samples, and the interval is 8, 16 or 32.
+    /// `None` for AAF that is not sparse. Also `None` if the packet's own first sample should be stamped, or if the
+    /// stamped sample is more than 7 packets back. The packet has 1 to 65,535 samples, and the interval is 8, 16 or 32.
     pub fn distance(self, seq: u8, count: u32) -> Option<Distance>
         requires rule { IsRule self }
         requires some { 1 ≤ count }
