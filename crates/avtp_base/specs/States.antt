@@ -26,8 +26,8 @@ pub record SinkState : Type 0 where
   -- the number of faults so far
   pub faults : ℕ
 
--- It is possible that the shelf was asked for exactly the names `names`, in this order. If all names were kept, `names`
--- equals the kept names. Otherwise `names` begins with the kept names.
+-- The shelf can have been asked for exactly the names `names`, in this order. If all names were kept, `names` equals the
+-- kept names. Otherwise `names` begins with the kept names.
 abbrev pub AreNames : Bool → List (List ℕ) → List (List ℕ) → Type 0
 AreNames true kept names = names ≡ kept
 AreNames false kept names = (rest : List (List ℕ)) × (names ≡ kept ++ rest)
