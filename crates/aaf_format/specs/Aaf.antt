@@ -118,8 +118,8 @@ length_rows bytes =
     (not (bits 20 0 16 bytes % frame_size (bits 17 6 10 bytes) (format_of bytes) == 0)) ∷ []
 
 -- Why the bytes are refused as a PCM packet; `None` if they are accepted. A packet that is cut off in bytes 16 to 19 is
--- refused for `format_data`. A packet that is cut off in bytes 22 and 23 is refused for `format_flags`. Both are names
--- of fields of the stream header.
+-- refused for `format_data`. A packet that is cut off in bytes 22 and 23 is refused for `format_flags`. `format_data`
+-- and `format_flags` are names of fields of the stream header.
 abbrev pub aaf_refusal : List ℕ → Option Refusal
 aaf_refusal bytes =
     or_else (kind_refusal aaf_subtype bytes)

@@ -42,9 +42,10 @@ fn format_flags(view: &AafView<'_>) -> u16
 /// Writes a PCM packet, with every reserved bit 0, and returns its length. If the slice is shorter than the packet, the
 /// function returns `Room` and leaves the slice unchanged.
 ///
-/// The view must be one that `read_aaf` could return. In such a view the subtype is AAF, the rate code is at most 10,
-/// and there are 1 to 1023 channels. The depth is at most a sample's width, and the event field is at most 15. `count`
-/// and `data_length` must be those of the payload. The header's format bits and `reserved` are not read.
+/// The view must be one that `read_aaf` could return. In a view that `read_aaf` can return, the subtype is AAF, the
+/// rate code is at most 10, and there are 1 to 1023 channels. The depth is at most a sample's width, and the event
+/// field is at most 15. `count` and `data_length` must match the payload. The header's format bits and `reserved` are
+/// not read.
 pub fn write_aaf(out: &mut [u8], view: &AafView<'_>) -> Result<usize, Room>
     requires { IsWritableAaf (aaf_shape view.now) }
     ensures written { Writes (aaf_spelling (aaf_shape view.now)) out.old out.new result }

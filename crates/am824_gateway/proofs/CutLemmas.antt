@@ -24,7 +24,7 @@ use Rattle.am824_gateway.specs.state.Kept.{IsWithin}
 use Rattle.am824_gateway.proofs.GatewayLemmas.{all_within, length_frame, shaped}
 use Rattle.am824_gateway.proofs.PieceLemmas.{counted, fits}
 
--- ---- what is not skipped
+-- ---- a batch that is not skipped
 
 -- The batch is not skipped: it has the shape, does not overlap, and is in time.
 pub record IsGiven (to : To) (shape : Shape) (given : Given) (batch : Presented) : Type 0 where

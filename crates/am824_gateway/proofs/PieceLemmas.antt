@@ -83,7 +83,7 @@ late_more batch (q ∷ pieces) p = ap (λ (b : Bool). is_late batch q || b) (lat
     by true b c = refl
     by false b c = refl
 
--- each step of the loop keeps this: `pieces`, followed by the pieces still to be cut, is `all`
+-- each step of the loop preserves one equation: `pieces`, followed by the pieces still to be cut, is `all`
 pub step : (to : To) (shape : Shape) (batch : Presented) (pieces : List Piece) (first next count : ℕ) (all : List Piece) → first < batch.count → length pieces ≤ first
     → count ≡ piece_count to shape batch first → pieces ++ pieces_from to shape batch (batch.count - length pieces) first next ≡ all
     → (pieces ++ record { first = first; count = count; block = next } ∷ []) ++ pieces_from to shape batch (batch.count - (length pieces + 1)) (first + count) (next_block (interval_of shape.rate) next count) ≡ all

@@ -22,8 +22,8 @@ abbrev pub cuts_from : ℕ → Presented → List Piece → List Cut
 cuts_from n batch [] = []
 cuts_from n batch (p ∷ pieces) = record { number = n; batch = batch; piece = p } ∷ cuts_from (suc n) batch pieces
 
--- The pieces of `batches`, which are batches of a stream of this shape. `given` is the gateway's history before them. A
--- skipped batch has no pieces.
+-- The pieces of `batches`, which are batches of a stream of this shape. `given` is the gateway's history before the
+-- batches. A skipped batch has no pieces.
 abbrev pub cuts_after : To → Shape → Given → List Presented → List Cut
 cuts_after to shape given [] = []
 cuts_after to shape given (batch ∷ batches) =

@@ -34,8 +34,8 @@ samples_of to shape batch p = turned to (p.count * shape.channels) (values_of to
 abbrev pub timestamp_at : ℤ → ℕ
 timestamp_at instant = unsigned_abs (int_rem_euclid instant (pos (2 ^ 32)))
 
--- The stream header of packet n (IEEE 1722-2016, 4.4.4). Its timestamp is that of `instant`. It states `length` bytes
--- of payload, and signals no media clock restart.
+-- The stream header of packet n (IEEE 1722-2016, 4.4.4). The header has the timestamp of `instant`. The header states
+-- `length` bytes of payload, and signals no media clock restart.
 abbrev pub header_at : ℕ → ℕ → ℕ → ℤ → ℕ → StreamHeader
 header_at subtype id n instant length = record {
   subtype = subtype;
@@ -79,7 +79,7 @@ aaf_packet shape header p samples = record {
   reserved = false;
 }
 
--- Packet n of the stream with this ID. It carries a piece with these samples, the first of which is presented at
+-- Packet n of the stream with this ID. The packet carries a piece with these samples; the first sample is presented at
 -- `instant`.
 abbrev pub packet_of : To → Shape → ℕ → ℕ → ℤ → Piece → List ℕ → PacketView
 packet_of Am824 shape id n instant p blocks = Am824Data (am824_packet shape (header_at iec_subtype id n instant (8 + p.count * (4 * shape.channels))) p blocks)
@@ -117,8 +117,8 @@ frames_with to shape id given batch = frames_from to shape id given.packets batc
 
 -- ---- all batches
 
--- The frames of `batches`, which are batches of a stream of this shape. `given` is the gateway's history before them. A
--- skipped batch has no frames.
+-- The frames of `batches`, which are batches of a stream of this shape. `given` is the gateway's history before the
+-- batches. A skipped batch has no frames.
 abbrev pub frames_after : To → Shape → ℕ → Given → List Presented → List SentFrame
 frames_after to shape id given [] = []
 frames_after to shape id given (batch ∷ batches) =

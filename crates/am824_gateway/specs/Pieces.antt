@@ -52,8 +52,8 @@ piece_count to shape batch first =
 
 -- The block count of the first data block of an AM824 packet: add the previous packet's number of blocks to that
 -- packet's block count, raise the sum to a multiple of SYT_INTERVAL, and take it modulo 256. So the timestamp always
--- belongs to the packet's first block (IEC 61883-6). If the sum is not already such a multiple, the block count has a
--- gap before this packet.
+-- belongs to the packet's first block (IEC 61883-6). If the sum is not already a multiple of SYT_INTERVAL, the block
+-- count has a gap before this packet.
 abbrev pub next_block : ℕ → ℕ → ℕ → ℕ
 next_block interval block count = div_ceil (block + count) interval * interval % 256
 

@@ -44,8 +44,8 @@ values_out Am824 channels bytes = unlabelled channels bytes
 values_out Aaf channels bytes = bytes
 
 -- n samples of a packet, from sample k on. Sample 0 is presented at `instant`, and the instants of the other samples
--- are counted from `instant` at the nominal rate. Listeners do the same if the timestamp belongs to the packet's first
--- sample (IEEE 1722-2016, 7; IEC 61883-6).
+-- are counted from `instant` at the nominal rate. Listeners count the instants in the same way if the timestamp belongs
+-- to the packet's first sample (IEEE 1722-2016, 7; IEC 61883-6).
 abbrev pub packet_samples : To → Shape → ℤ → List ℕ → ℕ → ℕ → List Sample
 packet_samples to shape instant payload k zero = []
 packet_samples to shape instant payload k (suc n) =

@@ -31,16 +31,16 @@ abbrev pub first_or : Option Shape → Samples → Shape
 first_or None s = shape_of s
 first_or (Some first) s = first
 
--- The shape of the stream's first packet of samples, as it is known after one more record. `first` is what was known
--- before that record.
+-- The shape of the stream's first packet of samples, as it is known after one more record. `first` is the shape that
+-- was known before the record.
 abbrev pub shape_after : Option Shape → Content → Option Shape
 shape_after None Silent = None
 shape_after None Video = None
 shape_after None (Audio s) = Some (shape_of s)
 shape_after (Some first) c = Some first
 
--- The shape of the stream's first packet of samples, as it is known after these records. `first` is what was known
--- before these records.
+-- The shape of the stream's first packet of samples, as it is known after these records. `first` is the shape that was
+-- known before these records.
 abbrev pub shape_from : ℕ → Option Shape → List Record → Option Shape
 shape_from stream first [] = first
 shape_from stream first (r ∷ records) = shape_from stream (shape_after first (content stream r.bytes)) records

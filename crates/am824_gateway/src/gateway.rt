@@ -33,9 +33,9 @@ pub(crate) struct Current {
     pub first: u64,
 }
 
-/// Cuts the batches that a listener presents into packets of the other format. From these packets, listeners present
-/// samples with the same values and at the same instants as in the batches. Memory is reserved when the gateway is
-/// made.
+/// Cuts the batches that a listener presents into packets of the other format. From a gateway's packets, listeners
+/// present samples with the same values and at the same instants as in the batches. Memory is reserved when the gateway
+/// is made.
 #[derive(Drop)]
 pub struct Gateway {
     to: To,
@@ -155,8 +155,8 @@ impl Gateway {
     ghost use Rattle.std.specs.Borrow.{sem};
     ghost use Rattle.am824_gateway.specs.Lending.{EndsAs};
 
-    /// A gateway before its first batch. It converts a stream of this shape to the format `to`, and sends it under the
-    /// stream ID `id`. The shape is the one that the scan found. Without a shape, all batches are skipped.
+    /// A gateway before its first batch. The gateway converts a stream of this shape to the format `to`, and sends it
+    /// under the stream ID `id`. The shape is the one that the scan found. Without a shape, all batches are skipped.
     pub fn begin(alloc: Global, to: To, shape: Option<Shape>, id: u64) -> Result<Self, NoMemory>
         requires { IfSome shape IsShape }
         ensures { IfOk result (λ gateway. gateway ≡ record { to = to; shape = shape; id = id; given = nothing_given; frames = [] }) }
@@ -274,8 +274,8 @@ impl Gateway {
         current.write(piece, current.first + u64::from(i), out);
     }
 
-    /// Returns the bytes of the last batch that was not skipped, so that their memory can be used again. Call this only
-    /// after the batch's packets are written, because the call removes the pieces.
+    /// Returns the bytes of the last batch that was not skipped, so that their memory can be used again. Call
+    /// `give_back` only after the batch's packets are written, because the call removes the pieces.
     pub fn give_back(&mut self) -> Option<Bytes>
         ensures { self.new ≡ record self.old { frames = [] } }
     {

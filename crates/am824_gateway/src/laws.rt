@@ -1,4 +1,4 @@
-//! Laws of a gateway. Each is stated by a contract; the call does nothing.
+//! Laws of a gateway. Each law is stated by the contract of a call that does nothing.
 
 ghost use Rattle.std.specs.Prelude.{◌≡◌, ◌≢◌, ◌++◌, ◌∷◌, [], ℕ, IfSome, List, None, Option, Some, map};
 ghost use Rattle.std.specs.List.{AllByRecursion, flat_map};
@@ -59,7 +59,8 @@ pub fn scanned_shapes_can_be_turned()
 {}
 
 /// If a scan finds no fault in the records, each batch that a listener presents from these records has the shape that
-/// the scan finds. So a gateway never skips a batch for its shape. If the stream has no shape, nothing is presented.
+/// the scan finds. Hence a gateway never skips one of these batches for its shape. If the stream has no shape, nothing
+/// is presented.
 pub fn presented_batches_have_the_shape()
     ensures shown { (to : ToValue) (plan : ListenPlan) (records : List Record) → first_fault to plan.stream records ≡ None → AllByRecursion (IsShapedAs to (shape_in plan.stream records)) (presented_of (shown_of plan records)) }
     ensures due { (to : ToValue) (plan : ListenPlan) (records : List Record) → first_fault to plan.stream records ≡ None → AllByRecursion (IsShapedAs to (shape_in plan.stream records)) (presented_of (due_of plan records)) }

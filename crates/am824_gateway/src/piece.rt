@@ -34,7 +34,7 @@ const NANOSECONDS: u64 = 1_000_000_000;
 /// class A (IEEE 802.1BA).
 const TRANSIT: i64 = 2_000_000;
 
-/// 2^32 seconds, in nanoseconds. A capture cannot state an arrival at or after that time.
+/// 2^32 seconds, in nanoseconds. A capture cannot state an arrival at or after `CAPTURES_END`.
 const CAPTURES_END: i64 = (1 << 32) * 1_000_000_000;
 
 /// The time from sample 0 to sample `k` at a nominal rate, in nanoseconds.
@@ -121,8 +121,8 @@ fn is_one_piece(to: To, shape: Shape, batch: &Batch) -> bool
         && batch.count <= most_frames(to, shape.channels)
 }
 
-/// Cuts a batch into pieces, the first of which has the block count `block`. Returns the block count of the next
-/// packet, and whether the packet of any of the pieces would arrive at a time that a capture cannot state.
+/// Cuts a batch into pieces; the first piece has the block count `block`. Returns the block count of the next packet,
+/// and whether the packet of any of the pieces would arrive at a time that a capture cannot state.
 pub(crate) fn cut(
     pieces: &mut Vec<Piece>,
     to: To,
@@ -201,7 +201,7 @@ fn cut_by_instants(
     (next, late)
 }
 
-/// Adds a piece. The vector must have room for it.
+/// Adds a piece. The vector must have room for the piece.
 fn push(pieces: &mut Vec<Piece>, piece: Piece)
     requires { vec_len pieces.old < vec_capacity pieces.old }
     ensures items { pieces.new.items ≡ pieces.old.items ++ piece ∷ [] }

@@ -26,7 +26,7 @@ pub enum ScanFault {
     Format,
     /// IEC 61883-6 does not have this sample rate, or the rate differs from that of the first packet.
     Rate,
-    /// There are more than 256 channels, or their number differs from that of the first packet.
+    /// The packet has more than 256 channels, or another number of channels than the first packet.
     Channels,
     /// A quadlet of AM824 is not linear audio of 24 bits: its label is not 0x40.
     Label,
@@ -61,7 +61,7 @@ impl Model for Scan {
     ghost invariant = { λ s. IfSome s.shape IsShape };
 }
 
-/// Whether IEC 61883-6 does not have this sample rate, or the rate differs from that of the first packet.
+/// Whether IEC 61883-6 lacks this sample rate, or the rate differs from that of the first packet.
 fn is_other_rate(first: Shape, rate: u32) -> bool
     ensures { result ≡ other_rate first rate }
 {
@@ -102,7 +102,7 @@ impl Samples {
 }
 
 impl Scan {
-    /// A new scan. It looks for packets of the stream with this ID that cannot be converted to the format `to`.
+    /// A new scan. The scan looks for packets of the stream with this ID that cannot be converted to the format `to`.
     pub fn new(to: To, stream: u64) -> Self
         ensures { HasScanned to stream [] result }
     {

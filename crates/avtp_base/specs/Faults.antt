@@ -24,9 +24,9 @@ pub record IsCounted {T : Type 0} (before after : ℕ) (result : Result T Failed
   pub ok : OnOk result (after ≡ before)
   pub failed : OnErr result (Rose before after)
 
--- How a call changes the count of faults, if the call opens or makes a file and has this result. With `Ok` the count is
--- unchanged. With `Failed` the count rose, or has reached its greatest value. A missing file and missing memory are not
--- counted. The count never falls.
+-- How a call changes the count of faults, if the call opens or makes a file and has this result. If the result is `Ok`,
+-- the count is unchanged. With `Failed` the count rose, or has reached its greatest value. A missing file and missing
+-- memory are not counted. The count never falls.
 pub record IsOpenCounted {T : Type 0} (before after : ℕ) (result : Result T OpenFault) : Type 0 where
   pub never_falls : before ≤ after
   pub ok : OnOk result (after ≡ before)

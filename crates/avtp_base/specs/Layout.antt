@@ -1,5 +1,5 @@
--- Headers as tables, as the standards print them. A table says, part by part, which value each bit belongs to. The same
--- table is used for reading and for writing.
+-- Headers as tables, as the standards print them. A table says, part by part, which value each bit belongs to. One
+-- table serves both reading and writing.
 use Rattle.std.specs.Prelude.{◌≡◌, ℕ, ◌+◌, ◌*◌, ◌/◌, ◌^◌, ◌<◌, Bool, true, false, nat_lt, if◌then◌else◌, List, [], ◌∷◌, map, Option, Some, None, ⊤}
 use Rattle.std.specs.List.{flat_map}
 use Rattle.byteorder.specs.Endian.{big_bytes}
@@ -15,7 +15,7 @@ pub record Bits (V : Type 0) : Type 0 where
   pub shown : Option (V → ℕ)
   pub free : Bool
 
--- Whole bytes of a header from byte `at` on. If a packet does not contain all of these bytes, the refusal names
+-- Whole bytes of a header from byte `at` on. If a packet does not contain all bytes of the part, the refusal names
 -- `field`.
 pub record Part (V : Type 0) : Type 0 where
   pub field : Field
@@ -99,7 +99,7 @@ abbrev pub value_of : {V : Type 0} → Option (V → ℕ) → V → ℕ
 value_of None v = 0
 value_of (Some value) v = value v
 
--- what a writer puts into these bits: 0 if they are reserved, otherwise the value that the view shows
+-- what a writer puts into these bits: 0 for reserved bits, otherwise the value that the view shows
 abbrev pub written : {V : Type 0} → Bits V → V → ℕ
 written b v = if b.free then 0 else value_of b.shown v
 

@@ -14,7 +14,7 @@ bits at first width bytes =
 abbrev pub is_set : ℕ → ℕ → List ℕ → Bool
 is_set at bit bytes = bits at bit 1 bytes == 1
 
--- a bit as a number: 1 if it is set, otherwise 0
+-- a bit as a number: 1 if the bit is set, otherwise 0
 abbrev pub flag : Bool → ℕ
 flag true = 1
 flag false = 0

@@ -26,14 +26,14 @@ pub record SinkState : Type 0 where
   -- the number of faults so far
   pub faults : ℕ
 
--- The shelf can have been asked for exactly the names `names`, in this order. If all names were kept, `names` equals the
--- kept names. Otherwise `names` begins with the kept names.
+-- The shelf can have been asked for exactly the names `names`, in this order. If all names were kept, `names` equals
+-- the kept names. If not all names were kept, `names` begins with the kept names.
 abbrev pub AreNames : Bool → List (List ℕ) → List (List ℕ) → Type 0
 AreNames true kept names = names ≡ kept
 AreNames false kept names = (rest : List (List ℕ)) × (names ≡ kept ++ rest)
 
 -- According to the shelf's account, it is possible that the shelf was asked for exactly these names so far, in this
--- order. Without an account, this is possible for any names.
+-- order. If the shelf has no account, it can have been asked for any names.
 abbrev pub WasAsked : Option Account → List (List ℕ) → Type 0
 WasAsked None names = ⊤
 WasAsked (Some account) names = AreNames account.all account.kept names

@@ -1,6 +1,6 @@
--- What an object outside the program shows of the bytes that it holds. An object does not have to show the bytes. If
--- the object stops showing them, it never shows them again. A statement about the bytes applies only if the bytes are
--- shown both before and after the call.
+-- What an object outside the program shows of the bytes that it holds. An object need not show the bytes that it holds.
+-- If the object stops showing the bytes, it never shows them again. A statement about the bytes applies only if the
+-- bytes are shown both before and after the call.
 use Rattle.std.specs.Prelude.{◌≡◌, ℕ, List, ◌++◌, take, ⊤, Option, None, Some, Result, MatchResult, option_map}
 
 -- the bytes are unchanged, if they are shown
@@ -17,7 +17,7 @@ Appends None (Some ys) bs = ⊥
 Appends (Some xs) None bs = ⊤
 Appends (Some xs) (Some ys) bs = ys ≡ xs ++ bs
 
--- At `Ok(n)` the write appended the first n bytes of the piece. At `Err` it appended nothing.
+-- If the result is `Ok(n)`, the write appended the first n bytes of the piece. At `Err` the write appended nothing.
 abbrev pub WriteAppends : {E : Type 0} → Option (List ℕ) → Option (List ℕ) → Result ℕ E → List ℕ → Type 0
 WriteAppends old new r piece = MatchResult r (λ n. Appends old new (take n piece)) (λ _. Keeps old new)
 

@@ -34,7 +34,7 @@ impl Buffer {
     /// The greatest number of buffered bytes.
     pub const ROOM: usize = 65_536;
 
-    /// An empty buffer. Reserves all the memory that it will need.
+    /// An empty buffer. Reserves all the memory that the buffer will need.
     pub fn new(alloc: Global) -> Result<Self, NoMemory>
         ensures { IfOk result (λ buffer. buffer ≡ []) }
     {
@@ -52,7 +52,7 @@ impl Buffer {
         Self::ROOM - self.len
     }
 
-    /// Adds bytes at the end. There must be room for them.
+    /// Adds bytes at the end. The buffer must have room for `bytes`.
     #[inline(always)]
     pub fn push(&mut self, bytes: &[u8])
         requires { length self.old + length bytes.now ≤ Self.ROOM }
@@ -63,8 +63,8 @@ impl Buffer {
         self.len = end;
     }
 
-    /// Adds the first `len` of these bytes at the end. All of `bytes` are copied, because a copy needs no function call
-    /// if the compiler knows its length. Therefore there must be room for all of `bytes`.
+    /// Adds the first `len` of these bytes at the end. All of `bytes` are copied, because a copy whose length the
+    /// compiler knows needs no function call. Therefore there must be room for all of `bytes`.
     #[inline(always)]
     pub fn push_first(&mut self, bytes: &[u8], len: usize)
         requires some { len ≤ length bytes.now }

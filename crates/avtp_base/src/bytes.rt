@@ -4,7 +4,7 @@ ghost use Rattle.std.specs.Prelude.{◌≡◌};
 
 use std::marker::Model;
 
-/// A vector of bytes. Contracts see it as a list.
+/// A vector of bytes. Contracts see the bytes as a list.
 #[derive(Debug, Drop)]
 pub struct Bytes {
     items: Vec<u8>,

@@ -14,9 +14,10 @@ use Rattle.avtp_base.specs.States.{Asks, AsksNothing, ShelfState}
 abbrev pub IsMadeIn : Slots → ℕ → Type 0
 IsMadeIn slots k = option_map (λ o. o.made) (slots k) ≡ Some true
 
--- At `Ok` the file with this name was opened for reading in a slot that was free, and every other slot is unchanged. At
--- `Err` every slot is unchanged. `Missing` means that the shelf shows its files and none has the name. At `Failed` a
--- reading fault was counted. In each case all files are unchanged, and the shelf was asked for exactly this name.
+-- If the result is `Ok`, the file with this name was opened for reading in a slot that was free, and every other slot
+-- is unchanged. If the result is `Err`, every slot is unchanged. `Missing` means that the shelf shows its files and
+-- none has the name. If the result is `Failed`, a reading fault was counted. All files are unchanged, and the shelf was
+-- asked for exactly this name.
 pub record OpensInSlot (before after : ShelfState) (name : List ℕ) (result : Result Slot OpenFault) : Type 0 where
   pub opened : IfOk result (λ slot. IsOpened before.files (after.slots slot.0) name)
   pub fresh : IfOk result (λ slot. before.slots slot.0 ≡ None)
@@ -30,8 +31,8 @@ pub record OpensInSlot (before after : ShelfState) (name : List ℕ) (result : R
 
 -- At `Ok` the file with this name is now empty, and open for writing in a slot that was free. Every other slot keeps
 -- its file, and what is left to read changes only in slots of this file. At `Err` every file and slot is unchanged. At
--- `Failed` a writing fault was counted. `Missing` is never returned. In each case the shelf was asked for exactly this
--- name.
+-- `Failed` a writing fault was counted. `Missing` is never returned. Whatever the result, the shelf was asked for
+-- exactly this name.
 pub record MakesInSlot (before after : ShelfState) (name : List ℕ) (result : Result Slot OpenFault) : Type 0 where
   pub made : IfOk result (λ slot. IsMade before.files (after.slots slot.0) name)
   pub fresh : IfOk result (λ slot. before.slots slot.0 ≡ None)
@@ -44,8 +45,8 @@ pub record MakesInSlot (before after : ShelfState) (name : List ℕ) (result : R
   pub reading : after.reading_faults ≡ before.reading_faults
   pub asked : Asks (name ∷ []) before after
 
--- At `Ok(n)` the first n bytes left to read in slot k were moved to the front of the buffer. At `Err` no byte was
--- moved, and a reading fault was counted. The slot keeps its file, and nothing else changed.
+-- At `Ok(n)` the first n bytes left to read in slot k were moved to the front of the buffer. If the result is `Err`, no
+-- byte was moved, and a reading fault was counted. The slot keeps its file, and nothing else changed.
 pub record ReadsBytes (before after : ShelfState) (k : ℕ) (result : Result ℕ Failed) (buffer : List ℕ) : Type 0 where
   pub within : IfOk result (λ n. n ≤ length buffer)
   pub moved : ReadConsumes (left_in before.slots k) (left_in after.slots k) result buffer
@@ -58,7 +59,7 @@ pub record ReadsBytes (before after : ShelfState) (k : ℕ) (result : Result ℕ
 
 -- At `Ok(n)` the first n bytes of the piece, at least one, were appended to the file in slot k, which was made for
 -- writing. The slot stays open, and every slot keeps its file. What is left to read changes only in slots of this file.
--- At `Err` nothing changed, except that a writing fault was counted.
+-- If the result is `Err`, nothing changed, except that a writing fault was counted.
 pub record WritesBytes (before after : ShelfState) (k : ℕ) (piece : List ℕ) (result : Result ℕ Failed) : Type 0 where
   pub some : IfOk result (λ n. 0 < n)
   pub within : IfOk result (λ n. n ≤ length piece)

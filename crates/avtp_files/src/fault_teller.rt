@@ -4,7 +4,7 @@ use std::alloc::Alloc;
 use std::io::{self, Eprint};
 
 /// Writes to standard error the name of the program, the file on which a system call failed, and the reason. Without a
-/// program name it writes nothing.
+/// program name, a fault teller writes nothing.
 #[derive(Clone, Copy, Drop)]
 pub struct FaultTeller<R> {
     rt: R,

@@ -13,8 +13,8 @@ pub struct Slot(pub u32);
 /// and of writing (`create_file` and `write`) separately. A call raises only its own count.
 ///
 /// For each call, one relation says what the call does, whichever type implements the shelf. Each call also has a ghost
-/// member: `opens`, `makes`, `reads`, `writes` or `closes`. The ghost member says what else the call does on a shelf of
-/// the implementing type. By default the ghost member says nothing.
+/// member: `opens`, `makes`, `reads`, `writes` or `closes`. Each call's ghost member says what else the call does on a
+/// shelf of the implementing type. By default the ghost member says nothing.
 pub trait Shelf {
     ghost use Rattle.std.specs.Prelude.{ℕ, List, Result};
     ghost use Rattle.avtp_base.specs.declared.failed.Failed.{Failed};
@@ -40,20 +40,20 @@ pub trait Shelf {
     /// Opens a file for reading, in a slot that was not live.
     ///
     /// Returns `Missing` only if the shelf shows its files and none has the name. If a shelf does not show its files,
-    /// it returns `Failed` or `Memory` for a missing name. At `Failed` a reading fault was counted.
+    /// it returns `Failed` or `Memory` for a missing name. If the result is `Failed`, a reading fault was counted.
     fn open_file(&mut self, name: &str) -> Result<Slot, OpenFault>
         ensures does { OpensInSlot (state self.old) (state self.new) name.now result }
         ensures own { opens self.old self.new name.now result };
 
     /// Makes a file, or empties it, and opens it for writing in a slot that was not live.
     ///
-    /// At `Failed` a writing fault was counted. Never returns `Missing`.
+    /// If the result is `Failed`, a writing fault was counted. Never returns `Missing`.
     fn create_file(&mut self, name: &str) -> Result<Slot, OpenFault>
         ensures does { MakesInSlot (state self.old) (state self.new) name.now result }
         ensures own { makes self.old self.new name.now result };
 
-    /// If nothing is left to read, returns 0. Otherwise moves at least one byte from the front of what is left into the
-    /// buffer, and returns how many bytes it moved.
+    /// If nothing is left to read, returns 0. If something is left to read, moves at least one byte from its front into
+    /// the buffer, and returns how many bytes it moved.
     ///
     /// At `Failed` a reading fault was counted, and nothing was moved.
     fn read(&mut self, slot: Slot, buf: &mut [u8]) -> Result<usize, Failed>

@@ -28,7 +28,7 @@ stream_layout header format_bits format_data format_flags =
     format_flags)
 
 -- The table of the stream header alone. In this table the two format bits are a field of the header. Bytes 16 to 19, 22
--- and 23 count as reserved in it, because their meaning depends on the format.
+-- and 23 count as reserved in this table, because their meaning depends on the format.
 abbrev pub header_layout : Layout StreamHeader
 header_layout = stream_layout (λ h. h)
     (holds 2 (λ h. h.format_bits) ∷ [])

@@ -7,7 +7,8 @@ ghost use Rattle.avtp_base.specs.Rows.{IsSpelledOnce};
 ghost use Rattle.avtp_header.specs.declared.header.StreamHeader.{StreamHeader};
 ghost use Rattle.avtp_header.specs.Header.{SpellsHeader, header_layout, header_refusal};
 
-/// If nothing refuses the bytes, they begin with exactly one header. If they are refused, they begin with none.
+/// If nothing refuses the bytes, they begin with exactly one header. If the bytes are refused, they begin with no
+/// stream header.
 pub fn one_header()
     ensures { (bytes : List ℕ) → IsSpelledOnce (header_refusal bytes) (λ (h : StreamHeader). SpellsHeader bytes h) }
 {}
@@ -17,8 +18,8 @@ pub fn header_again()
     ensures { (h : StreamHeader) (trail : List ℕ) → Fits header_layout h → SpellsHeader (spelling header_layout h ++ trail) h }
 {}
 
-/// Suppose that bytes begin with a header, all reserved bits are 0, and bytes 16 to 19, 22 and 23 are 0. Then they
-/// begin with exactly what a writer writes for that header.
+/// Suppose that bytes begin with a header, all reserved bits are 0, and bytes 16 to 19, 22 and 23 are 0. Then the bytes
+/// begin with exactly what a writer writes for the header.
 pub fn one_spelling()
     ensures { (bytes : List ℕ) (h : StreamHeader) → AreBytes bytes → SpellsHeader bytes h → 24 ≤ length bytes
         → any_set (reserved_ranges header_layout) bytes ≡ false → bytes ≡ spelling header_layout h ++ drop 24 bytes }

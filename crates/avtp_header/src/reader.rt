@@ -109,7 +109,8 @@ pub fn read_header_of(subtype: u8, pdu: &[u8]) -> Result<StreamHeader, Refusal>
     Ok(fields(pdu))
 }
 
-/// The first fields of a packet, which lie in the packet's first 12 bytes. `None` if the packet is shorter.
+/// The first fields of a packet, which lie in the packet's first 12 bytes. `None` if the packet is shorter than 12
+/// bytes.
 pub fn peek(pdu: &[u8]) -> Option<Peeked>
     ensures none { IsNone result ↔ (length pdu.now < 12) }
     ensures fields { IfSome result (λ peeked. peeked ≡ peeked_of pdu.now) }

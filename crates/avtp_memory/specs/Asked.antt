@@ -1,5 +1,5 @@
--- The names that a shelf was asked for, in order. A shelf in memory keeps these names up to the first one for which
--- there is no memory.
+-- The names that a shelf was asked for, in order. A shelf in memory keeps the names that it was asked for, up to the
+-- first name for which there is no memory.
 use Rattle.std.specs.Prelude.{ℕ, List, map, string_bytes, String}
 use Rattle.std.specs.Global.{Global}
 use Rattle.avtp_memory.specs.declared.asked_names.AskedNames.{AskedNames}

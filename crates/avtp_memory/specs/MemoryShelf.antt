@@ -18,8 +18,8 @@ files_of shelf = files_in shelf.held
 abbrev pub slots_of : MemoryShelf → Slots
 slots_of shelf = slots_in shelf.held
 
--- The shelf was possibly asked for these names, in this order: they begin with the kept names, and no others follow if
--- all names were kept.
+-- The shelf can have been asked for exactly the given names, in this order: the given names begin with the kept names,
+-- and are the kept names if all names were kept.
 abbrev pub asked_of : MemoryShelf → List (List ℕ) → Type 0
 asked_of shelf = StandsForNames shelf.asked
 
@@ -62,16 +62,16 @@ pub record OpensByNumber (old new : MemoryShelf) (result : Result Slot OpenFault
   pub call : CountsCall old new
 
 -- A read of slot k into a buffer of `room` bytes. The read failed if and only if its number is one of `failing_calls`.
--- Otherwise the number of bytes moved is the least of three: the number of bytes left to read, `room`, and the greatest
--- number of bytes that a call moves. The call was counted.
+-- If the read did not fail, the number of bytes moved is the least of three: the number of bytes left to read, `room`,
+-- and the greatest number of bytes that a call moves. The call was counted.
 pub record ReadsByNumber (old new : MemoryShelf) (k room : ℕ) (result : Result ℕ Failed) : Type 0 where
   pub whole : IfOk result (λ n. IfSome (left_in (slots_of old) k) (λ left. n ≡ min (length left) (min room (most old))))
   pub failed : IsErr result ↔ IsToFail old
   pub call : CountsCall old new
 
--- A write of `piece`. If the number of the write is one of `failing_calls`, the write failed. At `Ok` the number of
--- bytes taken is the lesser of two: the length of the piece, and the greatest number of bytes that a call moves. The
--- call was counted.
+-- A write of `piece`. If the number of the write is one of `failing_calls`, the write failed. If the result is `Ok`,
+-- the number of bytes taken is the lesser of two: the length of the piece, and the greatest number of bytes that a call
+-- moves. The call was counted.
 pub record WritesByNumber (old new : MemoryShelf) (piece : List ℕ) (result : Result ℕ Failed) : Type 0 where
   pub whole : IfOk result (λ n. n ≡ min (length piece) (most old))
   pub failed : IsToFail old → IsErr result

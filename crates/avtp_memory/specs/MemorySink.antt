@@ -25,9 +25,9 @@ abbrev pub fault_count : MemorySink → ℕ
 fault_count sink = sink.faults
 
 -- What a write to a sink in memory does in addition to what a write does on every sink. If the number of the write is
--- one of `failing_calls`, the write failed. At `Ok` the number of bytes taken is the lesser of two: the length of the
--- piece, and the greatest number of bytes that a call takes. The call was counted. The failing calls, and the greatest
--- number of bytes that a call takes, are unchanged.
+-- one of `failing_calls`, the write failed. If the result is `Ok`, the number of bytes taken is the lesser of two: the
+-- length of the piece, and the greatest number of bytes that a call takes. The call was counted. The failing calls, and
+-- the greatest number of bytes that a call takes, are unchanged.
 pub record TakesByNumber (old new : MemorySink) (piece : List ℕ) (result : Result ℕ Failed) : Type 0 where
   pub told : Contains (failing_calls old) (next_number (calls old)) → IsErr result
   pub whole : IfOk result (λ n. n ≡ min (length piece) (most old))

@@ -54,8 +54,8 @@ pub record OpensQuietly (old new : QuietShelf) (name : List ℕ) (result : Resul
   pub found : IfOk result (λ slot. IsOpened (Some (kept_files old)) (slots_of new slot.0) name)
   pub keeps : KeepsKept old new
 
--- At `Ok` the file with this name was made, and no byte of the file is kept yet. At `Err` the kept bytes of every file
--- are unchanged.
+-- If the result is `Ok`, the file with this name was made, and no byte of the file is kept yet. If the result is `Err`,
+-- the kept bytes of every file are unchanged.
 pub record MakesQuietly (old new : QuietShelf) (name : List ℕ) (result : Result Slot OpenFault) : Type 0 where
   pub kept : OnOk result (PutsFile (Some (kept_files old)) (Some (kept_files new)) name [])
   pub as_before : OnErr result (KeepsFiles (Some (kept_files old)) (Some (kept_files new)))

@@ -92,8 +92,8 @@ impl MemoryFiles {
         Ok(slot)
     }
 
-    /// Moves the next unread bytes of the file to the buffer, and returns how many bytes it moved. That number is the
-    /// least of three: the number of unread bytes, the length of the buffer, and `most`.
+    /// Moves the next unread bytes of the file to the buffer, and returns how many bytes it moved. The number of moved
+    /// bytes is the least of three: the number of unread bytes, the length of the buffer, and `most`.
     pub fn read(&mut self, slot: Slot, most: usize, buf: &mut [u8]) -> usize
         requires live { IsSome (slots_in self.old slot.0) }
         requires some { 0 < most }

@@ -138,8 +138,8 @@ impl Shelf for MemoryShelf {
         Ok(slot)
     }
 
-    /// Fails if and only if this call was chosen to fail. Otherwise moves all bytes that are left to read, or fewer if
-    /// the buffer or the limit of a call is smaller.
+    /// Fails if and only if this call was chosen to fail. If the call does not fail, it moves all bytes that are left
+    /// to read, or fewer if the buffer or the limit of a call is smaller.
     fn read(&mut self, slot: Slot, buf: &mut [u8]) -> Result<usize, Failed> {
         if self.calls.next_fails() {
             self.reading_faults = self.reading_faults.saturating_add(1);
@@ -149,7 +149,7 @@ impl Shelf for MemoryShelf {
     }
 
     /// Fails if this call was chosen to fail, or if there is no memory to keep the piece. Otherwise takes the whole
-    /// piece, or, if the piece is longer than the limit of a call, as many bytes as that limit.
+    /// piece, or only its first bytes if the piece is longer than the limit of one call.
     fn write(&mut self, slot: Slot, piece: &[u8]) -> Result<usize, Failed> {
         if self.calls.next_fails() {
             self.writing_faults = self.writing_faults.saturating_add(1);

@@ -38,7 +38,7 @@ impl MemorySink {
         }
     }
 
-    /// Sets the greatest number of bytes that a write takes. The number must be at least 1.
+    /// Sets the greatest number of bytes that a write takes. `n` must be at least 1.
     pub fn at_most(self, n: usize) -> Self
         requires { 0 < n }
         ensures kept { kept result ≡ kept self }

@@ -25,7 +25,7 @@ impl NamedFiles {
         }
     }
 
-    /// The bytes of the file with the name. There must be such a file.
+    /// The bytes of the file with the name. A file with the name must exist.
     pub fn bytes_of(&self, name: &str) -> &[u8]
         requires { IsSome (bytes_under self.now.entries.items name.now) }
         ensures { bytes_under self.now.entries.items name.now ≡ Some result.now }

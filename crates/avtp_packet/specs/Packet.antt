@@ -27,7 +27,7 @@ packet_shape (view.H264 v) = OfH264 (cvf_shape v)
 packet_shape (view.Crf v) = OfCrf (crf_shape v)
 packet_shape (view.Other subtype) = OfOther subtype
 
--- ---- by the subtype
+-- ---- packets, given their subtype
 
 -- the packet that the bytes `pdu` spell, given their subtype
 unfoldable pub kind_of : ℕ → List ℕ → AnyPacket
@@ -47,7 +47,7 @@ kind_refusal subtype pdu =
     if subtype == crf_subtype then crf_refusal pdu else
     None
 
--- ---- by the bytes alone
+-- ---- packets, given their bytes alone
 
 -- the refusal of an empty packet, which has no subtype
 abbrev pub subtype_refusal : List ℕ → Option Refusal

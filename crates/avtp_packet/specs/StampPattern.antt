@@ -1,5 +1,5 @@
--- Which packets of a stream must have a timestamp. The rule for sparse PCM is that of IEEE 1722-2016, 7. The other
--- rules are this project's own.
+-- Which packets of a stream must have a timestamp. The rule for sparse PCM comes from IEEE 1722-2016, 7. The rules for
+-- dense PCM, AM824 and H.264 are this project's own.
 use Rattle.std.specs.Prelude.{ℕ, ◌%◌, ◌==◌, Bool, true, false, not, ◌&&◌, nat_lt, Option, Some, None, if◌then◌else◌}
 use Rattle.std.specs.Bool.{beq}
 use Rattle.aaf_format.specs.Aaf.{Aaf}

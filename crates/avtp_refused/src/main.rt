@@ -1,4 +1,5 @@
-//! The command `avtp` again, stored with a capture that it refuses. It ends with the exit status of a refused capture.
+//! The command `avtp` again, stored with a capture that it refuses. The program ends with the exit status of a refused
+//! capture.
 #![tactic(auto)]
 
 use avtp_system::run_program;

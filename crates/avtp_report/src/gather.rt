@@ -131,8 +131,8 @@ impl Report {
         }
     }
 
-    /// The stream with this key. If there is no stream with this key yet, one is added, unless 1,024 streams are
-    /// tracked already: then the result is `None`.
+    /// The stream with this key. If there is no stream with this key yet, one is added; if 1,024 streams are tracked
+    /// already, none is added, and the result is `None`.
     fn stream(
         &mut self,
         key: StreamKey,
@@ -147,8 +147,8 @@ impl Report {
         Ok(self.streams.get_mut(place))
     }
 
-    /// The index of the stream with this key, if this stream is the stream of the most recent packet or that stream's
-    /// follower.
+    /// The index of the stream with this key, if the most recent packet belongs to this stream, or if this stream is
+    /// the follower of the most recent packet's stream.
     fn expected(&self, key: StreamKey) -> Option<usize> {
         if self.is_at(self.last, key) {
             return Some(self.last);
@@ -165,8 +165,8 @@ impl Report {
         }
     }
 
-    /// Returns the index of the stream with this key. This stream becomes the follower of the most recent packet's
-    /// stream. If there is no stream with this key yet, one is added.
+    /// Returns the index of the stream with this key. The stream that is found becomes the follower of the most recent
+    /// packet's stream. If there is no stream with this key yet, one is added.
     #[inline(never)]
     fn find(&mut self, key: StreamKey, sender: &Sender, at: At) -> Result<usize, NoMemory> {
         let place = match self.places.get(&key).copied() {

@@ -1,5 +1,5 @@
-//! `avtp-report` tells what is wrong with each AVTP stream in captures. It prints a table, and can write a page to send
-//! to somebody.
+//! `avtp-report` tells what is wrong with each AVTP stream in captures. `avtp-report` prints a table, and can write a
+//! page to send to somebody.
 #![tactic(auto)]
 
 mod cells;
@@ -94,7 +94,7 @@ fn run(rt: &HostRuntime) -> Status {
     }
 }
 
-/// The arguments. If one of them is not UTF-8, the command line is bad.
+/// The arguments. If an argument is not UTF-8, the command line is bad.
 fn words_of(rt: &HostRuntime) -> Result<Vec<String>, Status> {
     let arguments = match env::args(rt) {
         Ok(arguments) => arguments,

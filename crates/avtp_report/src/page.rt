@@ -13,7 +13,7 @@ use std::alloc::Global;
 use std::io::{self, Write};
 use stream_report::{Stream, Verdict};
 
-/// Writes the page. A browser needs no other file to show it.
+/// Writes the page. A browser needs no other file to show the page.
 pub fn write_page<W: Write>(alloc: Global, out: &mut W, told: &Told<'_>) -> io::Result<()> {
     write_head(out, told)?;
     write_summary(out, told)?;

@@ -3,7 +3,7 @@
 use avtp_files::{FileSink, Sink};
 use std::io::{self, Write};
 
-/// The file that the page is written to. Its sink reports each fault on standard error.
+/// The file that the page is written to. The sink of a page file reports each fault on standard error.
 #[derive(Drop)]
 pub struct PageFile {
     pub sink: FileSink<HostRuntime>,

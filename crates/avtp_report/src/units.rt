@@ -55,7 +55,7 @@ impl fmt::Display for Thousandths {
     }
 }
 
-/// A number of nanoseconds, written in the unit that is easiest to read. It has no sign.
+/// A number of nanoseconds, written in the unit that is easiest to read. A span has no sign.
 #[derive(Clone, Copy)]
 pub struct Span(pub u64);
 

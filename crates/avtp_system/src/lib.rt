@@ -21,11 +21,11 @@ use std::process::ExitCode;
 use std::thread::Threads;
 pub use system::System;
 
-/// The program's name. Each line on standard error that reports a fault begins with it.
+/// The program's name. Each line on standard error that reports a fault begins with this name.
 const PROGRAM: &str = "avtp";
 
 /// Does what the arguments ask for, over real files and standard output, and returns the exit status. If a file or
-/// standard output fails, standard error says which and why, but not if the reader of standard output has ended. If
+/// standard output fails, standard error names it and the reason, unless the reader of standard output has ended. If
 /// standard error is a terminal, it shows after one second how much has been read so far, and keeps that up to date.
 pub fn run_program<T: Threads + Sync>(rt: &HostRuntime, threads: &T) -> ExitCode
     ensures { (ended : Status) × (exit_status result ≡ code_of ended) }

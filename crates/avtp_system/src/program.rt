@@ -36,7 +36,7 @@ pub fn run_over<
     }
 }
 
-/// The devices that the words ask for. There are none if the words are not a command line of `listen`.
+/// The devices that the words ask for. There are no devices if the words are not a command line of `listen`.
 fn outputs_for<S: Sink + Drop, Y: System<S>>(
     alloc: Global,
     system: &Y,

@@ -14,8 +14,8 @@ const AGAIN: u64 = 100;
 
 /// A line on standard error that says how much was read, such as `12.3 MB read`.
 ///
-/// The cursor stays at the start of this line. Each line that reports a fault is at least as long, and thus covers this
-/// line.
+/// The cursor stays at the start of the progress line. Each line that reports a fault is at least as long as the
+/// progress line, and thus covers it.
 #[derive(Drop)]
 pub struct ProgressLine {
     rt: HostRuntime,
@@ -44,7 +44,7 @@ impl ProgressLine {
     }
 }
 
-/// How much a run has read. The run shows this only if standard error is a terminal.
+/// How much a run has read. The run shows its progress only if standard error is a terminal.
 #[derive(Drop)]
 struct Progress<'a> {
     line: &'a ProgressLine,

@@ -1,5 +1,5 @@
--- A text ends with the line of a sample. The gaps of this line are overwritten: the last eight digits of the instant,
--- the sample's number, and the sample's bytes.
+-- A text ends with the line of a sample. The sample line has three gaps that are overwritten: the last eight digits of
+-- the instant, the sample's number, and the sample's bytes.
 use Rattle.std.proofs.Common.{◌≡◌, ℕ, ◌+◌, ◌*◌, ◌^◌, ◌<◌, ◌≤◌, ℤ, pos, List, ◌++◌, length, codes, decimal, refl, sym, ap, ◌∙◌, arith, append_assoc, length-append}
 use Rattle.std.specs.Fmt.{signed_decimal}
 use Rattle.avtp_text.specs.Listen.{due_text, place_text}

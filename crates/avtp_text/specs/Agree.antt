@@ -21,8 +21,8 @@ differ_at_line a b seq sample at_a at_b =
 unfoldable pub differ_bytes_line : ℕ → ℕ → ℕ → ℕ → List ℕ
 differ_bytes_line a b seq sample = differ_start a b seq ++ codes "sample " ++ decimal sample ++ codes " bytes" ++ newline
 
--- the last line: how many packets both listeners present, how many only the listener to A presents, how many only the
--- listener to B presents, and how many both listeners present, but differently
+-- the last line, with four numbers of packets: presented by both listeners, only by the listener to A, only by the
+-- listener to B, and by both but differently
 unfoldable pub end_agree_line : ℕ → ℕ → ℕ → ℕ → List ℕ
 end_agree_line matched only_a only_b differ =
     codes "end matched " ++ decimal matched

@@ -16,11 +16,11 @@ pub record AppendsPrefix (before now : Option (List ℕ)) (text : List ℕ) : Ty
   pub split : text ≡ prefix ++ rest
   pub appends : Appends before now prefix
 
--- At `Ok`, the whole text was written. At `Err`, nothing was written.
+-- At `Ok`, the whole text was written. If the result is `Err`, nothing was written.
 abbrev pub Writes : Option (List ℕ) → Option (List ℕ) → Result Unit Failed → List ℕ → Type 0
 Writes before now result text = MatchResult result (λ _. Appends before now text) (λ _. Keeps before now)
 
--- At `Ok`, the whole text was written. At `Err`, a prefix of the text was written.
+-- At `Ok`, the whole text was written. If the result is `Err`, a prefix of the text was written.
 abbrev pub WritesPrefix : Option (List ℕ) → Option (List ℕ) → Result Unit Failed → List ℕ → Type 0
 WritesPrefix before now result text = MatchResult result (λ _. Appends before now text) (λ _. AppendsPrefix before now text)
 

@@ -14,7 +14,8 @@ use aaf_format::{AafFormat, AafView, rate_of};
 /// The maximum number of bytes in the end of a line.
 const LONGEST_END: usize = 138;
 
-/// The fields that the line of an AAF packet shows after the timestamp. They seldom change from packet to packet.
+/// The fields that the line of an AAF packet shows after the timestamp. The fields after the timestamp seldom change
+/// from packet to packet.
 #[derive(Clone, Copy, PartialEq, Eq)]
 struct AafEnd {
     tv: bool,
@@ -89,7 +90,7 @@ impl IdText {
         IdText { id, digits }
     }
 
-    /// Makes this the text of the stream ID `id`.
+    /// Changes the ID and the digits to those of the stream ID `id`.
     #[inline(always)]
     fn set(&mut self, id: u64)
         ensures { self.new.id ≡ id }
@@ -122,7 +123,7 @@ fn prepend_start(line: &mut Line, id: &IdText, view: &AafView<'_>)
 pub struct AafLine {
     line: Line,
     end: AafEnd,
-    /// How many bytes the end has.
+    /// The number of bytes in the line's end.
     len: usize,
     id: IdText,
     ghost short: { len ≤ 138 },
@@ -192,7 +193,7 @@ impl AafLine {
         }
     }
 
-    /// Makes this the line of the packet `view`.
+    /// Replaces the line with the line of the packet `view`.
     #[inline(always)]
     pub fn write(&mut self, number: u64, arrival: i64, view: &AafView<'_>)
         ensures { self.new.line ≡ frame_line number arrival (aaf_content (aaf_shape view.now)) }

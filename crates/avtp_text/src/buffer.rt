@@ -19,13 +19,13 @@ use std::marker::Model;
 /// The maximum number of bytes in a [`Text`]. A piece of text that is printed as a whole has at most this many bytes.
 pub const ROOM: usize = Buffer::ROOM;
 
-/// Text that is buffered until it is written to a sink. Contracts see it as the list of its bytes, which has at most
-/// 65,536 bytes. Memory for this many bytes is reserved once.
+/// Text that is buffered until it is written to a sink. Contracts see a `Text` as the list of its bytes, which has at
+/// most 65,536 bytes. Memory for this many bytes is reserved once.
 ///
 /// Each call that can write to the sink takes the sink as an argument. All text that was written so far is what the
 /// sink holds, followed by what is buffered. A call that prints a text of bounded length appends all of it, or nothing
-/// if the sink fails. After such a failure the call can be repeated, and no text is lost or written twice. A call that
-/// prints a text of any length appends all of it, or a prefix if the sink fails.
+/// if the sink fails. After a failure of the sink, the call can be repeated, and no text is lost or written twice. A
+/// call that prints a text of any length appends all of it, or a prefix if the sink fails.
 #[derive(Drop)]
 pub struct Text {
     pub(crate) buffer: Buffer,
@@ -95,7 +95,7 @@ pub(crate) fn make_room<S: Sink>(buffer: &mut Buffer, out: &mut S, len: usize) -
 }
 
 impl Text {
-    /// An empty text. All the memory that it will ever need is reserved here.
+    /// An empty text. All the memory that the text will ever need is reserved here.
     pub fn new(alloc: Global) -> Result<Self, NoMemory>
         ensures { IfOk result (λ text. text ≡ []) }
     {

@@ -12,8 +12,8 @@ use std::marker::Model;
 /// The maximum number of bytes in a line.
 pub const LONGEST: usize = 256;
 
-/// A line of bounded length. Contracts see it as the list of its bytes. It is built backwards from its end, because the
-/// digits of a number are found from the last to the first.
+/// A line of bounded length. Contracts see the line as the list of its bytes. The line is built backwards from its end,
+/// because the digits of a number are found from the last to the first.
 #[derive(Drop)]
 pub struct Line {
     scratch: [u8; LONGEST],

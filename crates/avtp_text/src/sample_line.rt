@@ -15,7 +15,8 @@ use std::marker::Model;
 /// If a sample has at most this many bytes, its line fits a [`Line`].
 pub const SHORT: usize = 64;
 
-/// The number of instants that differ only in their last eight digits. These instants span a tenth of a second.
+/// The number of instants that differ only in their last eight digits. Instants that differ only in their last eight
+/// digits span a tenth of a second.
 const INSTANTS: i64 = 100_000_000;
 
 /// The longest line that is kept, in bytes. A longer line is built anew for each sample.
@@ -80,8 +81,8 @@ struct Behind {
     seq: usize,
 }
 
-/// The whole line of a sample, and how many bytes of the line follow the instant, the number of the frame, and the
-/// sequence number.
+/// The whole line of a sample, and how many bytes of the line follow each of three parts: the instant, the number of
+/// the frame, and the sequence number.
 #[tactic(auto, unfolding(crate::specs::state::SampleLines::behind_instant))]
 fn whole_line(instant: i64, frame: u64, seq: u8, j: u32, bytes: &[u8]) -> (Line, Behind)
     requires { length bytes.now ≤ SHORT }
@@ -109,7 +110,7 @@ fn whole_line(instant: i64, frame: u64, seq: u8, j: u32, bytes: &[u8]) -> (Line,
 }
 
 /// The last eight digits of `instant`, if the kept line fits the sample. The kept line fits if it differs from the
-/// sample's line only in these digits, the sample's number, and the sample's bytes.
+/// sample's line only in the last eight digits of the instant, the sample's number, and the sample's bytes.
 #[inline(always)]
 fn low_of(from: i64, numbers: Numbers, instant: i64, j: u32) -> Option<u32>
     ensures { IfSome result (λ low. Fits from numbers instant j low) }
@@ -159,10 +160,11 @@ impl KeptLine {
     }
 }
 
-/// The line of a sample, which is kept for the next sample. Contracts see it as the packet whose samples the line
+/// The line of a sample, which is kept for the next sample. Contracts see the line as the packet whose samples it
 /// shows. Usually the next line differs only in the last eight digits of the instant, the sample's number, and the
-/// sample's bytes. Then only these parts are written, over a copy of the kept line. The line is built anew when the
-/// sample's number gains a digit or other digits of the instant change.
+/// sample's bytes. In the usual case, only the changed digits, the sample's number and the sample's bytes are written,
+/// over a copy of the kept line. The line is built anew when the sample's number gains a digit or other digits of the
+/// instant change.
 #[derive(Drop)]
 pub struct SampleLine {
     line: KeptLine,
@@ -206,7 +208,8 @@ impl SampleLine {
         }
     }
 
-    /// Changes to another packet. The kept line stays in use if only digits in it have to be overwritten.
+    /// Prepares the line for samples of another packet. The kept line stays in use if only digits in it have to be
+    /// overwritten.
     pub fn turn_to(&mut self, frame: u64, seq: u8, size: usize)
         ensures { self.new ≡ seen_as frame seq size }
     {

@@ -176,8 +176,8 @@ module _ {s t u : ShelfState} (first : Sourcing) {a b : Sourcing} {l m : ListenS
 
 -- ---- what was shown
 
--- While the shelf went from the state `s` to the state `t`, `items` were shown. They are items of the capture that is
--- read.
+-- While the shelf went from the state `s` to the state `t`, `items` were shown. `items` are items of the capture that
+-- is read.
 pub record IsHeard (s t : ShelfState) (first source : Sourcing) (fresh listener : ListenState) (stage : Stage) (items : List Shown) : Type 0 where
   pub shown : (limit : ℕ) (bytes : List ℕ) → HasGiven limit bytes (left_in s.slots (slot_of first)) first [] → StandsFor [] 0 fresh → is_closed fresh ≡ false
       → IsShown stage limit bytes (Rose s.reading_faults t.reading_faults) (left_in t.slots (slot_of source)) source listener items

@@ -41,8 +41,8 @@ prefix_out xs ys (Some x) first at = prefix-more xs ys x first (sym at)
 take_length : {X : Type 0} (n : ℕ) (xs : List X) → n ≤ length xs → length (take n xs) ≡ n
 take_length n xs within = omega (arith, length-take n xs)
 
--- The number of shown items is the number of presented items plus the number of flagged items. This sum is at most the
--- number of records that the listener took.
+-- The number of shown items is the number of presented items plus the number of flagged items. The number of shown
+-- items is at most the number of records that the listener took.
 pub shown_count : (listener : ListenState) (records : List Record) (given : ℕ) → StandsFor records given listener
     → (listener.counts.presented + listener.counts.flagged ≡ given) × (given ≤ listener.counts.frames)
 shown_count listener records given stands =

@@ -39,7 +39,7 @@ quiet_next ended result before after none more counts = subst (λ (r : Option En
 
 -- ---- an open capture between two of its records
 
--- The capture was read further. Its reading has not ended, and no fault was counted.
+-- The capture was read further. The reading of the capture has not ended, and no fault was counted.
 pub record IsAmid (shelf shelf' : ShelfState) (old new : Sourcing) (frames : ℕ) : Type 0 where
   pub going : new.ended ≡ None
   pub bounded : frames + to_do new ≤ 2 ^ 41

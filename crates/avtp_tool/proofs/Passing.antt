@@ -139,8 +139,8 @@ gives_no_more items more (Err e) failed g = record {
   hands = g.hands;
 }
 
--- If the sink failed, let a prefix of the items `given` be presented. Otherwise, let all of them be presented. If
--- `GivesItems` holds for the presented items, it holds for `given`, too.
+-- If the sink failed, let a prefix of the items `given` be presented. If the sink did not fail, let all items of
+-- `given` be presented. If `GivesItems` holds for the presented items, it holds for `given`, too.
 pub gives_given : {handed : List Shown → Type 0} {h h' : SinkState} {w w' : List ℕ} (A : Type 0) (presented given : List Shown) (result : Result Unit Failed) → OnOk result ((presented ≡ given) × A) → IsPrefix presented given
     → GivesItems handed h h' w w' result presented → GivesItems handed h h' w w' result given
 gives_given {handed} {h} {h'} {w} {w'} A presented given (Ok o) whole first g = subst (GivesItems handed h h' w w' (Ok o)) whole.0 g

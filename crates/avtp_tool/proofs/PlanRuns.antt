@@ -89,7 +89,7 @@ tells_all {request} {s = s} {t} {result = result} keeps tells = record { made = 
   whole_at (Ok e) = λ memory write. nothing.0
   whole_at (Err e) = tt
 
--- each possible outcome of the reading is an outcome of the request in which no capture is made
+-- each possible outcome of the reading is also an outcome of the request, with no capture made
 abbrev pub IsReadingOf : Request → (Files → Type 0 → List (List ℕ) → Status → Yield → Type 0) → Type 1
 IsReadingOf request Comes = (all : Files) (fault : Type 0) (failed : Bool) (came : List (List ℕ)) (ended : Status) (yields : Yield) → Comes all fault came ended yields → Outcome request all fault failed came ended yields None
 

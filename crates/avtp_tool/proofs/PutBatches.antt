@@ -27,8 +27,8 @@ grows {B = B} f step one xs (y ∷ ys) =
     let on = grows f step one (xs ++ y ∷ []) ys in
     (step xs y ++ on.0, ap f (sym (append_assoc xs (y ∷ []) ys)) ∙ (on.1 ∙ (ap (λ (l : List B). l ++ on.0) (one xs y) ∙ append_assoc (f xs) (step xs y) on.0)))
 
--- If adding an element at the end of a list only appends to the value of `f`, the value for a prefix of a list is a
--- prefix of the value for the whole list.
+-- If an element added at the end of a list only appends to the value of `f`, then `f` of a prefix is a prefix of `f` of
+-- the whole list.
 grows_first : {A B : Type 0} (f : List A → List B) (step : List A → A → List B) → ((xs : List A) (x : A) → f (xs ++ x ∷ []) ≡ f xs ++ step xs x) → (xs all : List A) → IsPrefix xs all → (rest : List B) × (f all ≡ f xs ++ rest)
 grows_first f step one xs all first = let on = grows f step one xs first.0 in (on.0, sym (ap f first.1) ∙ on.1)
 
@@ -38,8 +38,8 @@ pub given_over_more : (to : To) (shape : Option Shape) (batches : List Presented
 given_over_more to None batches batch = refl
 given_over_more to (Some shape) batches batch = given_more to shape nothing_given batches batch
 
--- The frames that carry a batch, or no frame if the batch is skipped. They depend on what the gateway gave out before
--- the batch.
+-- The frames that carry a batch, or no frame if the batch is skipped. The frames depend on what the gateway gave out
+-- before the batch.
 abbrev pub frames_for : To → Option Shape → ℕ → Given → Presented → List SentFrame
 frames_for to None id given batch = []
 frames_for to (Some shape) id given batch = unless (skip_by to shape given batch) (frames_with to shape id given batch) []

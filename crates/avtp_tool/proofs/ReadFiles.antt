@@ -71,14 +71,14 @@ missing_before (Some a) (Some b) name keeps missing = sym (keeps name) ∙ missi
 
 -- ---- so far
 
--- The files `names` are the first files of a plan. They were read to their ends, one after another.
+-- The files `names` are the first files of a plan. The files `names` were read to their ends, one after another.
 pub record IsReadTo (plan : ReadPlan) (handed : List Shown → Type 0) (all : Files) (before after : ℕ) (names : List (List ℕ)) (ended : Status) (old now : Option (List ℕ)) : Type 0 where
   pub yields : Yield
   pub order : InOrder (one_outcome plan all (Rose before after)) names names ended yields
   pub gives : Gives handed old now yields
 
--- If the shelf shows its files, the files `names` were read to their ends. They are the first files of a plan. The run
--- so far left all else unchanged.
+-- If the shelf shows its files, the files `names` were read to their ends. The files `names` are the first files of the
+-- plan. The run so far left all else unchanged.
 pub record ReadsTo (plan : ReadPlan) (handed : List Shown → Type 0) (names : List (List ℕ)) (ended : Status) (s t : ShelfState) (old now : Option (List ℕ)) : Type 0 where
   pub done : is_done ended ≡ true
   pub reading : t.reading_faults ≡ s.reading_faults

@@ -271,8 +271,8 @@ other_left s t k i source reads apart = ap (λ o. left_at o) (reads.others (slot
   left_at : Option Open → Option (List ℕ)
   left_at o = option_and_then (λ (f : Open). f.left) o
 
--- Unless a read fault ended the reading, the bytes and the limit decide how the reading ended. `records` are then all
--- records within the limit.
+-- Unless a read fault ended the reading, the bytes and the limit decide how the reading ended. If no read fault ended
+-- the reading, `records` are all records within the limit.
 whole_end : (how : End) (limit : ℕ) (bytes : List ℕ) (fault : Type 0) (records : List Record) → how ≢ end.ReadFault → EndsAfter limit bytes fault how records → (how ≡ end_of limit bytes) × (records ≡ records_in (take limit bytes))
 whole_end how limit bytes fault records other after = at how other after.prefix after.ends after.whole where
   at : (h : End) → h ≢ end.ReadFault → (prefix : List ℕ) → EndsAt limit (Some bytes) fault h prefix → records_in prefix ≡ records → (h ≡ end_of limit bytes) × (records ≡ records_in (take limit bytes))

@@ -132,7 +132,8 @@ too_long limit bytes halt prefix is has = (subst (λ (h : Stop). IsContents limi
 
 -- ---- the end of a run whose input was read
 
--- unless `other` is `Memory` or `WriteFault`, a run ends with `other` only if a possible outcome has this status
+-- if `other` is neither `Memory` nor `WriteFault`, and a run ends with `other`, a possible outcome has the status
+-- `other`
 talked_never : {before now : Option (List ℕ)} (plan : TalkPlan) (bytes : List ℕ) (cause : Type 0) (result : Result Status Failed) (other : Status) → other ≢ status.Memory → other ≢ status.WriteFault
     → ((text : List ℕ) → TalkedOutcome plan bytes cause other text → ⊥) → TellsText (TalkedOutcome plan bytes cause) before now result → result ≡ Ok other → ⊥
 talked_never plan bytes cause (Ok s) other no_memory no_write none tells e =

@@ -125,7 +125,7 @@ puts_given_back {new = new} puts = record {
 -- ---- between two items
 
 -- While the shelf went from `s` to `t` and the output from `old` to `new`, items were heard and their batches were put.
--- The items `more` were heard after those items, but the batches of `more` are not put yet.
+-- The items `more` were heard after the items whose batches were put, but the batches of `more` are not put yet.
 pub record IsPutSoFar (s t : ShelfState) (first source : Sourcing) (fresh listener : ListenState) (stage : Stage) (old new : Output) (out out' : SinkState) (waits waits' : List ℕ) (more : List Shown) : Type 0 where
   pub plan : listener.plan ≡ fresh.plan
   pub slot : new.writer.slot ≡ old.writer.slot
@@ -241,7 +241,7 @@ first_further {files} {s} {w} {name} records rest all is holds =
     let some = first_taken holds.count records rest in
     record { count = some.0; holds = subst (HoldsCapture files s w name) (sym (ap (take some.0) is ∙ some.1)) holds.holds }
 
--- a file that holds all these records holds a prefix of them
+-- a file that holds all of `records` holds a prefix of `records`
 first_whole : (files : Option Files) (s : ShelfState) (w : Writing) (name : List ℕ) (records : List Record) → HoldsCapture files s w name records → HoldsFirst files s w name records
 first_whole files s w name records holds = record { count = length records; holds = subst (HoldsCapture files s w name) (sym (take_all (length records) records (omega arith))) holds }
 

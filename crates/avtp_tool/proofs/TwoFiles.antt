@@ -91,8 +91,8 @@ module _ {s t u v : ShelfState} {a b : List ℕ} {k j : ℕ} (opens : OpensSlots
     asked = λ earlier was. closes.asked (earlier ++ a ∷ b ∷ []) (reads.asked (earlier ++ a ∷ b ∷ []) (opens.asked earlier was));
   }
 
--- The first file was opened, the second file could not be opened, and the first file was closed again. In this case,
--- the files were only read.
+-- The first file was opened, the second file could not be opened, and the first file was closed again. Together, these
+-- steps only read files.
 pub second_refused : {s t u v : ShelfState} {a b : List ℕ} {k : ℕ} → OpensSlot s t a k → OnlyReads t u (b ∷ []) → ClosesSlot u v k → OnlyReads s v (a ∷ b ∷ [])
 second_refused {s} {t} {u} {v} {a} {b} {k} opens only closes = record {
   files = KeepsFiles-trans s.files u.files v.files (KeepsFiles-trans s.files t.files u.files opens.files only.files) closes.files;
@@ -126,8 +126,8 @@ shown_still (Some old) (Some new) files told keeps some = (new, refl, λ name. k
 
 -- ---- why a file was not opened
 
--- Let other calls precede and follow a failed attempt to open a file. If none of these calls counts a read fault and no
--- call before the attempt changes a file, `Refuses` still holds.
+-- Let other calls precede and follow a failed attempt to open a file. If none of the other calls counts a read fault,
+-- and no call before the attempt changes a file, `Refuses` still holds.
 pub refused_around : {name : List ℕ} {fault : OpenFault} (s t u v : ShelfState) → KeepsFiles s.files t.files → t.reading_faults ≡ s.reading_faults → v.reading_faults ≡ u.reading_faults
     → (IsErrOf {T = Sourcing} (Err fault) open_fault.Missing → IsMissing t.files name) → IsOpenCounted {T = Sourcing} t.reading_faults u.reading_faults (Err fault) → Refuses s v name fault
 refused_around {name} {fault} s t u v keeps first last missing counted = record {

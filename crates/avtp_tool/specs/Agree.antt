@@ -54,14 +54,14 @@ side_line limit end.ReadFault = read_fault_line
 side_line limit end.Limit = limit_line limit
 
 -- The last lines, given how the readings of A and B ended. If both captures were read to their ends, the last lines are
--- the counts. Otherwise there is a line for each capture that was not read to its end, first for A and then for B.
+-- the counts. For each capture that was not read to its end, there is a line, first for A and then for B.
 abbrev pub last_lines : ℕ → PairCounts → End → End → List ℕ
 last_lines limit counts end.Whole end.Whole = counts_line counts
 last_lines limit counts a b = side_line limit a ++ side_line limit b
 
 -- The status, given the number of differences and how the readings of A and B ended. If both captures were read to
--- their ends, the status says whether there are differences. Otherwise the status is that of A's reading or, if A was
--- read to its end, that of B's reading.
+-- their ends, the status says whether there are differences. If A was not read to its end, the status is that of A's
+-- reading; if only B was not read to its end, the status is that of B's reading.
 abbrev pub agree_status : ℕ → End → End → Status
 agree_status found end.Whole end.Whole = if found == 0 then status.Done else status.Findings
 agree_status found end.Whole b = status_of b
@@ -100,7 +100,7 @@ abbrev pub text_without_a : Agreeing → List ℕ → List ℕ → List ℕ
 text_without_a asked prefix y = difference_lines (differences (known false true (merged (due_in asked prefix) (presented_in asked y)))) ++ read_fault_line
 
 -- The text of `agree` if a read fault occurs in B after `prefix`, given the bytes `x` of A. The text has the
--- differences that are known by then, and the line of the fault.
+-- differences that are known from `x` and `prefix`, and the line of the fault.
 abbrev pub text_without_b : Agreeing → List ℕ → List ℕ → List ℕ
 text_without_b asked x prefix = difference_lines (differences (known true false (merged (presented_in asked x) (due_in asked prefix)))) ++ read_fault_line
 

@@ -45,8 +45,8 @@ seen_of stream packet = record {
   stamp_wrong = stamp_is_off packet;
 }
 
--- What `check` makes of a packet. If its format is not read, the packet is passed over. Otherwise the packet is noted
--- if its stream ID is valid, and checked only for reserved bits if its stream ID is not valid.
+-- What `check` makes of a packet. A packet whose format is not read is passed over. A packet whose format is read is
+-- noted if its stream ID is valid, and checked only for reserved bits if its stream ID is not valid.
 abbrev pub checked_stream : Option PacketStream → AnyPacket → Checked
 checked_stream None packet = Passed
 checked_stream (Some stream) packet =
@@ -111,8 +111,8 @@ check_text limit name records how =
     (capture_line name ++ joined_lines (of_each check_lines records))
     ++ total_line limit (length records) (length (tracked (notes_of records))) (length (of_each check_lines records)) how
 
--- The status of a capture. If the capture was read to its end, the status says whether there are findings. Otherwise
--- the status says how the reading ended.
+-- The status of a capture. If the capture was read to its end, the status says whether there are findings. If the
+-- capture was not read to its end, the status says how the reading ended.
 abbrev pub check_status : ℕ → End → Status
 check_status found end.Whole = if found == 0 then status.Done else status.Findings
 check_status found how = status_of how

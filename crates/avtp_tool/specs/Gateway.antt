@@ -129,7 +129,8 @@ abbrev pub turned_text : Turning → Option Shape → List Presented → End →
 turned_text asked shape batches how = flat_map skipped_line (skips_in asked shape batches) ++ turned_last asked shape batches how
 
 -- The status of a run, given the number of skipped batches and how the reading ended. If the capture was read to its
--- end, the status says whether batches were skipped. Otherwise the status says how the reading ended.
+-- end, the status says whether batches were skipped. If the capture was not read to its end, the status says how the
+-- reading ended.
 abbrev pub turned_status : ℕ → End → Status
 turned_status skipped end.Whole = if skipped == 0 then status.Done else status.Findings
 turned_status skipped how = status_of how
@@ -171,8 +172,8 @@ pub data GatewayOutcome (asked : Turning) (files : Files) (fault : Type 0) (came
       → GatewayOutcome asked files fault came ended text made
 
 -- What the capture OUT keeps of IN. OUT is a whole capture. A listener that has no clock, and whose buffer is never
--- full, presents from OUT exactly the samples of the batches of IN that are not skipped. These samples have the same
--- order, values and instants as in IN. `check` prints no finding for OUT. If the status is 0, no batch is skipped.
+-- full, presents from OUT exactly the samples of the batches of IN that are not skipped. The presented samples have the
+-- same order, values and instants as in IN. `check` prints no finding for OUT. If the status is 0, no batch is skipped.
 pub record KeepsInput (asked : Turning) (files : Files) (fault : Type 0) (ended : Status) (capture : List ℕ) : Type 0 where
   pub shape : Option Shape
   pub batches : List Presented
@@ -203,8 +204,8 @@ text_by asked records (Some at) how = fault_line at
 text_by asked records None end.Whole = turned_text asked (shape_asked asked records) (batches_by asked records end.Whole) end.Whole
 text_by asked records None how = side_line asked.listener.limit how
 
--- The capture that `gateway` makes, or `None`. It depends on the records of IN, on the first record that cannot be
--- converted, if any, and on how the scan ended.
+-- The capture that `gateway` makes, or `None`. The result depends on the records of IN, on the first record that cannot
+-- be converted, if any, and on how the scan ended.
 abbrev pub made_by : Turning → List Record → Option FaultAt → End → Option (List ℕ)
 made_by asked records (Some at) how = None
 made_by asked records None end.Whole = Some (turned_capture asked (shape_asked asked records) (batches_by asked records end.Whole))

@@ -82,10 +82,10 @@ pub record TellsFailed (request : Request) (failed : Bool) (ended : Status) : Ty
   pub fault : ended ≡ status.DeviceFault → (is_listening request ≡ true) × (failed ≡ true)
   pub quiet : is_listening request ≡ true → ended ≡ status.Done → failed ≡ false
 
--- A run ends with a read fault only if the shelf counted a read fault or a file is missing. It ends with a write fault
--- only if the sink or the shelf counted a write fault. The counts of write faults rise only if the run ends with a
--- write fault. If the run ends with a status other than `ReadFault`, `WriteFault` and `Memory`, the count of read
--- faults is unchanged.
+-- A run ends with a read fault only if the shelf counted a read fault or a file is missing. The run ends with a write
+-- fault only if the sink or the shelf counted a write fault. The counts of write faults rise only if the run ends with
+-- a write fault. If the run ends with a status that is none of `ReadFault`, `WriteFault` and `Memory`, the count of
+-- read faults is unchanged.
 pub record HasCauses (request : Request) (shelf shelf' : ShelfState) (out out' : SinkState) (ended : Status) : Type 0 where
   pub read : ended ≡ status.ReadFault → Rose shelf.reading_faults shelf'.reading_faults ⊎ IsOneMissing (files_of request) shelf.files
   pub not_read : ended ≢ status.ReadFault → ended ≢ status.WriteFault → ended ≢ status.Memory → shelf'.reading_faults ≡ shelf.reading_faults

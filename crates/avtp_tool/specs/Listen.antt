@@ -82,7 +82,7 @@ pub record YieldsHeadline (asked : Listening) (name bytes : List ℕ) (fault : T
   pub ends : EndsAt asked.listener.limit (Some bytes) fault how read
   pub same : yields ≡ heard_yield asked name (records_in read) how
   -- If a talker that keeps the rules sent the records `first`, the shown items begin with the items of `first` that are
-  -- due. Those items are as the headline says, whatever records follow.
+  -- due. The due items of `first` keep the headline, whatever records follow.
   pub front : (shift : ℤ) (p : PacketJournal) (first others : List Record) → records_in read ≡ first ++ others → HearsTalker shift p (plan_of asked.listener) first →
       IsPrefix (due_of (plan_of asked.listener) first) yields.items × IsTrueFront p (plan_of asked.listener) first others
   -- If a talker that keeps the rules sent all records and the reading was not cut short, all shown items are as the
@@ -90,9 +90,9 @@ pub record YieldsHeadline (asked : Listening) (name bytes : List ℕ) (fault : T
   pub whole : (shift : ℤ) (p : PacketJournal) → is_cut_short how ≡ false → HearsTalker shift p (plan_of asked.listener) (records_in read) →
       KeepsHeadline shift p (plan_of asked.listener) (records_in read) yields.items
 
--- What a run yields, in three parts. `before` is what the earlier files yield, all of which were read to their ends.
--- `here` is what the file `name` yields: the line of a read fault if the file could not be opened, otherwise what the
--- headline says. `after` is what the later files yield.
+-- What a run yields, in three parts. `before` is what the earlier files yield; all the earlier files were read to their
+-- ends. `here` is what the file `name` yields: the line of a read fault if the file could not be opened, otherwise what
+-- the headline says. `after` is what the later files yield.
 pub record HasHeadline (asked : Listening) (files : Files) (fault : Type 0) (earlier : List (List ℕ)) (name bytes : List ℕ) (yields : Yield) : Type 0 where
   pub before : Yield
   pub done : Status

@@ -3,8 +3,8 @@ use Rattle.std.specs.Prelude.{◌≡◌, ◌≢◌, ℕ, List, Option, Some, Non
 use Rattle.avtp_base.specs.Files.{Files, Slots, KeepsFiles, KeepsSlots, PutsFile}
 use Rattle.capture_io.specs.Writing.{KeepsSlotsBut, MakesPrefix}
 
--- If a run makes a capture, its output now has this capture, and all other files are unchanged. Otherwise all files are
--- unchanged.
+-- If a run makes a capture, its output now has this capture, and all other files are unchanged. If the run makes no
+-- capture, all files are unchanged.
 abbrev pub MakesOutput : Option (List ℕ) → Option (List ℕ) → Option Files → Option Files → Type 0
 MakesOutput None made old new = KeepsFiles old new
 MakesOutput (Some name) None old new = KeepsFiles old new
@@ -26,7 +26,7 @@ KeepsFilesBut (Some name) (Some old) None = ⊤
 KeepsFilesBut (Some name) (Some old) (Some new) = (other : List ℕ) → other ≢ name → new other ≡ old other
 
 -- Each slot that had a file still has this file, and each slot that was free is still free. If the files are known, the
--- bytes that are left to read in a slot are also unchanged, unless the slot's file is the one that is written.
+-- bytes that are left to read are also unchanged in each slot whose file is not the written file.
 abbrev pub KeepsSlotsFor : Option (List ℕ) → Option Files → Slots → Slots → Type 0
 KeepsSlotsFor None files old new = KeepsSlots old new
 KeepsSlotsFor (Some name) files old new = KeepsSlotsBut files old new name

@@ -13,8 +13,8 @@ use Rattle.avtp_tool.specs.Outcome.{is_done}
 
 -- ---- one file
 
--- What a command makes of a file: the status, and what the command yields. Both depend on the records that were read
--- and on how the reading ended.
+-- What a command makes of a file: the status, and what the command yields. The status and the yield depend on the
+-- records that were read and on how the reading ended.
 pub record Report : Type 0 where
   pub status : List Record → End → Status
   pub yields : List Record → End → Yield
@@ -28,8 +28,8 @@ pub record ReadOutcome (report : Report) (limit : ℕ) (bytes : List ℕ) (fault
   pub given : yields ≡ report.yields (records_in prefix) how
 
 -- The possible outcomes of reading a file: the status, and what the command yields. The file is given by its bytes, or
--- by `None` if it is missing. Reading a missing file ends with a read fault. Any other read fault is possible only if
--- `fault` holds.
+-- by `None` if it is missing. Reading a missing file ends with a read fault. A read fault of a file that exists is
+-- possible only if `fault` holds.
 abbrev pub FileOutcome : Report → ℕ → Option (List ℕ) → Type 0 → Status → Yield → Type 0
 FileOutcome report limit None fault ended yields = (ended ≡ status.ReadFault) × (yields ≡ says read_fault_line)
 FileOutcome report limit (Some bytes) fault ended yields =
@@ -48,7 +48,7 @@ file_yield report limit (Some bytes) = report.yields (records_in (take limit byt
 -- ---- files in order
 
 -- The status of a run whose first file is done. If the other files end with `Done`, the run has the status of the first
--- file. Otherwise the run has the status of the other files.
+-- file. If the other files do not end with `Done`, the run has the status of the other files.
 abbrev pub joined : Status → Status → Status
 joined first status.Done = first
 joined first rest = rest

@@ -32,8 +32,9 @@ abbrev pub device_notice : Bool → Status → List ℕ
 device_notice true status.Done = device_fault_line
 device_notice failed ended = []
 
--- A possible outcome of a run of `listen` over these files. `heard` is the status, and `given` the yield, of reading
--- the files. If a device failed and `heard` is `Done`, the run's status and its last line say that a device failed.
+-- A possible outcome of a run of `listen` over these files. `heard` is the status of reading the files, and `given` is
+-- the yield of reading them. If a device failed and `heard` is `Done`, the run's status and its last line say that a
+-- device failed.
 pub record ListenOutcome (asked : Listening) (files : Files) (fault : Type 0) (failed : Bool) (came : List (List ℕ)) (ended : Status) (yields : Yield) : Type 0 where
   pub heard : Status
   pub given : Yield
@@ -88,7 +89,7 @@ came_for (soak packets) files = []
 came_for (agree asked) files = agree_came asked (files asked.a)
 came_for (gateway asked) files = gateway_came asked (files asked.input)
 
--- the capture that a run makes, or `None`, if no read fault occurs
+-- if no read fault occurs, the capture that a run makes, or `None` if it makes none
 abbrev pub made_for : Request → Files → Option (List ℕ)
 made_for (talk asked) files = talk_made (talk_plan asked) (files asked.input) (talk_status (talk_plan asked) (files asked.input))
 made_for (gateway asked) files = gateway_made asked (files asked.input)

@@ -86,7 +86,7 @@ talk_report plan (Some bytes) = if nat_le (length bytes) most_input then line_by
 
 -- ---- the capture that is made
 
--- the capture that a run of `talk` makes, or `None`, given its input and its status
+-- the capture that a run of `talk` makes, given its input and its status; `None` if it makes none
 abbrev pub talk_made : TalkPlan → Option (List ℕ) → Status → Option (List ℕ)
 talk_made plan (Some bytes) status.Done = Some (capture plan bytes)
 talk_made plan told ended = None

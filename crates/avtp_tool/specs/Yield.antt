@@ -2,8 +2,8 @@
 use Rattle.std.specs.Prelude.{ℕ, List, [], ◌++◌}
 use Rattle.sample_schedule.specs.declared.shown.Shown.{Shown}
 
--- What a run yields: the text that it prints, and the items that it gives to devices. A `Yield` holds both together,
--- because the text and the items must come from the same prefix of a file.
+-- What a run yields: the text that it prints, and the items that it gives to devices. A `Yield` holds the text and the
+-- items together, because both must come from the same prefix of a file.
 pub record Yield : Type 0 where
   pub text : List ℕ
   pub items : List Shown

@@ -116,7 +116,7 @@ fn print_checked<S: Sink>(
     }
 }
 
-/// The findings in a packet whose stream ID is not valid: only whether a reserved bit is set.
+/// In a packet whose stream ID is not valid, the only possible finding is a set reserved bit.
 fn of_unmarked(reserved: bool) -> Findings
     ensures { result ≡ unmarked_findings reserved }
 {

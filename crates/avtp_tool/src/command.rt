@@ -26,8 +26,8 @@ use presenter_ring::Gate;
 use std::alloc::Global;
 use std::thread::Threads;
 
-/// Does what the words ask for, and returns the status. It reads and writes the files that the words name, writes the
-/// text, and gives the devices the items that `listen` shows.
+/// Does what the words ask for, and returns the status. The run reads and writes the files that the words name, writes
+/// the text, and gives the devices the items that `listen` shows.
 pub fn run<T: Threads + Sync, F: Shelf + Send, S: Sink + Send, G: Gate, D: Devices + Send>(
     rt: &T,
     alloc: Global,

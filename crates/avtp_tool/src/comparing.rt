@@ -42,7 +42,7 @@ pub enum Step {
     NoMemory,
 }
 
-/// One of two captures. `end` says how its reading ended, once it has ended.
+/// One of two captures. `end` says how the reading of the capture ended, once it has ended.
 #[derive(Drop)]
 pub struct Side {
     pub source: Source,
@@ -58,8 +58,8 @@ pub struct Comparing {
 }
 
 impl Comparing {
-    /// Opens two captures, A before B. At most `limit` bytes of each will be read. If a capture cannot be opened or
-    /// memory runs out, neither capture stays open.
+    /// Opens two captures, A before B. At most `limit` bytes of each capture will be read. If a capture cannot be
+    /// opened or memory runs out, neither capture stays open.
     pub fn open<F: Shelf>(
         alloc: Global,
         limit: u64,

@@ -7,7 +7,7 @@ ghost use Rattle.avtp_tool.specs.Reading.{file_status, file_yield, Report};
 
 /// `show`, `check` and `listen` report a pcapng capture in the same way as a little-endian classic capture that has
 /// nanosecond timestamps and the same records. Only one thing depends on the pcapng file itself: how the reading ends.
-/// It depends on the file's first refused field, or on the limit on the file's bytes.
+/// The end of the reading depends on the file's first refused field, or on the limit on the file's bytes.
 pub fn pcapng_reports()
     ensures { (report : Report) (limit : ℕ) (bytes : List ℕ) → AreBytes (take limit bytes) → is_pcapng (take limit bytes) ≡ true →
         (file_status report limit (Some bytes) ≡ report.status (records_in (as_classic (take limit bytes))) (end_of limit bytes))

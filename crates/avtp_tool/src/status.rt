@@ -5,7 +5,7 @@ ghost use Rattle.avtp_tool.specs.Status.{code_of, status_of};
 
 use capture_io::End;
 
-/// How a run ended. Its code is the exit status of the command.
+/// How a run ended. The code of a status is the exit status of the command.
 #[derive(Clone, Copy, Debug, PartialEq, Eq)]
 pub enum Status {
     /// Everything that was asked for was done.

@@ -120,7 +120,7 @@ pub fn talk<F: Shelf, S: Sink>(
     }
 }
 
-/// If an input was read whole, makes its capture. Otherwise prints why no capture is made.
+/// If an input was read whole, makes its capture. If the input was not read whole, prints why no capture is made.
 fn talk_contents<F: Shelf, S: Sink>(
     alloc: Global,
     plan: TalkPlan,

@@ -34,7 +34,7 @@ pub lack : (words : List (String Global)) (options : List OptionRow) (one : Bool
 lack words options true e = ((λ no. absurd (let f : false ≡ true = no in cc)), λ none. absurd (let f : true ≡ false = e ∙ all_lack words options none in cc))
 lack words options false e = ((λ yes. none_has words options (sym e)), λ none. refl)
 
--- the test does not find `name` if and only if `words` do not contain it
+-- the test does not find `name` if and only if `name` is not one of `words`
 pub not_contained : (words : List (String Global)) (name : List ℕ) (tells : Bool) → tells ≡ list_any (λ word. bytes_eq (string_bytes word) name) words → IsTrue (not tells) ↔ (Contains (texts words) name → ⊥)
 not_contained words name true e = ((λ no. absurd (let f : false ≡ true = no in cc)), λ none. absurd (none (present words name (sym e))))
 not_contained words name false e = ((λ yes. absent words name (sym e)), λ none. refl)

@@ -8,13 +8,13 @@ use Rattle.avtp_words.specs.Limits.{NumberOption, SignedOption}
 use Rattle.avtp_words.specs.Word.{IsId}
 use Rattle.avtp_words.specs.Options.{Setting, value_in, format_name}
 
--- If the option is given, its value spells `n`, which is in the option's range. Otherwise the option has a default,
--- which is `n`.
+-- If the option is given, its value spells `n`, which is in the option's range. If the option is not given, it has a
+-- default, which is `n`.
 abbrev pub IsGiven : NumberOption → List Setting → ℕ → Type 0
 IsGiven option settings n = MatchOption (value_in option.name settings) (IsSomeAnd option.default (λ default. n ≡ default)) (λ word. IsNumber option.low option.high word n)
 
--- If the option is given, its value spells the number `given`, which is in the option's range. Otherwise `given` is the
--- option's default, or `None` if the option has no default.
+-- If the option is given, its value spells the number `given`, which is in the option's range. If the option is not
+-- given, `given` is the option's default, or `None` if the option has no default.
 abbrev pub IsGivenIf : NumberOption → List Setting → Option ℕ → Type 0
 IsGivenIf option settings given = MatchOption (value_in option.name settings) (given ≡ option.default) (λ word. (n : ℕ) × (given ≡ Some n) × IsNumber option.low option.high word n)
 
@@ -26,8 +26,8 @@ IsGivenId name default settings id = MatchOption (value_in name settings) (id �
 abbrev pub IsGivenIdIf : List ℕ → List Setting → Option ℕ → Type 0
 IsGivenIdIf name settings given = MatchOption (value_in name settings) (given ≡ None) (λ word. (id : ℕ) × (given ≡ Some id) × IsId word id)
 
--- If the option is given, its value spells `z`, which is in the option's range and can be negative. Otherwise `z` is
--- the option's default.
+-- If the option is given, its value spells `z`, which is in the option's range and can be negative. If the option is
+-- not given, `z` is the option's default.
 abbrev pub IsGivenSigned : SignedOption → List Setting → ℤ → Type 0
 IsGivenSigned option settings z = MatchOption (value_in option.name settings) (z ≡ option.default) (λ word. IsSigned option.most word z)
 

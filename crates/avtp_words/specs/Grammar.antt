@@ -301,7 +301,8 @@ pub record NamesFile (words : List (List ℕ)) (settings : List Setting) (option
   pub option_at : slice_get words before ≡ Some option
   pub name_at : slice_get words file.place ≡ Some file.name
 
--- If there is a file, the option named `option` gives this file. If there is no file, that option is not given.
+-- If there is a file, the option named `option` gives this file. If there is no file, the option named `option` is not
+-- given.
 abbrev pub IsGivenFile : List (List ℕ) → List Setting → List ℕ → Option NamedFile → Type 0
 IsGivenFile words settings option None = value_in option settings ≡ None
 IsGivenFile words settings option (Some file) = NamesFile words settings option file
@@ -311,7 +312,7 @@ pub record SaysRaw (words : List (List ℕ)) (settings : List Setting) (raw : Na
   pub file : NamesFile words settings (codes "--raw") raw.file
   pub silence : IsGivenSilence settings raw.silence
 
--- If there is a file of raw audio, the words ask for this file. If there is none, `--raw` is not given.
+-- If there is a file of raw audio, the words ask for this file. If there is no file of raw audio, `--raw` is not given.
 abbrev pub IsGivenRaw : List (List ℕ) → List Setting → Option NamedRaw → Type 0
 IsGivenRaw words settings None = value_in (codes "--raw") settings ≡ None
 IsGivenRaw words settings (Some raw) = SaysRaw words settings raw
@@ -367,8 +368,8 @@ pub record SaysAaf (words : List (List ℕ)) (settings : List Setting) (format :
   pub format_given : IsGivenFormat (codes "--format") Int16 settings format
   pub sparse_given : IsTrue sparse ↔ Contains words (codes "--sparse")
 
--- `words` ask for an H.264 stream. If `last_stamp` is true, only the last packet of each NAL unit has a timestamp.
--- Otherwise each packet has one.
+-- `words` ask for an H.264 stream. If `last_stamp` is true, only the last packet of each NAL unit has a timestamp. If
+-- `last_stamp` is false, each packet has a timestamp.
 pub record SaysVideo (words : List (List ℕ)) (settings : List Setting) (last_stamp : Bool) : Type 0 where
   pub kind : value_in (codes "--kind") settings ≡ Some (codes "h264")
   pub last_stamp_given : IsTrue last_stamp ↔ Contains words (codes "--last-stamp")
@@ -388,7 +389,7 @@ pub record SaysCrf (settings : List Setting) (rate : ℕ) (crf : Crf) : Type 0 w
   pub interval : IsGiven limits.crf_interval settings crf.interval
   pub points : IsGiven limits.crf_points settings crf.points
 
--- If there is a media clock, the options ask for this clock. If there is none, `--crf` is not given.
+-- If there is a media clock, the options ask for this clock. If there is no media clock, `--crf` is not given.
 abbrev pub SaysClock : List Setting → ℕ → Option Crf → Type 0
 SaysClock settings rate None = IsGivenIdIf (codes "--crf") settings None
 SaysClock settings rate (Some crf) = SaysCrf settings rate crf
@@ -416,7 +417,7 @@ pub record FitsSamples (format : AafFormat) (asked : Talking) : Type 0 where
   pub size : asked.count * frame_size asked.channels format ≤ limits.samples
 
 -- IEC 61883-6 has a code for the sample rate. The number of blocks in a packet is at least an eighth of the SYT
--- interval. Any 8 packets in a row then contain a timestamped block. A block has at most 256 quadlets, and the blocks
+-- interval. Hence any 8 packets in a row contain a timestamped block. A block has at most 256 quadlets, and the blocks
 -- of a packet take at most 1,468 bytes.
 pub record FitsBlocks (asked : Talking) : Type 0 where
   pub rate : (fdf : ℕ) × (rate_of_fdf fdf ≡ Some asked.rate) × IsSomeAnd (syt_interval fdf) (λ interval. interval ≤ 8 * asked.count)
@@ -436,8 +437,8 @@ FitsKind (H264 last_stamp) asked = asked.rate ≤ limits.access_units
 abbrev pub spacing_of : Crf → ℕ → ℕ
 spacing_of crf rate = crf.interval * rate * pull_down crf.pull / (crf.rate * pull_up crf.pull)
 
--- Between two restarts there are `packets * count` sample frames. These sample frames span a whole number of clock
--- packets, and this number is a multiple of 8. If there are no restarts, there is no condition.
+-- Between two restarts there are `packets * count` sample frames. The sample frames between two restarts span a whole
+-- number of clock packets, and this number is a multiple of 8. If there are no restarts, there is no condition.
 abbrev pub HasWholeRuns : Crf → ℕ → ℕ → Option ℕ → Type 0
 HasWholeRuns crf rate count None = ⊤
 HasWholeRuns crf rate count (Some packets) = packets * count % (8 * spacing_of crf rate * crf.points) ≡ 0
@@ -550,8 +551,8 @@ Stops L before [] = L before → ⊥
 Stops L before (next ∷ _) = Begins L (before ++ next ∷ []) → ⊥
 
 -- The first wrong word is at index `place`. The words before index `place` begin a line of `L`. The words up to and
--- including index `place` begin no line of `L`. If there are only `place` words, a word is missing. Then `words` begin
--- a line of `L`, but are not a whole line.
+-- including index `place` begin no line of `L`. If there are only `place` words, a word is missing. If a word is
+-- missing, `words` begin a line of `L`, but are not a whole line.
 pub record StopsAt (L : List (List ℕ) → Type 0) (words : List (List ℕ)) (place : ℕ) : Type 0 where
   pub before : List (List ℕ)
   pub rest : List (List ℕ)
@@ -562,8 +563,9 @@ pub record StopsAt (L : List (List ℕ) → Type 0) (words : List (List ℕ)) (p
 
 -- The position, counted from 1, of what is wrong with `words`.
 pub data IsOffence (words : List (List ℕ)) (position : ℕ) : Type 0 where
-  -- The position of the first wrong word. The words before the wrong word begin a line. These words and the wrong word
-  -- together begin no line. If a word is missing, the position is one past the last word.
+  -- The position of the first wrong word. The words before the wrong word are the beginning of some command line. The
+  -- words before the wrong word, followed by the wrong word, begin no line. If a word is missing, the position is one
+  -- past the last word.
   of_a_word : (place : ℕ) → position ≡ place + 1 → StopsAt IsLine words place → IsOffence words position
   -- The position of the command, because the words fit the form of their command but are not a command line: a rule
   -- over several words fails, or `gateway` lacks `--to`.

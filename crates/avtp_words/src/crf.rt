@@ -13,9 +13,9 @@ use crate::limits::{
 use crate::value::{byte_after, id_if, short_number_after, small_number_after};
 use clock_track::{pull_down, pull_up};
 
-/// A media clock that is sent with a stream (IEEE 1722-2016, 10). Its timestamps are at whole sample frames of the
-/// stream. If the stream restarts, there is a whole number of clock packets between two restarts, and this number is a
-/// multiple of 8.
+/// A media clock that is sent with a stream (IEEE 1722-2016, 10). The clock's timestamps are at whole sample frames of
+/// the stream. If the stream restarts, there is a whole number of clock packets between two restarts, and this number
+/// is a multiple of 8.
 #[derive(Clone, Copy, Debug, PartialEq, Eq)]
 pub struct Crf {
     /// The stream ID of the clock.

@@ -88,7 +88,7 @@ pub fn is_new_raw(raw: Option<RawFile<'_>>, files: &[String]) -> bool
     }
 }
 
-/// Whether the two files that are written have different names. True if fewer than two are written.
+/// Whether the two files that are written have different names. True if fewer than two files are written.
 pub fn are_apart(raw: Option<RawFile<'_>>, annexb: Option<DeviceFile<'_>>) -> bool
     ensures { IsTrue result ↔ IfSome (option_map named_raw raw.entry) (λ raw. IfSome (option_map named_file annexb.entry) (λ file. raw.file.name ≢ file.name)) }
 {

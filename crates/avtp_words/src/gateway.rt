@@ -55,8 +55,8 @@ pub fn read_gateway(words: &[String]) -> Result<Command<'_>, Offence>
     }
 }
 
-/// What the words after `gateway` ask for. The first operand is at index `place`. The options before it give the format
-/// `to`.
+/// What the words after `gateway` ask for. The first operand is at index `place`. The options before the first operand
+/// give the format `to`.
 fn read_words(words: &[String], place: usize, to: GatewayFormat) -> Gateway<'_>
     requires rest { IsRestTo gateway_form.rows gateway_form.operands (texts words.now) place }
     requires to { value_after (codes "--to") (texts (take place words.now)) ≡ Some (gateway_format_name to) }

@@ -33,7 +33,7 @@ pub const LISTEN_OPTIONS: [OptionRow; 11] = [
     ANNEXB,
 ];
 
-/// The options of `agree`. They are the options of a listener.
+/// The options of `agree`. `agree` has the options of a listener.
 pub const AGREE_OPTIONS: [OptionRow; 7] = [
     LIMIT,
     BUFFER,
@@ -56,7 +56,7 @@ pub const GATEWAY_OPTIONS: [OptionRow; 9] = [
     ID,
 ];
 
-/// The format that `gateway` writes. This option must be given.
+/// The format that `gateway` writes. `--to` must be given.
 pub const TO: OptionRow = OptionRow {
     name: "--to",
     takes: Takes::OutFormat,
@@ -117,7 +117,7 @@ pub const RING: OptionRow = OptionRow {
 
 pub const RING_DEFAULT: u32 = 64;
 
-/// The file to which presented samples are written as raw audio. Without this option, no such file is written.
+/// The file to which presented samples are written as raw audio. Without this option, no file of raw audio is written.
 pub const RAW: OptionRow = OptionRow {
     name: "--raw",
     takes: Takes::Name,
@@ -132,7 +132,8 @@ pub const SILENCE: OptionRow = OptionRow {
 /// The options that need `--raw`.
 pub const RAW_OPTIONS: [OptionRow; 1] = [SILENCE];
 
-/// The file to which presented H.264 units are written as a byte stream. Without this option, no such file is written.
+/// The file to which presented H.264 units are written as a byte stream. Without `--annexb`, no byte stream of H.264
+/// units is written.
 pub const ANNEXB: OptionRow = OptionRow {
     name: "--annexb",
     takes: Takes::Name,
@@ -358,7 +359,7 @@ pub const MAX_PACKETS: u64 = 1_000_000;
 pub const MAX_SAMPLES: u64 = 1_476;
 
 /// The maximum number of data block bytes in an AM824 packet. An Ethernet frame carries 1,500 bytes. The stream header
-/// takes 24 of them, and the CIP header takes 8.
+/// takes 24 bytes of the Ethernet payload, and the CIP header takes 8.
 pub const MAX_BLOCKS: u64 = 1_468;
 
 /// The maximum number of quadlets in an AM824 data block, one for each channel (IEC 61883-1).

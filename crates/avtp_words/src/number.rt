@@ -51,7 +51,8 @@ pub fn is_signed(word: &str, most: u32) -> bool
     }
 }
 
-/// The negative number that `-` followed by `digits` spells. `None` if this spells no number from -(2^63 - 1) to -1.
+/// The negative number that `-` followed by `digits` spells. `None` if `-` and `digits` together spell no number from
+/// -(2^63 - 1) to -1.
 fn negative_of(digits: &str) -> Option<i64>
     ensures spelled { IfSome result (λ z. 45 ∷ digits.now ≡ signed_decimal z) }
     ensures size { IfSome result (λ z. unsigned_abs z < 2 ^ 63) }

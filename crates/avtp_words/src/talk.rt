@@ -36,7 +36,7 @@ pub enum Kind {
     /// AM824 (IEC 61883-6). The input is quadlets as they are sent.
     Am824,
     /// H.264 (IEEE 1722-2016, 8; RFC 6184). The input is a byte stream of NAL units. If `last_stamp` is true, only the
-    /// last packet of each unit has a timestamp. Otherwise each packet has one.
+    /// last packet of each unit has a timestamp. If `last_stamp` is false, each packet has a timestamp.
     H264 { last_stamp: bool },
 }
 

@@ -50,8 +50,9 @@ pub record KeepsBeside (files : Option Files) (old new : Slots) (k : ℕ) (name 
 
 -- ---- calls
 
--- At `Ok` the file `name` was made for a capture that has no record so far. At `Err` the file was not made. At `Failed`
--- the count of writing faults rose. In each case the name was asked for.
+-- If the result is `Ok`, the file `name` was made for a capture that has no record so far. If the result is `Err`, the
+-- file was not made. If the result is `Failed`, the count of writing faults rose. Whatever the result, the name was
+-- asked for.
 pub record BeginsCapture (before after : ShelfState) (name : List ℕ) (result : Result Writing OpenFault) : Type 0 where
   pub begun : IfOk result (λ writer. HoldsCapture before.files after writer name [])
   pub fresh : IfOk result (λ writer. before.slots writer.slot ≡ None)
@@ -62,8 +63,8 @@ pub record BeginsCapture (before after : ShelfState) (name : List ℕ) (result :
   pub counted : IsOpenCounted before.writing_faults after.writing_faults result
   pub asked : Asks (name ∷ []) before after
 
--- With `Ok` the record `r` was appended to the capture. With `Err` the shelf failed, and the capture is unchanged. In
--- either case it is possible that buffered bytes were written to the file.
+-- With `Ok` the record `r` was appended to the capture. If the result is `Err`, the shelf failed, and the capture is
+-- unchanged. Whatever the result, buffered bytes may have been written to the file.
 pub record AddsRecord (before after : ShelfState) (old new : Writing) (r : Record) (result : Result Unit Failed) : Type 0 where
   pub added : OnOk result ((files : Option Files) (name : List ℕ) (records : List Record) → HoldsCapture files before old name records → HoldsCapture files after new name (records ++ r ∷ []))
   pub kept : OnErr result ((files : Option Files) (name : List ℕ) (records : List Record) → HoldsCapture files before old name records → HoldsCapture files after new name records)

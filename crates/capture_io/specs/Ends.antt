@@ -28,8 +28,8 @@ end_of limit bytes =
 
 -- How the reading of a file ends if at most `limit` of its bytes may be read, and which prefix of the file precedes
 -- that end. The `Option` is the file's contents. `None` means that no file has the name, which counts as a fault of
--- reading before the first byte. If the file exists, the reading ends at a fault only if `fault` holds. In that case
--- the prefix is within the limit, and `certain_in` is `None` for the prefix.
+-- reading before the first byte. If the file exists, the reading ends at a fault only if `fault` holds. If the reading
+-- of an existing file ends at a fault, the prefix is within the limit, and `certain_in` is `None` for the prefix.
 abbrev pub EndsAt : ℕ → Option (List ℕ) → Type 0 → End → List ℕ → Type 0
 EndsAt limit None fault how prefix = (how ≡ end.ReadFault) × (prefix ≡ [])
 EndsAt limit (Some bytes) fault end.ReadFault prefix =
@@ -46,8 +46,8 @@ end_at stop.Limit lack = end.Limit
 -- ---- the count of reading faults
 
 -- How a call changes the count of reading faults. The first option is the end that the reading had reached before the
--- call, if any. The second option is the call's result. If a fault of reading ended the reading in this call, the count
--- rises; otherwise the count is unchanged.
+-- call, if any. The second option is the end that the call returns, if any. If a fault of reading ended the reading in
+-- this call, the count rises; otherwise the count is unchanged.
 abbrev pub CountsFault : Option End → Option End → ℕ → ℕ → Type 0
 CountsFault None (Some end.ReadFault) before after = Rose before after
 CountsFault ended result before after = after ≡ before

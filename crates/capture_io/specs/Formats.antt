@@ -13,8 +13,8 @@ use Rattle.pcapng_frames.specs.Reading as ng
 use Rattle.capture_io.specs.declared.capture_reader.Format.{Format}
 use Rattle.capture_io.specs.declared.capture_reader.Format.TheVariants.{Classic, Pcapng}
 
--- The bytes begin with the type of a section header, as each pcapng capture does. The type is the same in either byte
--- order (draft-ietf-opsawg-pcapng, section 4.1). Fewer than four bytes count as classic pcap.
+-- The bytes begin with the type of a section header, as each pcapng capture does. The type of a section header is the
+-- same in either byte order (draft-ietf-opsawg-pcapng, section 4.1). Fewer than four bytes count as classic pcap.
 unfoldable pub is_pcapng : List ℕ → Bool
 is_pcapng bytes = nat_le 4 (length bytes) && nat_eq (number_at Little 0 4 bytes) 0x0A0D0D0A
 
@@ -37,8 +37,8 @@ refusal_in bytes = (meaning_of (format_in bytes)).refusal bytes
 
 -- The first refusal of a capture in either layout, if no later bytes can change it. Suppose that a pcapng capture ends
 -- inside a section's 257th interface description, after the block type but before the block's total length is complete.
--- Then bytes are missing, but the capture's refusal is not `short`. Therefore `settled`, and not `short`, tells whether
--- later bytes can change the refusal.
+-- Bytes of the capture are missing, although its refusal is not `short`. Therefore `settled`, and not `short`, tells
+-- whether later bytes can change the refusal.
 unfoldable pub certain_in : List ℕ → Option Refusal
 certain_in bytes = (meaning_of (format_in bytes)).certain bytes
 

@@ -42,9 +42,9 @@ pub record OpensSlot (before after : ShelfState) (name : List ℕ) (k : ℕ) : T
   pub writing : after.writing_faults ≡ before.writing_faults
   pub asked : Asks (name ∷ []) before after
 
--- At `Ok(x)` the file `name` was opened in the slot with the number `slot x`. At `Err` the file was not opened, and no
--- file or slot changed. `Missing` means that the shelf shows its files and none of them has the name. At `Failed` the
--- count of reading faults rose.
+-- If the result is `Ok(x)`, the file `name` was opened in the slot with the number `slot x`. If the result is `Err`,
+-- the file was not opened, and no file or slot changed. `Missing` means that the shelf shows its files and none of them
+-- has the name. If the result is `Failed`, the count of reading faults rose.
 pub record TriesOpen {T : Type 0} (slot : T → ℕ) (before after : ShelfState) (name : List ℕ) (result : Result T OpenFault) : Type 0 where
   pub opened : IfOk result (λ file. OpensSlot before after name (slot file))
   pub refused : OnErr result (OnlyReads before after (name ∷ []))

@@ -40,8 +40,8 @@ pub record HasFed (limit : ℕ) (bytes : List ℕ) (remains : Option (List ℕ))
   pub read : HasRead source.reader prefix records
 
 -- The source has delivered these records from a file with these bytes. At most `limit` bytes of the file may be read.
--- `remains` is what is left to read. If the source holds a record, the held record is the last of these records. The
--- reading has not ended.
+-- `remains` is what is left to read. If the source holds a record, that record is the last of `records`. The reading
+-- has not ended.
 pub record HasGiven (limit : ℕ) (bytes : List ℕ) (remains : Option (List ℕ)) (source : Sourcing) (records : List Record) : Type 0 where
   pub going : source.ended ≡ None
   pub before : List Record
@@ -63,17 +63,17 @@ pub record EndsAfter (limit : ℕ) (bytes : List ℕ) (fault : Type 0) (how : En
 abbrev pub to_do : Sourcing → ℕ
 to_do source = 2 * source.pieces.left + length source.pieces.waiting
 
--- At `Ok` the capture `name` was opened, at most `limit` of its bytes may be read, and no record was delivered yet. At
--- `Err` the capture was not opened.
+-- If the result is `Ok`, the capture `name` was opened, at most `limit` of its bytes may be read, and no record was
+-- delivered yet. At `Err` the capture was not opened.
 pub record OpensSource (before after : ShelfState) (limit : ℕ) (name : List ℕ) (result : Result Sourcing OpenFault) : Type 0 where
   -- if the shelf shows the file's bytes, no record in these bytes was delivered yet
   pub begun : IfOk result (λ source. (files : Files) → before.files ≡ Some files → (bytes : List ℕ) × (files name ≡ Some bytes) × HasGivenOf limit bytes after source [])
   pub going : IfOk result (λ source. (source.ended ≡ None) × (to_do source ≤ 2 * limit))
   pub tries : TriesOpen slot_of before after name result
 
--- At `None` the next record was read and is held now. Otherwise the reading ended after the delivered records, and
--- `result` is how it ended. If a fault ended the reading, the count of reading faults rose. If the reading had ended
--- before the call, the call returns the same end again.
+-- If the result is `None`, the next record was read and is held now. If `result` is not `None`, the reading ended after
+-- the delivered records, and `result` is how it ended. If a fault ended the reading, the count of reading faults rose.
+-- If the reading had ended before the call, the call returns the same end again.
 pub record GivesNext (before after : ShelfState) (old new : Sourcing) (result : Option End) : Type 0 where
   pub given : result ≡ None → (limit : ℕ) (bytes : List ℕ) (records : List Record) → HasGivenOf limit bytes before old records
       → (next : Record) × (held_in new ≡ Some next) × HasGivenOf limit bytes after new (records ++ next ∷ [])
@@ -86,8 +86,8 @@ pub record GivesNext (before after : ShelfState) (old new : Sourcing) (result : 
   pub reads : ReadsSlot before after (slot_of old) (slot_of new)
 
 -- The held record was released. If the next record is complete in the bytes that were read, that record is held now,
--- and nothing more was read. Otherwise calling `next` afterwards has the same effect as calling `next` instead of this
--- call.
+-- and nothing more was read. If `at_hand` is false, calling `next` after this call has the same effect as calling
+-- `next` in place of this call.
 pub record Advances (old new : Sourcing) (at_hand : Bool) : Type 0 where
   pub given : at_hand ≡ true → (shelf : ShelfState) → IsSome (shelf.slots (slot_of old)) → GivesNext shelf shelf old new None
   pub further : at_hand ≡ false → (before after : ShelfState) (next : Sourcing) (result : Option End) → GivesNext before after new next result → GivesNext before after old next result

@@ -37,7 +37,8 @@ pub record WritesSlot (before after : ShelfState) (old new : Writing) (result : 
   pub counted : IsCounted before.writing_faults after.writing_faults result
   pub asked : AsksNothing before after
 
--- With `Ok` the bytes `bytes` were added to the writer's file. With `Err` the shelf failed, and nothing was added.
+-- With `Ok` the bytes `bytes` were added to the writer's file. If the result is `Err`, the shelf failed, and nothing
+-- was added.
 pub record AddsBytes (before after : ShelfState) (old new : Writing) (bytes : List ℕ) (result : Result Unit Failed) : Type 0 where
   pub added : OnOk result ((begun : ShelfState) (name all : List ℕ) → IsWriting begun before old name all → IsWriting begun after new name (all ++ bytes))
   pub kept : OnErr result ((begun : ShelfState) (name all : List ℕ) → IsWriting begun before old name all → IsWriting begun after new name all)
@@ -51,8 +52,8 @@ pub record NotMade (before after : ShelfState) : Type 0 where
   pub slots : KeepsSlots before.slots after.slots
   pub reading : after.reading_faults ≡ before.reading_faults
 
--- At `Ok` the file `name` was made, and the writer's buffer is empty. At `Err` the file was not made. At `Failed` the
--- count of writing faults rose. In each case the name was asked for.
+-- If the result is `Ok`, the file `name` was made, and the writer's buffer is empty. At `Err` the file was not made. If
+-- the result is `Failed`, the count of writing faults rose. Whatever the result, the shelf was asked for the name.
 pub record CreatesFile (before after : ShelfState) (name : List ℕ) (result : Result Writing OpenFault) : Type 0 where
   pub begun : IfOk result (λ writer. IsWriting before after writer name [])
   pub not_made : OnErr result (NotMade before after)

@@ -55,8 +55,8 @@ impl Model for CaptureReader {
 }
 
 impl CaptureReader {
-    /// A reader that has taken nothing. This call allocates the memory of a reader of each layout. Later calls allocate
-    /// nothing.
+    /// A reader that has taken nothing. The call allocates the memory of one reader for each layout. Later calls
+    /// allocate nothing.
     pub fn new(alloc: Global) -> Result<Self, NoMemory>
         ensures { IfOk result (λ reader. reader ≡ nothing_read) }
     {
@@ -128,7 +128,7 @@ impl CaptureReader {
 
     /// The size of the next record, if the piece begins with the whole record and no byte of the record was taken yet.
     ///
-    /// At `None` there is no such record, and the piece must be fed.
+    /// If the result is `None`, no whole record can be taken from the piece, and the piece must be fed.
     #[inline(always)]
     pub fn whole_ahead(&self, piece: &[u8]) -> Option<usize>
         ensures { FindsNext self.now piece.now result }
@@ -142,8 +142,8 @@ impl CaptureReader {
         }
     }
 
-    /// Whether the piece is assumed to contain the whole next record. In a pcapng capture one byte in the piece is
-    /// enough for this assumption, because programs write whole blocks.
+    /// Whether the piece is assumed to contain the whole next record. In a pcapng capture, the whole next record is
+    /// assumed to be in the piece as soon as the piece has one byte, because programs write whole blocks.
     pub fn is_ahead(&self, piece: &[u8]) -> bool {
         match self.format {
             None => false,
@@ -152,8 +152,8 @@ impl CaptureReader {
         }
     }
 
-    /// A view of the next record. `bytes`, which are the front of the piece, are the record with its header, or the
-    /// packet's whole block.
+    /// A view of the next record. `bytes` are the start of the piece: the record with its header, or the packet's whole
+    /// block.
     #[inline(always)]
     pub fn lend<'a>(&self, bytes: &'a [u8]) -> RecordView<'a>
         requires { IsNext self.now bytes.now }

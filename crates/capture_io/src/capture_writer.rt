@@ -26,8 +26,8 @@ const RECORD_HEADER: usize = 16;
 /// A classic capture, little-endian with nanoseconds (draft-ietf-opsawg-pcap), that is written to a file of a shelf.
 ///
 /// The bytes of the file, followed by the buffered bytes, are the file header and one record for each added frame. If
-/// the shelf fails, the file contains a prefix of these bytes. Nothing is lost or written twice. Therefore a failed
-/// call can be repeated. Between the calls, other files of the shelf may be read.
+/// the shelf fails, the file contains a prefix of that file header and those records. Nothing is lost or written twice.
+/// A call that failed can be repeated. Between the calls, other files of the shelf may be read.
 #[derive(Drop)]
 pub struct CaptureWriter {
     file: FileWriter,
@@ -55,8 +55,8 @@ fn file_header() -> [u8; FILE_HEADER]
 impl CaptureWriter {
     /// Makes or empties a file for a capture that has no record so far.
     ///
-    /// At `Failed` the writing count rose. `Memory` means that the shelf had no memory; the buffer's memory was
-    /// reserved before. After `Failed` or `Memory` the file is unchanged. Never returns `Missing`.
+    /// If the result is `Failed`, the count of writing faults rose. `Memory` means that the shelf had no memory; the
+    /// buffer's memory was reserved before. After `Failed` or `Memory` the file is unchanged. Never returns `Missing`.
     pub fn create<F: Shelf>(buffer: Buffer, shelf: &mut F, name: &str) -> Result<Self, OpenFault>
         requires { buffer ≡ [] }
         ensures { BeginsCapture (F.state shelf.old) (F.state shelf.new) name.now result }

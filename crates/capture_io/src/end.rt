@@ -12,7 +12,7 @@ pub enum End {
     Whole,
     /// At a field that cannot be accepted.
     Refused(Refusal),
-    /// At a fault of reading, possibly before the first byte.
+    /// At a read fault, possibly before the first byte.
     ReadFault,
     /// At the limit: no more bytes may be read, although the file has more.
     Limit,
@@ -23,7 +23,7 @@ pub enum End {
 pub enum Stop {
     /// At the end of the file.
     End,
-    /// At a fault of reading.
+    /// At a read fault.
     Fault,
     /// At the limit: no more bytes may be read, although the file has more.
     Limit,

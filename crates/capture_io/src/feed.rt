@@ -14,7 +14,7 @@ use pcap_frames::RecordView;
 use std::marker::Model;
 
 /// A capture that is read from a shelf and fed to a reader in pieces. A record is held by the reader if the reader has
-/// taken the record's bytes. Otherwise the record is shown in the piece.
+/// taken the record's bytes. A record that the reader has not taken is shown in the piece.
 #[derive(Drop)]
 pub struct Feed {
     pub pieces: Pieces,
@@ -35,9 +35,9 @@ impl Model for Feed {
 }
 
 impl Feed {
-    /// Drops the held record, and reads on to the next record. At `None` the next record is held now; otherwise the
-    /// result is how the reading ended. Once the reading has ended, each further call returns the same end and reads
-    /// nothing.
+    /// Drops the held record, and reads on to the next record. If the result is `None`, the next record is held now;
+    /// otherwise the result says how the reading ended. Once the reading has ended, each further call returns the same
+    /// end and reads nothing.
     #[inline(never)]
     pub fn next<F: Shelf>(&mut self, shelf: &mut F) -> Option<End>
         requires { IsSome ((F.state shelf.old).slots (slot_of self.old)) }
@@ -87,8 +87,8 @@ impl Feed {
         Some(stop.end(self.reader.finish().err()))
     }
 
-    /// Feeds buffered bytes to the reader, at most up to the end of one record. If the reader refuses them, returns the
-    /// refusal, which ends the reading.
+    /// Feeds buffered bytes to the reader, at most up to the end of one record. If the reader refuses the bytes,
+    /// returns the refusal, which ends the reading.
     fn feed_piece(&mut self) -> Option<End>
         requires { 0 < length self.old.pieces.waiting }
         ensures { (shelf : ShelfState) → IsReady shelf.slots self.old → ReadsOn shelf shelf self.old self.new result }
@@ -106,7 +106,8 @@ impl Feed {
     }
 
     /// The size of the next record, if the buffered bytes begin with the whole record and no byte of the record was
-    /// taken yet. The result is `None` only if there is no such record, or the reading has ended.
+    /// taken yet. The result is `None` only if the buffered bytes do not begin with a whole record that is still
+    /// untaken, or if the reading has ended.
     #[inline(always)]
     pub fn whole_ahead(&self) -> Option<usize>
         ensures { FindsAhead self.now result }

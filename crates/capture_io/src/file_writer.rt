@@ -98,8 +98,8 @@ impl FileWriter {
         Ok(())
     }
 
-    /// Writes the buffered bytes, and closes the file. With `Ok` the file contains all bytes that were added; with
-    /// `Err` it contains a prefix of the bytes that were added.
+    /// Writes the buffered bytes, and closes the file. If the result is `Ok`, the file contains all bytes that were
+    /// added; if the result is `Err`, the file contains a prefix of these bytes.
     pub fn finish<F: Shelf>(self, shelf: &mut F) -> Result<(), Failed>
         requires { IsMadeIn (F.state shelf.old).slots self.slot }
         ensures { FinishesFile (F.state shelf.old) (F.state shelf.new) self result }

@@ -15,8 +15,9 @@ pub fn classic_again()
 {}
 
 /// A law: opening, reading and closing other files of the shelf does not change a capture that is being written. The
-/// reason is that these calls keep all files and the writer's slot. If each of two successive calls keeps the slots
-/// other than the writer's, as `KeepsBeside` says, the two calls together keep them.
+/// reason: opening, reading and closing other files changes no file, and does not change the writer's slot. If each of
+/// two successive calls keeps the slots other than the writer's, as `KeepsBeside` says, the two calls together keep
+/// them.
 pub fn captures_are_written_beside_others()
     ensures kept { (files : Option Files) (s t : ShelfState) (w : Writing) (name : List ℕ) (records : List Record) → HoldsCapture files s w name records → KeepsFiles s.files t.files → t.slots w.slot ≡ s.slots w.slot → HoldsCapture files t w name records }
     ensures beside { (files : Option Files) (a b c : Slots) (k : ℕ) (name : List ℕ) → KeepsBeside files a b k name → KeepsBeside files b c k name → KeepsBeside files a c k name }

@@ -65,9 +65,9 @@ impl Pieces {
         })
     }
 
-    /// Reads the next piece; no bytes may be buffered before the call. At `None` bytes are buffered now; otherwise the
-    /// result is why reading stopped. Bytes beyond the limit are dropped. If a read shows that there are any, the call
-    /// returns `Limit` once all bytes up to the limit were taken.
+    /// Reads the next piece; no bytes may be buffered before the call. If the result is `None`, bytes are buffered now;
+    /// otherwise the result says why reading stopped. Bytes beyond the limit are dropped. If a read shows that bytes
+    /// follow the limit, the call returns `Limit` once all bytes up to the limit were taken.
     pub fn read<F: Shelf>(&mut self, shelf: &mut F) -> Option<Stop>
         requires { IsDrained (F.state shelf.old).slots self.old }
         ensures { ReadsPiece (F.state shelf.old) (F.state shelf.new) self.old self.new result }

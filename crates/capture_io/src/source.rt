@@ -42,9 +42,10 @@ impl Model for Source {
 impl Source {
     /// Opens a capture of which at most `limit` bytes may be read; `limit` is at most 2^62. No record is held yet.
     ///
-    /// `Missing` is returned only if the shelf shows its files and none of them has the name. At `Failed` the reading
-    /// count rose. `Memory` means that memory ran out. After each of these errors the file is not open. The name is
-    /// asked for before memory is reserved, so exactly this name was asked for, whatever the result.
+    /// `Missing` is returned only if the shelf shows its files and none of them has the name. If the result is
+    /// `Failed`, the count of reading faults rose. `Memory` means that memory ran out. If the call fails, the file is
+    /// not open. The name is asked for before memory is reserved, so exactly this name was asked for, whatever the
+    /// result.
     pub fn open<F: Shelf>(
         alloc: Global,
         limit: u64,
@@ -67,9 +68,9 @@ impl Source {
         Ok(Source { feed, lent: None })
     }
 
-    /// Drops the held record, and reads on to the next record. At `None` the next record is held now; otherwise the
-    /// result is how the reading ended. Once the reading has ended, each further call returns the same end and reads
-    /// nothing.
+    /// Drops the held record, and reads on to the next record. If the result is `None`, the next record is held now;
+    /// otherwise the result tells how the reading ended. Once the reading has ended, each further call returns the same
+    /// end and reads nothing.
     #[inline(always)]
     pub fn next<F: Shelf>(&mut self, shelf: &mut F) -> Option<End>
         requires { IsSome ((F.state shelf.old).slots (slot_of self.old)) }
@@ -84,8 +85,8 @@ impl Source {
     }
 
     /// Drops the held record. If the next record is complete in the bytes that were read, holds that record and returns
-    /// `true`. Otherwise returns `false`. In that case `next` reads on, and possibly has to wait for the program that
-    /// writes the file.
+    /// `true`. Otherwise returns `false`. If the result is `false`, `next` reads on, and possibly has to wait for the
+    /// program that writes the file.
     #[inline(always)]
     pub fn advance(&mut self) -> bool
         ensures { Advances self.old self.new result }
@@ -95,9 +96,9 @@ impl Source {
         self.lent.is_some()
     }
 
-    /// Whether `next` will read from the file, judging by the bytes that were read. If so, `next` possibly has to wait
-    /// for the program that writes the file, so a caller should first print what is known so far. The answer is a hint:
-    /// no clause states anything about it.
+    /// Whether `next` will read from the file, judging by the bytes that were read. If the file must be read, `next`
+    /// possibly has to wait for the program that writes the file, so a caller should first print what is known so far.
+    /// The answer is a hint: no clause states anything about it.
     #[inline(always)]
     pub fn must_read(&self) -> bool {
         self.feed.must_read(self.lent.unwrap_or(0))

@@ -19,7 +19,7 @@ use Rattle.listener_pair.proofs.Known.{known-cons, known-nil, settled-a, settled
 use Rattle.listener_pair.proofs.Sorting.{all-join, all-left, all-right, all-weaker, batches-append, merged-is}
 use Rattle.listener_pair.proofs.Standing.{known-is, lacks-none, wants-a, wants-b}
 
--- ---- what holds for all
+-- ---- what holds for all elements of a list
 
 all-two : {T : Type 0} (P Q R : T → Type 0) → ((x : T) → P x → Q x → R x) → (xs : List T) → AllByRecursion P xs → AllByRecursion Q xs → AllByRecursion R xs
 all-two P Q R w [] p q = tt

@@ -29,7 +29,7 @@ use Rattle.capture_pair.proofs.Handing.{presented-append, presented-split}
 use Rattle.capture_pair.proofs.Heard.{due-in-order, out-in-order, shown-in-order}
 use Rattle.capture_pair.proofs.Joined.{GoesOn, given-back, known-all, merges, none-batch, order-back, rest_of, unsettled-a, unsettled-b}
 
--- ---- what a listener presents of more records
+-- ---- what a listener presents after more records
 
 -- The list `ys` begins with `xs`. If the side has ended, `ys` equals `xs`.
 pub record Longer (xs ys : List Presented) (ended : Bool) : Type 0 where
@@ -420,8 +420,8 @@ fault-a plan records others more given pair s plans ends w opened none =
     (is_closed pair.a) (is_closed pair.b) m s.matches (further-now records others pair ends) w (s.filled_a w) refl opened
     ∙ sym (known-done-a list other s.shown_a s.shown_b given xs ys false true m s.matches f w (s.filled_a w) refl refl)
 
--- If B is wanted, further records of A add nothing to the known part. The known part is then computed as if only A had
--- ended: from all batches of A that are shown, and the batches of B that are due.
+-- If B is wanted, further records of A add nothing to the known part. If B is wanted, the known part is computed as if
+-- only A had ended: from all batches of A that are shown, and the batches of B that are due.
 pub fault-b : (plan : ListenPlan) (records others more : List Record) (given : ℕ) (pair : PairState)
     → StandsFor records others given pair → HavePlan plan pair → EndsAreClosed pair → wanted_by pair ≡ Some B
     → is_closed pair.b ≡ false → (is_closed pair.a ≡ true → more ≡ [])

@@ -56,8 +56,8 @@ StandsFor bytes others given pair = Pairs (λ list n. IsFed bytes n pair.a) (λ 
 abbrev pub IsThrough : FedPair → Type 0
 IsThrough pair = IsIdle pair.matching
 
--- An upper bound on the number of differences that the pair returns before more is fed. It counts one for each item
--- that a listener can still show, and one for each next batch.
+-- An upper bound on the number of differences that the pair returns before more is fed. The bound counts one for each
+-- item that a listener can still show, and one for each next batch.
 abbrev pub most_left : FedPair → ℕ
 most_left pair = (work pair.a + work pair.b) + nexts_left pair.matching
 

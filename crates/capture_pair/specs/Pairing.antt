@@ -38,9 +38,9 @@ pub record HavePlan (plan : ListenPlan) (pair : PairState) : Type 0 where
   pub a : pair.a.plan ≡ plan
   pub b : pair.b.plan ≡ plan
 
--- The batches that a listener presents of `records`. While the listener is open, these are the batches that are due,
--- which means that they are certain to be presented whatever records follow. After the listener is closed, these are
--- all batches.
+-- The batches that a listener presents of `records`. While the listener is open, the list has the batches that are due,
+-- which means that they are certain to be presented whatever records follow. After the listener is closed, the list has
+-- all batches of `records`.
 abbrev pub presented_by : ListenState → List Record → List Presented
 presented_by listener records = presented_of (out listener records)
 
@@ -49,8 +49,8 @@ presented_by listener records = presented_of (out listener records)
 abbrev pub known_by : PairState → List Record → List Record → List Sided
 known_by pair records others = known (is_closed pair.a) (is_closed pair.b) (merged (presented_by pair.a records) (presented_by pair.b others))
 
--- A matching was given the batches among the first n items of `list` and the first k items of `other`. It has returned
--- as many differences as `given` says. If a side has ended, the matching was given all of that side's list.
+-- A matching was given the batches among the first n items of `list` and the first k items of `other`. The matching has
+-- returned as many differences as `given` says. If a side has ended, the matching was given all of that side's list.
 pub record Matches (list other : List Shown) (n k given : ℕ) (m : MatchingState) : Type 0 where
   pub within_a : n ≤ length list
   pub within_b : k ≤ length other
@@ -58,9 +58,9 @@ pub record Matches (list other : List Shown) (n k given : ℕ) (m : MatchingStat
   pub ended_a : m.ended_a ≡ true → n ≡ length list
   pub ended_b : m.ended_b ≡ true → k ≡ length other
 
--- Two listeners show these lists. A matching was given the batches among the items that the listeners have shown. It
--- has returned as many differences as `given` says. If the matching wants a side, that side's listener has shown all of
--- its list.
+-- Two listeners show these lists. A matching was given the batches among the items that the listeners have shown. The
+-- matching has returned as many differences as `given` says. If the matching wants a side, that side's listener has
+-- shown all of its list.
 pub record Pairs (ShowsA ShowsB : List Shown → ℕ → Type 0) (list other : List Shown) (given : ℕ) (m : MatchingState) : Type 0 where
   pub shown_a : ℕ
   pub shown_b : ℕ
@@ -93,8 +93,8 @@ pub record Continues (more more_others : List Record) (old new : PairState) : Ty
   pub closed_a : is_closed old.a ≡ true → (is_closed new.a ≡ true) × (more ≡ [])
   pub closed_b : is_closed old.b ≡ true → (is_closed new.b ≡ true) × (more_others ≡ [])
 
--- An upper bound on the number of differences that the pair returns before more is given. It counts one for each item
--- that a listener can still show, and one for each next batch.
+-- An upper bound on the number of differences that the pair returns before more is given. The bound counts one for each
+-- item that a listener can still show, and one for each next batch.
 abbrev pub most_left : PairState → ℕ
 most_left pair = (work pair.a + work pair.b) + nexts_left pair.matching
 
@@ -109,7 +109,7 @@ pub record Keeps (old new : PairState) : Type 0 where
   pub closed_b : is_closed new.b ≡ is_closed old.b
 
 -- The listener of side `which` was given more records; `more` is the number of these records. The listener is closed if
--- and only if `ended` is true. The other listener is unchanged, except for what it has shown.
+-- and only if `ended` is true. The listener of the other side is unchanged, except for the items that it has shown.
 pub record Changes (which : Which) (more : ℕ) (ended : Bool) (old new : PairState) : Type 0 where
   pub plan_a : new.a.plan ≡ old.a.plan
   pub plan_b : new.b.plan ≡ old.b.plan

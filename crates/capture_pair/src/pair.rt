@@ -26,8 +26,8 @@ use std::marker::Model;
 /// Two listeners with the same plan, which are fed the bytes of two captures of a stream, and the differences between
 /// what the listeners present. The bytes of each capture are fed in their order, and only when `wants` asks for them.
 ///
-/// The differences are those that a `RecordPair` returns for the records of both captures. Items that a listener flags
-/// are dropped, and do not end a side. Each capture must have at most 2^62 bytes.
+/// A `RecordPair` returns the same differences for the records of both captures. Items that a listener flags are
+/// dropped, and do not end a side. Each capture must have at most 2^62 bytes.
 #[derive(Drop)]
 pub struct Pair {
     a: ByteSource,

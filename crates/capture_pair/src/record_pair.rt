@@ -26,8 +26,8 @@ use std::marker::Model;
 /// for them.
 ///
 /// A difference is returned as soon as both batches of its pair are in the known part of the merged list. Items that a
-/// listener flags are dropped, and do not end a side. Memory is reserved when the pair is made. After that, the samples
-/// of each packet and each whole unit are copied once.
+/// listener flags are dropped, and do not end a side. Memory is reserved when the pair is made. The samples of each
+/// packet and each whole unit are copied once.
 #[derive(Drop)]
 pub struct RecordPair {
     a: RecordSource,
@@ -77,9 +77,9 @@ impl RecordPair {
         self.matching.wants()
     }
 
-    /// Takes the next record of the capture that is wanted. This requires that fewer than 2^61 records of that capture
-    /// were taken before. The record's time must be from 0 to 2^62 ns. If there is no memory for the packet's samples
-    /// or the unit, returns `NoMemory`, and the pair is unchanged.
+    /// Takes the next record of the capture that is wanted. Before the call, fewer than 2^61 records of the wanted
+    /// capture must have been taken. The record's time must be from 0 to 2^62 ns. If there is no memory for the
+    /// packet's samples or the unit, returns `NoMemory`, and the pair is unchanged.
     pub fn take_record(
         &mut self,
         alloc: Global,
@@ -110,9 +110,9 @@ impl RecordPair {
     }
 
     /// Returns the next difference in the known part of the merged list; `None` if and only if that part has no further
-    /// difference. The merged list has the batches that both listeners present. The known part is a prefix of this list
-    /// that no later records can change. Until more is taken, only finitely many differences are returned. Allocates
-    /// nothing.
+    /// difference. The merged list has the batches that both listeners present. The known part is a prefix of the
+    /// merged list that no later records can change. Only finitely many differences are returned before another record
+    /// is taken. Allocates nothing.
     pub fn next_difference(&mut self) -> Option<Difference>
         ensures given { (records others : List Record) (given : ℕ) → StandsFor records others given self.old → result ≡ slice_get (differences (known_by self.old records others)) given }
         ensures stands { (records others : List Record) (given : ℕ) → StandsFor records others given self.old → StandsFor records others (given + length (option_to_list result)) self.new }

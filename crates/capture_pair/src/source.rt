@@ -8,14 +8,14 @@ use avtp_base::Bytes;
 use listener::{Listener, RecordListener};
 use sample_schedule::Shown;
 
-/// One of two listeners. It is asked for the items that it shows, one at a time.
+/// One of two listeners. A listener is asked for the items that it shows, one at a time.
 pub trait Source {
     ghost use Rattle.std.specs.Prelude.{◌≡◌, ◌+◌, ◌≤◌, List, ℕ, IfNone, length, slice_get};
     ghost use Rattle.std.specs.Option.{option_to_list};
     ghost use Rattle.sample_schedule.specs.declared.shown.Shown.{Shown as ShownValue};
     ghost use Rattle.capture_pair.specs.Sources.{Kept, Taken};
 
-    /// The listener took these records or bytes, of which it shows this list of items, and has shown this many items of
+    /// The listener took these records or bytes, shows this list of items from them, and has shown this many items of
     /// the list so far.
     ghost shows: { Self → Taken → List ShownValue → ℕ → Type 0 };
 
@@ -28,8 +28,8 @@ pub trait Source {
     /// The maximum number of items that the listener can still show.
     ghost work: { Self → ℕ };
 
-    /// Returns the next item that the listener shows of what it took so far; `None` exactly if the listener has shown
-    /// all of these items. The listener reuses the memory of `spent`.
+    /// Returns the next item that the listener shows of what it has taken so far; `None` exactly if the listener has
+    /// shown all items of what it has taken. The listener reuses the memory of `spent`.
     fn next_out(&mut self, spent: Option<Bytes>) -> Option<Shown>
         ensures given { (taken : Taken) (list : List ShownValue) (n : ℕ) → shows self.old taken list n → result ≡ slice_get list n }
         ensures shows { (taken : Taken) (list : List ShownValue) (n : ℕ) → shows self.old taken list n → shows self.new taken list (n + length (option_to_list result)) }
@@ -37,7 +37,7 @@ pub trait Source {
         ensures kept { kept self.new ≡ kept self.old }
         ensures less { work self.new + length (option_to_list result) ≤ work self.old };
 
-    /// Whether the listener takes no more input. If so, it shows all items that are left.
+    /// Whether the listener takes no more input. If the listener takes no more input, it shows all items that are left.
     fn has_ended(&self) -> bool
         ensures { result ≡ (kept self.now).ended };
 }

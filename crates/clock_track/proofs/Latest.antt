@@ -1,4 +1,4 @@
--- Facts about the last pair that covers an instant. They do not depend on how a search finds the pair.
+-- Facts about the last pair that covers an instant. The facts do not depend on how a search finds the pair.
 use Rattle.std.proofs.Common.{◌≡◌, ℕ, ◌+◌, ◌-◌, ◌*◌, ◌^◌, ◌≤◌, Bool, true, false, ℤ, pos, List, [], ◌∷◌, All, Option, Some, None, refl, ap, arith}
 use Rattle.std.specs.Prelude.{IfSome, nat_lt, if◌then◌else◌}
 use Rattle.std.specs.List.{filter_map, range_with_len}

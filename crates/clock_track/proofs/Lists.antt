@@ -67,8 +67,8 @@ or-none (Some x) p e = absurd cc
 
 -- ---- one step of a search
 
--- If the pair at index `left` - 1 passes, it is the last pair that passes. Otherwise the last pair that passes is
--- before that index.
+-- If the pair at index `left` - 1 passes, it is the last pair that passes. If the pair at index `left` - 1 does not
+-- pass, the last pair that passes is before that index.
 pub between-found : (shift : ℤ) (row : ClockRow) (test : Pair → Bool) (first left a b : ℕ) (r whole : Option Pair) → first < left
     → a ≡ timestamp row (left - 1) → b ≡ timestamp row (left - 1 + 1) → r ≡ kept test (joined_by shift row a b)
     → find_last test (filter_map (inside shift row) (range_with_len first (left - first))) ≡ whole

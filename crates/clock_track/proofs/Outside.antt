@@ -191,8 +191,8 @@ widened-inside shift row old new later end first last has wider i from to =
     if-some (λ pair. IsWithin old pair) (λ pair. IsWithin new pair) (inside shift row i)
     (λ p is. let low = is.from in let high = is.to in record { from = omega (arith, ints); to = omega (arith, ints) }) (has i from to)
 
--- Bounds that hold the pairs inside a packet are widened by a pair whose later point is the packet's first timestamp
--- and whose period is the longest possible one. The widened bounds hold all pairs of the packet.
+-- `old` are bounds of the pairs inside a packet, and are widened to `new` by the longest possible period of a pair
+-- whose later point is the packet's first timestamp. The widened bounds hold all pairs of the packet.
 pub pairs-wide : (shift : ℤ) (row : ClockRow) (old new : Bounds) (pair : Pair) (longest : ℕ) → HasInside shift row old 0 (timestamps row - 1) → Widens old new pair.later (pair.later +ℤ pos longest)
     → pair ≡ pair_of shift row (timestamp row 0) (timestamp row 0) → IsLongest pair longest → HasPairs shift row new
 pairs-wide shift row old new pair longest has wider same is =

@@ -30,8 +30,8 @@ window-by rows start few (inr e) =
 rest-whole : (rows : List ClockRow) (start : ℕ) → take (length rows - start) (drop start rows) ≡ drop start rows
 rest-whole rows start = let n = length-drop start rows in take_all (length rows - start) (drop start rows) (omega arith)
 
--- Of the rows from index `start` on, at most 64 give points. If 64 of them give points, or `start` is 0, those of them
--- that give points are the window.
+-- At most 64 of the rows from index `start` on give points. If `start` is 0, or if 64 of the rows from `start` on give
+-- points, the window consists of the rows from `start` on that give points.
 pub recent-window : (rows : List ClockRow) (start : ℕ) → length (used (drop start rows)) ≤ 64 → (start ≡ 0) ⊎ (length (used (drop start rows)) ≡ 64)
     → used (take (length rows - start) (drop start rows)) ≡ window rows
 recent-window rows start few end = ap used (rest-whole rows start) ∙ window-by rows start few end

@@ -89,8 +89,8 @@ abbrev pub nearest_event : Pair → ℤ → ℤ
 nearest_event p instant = floor_of ((instant -ℤ p.later) *ℤ pos (2 * p.interval) +ℤ pos (period p)) (2 * period p)
 
 -- The line on which a pair places a sample with this presentation time, and the sample's number on that line. If the
--- clock's frequency is the stream's rate, the sample is at the nearest event. Otherwise the sample is sample 0 of a
--- line that begins at the presentation time and has the pair's spacing.
+-- clock's frequency is the stream's rate, the sample is at the nearest event. If the clock's frequency differs from the
+-- stream's rate, the sample is sample 0 of a line that begins at the presentation time and has the pair's spacing.
 abbrev pub spot_by : Pair → ℕ → ℤ → Spot
 spot_by p rate instant =
     if p.up == rate * p.down

@@ -10,8 +10,8 @@ pub record IsCovering (rate : ℕ) (instant : ℤ) (pair : Pair) : Type 0 where
   pub joined : IsJoined pair
   pub covers : Covers pair rate instant
 
--- The instant is more than one nominal sample before the pair's later point. If so, no joined pair with this later
--- point covers the instant, because half the spacing of samples according to a joined pair is less than the nominal
--- spacing.
+-- The instant is more than one nominal sample before the pair's later point. If the instant is that early, no joined
+-- pair with the same later point covers the instant, because half the sample spacing of a joined pair is less than the
+-- nominal spacing.
 abbrev pub IsAfter : Pair → ℕ → ℤ → Type 0
 IsAfter p rate instant = ((instant -ℤ p.later) *ℤ pos (2 * step_den p rate) +ℤ pos (2 * nominal p)) <ℤ pos 0

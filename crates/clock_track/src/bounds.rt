@@ -53,7 +53,8 @@ pub fn widened_by(bounds: &Bounds, pair: Option<Pair>) -> Bounds
 }
 
 /// Whether `instant` is at or after the end of the bounds, or before their start by more than `lead` nanoseconds. If
-/// `lead` is what `lead_of` returns for the stream's rate, no joined pair within the bounds covers such an instant.
+/// the result is true and `lead` is what `lead_of` returns for the stream's rate, no joined pair within the bounds
+/// covers `instant`.
 pub fn excludes(bounds: &Bounds, instant: i64, lead: u64) -> bool
     ensures { IsTrue result → IsOutside bounds.now instant lead }
 {

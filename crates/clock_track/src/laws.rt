@@ -8,7 +8,7 @@ ghost use Rattle.clock_track.specs.Adjacent.{AreAcross, AreInside, followed_rows
 ghost use Rattle.clock_track.specs.Rows.{IsLatest, clock_spot, joined_pairs, latest, window};
 
 /// The pair that gives a sample its line is joined and covers the sample's instant. No later pair in the list of joined
-/// pairs covers that instant. If no pair gives a line, no joined pair covers the instant.
+/// pairs covers the sample's instant. If no pair gives a line, no joined pair covers the instant.
 pub fn last_covering_pair_counts()
     ensures joined { (shift : ℤ) (rows : List ClockRow) → All IsJoined (joined_pairs shift rows) }
     ensures latest { (shift instant : ℤ) (rate : ℕ) (rows : List ClockRow) → IsLatest rate instant (joined_pairs shift rows) (latest shift instant rate rows) }
@@ -16,7 +16,7 @@ pub fn last_covering_pair_counts()
 
 /// A clock of 44.1 kHz has a timestamp every 147 events, and a stream of 48 kHz has a packet every 125,000 ns. The
 /// clock's second point is 3,333,333 ns after the first, so packets 0 to 26 have no line. Packets 27 to 53 have the
-/// line of these two points.
+/// line of the first two points.
 pub fn second_point_is_waited_for()
     ensures joined { IsJoined second_pair }
     ensures before { (n : ℕ) → n ≤ 26 → ¬ Covers second_pair 48000 (pos (1002000000 + n * 125000)) }
@@ -44,8 +44,8 @@ pub fn covering_pairs_are_found()
     ensures across { (shift instant : ℤ) (rate : ℕ) (rows : List ClockRow) (row before : ClockRow) → Contains (window rows) row → Contains (window rows) before → AreAcross shift row before → Covers (pair_across shift row before) rate instant → clock_spot rows shift instant rate ≢ None }
 {}
 
-/// The two packets of the worked example give a line while they are among the last 64 packets. They are among the last
-/// 64 if at most 62 other packets arrived after them.
+/// The two packets of the worked example give a line while they are among the last 64 packets. The two packets are
+/// among the last 64 if at most 62 other packets arrived after them.
 pub fn last_64_packets_count()
     ensures last { clock_spot (followed_rows 62) (pos 0) (pos 1004125000) 48000 ≡ Some (record { line = record { base = pos 1004000000; num = 2000000; den = 96 }; from = pos 6 }) }
     ensures dropped { clock_spot (followed_rows 63) (pos 0) (pos 1004125000) 48000 ≡ None }

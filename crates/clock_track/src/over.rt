@@ -86,16 +86,17 @@ pub fn line_among<R: Rows>(rows: &R, query: &Query) -> ClockAnswer
 /// timestamp of a packet and the first timestamp of the next packet are adjacent, too. A packet is the next one if it
 /// has the next sequence number, and the same restart bit, frequency and interval.
 ///
-/// A pair covers the instants of one period. The period begins half a sample before the pair's later point. If several
-/// pairs cover the instant, the last of these pairs gives the line. Pairs are ordered by the positions of their later
-/// points in the packets. Pairs with the same later point are ordered by the positions of their earlier points. The
-/// answer is `NoClock` if and only if no pair covers the instant.
+/// A pair covers the instants of one period. The period that a pair covers begins half a sample before the pair's later
+/// point. If several pairs cover the instant, the last of these pairs gives the line. Pairs are ordered by the
+/// positions of their later points in the packets. Pairs with the same later point are ordered by the positions of
+/// their earlier points. The answer is `NoClock` if and only if no pair covers the instant.
 ///
 /// If the clock's frequency is `rate`, the line is that of the clock's events, and the sample is the event nearest to
-/// the instant. Otherwise the sample is sample 0 of a line that begins at the instant and has the pair's spacing.
+/// the instant. If the clock's frequency is not `rate`, the sample is sample 0 of a line that begins at the instant and
+/// has the pair's spacing.
 ///
-/// Each row that gives points must be within these limits: at most 8,191 timestamps, none of which is cut off; a pull
-/// of at most 5; a base frequency from 1 to 2^29 - 1; and an interval of at least 1.
+/// Each row that gives points must be within these limits: at most 8,191 timestamps, each of them complete; a pull of
+/// at most 5; a base frequency from 1 to 2^29 - 1; and an interval of at least 1.
 pub fn line_over(rows: &[ClockRow], shift: i64, instant: i64, rate: u32) -> ClockAnswer
     requires rows { All IsNotable rows.now }
     requires shift { IsShift shift }

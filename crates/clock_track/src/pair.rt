@@ -125,7 +125,8 @@ impl Pair {
     }
 
     /// Whether `instant` is more than one nominal sample before the later point, in a stream of `rate` samples a
-    /// second. If so, no joined pair with this later point covers `instant`, whatever its earlier point is.
+    /// second. If `instant` is that early, no joined pair with this later point covers it, whatever the earlier point
+    /// is.
     pub fn is_after(&self, rate: u32, instant: i64) -> bool
         requires { IsSmall self.now }
         ensures { IsTrue result ↔ IsAfter self.now rate instant }
@@ -149,8 +150,8 @@ impl Pair {
 
     /// The line of a sample whose presentation time is `instant`, and the sample's number on that line, in a stream of
     /// `rate` samples a second. The pair must cover the instant. If the clock's frequency is `rate`, the sample is at
-    /// the nearest event. Otherwise the sample is sample 0 of a line that begins at the instant and has the pair's
-    /// spacing.
+    /// the nearest event. If the clock's frequency is not `rate`, the sample is sample 0 of a line that begins at the
+    /// instant and has the pair's spacing.
     pub fn answer(&self, rate: u32, instant: i64) -> ClockAnswer
         requires rate { 1 ≤ rate }
         requires covering { IsCovering rate instant self.now }

@@ -48,7 +48,7 @@ pub fn lead_of(rate: u32) -> u64
 pub trait Rows {
     ghost rows: { Self → List ClockRowValue };
 
-    /// If this shift is added to the timestamps, the known bounds hold the packets' pairs.
+    /// If this shift is added to the timestamps, the packets' pairs are within the known bounds.
     ghost bounded: { Self → ℤ → Type 0 };
 
     fn count(&self) -> usize
@@ -133,8 +133,8 @@ fn covering(row: &Points<'_>, query: &Query, first: u64, second: u64) -> Option<
     }
 }
 
-/// The bounds of those pairs inside a packet whose earlier timestamp has an index of at least `first` and less than
-/// `end`.
+/// The bounds of the pairs inside a packet, for the pairs whose earlier timestamp has an index of at least `first` and
+/// less than `end`.
 fn bounds_inside(row: &Points<'_>, shift: i64, first: usize, end: usize) -> Bounds
     requires row { IsRow (row_of row.now) }
     requires shift { IsShift shift }
@@ -206,8 +206,8 @@ pub fn bounds_of(row: &Points<'_>, shift: i64) -> Bounds
     )
 }
 
-/// Of the pairs inside a packet whose earlier timestamp has an index of at least `first` and less than `end`, the last
-/// that covers the instant.
+/// The last pair inside a packet that covers the instant, among the pairs whose earlier timestamp has an index of at
+/// least `first` and less than `end`.
 fn latest_between(row: &Points<'_>, first: usize, end: usize, query: &Query) -> Option<Pair>
     requires row { IsRow (row_of row.now) }
     requires shift { IsShift query.now.shift }
@@ -236,7 +236,7 @@ fn is_past_group(groups: &[Bounds], group: usize, query: &Query) -> bool
     }
 }
 
-/// Of the pairs in a group, up to index `end` - 1, the last that covers the instant.
+/// The last pair of a group that covers the instant, among the pairs up to index `end` - 1.
 fn latest_of_group(
     row: &Points<'_>,
     groups: &[Bounds],
@@ -325,7 +325,7 @@ fn covering_from<R: Rows>(rows: &R, place: usize, row: &Points<'_>, query: &Quer
 }
 
 /// Whether the first timestamp of a packet is missing, is not a point, or is more than one nominal sample after the
-/// instant. If so, no pair whose later point is this timestamp covers the instant.
+/// instant. If the result is true, no pair whose later point is the first timestamp covers the instant.
 fn is_too_late(row: &Points<'_>, query: &Query) -> bool
     requires row { IsRow (row_of row.now) }
     requires shift { IsShift query.now.shift }
@@ -399,8 +399,8 @@ fn latest_at<R: Rows>(rows: &R, place: usize, query: &Query) -> Option<Pair>
     latest_across(rows, &row, query)
 }
 
-/// Of the joined pairs of a clock's packets, the last that covers the instant. The search goes through the joined pairs
-/// from the last to the first, and stops as soon as it finds a pair that covers the instant.
+/// The last joined pair that covers the instant, among the pairs of a clock's packets. The search goes through the
+/// joined pairs from the last to the first, and stops as soon as it finds a pair that covers the instant.
 pub fn latest<R: Rows>(rows: &R, query: &Query) -> Option<Pair>
     requires rows { All IsNotable (R.rows rows.now) }
     requires bounded { R.bounded rows.now query.now.shift }

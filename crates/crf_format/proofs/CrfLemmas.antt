@@ -239,7 +239,7 @@ crf_again v rest whole fits =
     omega (arith, length-append (spelling crf_layout v) (v.payload ++ rest), length-append v.payload rest) in
     rw regrouped (held (spelling crf_layout v ++ (v.payload ++ rest)) v whole f long (sym (take_at v.payload rest (length v.payload) refl)))
 
--- ---- bytes that set no reserved bit and end with their packet are the bytes that are written for it
+-- ---- bytes that set no reserved bit and end with their packet are exactly the bytes that are written for the packet
 
 pub crf_only : (bytes : List ℕ) (v : Crf) → AreBytes bytes → SpellsCrf bytes v → v.reserved ≡ false → length bytes ≡ 20 + length v.payload
     → bytes ≡ crf_spelling v

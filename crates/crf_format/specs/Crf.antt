@@ -1,5 +1,5 @@
--- Packets of the clock reference format (IEEE 1722-2016, 10). Such a packet has a header of 20 bytes, which differs
--- from the stream header.
+-- Packets of the clock reference format (IEEE 1722-2016, 10). A CRF packet has a header of 20 bytes, which differs from
+-- the stream header.
 use Rattle.std.specs.Prelude.{◌≡◌, ℕ, ◌*◌, ◌%◌, ◌==◌, ◌^◌, ◌<◌, ◌≤◌, Bool, false, not, ◌||◌, nat_lt, List, [], ◌∷◌, ◌++◌, length, take, drop, Option, None}
 use Rattle.avtp_base.specs.declared.field.Field.TheVariants.{Subtype, Version, SequenceNum, CrfType, StreamId, Pull, BaseFrequency, CrfDataLength, TimestampInterval}
 use Rattle.avtp_base.specs.declared.refusal.Refusal.{Refusal}

@@ -24,7 +24,7 @@ pub struct CrfView<'a> {
     pub base_frequency: u32,
     /// The number of events from each timestamp to the next, at least 1.
     pub interval: u16,
-    /// The timestamps in order, each of 8 bytes, as `point` reads them. There is at least one.
+    /// The timestamps in order, each of 8 bytes, as `point` reads them. The payload has at least one timestamp.
     pub payload: &'a [u8],
     /// The reserved bit is set.
     pub reserved: bool,

@@ -107,7 +107,7 @@ third_passes bytes at two many =
     not_there : (c : ℕ) → c ≤ 1 → OccursAt bytes (0 ∷ 0 ∷ c ∷ []) at → ⊥
     not_there c few o = let third : get_or bytes (at + 2) 0 ≡ c = o.reads 2 (omega arith) in let fits : at + 2 < length bytes = omega (arith, o.fits) in let more = many fits in absurd (omega arith)
 
--- if two zero bytes do not begin at `at`, `is_end` is false there
+-- if two zero bytes do not begin at `at`, `is_end` is false at `at`
 passes_without : (bytes : List ℕ) (at : ℕ) → ¬ OccursAt bytes (0 ∷ 0 ∷ []) at → is_end bytes at ≡ false
 passes_without bytes at none =
     or_from (occurs_at bytes start_code at) (occurs_at bytes three_zeros at)
@@ -199,8 +199,8 @@ none_codes bytes low high none k from below = false_from_ne_true (is_start_code 
 pub codes_none : (bytes : List ℕ) (at : ℕ) → at ≤ length bytes → Nowhere (OccursAt bytes start_code) at (length bytes + 1) → units_from bytes at ≡ []
 codes_none bytes at within none = units_none bytes at within (none_codes bytes at (length bytes) (λ k low high. none k low (omega arith)))
 
--- Let `code` be the index of the first start code at or after `at`. The units from `at` on are the unit after that
--- start code, if there is one, followed by the units from `code` + 1 on.
+-- Let `code` be the index of the first start code at or after `at`. The units from `at` on are the unit (if any) after
+-- the start code at `code`, followed by the units from `code` + 1 on.
 pub code_found : (bytes : List ℕ) (at code : ℕ) → NoneBefore (OccursAt bytes start_code) at (length bytes + 1) code → OccursAt bytes start_code code
     → units_from bytes at ≡ cons_option (unit_behind bytes code) (units_from bytes (code + 1))
 code_found bytes at code first there =

@@ -16,7 +16,7 @@ use Rattle.cvf_format.specs.Assembly.{Assembly, Keeps, KeepsAll, StandsFor, firs
 use Rattle.cvf_format.specs.state.Assembly.{IsPushed, agree, goes_on_here, has_room, gave_up, or_first, with_first, with_next, settled, lost_for}
 use Rattle.cvf_format.proofs.StretchLemmas.{and_left, and_right, continues, step, last_packet, last_cut, before_more, complete_more, complete_one, complete_last, unit_more, last_more, append_none, stamps_more}
 
--- ---- what is kept
+-- ---- what the assembler keeps
 
 keeps_marks : (a : Assembly) (w : List Fragment) → KeepsAll a w → a.held ≡ map mark_of w
 keeps_marks a [] k = k

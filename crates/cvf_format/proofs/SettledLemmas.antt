@@ -21,7 +21,7 @@ lost_itself g gs f e = by (is_within (before_last (g ∷ gs))) refl
     by true p = rw (e, p) refl
     by false p = rw (e, p) refl
 
--- if a packet does not join the waiting packets and is itself settled at once, it settles all of them, too
+-- if a packet does not join the waiting packets and is itself settled at once, all waiting packets are settled, too
 adds_lost : (before : List Fragment) (f : Fragment) (after : List Fragment) → is_joined after ≡ false → settled_as (piece_of after) f after ≡ f ∷ [] → waiting after ≡ [] → AddsUp before f after
 adds_lost before f after j s w = rw (j, s, w) (sym (append_none (waiting before ++ f ∷ [])))
 

@@ -58,7 +58,8 @@ abbrev pub is_other_byte : List ℕ → ℕ → Bool
 is_other_byte bytes at = not (slice_index bytes at == 0)
 
 -- The NAL unit after the start code at this index. Of the bytes after the start code and before the index `end_behind`,
--- the last nonzero one is the unit's last byte. If all of them are 0, or there are none, there is no unit.
+-- the last nonzero one is the unit's last byte. If all bytes between the start code and `end_behind` are 0, or if there
+-- are none, there is no unit.
 abbrev pub unit_behind : List ℕ → ℕ → Option (ℕ × ℕ)
 unit_behind bytes code =
     option_map (λ last. (code + 3, last + 1))

@@ -83,7 +83,8 @@ ends Middle = false
 
 -- The table of an H.264 packet: 28 bytes with the same layout for whole NAL units and fragments, and then
 -- `nal_headers`. The two format bits of the stream header are reserved, and a view shows them. The stated length
--- includes the H.264 timestamp. A packet that ends within that timestamp is therefore refused for its stated length.
+-- includes the H.264 timestamp. A packet that ends within the H.264 timestamp is therefore refused for its stated
+-- length.
 abbrev pub cvf_layout : Layout Cvf → Layout Cvf
 cvf_layout nal_headers = stream_layout (λ v. v.header)
     (reserved_shown 2 (λ v. v.header.format_bits) ∷ [])
@@ -130,8 +131,8 @@ header_size Last = 30
 
 -- ---- the rows
 
--- The rows of format, format subtype and stated length, in this order. These rows follow the rows that all formats
--- share. The stated length includes the H.264 timestamp and the byte of the NAL type.
+-- The rows of format, format subtype and stated length, in this order. The format's rows follow the rows that all
+-- formats share. The stated length includes the H.264 timestamp and the byte of the NAL type.
 abbrev pub format_rows : List ℕ → List Row
 format_rows bytes =
     row CvfFormat 16 (not (bits 16 0 8 bytes == rfc_format)) ∷
@@ -148,8 +149,8 @@ abbrev pub cut_off : Field → ℕ → Bool → Row
 cut_off field at holds = record { refusal = record { field = field; at = at; short = true }; holds = holds }
 
 -- The rows of the NAL unit's headers; they are the last rows. One row refuses a type that is neither that of a single
--- unit nor FU-A. The other rows refuse an FU header that is cut off, has both S and E, or names a type other than that
--- of a single unit.
+-- unit nor FU-A. The remaining rows refuse an FU header that is cut off, has both S and E, or names a type other than
+-- that of a single unit.
 abbrev pub nal_rows : List ℕ → List Row
 nal_rows bytes =
     row NalType 28 (not (is_single_type (bits 28 3 5 bytes) || is_fragment bytes)) ∷

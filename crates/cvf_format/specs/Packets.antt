@@ -1,4 +1,5 @@
--- How many packets carry a NAL unit (RFC 6184, 5.6 and 5.8). The two sizes are a choice of this project.
+-- How many packets carry a NAL unit (RFC 6184, 5.6 and 5.8). Both lengths, 1400 and 1398 bytes, are a choice of this
+-- project.
 use Rattle.std.specs.Prelude.{◌≡◌, ℕ, ◌+◌, ◌-◌, ◌*◌, ◌/◌, ◌<◌, ◌≤◌, nat_le, if◌then◌else◌}
 
 -- the length in bytes of the longest NAL unit that is sent whole
@@ -9,9 +10,9 @@ longest_single = 1400
 abbrev pub full_body : ℕ
 full_body = 1398
 
--- A NAL unit of `len` bytes is carried by `packets` packets. A unit that is sent whole has one packet. Any other unit
--- is cut into fragments, which carry the bytes after its first byte. Each fragment except the last carries a full body.
--- The last fragment carries the remaining bytes, from one byte to a full body.
+-- A NAL unit of `len` bytes is carried by `packets` packets. A unit that is sent whole has one packet. A longer unit is
+-- cut into fragments, which carry the bytes after the unit's first byte. Each fragment except the last carries a full
+-- body. The last fragment carries the remaining bytes, from one byte to a full body.
 pub record IsCut (len packets : ℕ) : Type 0 where
   pub whole : len ≤ longest_single → packets ≡ 1
   pub some_left : longest_single < len → full_body * (packets - 1) < len - 1

@@ -12,7 +12,7 @@ packets (cut ∷ events) = packets events
 packets (packet fragment ∷ events) = fragment ∷ packets events
 
 -- The packets that a packet settles. A packet that completes its unit settles all packets of the unit. A packet that
--- waits settles none. A packet that is lost settles only itself.
+-- waits settles no packet. A packet that is lost settles only itself.
 abbrev pub settled_as : Piece → Fragment → List Fragment → List Fragment
 settled_as Whole fragment stretch = stretch
 settled_as Held fragment stretch = []

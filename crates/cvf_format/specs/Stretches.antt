@@ -24,7 +24,8 @@ sequence_numbers = 256
 
 -- ---- events
 
--- A packet that carries a NAL unit or a fragment of one. `instant` is its presentation time, if it has a timestamp.
+-- A packet that carries a NAL unit or a fragment of one. `instant` is the packet's presentation time, if the packet has
+-- a timestamp.
 pub record Fragment : Type 0 where
   pub mark : Mark
   pub instant : Option ℤ
@@ -165,8 +166,8 @@ is_joined stretch = nat_lt 1 (length stretch) && is_within stretch
 abbrev pub given_up : List Event → List Fragment
 given_up events = if is_joined (last_stretch events) then [] else held (before_last events)
 
--- why the last packet of a stretch gave up the waiting packets: `Long` if it made their unit too long, otherwise
--- `Broken`
+-- why the last packet of a stretch gave up the waiting packets: `Long` if the last packet made the unit too long,
+-- otherwise `Broken`
 abbrev pub reason_of : List Fragment → Lost
 reason_of [] = Broken
 reason_of (first ∷ rest) = if is_passed (first ∷ rest) then Long else Broken

@@ -1,2 +1,2 @@
--- Kept for proofs alone. No clause of a public call uses these definitions.
+-- Only private functions and proofs use these definitions.
 pub mod Assembly

@@ -24,8 +24,8 @@ fn find_from(bytes: &[u8], needle: &[u8], from: usize) -> Option<usize>
     }
 }
 
-/// Whether a unit ends before the two zero bytes at index `zeros`. It does if these bytes begin a start code or three
-/// zero bytes.
+/// Whether a unit ends before the two zero bytes at index `zeros`. A unit ends there if the bytes from `zeros` on begin
+/// with a start code or three zero bytes.
 fn ends_at(bytes: &[u8], zeros: usize) -> bool
     requires { OccursAt bytes.now (0 ∷ 0 ∷ []) zeros }
     ensures { result ≡ is_end bytes.now zeros }
@@ -92,8 +92,8 @@ pub fn next_unit(bytes: &[u8], from: usize) -> Option<(usize, usize)>
 ///
 /// A start code is 00 00 01. A unit begins after a start code and ends before the next 00 00 01 or 00 00 00, or at the
 /// end of the bytes. Zero bytes at the end of a unit are dropped. A unit that has only zero bytes is left out. Bytes
-/// before the first start code belong to no unit. Bytes from 00 00 00 to the next start code belong to no unit either.
-/// Returns `NoMemory` if the list cannot be allocated; nothing else is allocated.
+/// before the first start code belong to no unit. Bytes from 00 00 00 to the next start code belong to no unit. Returns
+/// `NoMemory` if the list cannot be allocated; nothing else is allocated.
 pub fn split_annex_b(alloc: Global, bytes: &[u8]) -> Result<Vec<(usize, usize)>, NoMemory>
     ensures units { IfOk result (λ units. AreUnits bytes.now units.items) }
     ensures value { IfOk result (λ units. units.items ≡ nal_units bytes.now) }

@@ -24,7 +24,8 @@ const MOST_FRAGMENTS: usize = 4_096;
 /// fragments with a timestamp must have the same presentation time.
 ///
 /// A stretch is a packet that begins a unit, followed by packets that each continue this unit. What becomes of a packet
-/// depends on the longest stretch that ends with it. The assembler keeps only that stretch.
+/// depends on the longest stretch that ends with it. The assembler keeps only the longest stretch that ends with the
+/// most recent packet.
 #[derive(Drop)]
 pub struct Assembler {
     /// The bytes of the unit so far; if `whole` is true, the unit is complete.
@@ -130,10 +131,10 @@ impl Assembler {
     /// Takes a packet with its mark and its presentation time in nanoseconds of gPTP. A packet without a timestamp has
     /// no presentation time.
     ///
-    /// A unit is complete when its last packet is pushed. A packet that does not continue the waiting unit gives that
-    /// unit up. A packet that would make the unit longer than 4,194,304 bytes or 4,096 fragments is lost, and gives up
-    /// the waiting unit, too. A packet that completes a unit must have a timestamp. A body must have at most 65,530
-    /// bytes. Allocates nothing.
+    /// A unit is complete when its last packet is pushed. If a packet does not continue the waiting unit, the assembler
+    /// gives that unit up. A packet that would make the unit longer than 4,194,304 bytes or 4,096 fragments is lost,
+    /// and gives up the waiting unit, too. A packet that completes a unit must have a timestamp. A body must have at
+    /// most 65,530 bytes. Allocates nothing.
     pub fn push(&mut self, mark: Mark, instant: Option<i64>, view: &CvfView<'_>) -> Pushed
         requires body { length view.now.body.now ≤ longest_body }
         requires stamped { IsTrue (completes view.now.part) → IsSome instant }
@@ -150,8 +151,8 @@ impl Assembler {
         self.push_packet(mark, instant, view)
     }
 
-    /// The mark of fragment `i` of those that the most recent packet or cut gave up. These fragments are counted from
-    /// 0, in the order of their arrival. `i` must be less than the number of these fragments.
+    /// The mark of fragment `i` among the fragments that the most recent packet or cut gave up. The given-up fragments
+    /// are counted from 0, in the order of their arrival. `i` must be less than the number of the given-up fragments.
     pub fn lost_mark(&self, i: u32) -> Mark
         requires { i < length self.now.lost }
         ensures { (events : List Event) → StandsFor self.now events → slice_get (lost_marks events) i ≡ Some result }

@@ -16,9 +16,9 @@ pub fn one_stretch()
     ensures some { (events : List Event) → (last_stretch events ≡ []) ⊎ EndsWith events (last_stretch events) }
 {}
 
-/// Packets are settled in the order of their arrival, none twice, and the packets that are not settled yet are the last
-/// ones and wait. A packet is settled when a later event gives it up, when it is lost as it arrives, or when its unit
-/// is complete.
+/// Packets are settled in the order of their arrival, none twice. The packets that are not settled yet are the last
+/// packets, and wait. A packet is settled when a later event gives it up, when it is lost as it arrives, or when its
+/// unit is complete.
 pub fn each_packet_once()
     ensures all { (events : List Event) → packets events ≡ settled [] events ++ held events }
     ensures next { (before : List Event) (event : Event) → held before ++ packets (event ∷ []) ≡ settled_by before event ++ held (before ++ event ∷ []) }

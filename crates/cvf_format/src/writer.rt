@@ -54,9 +54,9 @@ fn packet_header(view: &CvfView<'_>) -> [u8; 30]
 /// Writes a packet, with every reserved bit 0, and returns its length. If the slice is shorter than the packet, the
 /// function returns `Room` and leaves the slice unchanged.
 ///
-/// The view must be one that `read_cvf` could return. In such a view the subtype is CVF, the event field is at most 15,
-/// and the type of the NAL unit is 1 to 23. `data_length` must be the length of the body plus 5 for a whole unit, or
-/// plus 6 for a fragment. The header's format bits and `reserved` are not read.
+/// The view must be one that `read_cvf` could return. In a view that `read_cvf` could return, the subtype is CVF, the
+/// event field is at most 15, and the type of the NAL unit is 1 to 23. `data_length` must be the length of the body
+/// plus 5 for a whole unit, or plus 6 for a fragment. The header's format bits and `reserved` are not read.
 pub fn write_cvf(out: &mut [u8], view: &CvfView<'_>) -> Result<usize, Room>
     requires { IsWritableCvf (cvf_shape view.now) }
     ensures written { Writes (cvf_spelling (cvf_shape view.now)) out.old out.new result }

@@ -8,7 +8,7 @@ use sample_schedule::{Batch, Shown};
 use std::alloc::Global;
 
 /// Keeps copies of the items that it takes. The device is made with a list of call numbers, and its calls are numbered
-/// from 1. A call fails if its number is in the list.
+/// from 1. A call fails if its number is in the list of call numbers.
 ///
 /// If there is no memory to keep an item, the device takes this item and all later items without keeping them.
 #[derive(Drop)]

@@ -22,7 +22,7 @@ fn write_all<S: Sink>(sink: &mut S, bytes: &[u8]) -> Result<(), Failed>
     Ok(())
 }
 
-/// Writes `count` bytes of silence. If the sink fails, it has taken a prefix of these bytes.
+/// Writes `count` bytes of silence. If the sink fails, it has taken a prefix of the silence.
 fn write_silence<S: Sink>(sink: &mut S, silence: Silence, count: usize) -> Result<(), Failed>
     ensures { HasWritten (S.state sink.old) (S.state sink.new) result (silence_of silence count) }
 {
@@ -36,7 +36,8 @@ fn write_silence<S: Sink>(sink: &mut S, silence: Silence, count: usize) -> Resul
     write_all(sink, &piece[..count % Silence::PIECE])
 }
 
-/// Writes `silent` bytes of silence, and then samples. If the sink fails, it has taken a prefix of these bytes.
+/// Writes `silent` bytes of silence, and then samples. If the sink fails, it has taken a prefix of the silence and the
+/// samples.
 pub fn write_samples<S: Sink>(
     sink: &mut S,
     silence: Silence,

@@ -199,7 +199,7 @@ all_presented clock plan entries batches is =
     let sorted_is = rw whole at all.sorted_is in
     ap (λ (l : List Accepted). map (λ (a : Accepted). a.batch) l) (accepted-presented clock plan entries ∙ (ap by_instant accepted_is ∙ sorted_is)) ∙ batches_of 0 batches
 
--- ---- none is flagged
+-- ---- no item is flagged
 
 place_there : (batches : List Presented) (entries : List Entry) (i : ℕ) (e : Entry) → length batches ≡ length entries → slice_get entries i ≡ Some e → (b : Presented) × (slice_get batches i ≡ Some b)
 place_there [] [] i e long there = absurd cc

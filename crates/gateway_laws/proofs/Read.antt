@@ -265,7 +265,7 @@ iec_read shape id c is small fine =
       long = packet_long Am824 shape id c packet fine refl;
     }
 
--- ---- of which stream
+-- ---- the stream of a record's packet
 
 -- The record is a frame whose packet has this subtype, stream ID and sequence number.
 pub record IsOfStream (subtype id seq : ℕ) (bytes : List ℕ) : Type 0 where

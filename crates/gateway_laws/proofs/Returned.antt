@@ -139,7 +139,7 @@ turn_body on shape b = record { instant = b.instant; count = b.count; bytes = tu
 abbrev heard_of : To → Shape → ℕ → Cut → Presented
 heard_of to shape i c = counted_from_first (packet_heard to shape i c) (cut_instant c)
 
--- a piece that consists of all samples of the batch `heard_of`; these are the samples of piece c
+-- the piece that consists of all samples of the batch `heard_of`, which are the samples of piece c
 abbrev piece_of : Cut → ℕ → Piece
 piece_of c block = record { first = 0; count = c.piece.count; block = block }
 

@@ -13,8 +13,9 @@ use Rattle.am824_gateway.specs.Laws.{Cut, HasRisingInstants, cut_instant}
 use Rattle.am824_gateway.specs.Packets.{samples_of, timestamp_at}
 use Rattle.am824_gateway.specs.Pieces.{arrival_at}
 
--- The sample to which the timestamp of a piece's packet belongs. In PCM it is the first sample (IEEE 1722-2016, 7). In
--- AM824 it is the sample in the first data block whose block count is a multiple of SYT_INTERVAL (IEC 61883-6).
+-- The sample to which the timestamp of a piece's packet belongs. In PCM, the timestamp belongs to the first sample
+-- (IEEE 1722-2016, 7). In AM824, the timestamp belongs to the sample in the first data block whose block count is a
+-- multiple of SYT_INTERVAL (IEC 61883-6).
 abbrev pub rule_of : To → Shape → Piece → HeadRule
 rule_of Am824 shape p = Blocks p.block (interval_of shape.rate)
 rule_of Aaf shape p = Own
@@ -40,8 +41,8 @@ abbrev pub packets_heard : To → Shape → ℕ → List Cut → List Packet
 packets_heard to shape frame [] = []
 packets_heard to shape frame (c ∷ cs) = packet_heard to shape frame c ∷ packets_heard to shape (suc frame) cs
 
--- The instants of a batch rise and begin at 0 or later. This is true of every presented batch, because no packet
--- arrives before 0.
+-- The instants of a batch rise and begin at 0 or later. Every presented batch has rising instants, and begins at 0 or
+-- later because no packet arrives before 0.
 pub record BeginsInTime (batch : Presented) : Type 0 where
   pub rising : HasRisingInstants batch
   pub begun : pos 0 ≤ℤ sample_instant batch 0

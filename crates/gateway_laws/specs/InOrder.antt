@@ -17,8 +17,8 @@ abbrev pub IsNotFull : Shown → Type 0
 IsNotFull (Present batch) = Unit {0}
 IsNotFull (Flag frame seq reason) = reason ≢ Full
 
--- Entry i is an item. When the item is judged, its timing gives `batch`. This entry and all earlier entries arrived at
--- or before the first instant of `batch`.
+-- Entry i is an item. When the item is judged, its timing gives `batch`. Entry i and all earlier entries arrived at or
+-- before the first instant of `batch`.
 pub record IsTimedAt (clock : Clock) (plan : SchedulePlan) (entries : List Entry) (i : ℕ) (batch : Presented) : Type 0 where
   pub item : Item
   pub there : slice_get entries i ≡ Some (OfItem item)

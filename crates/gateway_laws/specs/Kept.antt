@@ -26,7 +26,7 @@ use Rattle.gateway_laws.specs.Noted.{nothing_found}
 
 -- ---- what listeners present
 
--- The listener hears the stream with this ID and has no clock. Its buffer is never full for these records.
+-- The listener hears the stream with this ID and has no clock. The listener's buffer is never full for these records.
 pub record Hears (id : ℕ) (plan : ListenPlan) (records : List Record) : Type 0 where
   pub stream : plan.stream ≡ id
   pub clock : plan.clock ≡ None
@@ -64,9 +64,9 @@ FindsNothingAfter notes (r ∷ records) =
 
 -- ---- a capture as a whole
 
--- The bytes are a whole capture. Its records are the frames that a gateway sends for these batches, in this format and
--- under this stream ID. A listener that has no clock, and whose buffer is never full, presents exactly the samples of
--- the batches that were not skipped. `check` finds nothing in the capture.
+-- The bytes are a whole capture. The capture's records are the frames that a gateway sends for these batches, in this
+-- format and under this stream ID. A listener that has no clock, and whose buffer is never full, presents exactly the
+-- samples of the batches that were not skipped. `check` finds nothing in the capture.
 pub record Keeps (to : To) (shape : Option Shape) (id : ℕ) (batches : List Presented) (bytes : List ℕ) : Type 0 where
   pub records : whole_records bytes ≡ map record_of (gateway_frames to shape id batches)
   pub whole : first_refusal bytes ≡ None

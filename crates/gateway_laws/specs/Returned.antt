@@ -1,4 +1,4 @@
--- What a gateway makes from a capture. The capture can itself come from a gateway.
+-- What a gateway makes from a capture. The input capture can itself be the output of a gateway.
 use Rattle.std.specs.Prelude.{ℕ, List, map, Option}
 use Rattle.sample_schedule.specs.Batches.{Presented}
 use Rattle.talker.specs.Frames.{SentFrame, record_of}

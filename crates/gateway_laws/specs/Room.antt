@@ -19,8 +19,8 @@ abbrev pub ArePacketsSpread : To → Option Shape → List Presented → Type 0
 ArePacketsSpread to None batches = ⊤
 ArePacketsSpread to (Some shape) batches = AreSpread (map cut_instant (cuts_after to shape nothing_given batches))
 
--- The listener hears the stream with this ID and has no clock. Its buffer is at least as large as the default of
--- `listen`: 4,096 packets and 64 MiB.
+-- The listener hears the stream with this ID and has no clock. The listener's buffer is at least as large as the
+-- default of `listen`: 4,096 packets and 64 MiB.
 pub record HasDefaultRoom (id : ℕ) (plan : ListenPlan) : Type 0 where
   pub stream : plan.stream ≡ id
   pub clock : plan.clock ≡ None

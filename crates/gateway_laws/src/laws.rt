@@ -1,5 +1,5 @@
-//! Laws about what listeners present from the captures that a gateway makes. Each is a function whose contract states
-//! the law; a call does nothing.
+//! Laws about what listeners present from the captures that a gateway makes. Each law is the contract of a function; a
+//! call of the function does nothing.
 
 ghost use Rattle.std.specs.Prelude.{◌≡◌, ◌%◌, ◌^◌, ◌<◌, ◌≤◌, ◌∷◌, ◌++◌, ℕ, ℤ, IfSome, List, None, Option, Some, false, length, map};
 ghost use Rattle.am824_gateway.specs.Laws.{Cut};
@@ -37,7 +37,7 @@ ghost use Rattle.pcap_frames.specs.Capture.{Record};
 ghost use Rattle.gateway_laws.specs.Stamped.{AreStamped, all_counted, packet_entries};
 
 /// Let the items of a schedule arrive in the order of their first instants, each at or before its own first instant. If
-/// the buffer is never full, all items are presented, in this order.
+/// the buffer is never full, all items are presented, in the order of their first instants.
 pub fn items_in_order_are_presented()
     ensures { (clock : Clock) (plan : SchedulePlan) (entries : List Entry) (batches : List Presented) → AreInOrder clock plan entries batches → map (λ (a : Accepted). a.batch) (presented (given clock plan entries)) ≡ batches }
 {}
@@ -60,9 +60,9 @@ pub fn packets_of_pieces_are_heard()
 {}
 
 /// A listener reads the frames of a gateway as packets that carry the pieces of the batches. Each timestamp belongs to
-/// the packet's first sample. This is true in AM824, too, because block counts are raised to a multiple of
-/// SYT_INTERVAL. If the instant of the first sample is 0 or later, a listener computes exactly this instant from the
-/// timestamp.
+/// the packet's first sample. AM824 timestamps also belong to the first sample, because block counts are raised to a
+/// multiple of SYT_INTERVAL. If the instant of the first sample is 0 or later, a listener computes exactly this instant
+/// from the timestamp.
 pub fn frames_carry_the_pieces()
     ensures { (to : ToValue) (shape : ShapeValue) (given_before : GivenOut) (frame : ℕ) (batches : List Presented) → IsShape shape → given_before.block % interval_of shape.rate ≡ 0 → AllByRecursion BeginsInTime batches
         → CarryCuts to shape (packets_heard to shape frame (cuts_after to shape given_before batches)) (cuts_after to shape given_before batches) }
@@ -75,16 +75,16 @@ pub fn nothing_is_found_in_frames()
         → findings (map (cut_seen to id) earlier) (cut_seen to id c) ≡ nothing_found }
 {}
 
-/// Let the batches begin at 0 or later and their instants rise, as is true of every listener's batches. Then the
-/// capture that a gateway makes is read without a refusal, and its records are the gateway's frames. A listener that
-/// has no clock, and whose buffer is never full, presents exactly the samples of the batches that were not skipped: in
-/// order, each once, with the same values at the same instants. `check` finds nothing in the capture.
+/// Let the batches begin at 0 or later and have rising instants, as all batches that a listener presents do. The
+/// capture that a gateway makes of the batches is read without a refusal, and its records are the gateway's frames. A
+/// listener that has no clock, and whose buffer is never full, presents exactly the samples of the batches that were
+/// not skipped: in order, each once, with the same values at the same instants. `check` finds nothing in the capture.
 pub fn captures_of_pieces_are_kept()
     ensures { (to : ToValue) (shape : Option ShapeValue) (id : ℕ) (batches : List Presented) → IfSome shape IsShape → id < 2 ^ 64 → AllByRecursion BeginsInTime batches
         → Keeps to shape id batches (capture_of (gateway_frames to shape id batches)) }
 {}
 
-/// Let the packets of a gateway be presented at least 500 ns apart. Then the buffer of a listener without a clock is
+/// Let the packets of a gateway be presented at least 500 ns apart. The buffer of a listener without a clock is then
 /// never full if the buffer has at least the default size. The reason: each packet arrives at most 2 ms before it is
 /// presented.
 pub fn default_buffers_are_never_full()
@@ -92,25 +92,26 @@ pub fn default_buffers_are_never_full()
         → Hears id plan (gateway_records to shape id batches) }
 {}
 
-/// Each batch that a listener presents begins at 0 or later, and its instants rise. This holds for any records, with or
-/// without a clock. It also holds for the batches that are already certain to be presented, whatever records follow.
+/// Each batch that a listener presents begins at 0 or later, and its instants rise. The law holds for any records, with
+/// or without a clock. The law also holds for the batches that are already certain to be presented, whatever records
+/// follow.
 pub fn presented_batches_begin_in_time()
     ensures shown { (plan : ListenPlan) (records : List Record) → AllByRecursion BeginsInTime (presented_of (shown_of plan records)) }
     ensures due { (plan : ListenPlan) (records : List Record) → AllByRecursion BeginsInTime (presented_of (due_of plan records)) }
 {}
 
 /// The capture that a gateway made can be converted back, whatever the batches. A scan for the other format finds no
-/// fault in it. If there is a frame, the scan finds the gateway's own shape.
+/// fault in the capture. If there is a frame, the scan finds the gateway's own shape.
 pub fn captures_of_pieces_can_be_turned()
     ensures fault { (to : ToValue) (shape : Option ShapeValue) (id : ℕ) (batches : List Presented) → IfSome shape IsShape → id < 2 ^ 64 → first_fault (other to) id (gateway_records to shape id batches) ≡ None }
     ensures shape { (to : ToValue) (shape : ShapeValue) (id : ℕ) (batches : List Presented) → IsShape shape → id < 2 ^ 64 → 1 ≤ length (gateway_records to (Some shape) id batches)
         → shape_in id (gateway_records to (Some shape) id batches) ≡ Some shape }
 {}
 
-/// Take AM824 that a gateway made. Convert it to PCM under any stream ID, and convert this PCM back to AM824 under the
-/// original ID. Each time, use the shape that a scan finds. The result has the same bytes as the original. This
-/// requires listeners that have no clock and whose buffers are never full. Buffers of at least the default size are
-/// never full if the packets are presented at least 500 ns apart.
+/// Take AM824 that a gateway made. Convert this AM824 to PCM under any stream ID, and convert the PCM back to AM824
+/// under the original ID. For each conversion, use the shape that a scan finds. The AM824 that results has the same
+/// bytes as the original AM824. The law requires listeners that have no clock and whose buffers are never full. Buffers
+/// of at least the default size are never full if the packets are presented at least 500 ns apart.
 pub fn am824_comes_back()
     ensures heard { (shape : Option ShapeValue) (id via : ℕ) (batches : List Presented) (there back : ListenPlan) → IfSome shape IsShape → id < 2 ^ 64 → via < 2 ^ 64 → AllByRecursion BeginsInTime batches
         → Hears id there (gateway_records Am824 shape id batches) → Hears via back (map record_of (frames_made Aaf there via (gateway_records Am824 shape id batches)))

@@ -9,7 +9,7 @@ use std::alloc::Global;
 /// capture can have.
 const TURNS: [u64; 6] = [0, 1 << 31, 1 << 32, 3 << 31, 1 << 62, 1 << 63];
 
-/// Short distances in time, in nanoseconds. Among them are the distance between two packets (125,000) and the max
+/// Short distances in time, in nanoseconds. The amounts include the distance between two packets (125,000) and the max
 /// transit time (2,000,000).
 const STEPS: [u64; 4] = [0, 1, 125_000, 2_000_000];
 

@@ -1,4 +1,4 @@
-//! The random draws for a capture. They depend only on the seed and the capture's number.
+//! The random draws for a capture. The draws depend only on the seed and the capture's number.
 
 ghost use Rattle.std.specs.Prelude.{◌<◌, max};
 
@@ -34,7 +34,7 @@ impl Draws {
         self.below(n) == 0
     }
 
-    /// One of these numbers.
+    /// One of `numbers`, chosen by the next draw.
     pub fn pick(&mut self, numbers: &[u64]) -> u64 {
         let at = self.below(numbers.len());
         numbers.get(at).copied().unwrap_or(0)

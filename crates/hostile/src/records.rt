@@ -96,7 +96,7 @@ impl Style {
     }
 }
 
-/// A capture of these records, as pcap or pcapng, in a style that is drawn.
+/// A capture of these records, as pcap or pcapng, in a randomly drawn style.
 pub fn spelled(alloc: Global, draws: &mut Draws, records: &[Record]) -> Result<Vec<u8>, NoMemory> {
     let style = Style {
         big: draws.one_in(3),

@@ -54,7 +54,7 @@ pub struct Found {
 }
 
 /// Runs each command over a damaged capture, and returns the runs that went wrong. The input of `talk` is either this
-/// capture or samples with some damage or with none.
+/// capture, or samples that may be damaged.
 pub fn try_commands<T: Threads + Sync>(
     rt: &T,
     alloc: Global,

@@ -95,8 +95,8 @@ syt_interval fdf =
 abbrev pub IsSytInterval : ℕ → Type 0
 IsSytInterval interval = (interval ≡ 8) ⊎ (interval ≡ 16) ⊎ (interval ≡ 32)
 
--- The data block to which the packet's timestamp belongs, counted from 0. This is the first block whose block count is
--- a multiple of the interval. The packet's first data block has the count `dbc`.
+-- The data block to which the packet's timestamp belongs, counted from 0. The timestamp belongs to the first block
+-- whose block count is a multiple of the interval. The packet's first data block has the count `dbc`.
 abbrev pub anchor_index : ℕ → ℕ → ℕ
 anchor_index dbc interval = stamped_index (Blocks dbc interval)
 
@@ -112,8 +112,8 @@ data_size fdf size = if fdf == no_data then 0 else size
 -- ---- the table
 
 -- The table of the CIP header (IEC 61883-1), two quadlets in bytes 24 to 31, for a view that has such a header. FN, QPC
--- and SPH are 0, so data is neither split nor packed, and has no source packet headers. A packet that ends within this
--- header is refused for its stated length.
+-- and SPH are 0, so data is neither split nor packed, and has no source packet headers. A packet that ends within the
+-- CIP header is refused for its stated length.
 abbrev pub cip_layout : {V : Type 0} → (V → Cip) → Layout V
 cip_layout cip =
     part StreamDataLength 24 (holds 2 (λ v. 0) ∷ holds 6 (λ v. (cip v).sid) ∷ []) ∷
@@ -141,8 +141,8 @@ sets_reserved bytes = any_set (reserved_ranges iec_layout) bytes
 -- ---- the rows
 
 -- The rows of the encapsulation, which follow those that all formats share. The first row refuses a tag that is not
--- that of a CIP header. The second refuses a stated length that is less than the length of a CIP header, or exceeds the
--- number of bytes after the stream header.
+-- that of a CIP header. The second row refuses a stated length that is less than the length of a CIP header, or exceeds
+-- the number of bytes after the stream header.
 abbrev pub carrier_rows : List ℕ → List Row
 carrier_rows bytes =
     row Tag 22 (not (bits 22 0 2 bytes == cip_tag)) ∷
@@ -159,8 +159,8 @@ first_quadlet_rows bytes =
     row Sph 26 (not (bits 26 5 1 bytes == 0)) ∷ []
 
 -- The rows of the second quadlet of the CIP header, which follow the rows of the first quadlet. The rows refuse a QI_2
--- other than 2, and an FMT other than audio. They also refuse an FDF that is neither that of a rate nor that of a
--- no-data packet.
+-- other than 2, and an FMT other than audio. The rows also refuse an FDF that is neither the code of a rate nor that of
+-- a no-data packet.
 abbrev pub second_quadlet_rows : List ℕ → List Row
 second_quadlet_rows bytes =
     row Qi2 28 (not (bits 28 0 2 bytes == second_mark)) ∷

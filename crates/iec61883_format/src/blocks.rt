@@ -38,7 +38,7 @@ pub fn syt_interval(fdf: u8) -> Option<u32>
 
 /// The data block, counted from 0, to which the timestamp of a packet belongs. The packet's first block has the count
 /// `dbc`. The timestamp belongs to the first block whose count is a multiple of the interval. The packet can end before
-/// that block. The interval is 8, 16 or 32.
+/// the block to which the timestamp belongs. The interval is 8, 16 or 32.
 pub fn anchor_index(dbc: u8, interval: u32) -> u32
     requires { IsSytInterval interval }
     ensures exact { result ≡ index_of_anchor dbc interval }

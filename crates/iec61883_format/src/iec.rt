@@ -21,8 +21,8 @@ pub struct Cip {
 /// An IEC 61883-6 packet.
 #[derive(Clone, Copy, Debug)]
 pub struct IecView<'a> {
-    /// The stream header. The higher of its two format bits is reserved. The lower bit means that `gateway_info` is
-    /// valid.
+    /// The stream header. The higher of the header's two format bits is reserved. The lower of the two bits means that
+    /// `gateway_info` is valid.
     pub header: StreamHeader,
     pub gateway_info: u32,
     /// The channel on the IEEE 1394 bus, 0 to 63; 31 for a stream that originates on no such bus.
@@ -34,8 +34,8 @@ pub struct IecView<'a> {
     pub cip: Cip,
     /// The number of data blocks; 0 in a no-data packet, whatever follows the CIP header.
     pub count: u32,
-    /// The bytes after the CIP header. Except in a no-data packet they are the data blocks, each of `cip.dbs` quadlets.
-    /// A quadlet is a label byte and 24 bits.
+    /// The bytes after the CIP header. Except in a no-data packet, the payload consists of the data blocks, each of
+    /// `cip.dbs` quadlets. A quadlet is a label byte and 24 bits.
     pub payload: &'a [u8],
     /// A reserved bit is set.
     pub reserved: bool,

@@ -68,8 +68,9 @@ fn whole_header(view: &IecView<'_>) -> [u8; 32]
 /// Writes an IEC 61883-6 packet, with every reserved bit 0, and returns its length. If the slice is shorter than the
 /// packet, the function returns `Room` and leaves the slice unchanged.
 ///
-/// The view must be one that `read_iec` could return. In such a view the subtype is IEC 61883, the channel and the SID
-/// at most 63, and `tcode` and `sy` at most 15. The data blocks have 1 to 256 quadlets, and the FDF is at most 6, or
+/// The view must be one that `read_iec` could return. In a view that `read_iec` can return, the subtype is IEC 61883,
+/// the channel and the SID are at most 63, and `tcode` and `sy` are at most 15. Each data block has from 1 to 256
+/// quadlets, and the FDF is at most 6, or
 /// 255. `count` must be the number of data blocks in the payload, or 0 in a no-data packet. `data_length` must be the
 /// payload's length plus the 8 bytes of the CIP header. The higher format bit of the header and `reserved` are not
 /// read.

@@ -122,7 +122,7 @@ streamed-counted stream clock i (r ∷ records) =
     ∙ (ap (λ (n : ℕ). counted (belongs stream_kinds stream r.bytes) + n) (streamed-counted stream clock (i + 1) records)
     ∙ sym (one_long i r (kept stream None (enumerate_from (i + 1) records)) (belongs stream_kinds stream r.bytes)))
 
--- ---- each delivery of the stream is an item, or a fragment of a unit other than the unit's last fragment
+-- ---- each delivery of the stream is an item, or a fragment that is not the last of its unit
 
 record IsWeighed (m : MadeItem) : Type 0 where
   weight : count_by is_streamed (sources m) ≡ counted (is_item m.entry) + length m.earlier

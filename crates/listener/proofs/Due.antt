@@ -53,7 +53,8 @@ first_of_more plan es more =
     let b = due-first clock_spot plan (es ++ more) in
     (a.0 ++ b.0, sym (append_assoc (due clock_spot plan es) a.0 b.0) ∙ (ap (λ (l : List Shown). l ++ b.0) a.1 ∙ b.1))
 
--- The entries of all records are the entries so far, and then those of the fragments that are given up only at the end.
+-- The entries of all records are the entries so far, followed by the entries of the fragments that are given up only at
+-- the end.
 pub entries_at_end : (plan : ListenPlan) (records : List Record) → entries_in plan records ≡ entries_so_far_in plan records ++ map made_entry (left_at_end (deliveries_of plan records))
 entries_at_end plan records = map-append made_entry (items_so_far (deliveries_of plan records)) (left_at_end (deliveries_of plan records))
 

@@ -335,7 +335,7 @@ no_other_shown plan records =
     shown_by_each (IsShownItem plan records) (given clock_spot (schedule_plan plan) (entries_in plan records))
     (λ g here. shown_as plan records g (all-judged clock_spot (schedule_plan plan) (entries_in plan records) g here))
 
--- The shown item is that of an entry at some index, and has that entry's frame number.
+-- The shown item belongs to an entry at some index, and has that entry's frame number.
 pub record IsPlaced (ms : List MadeItem) (g : Given) : Type 0 where
   pub made : MadeItem
   pub there : slice_get ms (place_of g) ≡ Some made

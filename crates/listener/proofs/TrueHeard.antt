@@ -157,9 +157,9 @@ pub record IsTruePrefix (shift : ℤ) (j : Journal) (prefix : List Entry) : Type
   pub stamps : All (IsTrue j) (heads.stamps_of prefix)
   pub rows : All (IsTrueRow j.clock shift) (filter_map row_of prefix)
 
--- If the samples of packet `n` are counted from its true head, they are at the journal's instants. If `by` is true,
--- these are the clock's instants; otherwise they are the instants at the nominal rate. It does not matter which copies
--- of the clock's packets the listener has.
+-- If the samples of packet `n` are counted from its true head, they are at the journal's instants. If `by` is true, the
+-- journal's instants are those of the clock; otherwise they are the instants at the nominal rate. It does not matter
+-- which copies of the clock's packets the listener has.
 spot_true : (shift : ℤ) (j : Journal) (plan : SchedulePlan) (n : ℕ) (prefix : List Entry) (h : Head) (by : Bool) → plan.clock ≡ by → IsFollowed shift j plan → IsTruePrefix shift j prefix → IsTrueHead j n h
     → IfSome (if by then option_map (moved h.first) (clock_spot (filter_map row_of prefix) plan.shift h.instant j.rate) else Some (nominal_spot j.rate h)) (IsTrueSpot by j n)
 spot_true shift j plan n prefix h true on is known t =

@@ -15,8 +15,8 @@ use Rattle.listener.specs.Items.{lost_for}
 use Rattle.listener.specs.Units.{events}
 
 -- The state of a stream's units. `assembly` holds the fragments of the current unit, and the fragments that were given
--- up most recently. `why` tells why the latter were given up, and `taken` tells how many of them the judge has taken.
--- `own` is the last delivery's own item.
+-- up most recently. `why` tells why the most recent fragments were given up, and `taken` tells how many of them the
+-- judge has taken. `own` is the last delivery's own item.
 pub record Gathered : Type 0 where
   pub assembly : Assembly
   pub why : LostFor

@@ -17,15 +17,16 @@ use Rattle.listener.specs.Laws.{Agree, AreOther, HearsTalker, IsFurther, IsHeard
 
 -- The headline holds for what is shown of the records of a capture.
 pub record KeepsHeadline (shift : ℤ) (p : PacketJournal) (plan : ListenPlan) (records : List Record) (shown : List Shown) : Type 0 where
-  -- Each batch that is presented is the packet that its item was made of, and has that packet's bytes. Each of its
-  -- samples is at the talker's own nanosecond.
+  -- Each batch that is presented is the packet that its item was made of, and has that packet's bytes. Each sample of
+  -- the batch is at the talker's own nanosecond.
   pub genuine : All (IsHeardFrom (by_clock plan) (items_in plan records) p plan.lead) (presented_of shown)
   -- no packet is presented twice
   pub once : AllPairs (AreOther (by_clock plan) p) (presented_of shown)
   -- first instants never decrease, and batches with equal first instants are in the order of the items
   pub in_order : AllPairs ComesBefore (presented_of shown)
   -- Suppose that an item's timestamp or clock reference is known, that the item came in time, that the buffer had room
-  -- for the item, and that no copy of its packet was accepted before. Then the item is presented.
+  -- for the item, and that no copy of its packet was accepted before. Under these four conditions, the item is
+  -- presented.
   pub known : (place n : ℕ) (made : MadeItem) → IsWelcome p plan records place n made → Any (IsPresentedOf (by_clock plan) p n made) (presented_of shown)
   -- If a copy of a packet was accepted, a further copy is flagged as a repeat. The further copy must have come in time,
   -- and its timestamp or clock reference must be known.

@@ -48,9 +48,9 @@ abbrev pub block_rule : ℕ → Option ℕ → HeadRule
 block_rule dbc None = Own
 block_rule dbc (Some interval) = Blocks dbc interval
 
--- The item of an IEC 61883-6 packet. Each data block is a sample. The timestamp is used if it is valid. It belongs to
--- the block whose block count is a multiple of the interval. If a packet has no such block, its samples are counted
--- from the nearest such block in an earlier packet. A no-data packet has no samples.
+-- The item of an IEC 61883-6 packet. Each data block is a sample. The timestamp is used if it is valid. The timestamp
+-- belongs to the block whose block count is a multiple of the interval. If a packet has no stamped block, its samples
+-- are counted from the nearest stamped block of an earlier packet. A no-data packet has no samples.
 abbrev pub blocks_of : Delivery → Iec → Item
 blocks_of d v = OfPacket (record {
   frame = d.frame;
@@ -167,7 +167,8 @@ given_up_by before d =
     map (flagged (lost_for (reason (events_to before d)))) (last_ones (length (given_up (events_to before d))) (in_stream before))
 
 -- The unit that a delivery completes. The unit has the frame number, arrival, sequence number and presentation time of
--- that delivery. The unit's earlier deliveries are the deliveries of the stream immediately before that delivery.
+-- the delivery that completes it. The unit's earlier deliveries are the stream's deliveries immediately before the
+-- delivery that completes the unit.
 abbrev pub unit_by : List Delivery → Delivery → MadeItem
 unit_by before d = record {
   entry = OfItem (OfUnit (record {

@@ -1,4 +1,5 @@
--- When an item's timestamp or clock reference is known. This depends on which of the journal's packets came.
+-- When an item's timestamp or clock reference is known. Whether an item's timestamp is known depends on which of the
+-- journal's packets came.
 use Rattle.std.specs.Prelude.{◌≡◌, ℕ, ◌+◌, List, [], ◌∷◌, is_some, take}
 use Rattle.pcap_frames.specs.Capture.{Record}
 use Rattle.sample_schedule.specs.declared.entry.Entry.TheVariants.{Item as OfItem}
@@ -27,7 +28,7 @@ came_by plan place origins = take (place + plan.look + 1) origins
 -- The delivery at index `place` is a copy of an audio packet whose samples can be timed when the delivery is judged.
 -- Either the packet has a timestamp, or its samples are counted from one of the last 16 + `look` timestamps that came.
 -- If the listener has the clock, two adjacent CRF timestamps cover the timestamp from which the samples are counted.
--- The packets of these two CRF timestamps are among the last 64 clock packets that came.
+-- The packets of the two covering CRF timestamps are among the last 64 clock packets that came.
 pub record IsKnownCopy (p : PacketJournal) (plan : ListenPlan) (records : List Record) (place : ℕ) (c : Copy) : Type 0 where
   pub origins : List Origin
   pub from : AreFrom p plan.lead origins (deliveries_of plan records)

@@ -112,8 +112,8 @@ abbrev pub AreCopiesFrom : PacketJournal → ℕ → ℕ → List Delivery → T
 AreCopiesFrom p lead n [] = ⊤
 AreCopiesFrom p lead n (d ∷ ds) = IsCopyOf p lead n d × AreCopiesFrom p lead (suc n) ds
 
--- The item was made of copies of consecutive packets, of which packet n is the last. An audio item is made of a copy of
--- packet n alone. Each copy's packet is named by its number, because two packets may have equal bytes.
+-- The item was made of copies of consecutive packets, and the last of these packets is packet n. An audio item is made
+-- of a copy of packet n alone. Each copy's packet is named by its number, because two packets may have equal bytes.
 pub record IsMadeOf (p : PacketJournal) (lead n : ℕ) (made : MadeItem) : Type 0 where
   pub from : ℕ
   pub to : from + length made.earlier ≡ n
@@ -121,7 +121,7 @@ pub record IsMadeOf (p : PacketJournal) (lead n : ℕ) (made : MadeItem) : Type 
   pub last : IsCopyOf p lead n made.last
 
 -- The unit of an item is the journal's unit that ends with packet n, and has that unit's bytes and instant. The item
--- was made of one copy of each packet of that unit, in their order.
+-- was made of one copy of each packet of the journal's unit, in the order of the packets.
 pub record IsUnitFrom (p : PacketJournal) (part : ℕ → Part) (lead n : ℕ) (made : MadeItem) (unit : WholeUnit) : Type 0 where
   pub copies : IsMadeOf p lead n made
   pub packets : AreUnit part copies.from n
@@ -150,8 +150,8 @@ accepted_before plan records i = accepted clock_spot (schedule_plan plan) (entri
 abbrev pub time_of : ListenPlan → List Record → ℕ → ℤ
 time_of plan records i = now_at (entries_in plan records) i
 
--- The item at index `place` is packet n. Its timestamp or clock reference is known from the packets that came. Its
--- first instant has not passed when the item is judged.
+-- The item at index `place` is packet n. The item's timestamp or clock reference is known from the packets that came.
+-- The packet's first instant has not passed when the item is judged.
 pub record IsTimely (p : PacketJournal) (plan : ListenPlan) (records : List Record) (place n : ℕ) (made : MadeItem) : Type 0 where
   pub there : slice_get (items_in plan records) place ≡ Some made
   pub copy : IsMadeOf p plan.lead n made
@@ -166,7 +166,7 @@ pub record IsWelcome (p : PacketJournal) (plan : ListenPlan) (records : List Rec
   pub timely : IsTimely p plan records place n made
   -- no copy of the packet was accepted before
   pub first : All (λ a. ¬ IsOfPacket (by_clock plan) p n a.batch) (accepted_before plan records place)
-  -- the buffer has room for it
+  -- the buffer has room for the copy
   pub bytes : List ℕ
   pub content : IsContent p n bytes
   pub room : is_full (schedule_plan plan) (standing (time_of plan records place) (accepted_before plan records place)) (length bytes) ≡ false

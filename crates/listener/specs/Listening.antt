@@ -45,8 +45,8 @@ pub record Judges (entries : List Entry) (given : ℕ) (judge : JudgeState) (uni
   pub stands : JudgeStandsFor clock_spot judged given judge
   pub all : judged ++ map item_entry (left units) ≡ entries
 
--- The listener has taken `records`, and has counted the records and the items. Of the items that it shows of these
--- records, the first `given` were returned.
+-- The listener has taken `records`, and has counted the records and the items. The first `given` of the items that the
+-- listener shows of these records were returned.
 pub record StandsFor (records : List Record) (given : ℕ) (listener : ListenState) : Type 0 where
   pub plan : listener.judge.plan ≡ schedule_plan listener.plan
   pub units : is_closed listener ≡ false → HasUnits (deliveries_of listener.plan records) listener.units

@@ -8,7 +8,8 @@ use std::alloc::Global;
 /// The maximum number of buffers that a pool keeps.
 const MOST: usize = 64;
 
-/// Sample buffers that the caller has given back. They are used for later samples before more memory is allocated.
+/// Sample buffers that the caller has given back. The pool's buffers are used for later samples before more memory is
+/// allocated.
 #[derive(Drop)]
 pub struct BufferPool {
     buffers: Vec<Vec<u8>>,
@@ -30,8 +31,9 @@ impl BufferPool {
     }
 
     /// An empty buffer with room for `size` bytes: the pool's last buffer if that fits, otherwise a new one. The pool's
-    /// last buffer is freed if it is too small. It is also freed if it has room for more than about 2 * `size` bytes,
-    /// because small packets must not hold the memory of large ones. If `size` is 0, the pool is not changed.
+    /// last buffer is freed if it is too small. The last buffer is also freed if it has room for more than about 2 *
+    /// `size` bytes, because small packets must not hold the memory of large ones. If `size` is 0, the pool is not
+    /// changed.
     #[inline(always)]
     pub fn take(&mut self, alloc: Global, size: usize) -> Result<Vec<u8>, NoMemory>
         ensures empty { IfOk result (λ buffer. buffer.items ≡ []) }

@@ -114,8 +114,8 @@ fn hear(alloc: Global, listener: &mut Listener, bytes: &[u8]) -> Result<Heard, N
 /// If the talker keeps the rules, `KeepsHeadline` holds for what is shown, whatever packets of the talker and of its
 /// clock a capture loses, repeats or reorders. Each packet that came in time, found room and has a known timestamp or
 /// clock reference is presented once and in order, with each sample at the talker's own nanosecond. Hence any two
-/// listeners agree if both have the talker's clock, or neither has. Every other packet of the stream that came is
-/// flagged with one reason. If a unit of H.264 is presented, it is one whole unit of the talker.
+/// listeners agree if both have the talker's clock, or neither has. Each packet of the stream that came and is not
+/// presented is flagged with one reason. If a unit of H.264 is presented, it is one whole unit of the talker.
 ///
 /// The capture must have at most 2^62 bytes. If memory runs out, returns `NoMemory` and shows nothing.
 pub fn whole(alloc: Global, plan: &ListenPlan, bytes: &[u8]) -> Result<Heard, NoMemory>

@@ -86,7 +86,8 @@ fn is_of_clock(clock: Option<u64>, peeked: Peeked) -> bool
 
 /// The packet in a record's bytes, if the record belongs to the stream with the ID `stream`. The record must be a
 /// readable Ethernet frame of AVTP with a packet of IEC 61883, AAF or CVF. The packet's stream ID must be valid and
-/// equal to `stream`. The packet need not be well formed. A listener treats the same records as records of the stream.
+/// equal to `stream`. The packet need not be well formed. A listener takes exactly these records for records of the
+/// stream.
 #[inline(always)]
 pub fn packet_of_stream(stream: u64, frame: &[u8]) -> Option<StreamPacket<'_>>
     ensures { option_map stream_packet_shape result ≡ (if belongs stream_kinds stream frame.now then Some (stream_packet frame.now) else None) }

@@ -7,7 +7,7 @@ use avtp_base::Refusal;
 use sample_schedule::Shown;
 use std::marker::Model;
 
-/// The items that are shown, in the order in which they are shown. Contracts see them as a list.
+/// The items that are shown, in the order in which they are shown. Contracts see the items as a list.
 #[derive(Debug, Drop)]
 pub struct ShownList {
     items: Vec<Shown>,
@@ -55,8 +55,8 @@ pub struct Counts {
 pub struct Heard {
     pub shown: ShownList,
     pub counts: Counts,
-    /// The capture's first field that is cut off or refused, if there is one. Only the records before that field are
-    /// heard.
+    /// The capture's first field that is cut off or refused, if there is one. Only the records before the cut-off or
+    /// refused field are heard.
     pub refused: Option<Refusal>,
 }
 

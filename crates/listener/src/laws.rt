@@ -51,9 +51,9 @@ pub fn what_is_due_stays()
 {}
 
 /// Records may carry any packets of a talker that keeps the rules, and any packets of the talker's clock, in any order.
-/// Such records meet the whole premise of the laws below, for listeners with the clock and without it. H.264 has one
-/// condition: if two fragments of the stream arrive one right after the other, and at least one has no timestamp, their
-/// packet numbers differ by at most 254.
+/// Records of these packets meet all premises of the laws below, for listeners with the clock and without it. H.264 has
+/// one condition: if two fragments of the stream arrive one right after the other, and at least one has no timestamp,
+/// their packet numbers differ by at most 254.
 pub fn carried_packets_are_heard()
     ensures audio { (shift : ℤ) (p : PacketJournal) (plan : ListenPlan) (origins : List Origin) (records : List Record) → IsConforming shift p → IsAudioKind p.times.kind → plan.stream ≡ p.stream → FollowsClock shift p plan.shift plan.clock → AllCarryFrom p plan.lead origins records → HearsTalker shift p plan records }
     ensures h264 { (shift : ℤ) (p : PacketJournal) (plan : ListenPlan) (origins : List Origin) (records : List Record) → IsConforming shift p → plan.stream ≡ p.stream → FollowsClock shift p plan.shift plan.clock → AllCarryFrom p plan.lead origins records → AreNear p.times (stream_numbers origins) → HearsTalker shift p plan records }
@@ -80,7 +80,7 @@ pub fn units_are_true()
 
 /// A unit is made if all its packets came in order. Suppose that one copy of each packet of a talker's unit came, in
 /// order and with no other packet of the stream between them. Then the unit is among the items, and is made of exactly
-/// these copies. Each packet must carry the unit's first byte, and the unit must be within the limits of units.
+/// the copies that came. Each packet must carry the unit's first byte, and the unit must be within the limits of units.
 pub fn units_are_whole()
     ensures made { (shift : ℤ) (p : PacketJournal) (plan : ListenPlan) (records : List Record) (part : ℕ → Part) (from n : ℕ) (before front earlier : List Delivery) (last : Delivery) (rest : List Delivery) → HearsTalker shift p plan records → p.times.kind ≡ H264 part
         → deliveries_of plan records ≡ before ++ last ∷ rest → in_stream before ≡ front ++ earlier → AreOfUnit p part plan.lead from n earlier last → Contains (items_in plan records) (unit_by before last) }
@@ -89,11 +89,12 @@ pub fn units_are_whole()
 {}
 
 /// What is presented is true. The talker must keep the rules. A capture may lose, repeat or reorder the packets of the
-/// talker and of its clock, and the media clock may restart anywhere. Each batch that is presented is the packet or
-/// unit of the talker that the batch's item was made of, and has the bytes of that packet or unit. Each sample is at
-/// the nanosecond of gPTP that follows from one timestamp of the talker. Without a clock, audio samples are counted
-/// from that timestamp at the nominal rate. With the clock, they are on the line through the two CRF timestamps that
-/// cover that timestamp. A unit of H.264 is presented at its own timestamp, with the clock or without it.
+/// talker and of its clock, and the media clock may restart anywhere. Each presented batch is the talker's packet or
+/// unit from which the batch's item was made, and has the bytes of that packet or unit. Each sample is at the
+/// nanosecond of gPTP that follows from one timestamp of the talker. Without a clock, audio samples are counted from
+/// the talker's timestamp at the nominal rate. With the clock, audio samples are on the line through the two CRF
+/// timestamps that cover the talker's timestamp. A unit of H.264 is presented at its own timestamp, with the clock or
+/// without it.
 pub fn presented_are_true()
     ensures origin { (shift : ℤ) (p : PacketJournal) (plan : ListenPlan) (records : List Record) → HearsTalker shift p plan records → All (IsHeardFrom (by_clock plan) (items_in plan records) p plan.lead) (presented_of (shown_of plan records)) }
     ensures packet { (shift : ℤ) (p : PacketJournal) (plan : ListenPlan) (records : List Record) → HearsTalker shift p plan records → All (IsOfJournal (by_clock plan) p) (presented_of (shown_of plan records)) }
@@ -125,16 +126,16 @@ pub fn listeners_agree()
 
 /// A copy of a packet is presented if it came in time, it found room, and no copy of the packet was accepted before.
 /// The timestamp from which the packet's samples are counted must be known. For audio with a clock, two CRF timestamps
-/// that cover that timestamp must also be known. It does not matter how many other packets are late, lost or untimed.
-/// What is presented has the frame number of that copy.
+/// that cover this AVTP timestamp must also be known. It does not matter how many other packets are late, lost or
+/// untimed. The presented batch has the copy's frame number.
 pub fn known_and_in_time_is_presented()
     ensures { (shift : ℤ) (p : PacketJournal) (plan : ListenPlan) (records : List Record) (place n : ℕ) (made : MadeItem) → HearsTalker shift p plan records → IsWelcome p plan records place n made → Any (IsPresentedOf (by_clock plan) p n made) (presented_of (shown_of plan records)) }
 {}
 
 /// Suppose that an H.264 stream's first deliveries are the packets of one unit of the talker: one copy of each packet,
-/// in order. The last of these deliveries must arrive no later than the unit's presentation time. Each packet must
-/// carry the unit's first byte. The unit must be within the limits of units, and its bytes must fit into `room`. Then
-/// the unit must be presented.
+/// in order. The last delivery of the unit must arrive no later than the unit's presentation time. Each packet must
+/// carry the unit's first byte. The unit must be within the limits of units, and its bytes must fit into `room`. A unit
+/// that meets these conditions must be presented.
 pub fn first_fragments_are_welcome()
     ensures { (shift : ℤ) (p : PacketJournal) (plan : ListenPlan) (records : List Record) (from n : ℕ) (part : ℕ → Part) (earlier : List Delivery) (last : Delivery) (rest : List Delivery) → HearsTalker shift p plan records → p.times.kind ≡ H264 part → deliveries_of plan records ≡ earlier ++ last ∷ rest
         → AreOfUnit p part plan.lead from n earlier last → last.arrival ≤ℤ pos (p.times.due n) → 1 ≤ plan.buffer → length (unit_bytes p from n) ≤ plan.room → IsWelcome p plan records 0 n (unit_by earlier last) }
@@ -142,7 +143,7 @@ pub fn first_fragments_are_welcome()
 
 /// If a packet was accepted before, a further copy of the packet is flagged as a repeat, whether the buffer has room
 /// for the copy or not. The copy must have come in time, and the timestamps that give the copy's instants must be
-/// known. Nothing else is shown of the copy's frame.
+/// known. The listener shows nothing but this flag for the copy's frame.
 pub fn further_copies_are_repeats()
     ensures { (shift : ℤ) (p : PacketJournal) (plan : ListenPlan) (records : List Record) (place n : ℕ) (made : MadeItem) → HearsTalker shift p plan records → IsFurther p plan records place n made → shown_of_frame made.last.frame (shown_of plan records) ≡ Flag made.last.frame made.last.seq Repeat ∷ [] }
 {}
@@ -150,8 +151,8 @@ pub fn further_copies_are_repeats()
 /// All that is promised for a talker that keeps the rules, whatever packets a capture loses, repeats or reorders, and
 /// wherever the talker's clock restarts. Each sample is presented at the talker's own nanosecond if its packet came in
 /// time, found room and has a known timestamp or clock reference. Hence any two listeners agree if both have the
-/// talker's clock, or neither has. Every other packet of the stream that came is flagged with one reason. Samples are
-/// presented once and in order, and the buffers have fixed sizes.
+/// talker's clock, or neither has. All remaining packets of the stream that came are flagged, each with one reason.
+/// Samples are presented once and in order, and the buffers have fixed sizes.
 pub fn headline_holds()
     ensures { (shift : ℤ) (p : PacketJournal) (plan : ListenPlan) (records : List Record) → HearsTalker shift p plan records → KeepsHeadline shift p plan records (shown_of plan records) }
 {}

@@ -28,7 +28,7 @@ use thiserror::Error;
 /// Why a listener stops.
 #[derive(Clone, Copy, Debug, PartialEq, Eq, Error)]
 pub enum ListenFault {
-    /// The capture's first field that is cut off or refused. The records before that field are heard.
+    /// The capture's first field that is cut off or refused. The records before the refused field are heard.
     #[error("the capture is refused")]
     Refused(Refusal),
     /// There was no memory for the samples of a packet.
@@ -47,8 +47,8 @@ pub enum ListenFault {
 pub struct Listener {
     reader: Reader,
     listener: RecordListener,
-    /// The item that is due next. It is taken from the judge before `next_out` asks for it, so that `feed` can tell
-    /// whether an item is due. `counts` leaves this item out.
+    /// The item that is due next. The item is taken from the judge before `next_out` asks for it, so that `feed` can
+    /// tell whether an item is due. `counts` leaves this item out.
     next: Option<Shown>,
     out_of_memory: bool,
 }
@@ -90,7 +90,7 @@ impl Listener {
     /// Without a fault, returns `Ok(0)` if and only if the piece is empty or an item is due. `Refused` is the capture's
     /// first refusal, and is returned as soon as the bytes so far show it. The records before the refusal are kept, and
     /// the listener can still be ended. `Memory` is returned if there is no memory for the samples of the record that
-    /// was read. That record makes no item, and every later `feed` and `end` returns `Memory`.
+    /// was read. A record for which memory ran out makes no item, and every later `feed` and `end` returns `Memory`.
     pub fn feed(&mut self, alloc: Global, piece: &[u8]) -> Result<usize, ListenFault>
         requires open { is_ended self.old ≡ false }
         requires bounded { taken self.old.reader + length piece.now ≤ 2 ^ 62 }
@@ -146,8 +146,8 @@ impl Listener {
     }
 
     /// The next item that is shown of the bytes so far. Before `end`, only items that are due are returned; after
-    /// `end`, all items. Returns `None` if and only if none of these items is left. If the talker keeps the rules,
-    /// `listener_laws::bytes_are_given_truly` applies to the items that are returned. Allocates nothing.
+    /// `end`, all items. Returns `None` if and only if no item is left that may be returned. If the talker keeps the
+    /// rules, `listener_laws::bytes_are_given_truly` applies to the items that are returned. Allocates nothing.
     pub fn next_out(&mut self) -> Option<Shown>
         ensures given { (bytes : List ℕ) (given : ℕ) → StandsFor bytes given self.old → result ≡ slice_get (out self.old bytes) given }
         ensures stands { (bytes : List ℕ) (given : ℕ) → StandsFor bytes given self.old → StandsFor bytes (given + length (option_to_list result)) self.new }
@@ -164,8 +164,8 @@ impl Listener {
     }
 
     /// Takes back the memory of samples that were shown. The samples of later packets are copied into this memory
-    /// before more is allocated. At most 64 such buffers are kept; the memory of others is freed. May be called at any
-    /// time. Allocates nothing.
+    /// before more is allocated. At most 64 returned buffers are kept; the memory of further buffers is freed. May be
+    /// called at any time. Allocates nothing.
     pub fn give_back(&mut self, samples: Bytes)
         ensures { self.new ≡ self.old }
     {
@@ -197,8 +197,8 @@ impl Listener {
         }
     }
 
-    /// How many batches wait for their presentation time: at most the plan's `buffer`. Together they have at most
-    /// `room` bytes.
+    /// How many batches wait for their presentation time: at most the plan's `buffer`. The waiting batches together
+    /// have at most `room` bytes.
     pub fn held(&self) -> u32
         ensures held { result ≡ length self.now.listener.judge.waiting }
         ensures batches { result ≤ self.now.listener.plan.buffer }

@@ -31,14 +31,14 @@ use sample_schedule::{Judge, Shown};
 use std::alloc::Global;
 use std::marker::Model;
 
-/// A listener that takes a capture's records one at a time, in the capture's order. It shows each item of the stream
-/// once: presented, or flagged with the first reason why not. It shows an item as soon as no later record can change
-/// the result.
+/// A listener that takes a capture's records one at a time, in the capture's order. A listener shows each item of the
+/// stream once: presented, or flagged with the first reason why it is not presented. The listener shows an item as soon
+/// as no later record can change the result.
 ///
 /// After each record, and after `close`, the caller calls `next_out` to take all items that are due. One record can
-/// yield as many as 4,097 items, because it can end a unit of H.264 that is not whole. `next_out` judges them one after
-/// another. Memory for the listener's state is reserved when the listener is made. Later each packet's samples, and
-/// each whole unit, are copied once, into the batch that is shown.
+/// yield as many as 4,097 items, because it can end a unit of H.264 that is not whole. `next_out` judges the queued
+/// items one after another. Memory for the listener's state is reserved when the listener is made. Later each packet's
+/// samples, and each whole unit, are copied once, into the batch that is shown.
 #[derive(Drop)]
 pub struct RecordListener {
     plan: ListenPlan,
@@ -48,7 +48,8 @@ pub struct RecordListener {
     /// Whether the judge was closed.
     closed: bool,
     /// If true, all due items were returned; since then, the listener has taken no record of the stream or of its
-    /// clock, and was not closed. In this state, for example after a record of another stream, the judge is not called.
+    /// clock, and was not closed. While `idle` is true, for example after a record of another stream, the judge is not
+    /// called.
     idle: bool,
     counts: Counts,
     pool: BufferPool,
@@ -132,7 +133,7 @@ impl RecordListener {
     }
 
     /// The next item that is shown of the records so far. Before `close`, only items that are due are returned; after
-    /// `close`, all items. Returns `None` if and only if none of these items is left. If the talker keeps the rules,
+    /// `close`, all items. Returns `None` if and only if no item is left to return. If the talker keeps the rules,
     /// `listener_laws::records_are_given_truly` applies to the items that are returned. Allocates nothing.
     #[inline(always)]
     pub fn next_out(&mut self) -> Option<Shown>
@@ -178,8 +179,8 @@ impl RecordListener {
     }
 
     /// Takes back the memory of samples that were shown. The samples of later packets are copied into this memory
-    /// before more is allocated. At most 64 such buffers are kept; the memory of others is freed. May be called at any
-    /// time. Allocates nothing.
+    /// before more is allocated. At most 64 buffers of samples are kept for reuse; the memory of further buffers is
+    /// freed. May be called at any time. Allocates nothing.
     #[inline(always)]
     pub fn give_back(&mut self, samples: Bytes)
         ensures { self.new ≡ self.old }
@@ -202,8 +203,8 @@ impl RecordListener {
         self.idle = false;
     }
 
-    /// How many batches wait for their presentation time: at most the plan's `buffer`. Together they have at most
-    /// `room` bytes.
+    /// How many batches wait for their presentation time: at most the plan's `buffer`. The waiting batches together
+    /// have at most `room` bytes.
     pub fn held(&self) -> u32
         ensures held { result ≡ length self.now.judge.waiting }
         ensures batches { result ≤ self.now.plan.buffer }
@@ -221,8 +222,8 @@ impl RecordListener {
     }
 }
 
-/// Takes a delivery. A delivery of the clock gives its timestamps to the judge. A delivery of the stream gives the
-/// judge the first item that it yields; its other items are queued.
+/// Takes a delivery. A delivery of the clock gives its timestamps to the judge. The judge gets the first item that a
+/// delivery of the stream yields, and any further items are queued.
 #[inline(always)]
 fn take_delivery(
     alloc: Global,
@@ -279,7 +280,7 @@ fn next_shown(units: &mut Units, judge: &mut Judge, ended: bool, closed: &mut bo
 }
 
 /// Gives the next queued item to the judge. If no item is queued and no more records follow, closes the judge. Returns
-/// whether it did either.
+/// whether an item was given or the judge was closed.
 #[inline(always)]
 fn judge_next(units: &mut Units, judge: &mut Judge, ended: bool, closed: &mut bool) -> bool
     requires idle { IsIdleJudge judge.old }
@@ -299,7 +300,7 @@ fn judge_next(units: &mut Units, judge: &mut Judge, ended: bool, closed: &mut bo
     }
 }
 
-/// Closes the judge if no more records follow and the judge is still open. Returns whether this call closed it.
+/// Closes the judge if no more records follow and the judge is still open. Returns whether this call closed the judge.
 fn close_ended(judge: &mut Judge, ended: bool, closed: &mut bool) -> bool
     requires idle { IsIdleJudge judge.old }
     requires closed { closed.old ≡ judge.old.closed }

@@ -26,9 +26,9 @@ use std::alloc::Global;
 use std::marker::Model;
 use time_unfold::unfold;
 
-/// Puts the units of a stream together, and queues the items of the last delivery. Those items are the fragments that
-/// were given up because of that delivery, and then the delivery's own item. Memory for the fragments is reserved at
-/// the start.
+/// Puts the units of a stream together, and queues the items of the last delivery. The queued items are the fragments
+/// that were given up because of the last delivery, and then the delivery's own item. Memory for the fragments is
+/// reserved at the start.
 #[derive(Drop)]
 pub struct Units {
     assembler: Assembler,

@@ -1,4 +1,4 @@
--- The due items of the first records of a capture are as the headline says, whatever records follow.
+-- The due items of the first records of a capture keep the promises of the headline law, whatever records follow.
 use Rattle.std.proofs.Common.{◌≡◌, ℕ, zero, suc, ◌+◌, ◌<◌, Bool, true, false, ℤ, List, [], ◌∷◌, ◌++◌, All, length, map, take, Some, Result, refl, sym, ap, ◌∙◌, subst, arith, append_assoc, length-append}
 use Rattle.std.specs.Prelude.{AllPairs, Any, cond, slice_get, ◌==◌}
 use Rattle.std.specs.List.{slice_index_or}

@@ -133,7 +133,8 @@ pub record IsSomeOf (Q : ℕ → Type 0) (by : Bool) (p : PacketJournal) (a : Ac
   pub holds : Q k
   pub is : IsPacketAt by p k a
 
--- One more packet that has property `Q` was accepted. If its first instant is at `t` or later, the count grew.
+-- One more packet that has property `Q` was accepted. If the first instant of the accepted packet is at `t` or later,
+-- the count grew.
 pub record IsMore (Q : ℕ → Type 0) (by : Bool) (p : PacketJournal) (t : ℤ) (count next : ℕ) (xs ys : List Accepted) : Type 0 where
   pub a : Accepted
   pub more : ys ≡ xs ++ a ∷ []
@@ -185,8 +186,8 @@ abbrev pub HoldsOf : (ℕ → Type 0) → Origin → Type 0
 HoldsOf Q (OfStream k) = Q k
 HoldsOf Q (OfClock m) = Unit {0}
 
--- Delivery `j` has an origin, and adds nothing to the accepted items except the packet that the origin names. If that
--- packet is of the stream, it has property `Q`.
+-- Delivery `j` has an origin, and adds nothing to the accepted items except the packet that the origin names. If the
+-- origin is a packet of the stream, that packet has property `Q`.
 pub record IsAtPlace (p : PacketJournal) (plan : ListenPlan) (records : List Record) (Q : ℕ → Type 0) (os : List Origin) (j : ℕ) : Type 0 where
   pub o : Origin
   pub at : slice_get os j ≡ Some o

@@ -49,9 +49,9 @@ pub record MustBePresented (p : PacketJournal) (plan : ListenPlan) (records : Li
 abbrev pub unit_place : List Delivery → Delivery → ℕ
 unit_place before last = length (items_so_far before ++ given_up_by before last)
 
--- Delivery `last` completes the unit of packets `from` to n. One copy of each of these packets came, in order and with
--- no other packet of the stream between them. All deliveries up to and including `last` were captured no later than the
--- instant at which the unit is due.
+-- Delivery `last` completes the unit of packets `from` to n. One copy of each packet of the unit came, in order and
+-- with no other packet of the stream between the copies. All deliveries up to and including `last` were captured no
+-- later than the instant at which the unit is due.
 pub record UnitComesInTime (p : PacketJournal) (plan : ListenPlan) (records : List Record) (part : ℕ → Part) (from n : ℕ) (before : List Delivery) (last : Delivery) : Type 0 where
   pub rest : List Delivery
   pub there : deliveries_of plan records ≡ before ++ last ∷ rest

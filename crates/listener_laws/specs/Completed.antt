@@ -7,7 +7,7 @@ use Rattle.time_unfold.specs.Time.{unfolded}
 use Rattle.packet_journal.specs.Deliveries.{Delivery}
 use Rattle.listener.specs.Items.{events_to}
 
--- The unit that a delivery completes after earlier deliveries. Its bytes are those of all fragments of the unit; its
+-- The unit that a delivery completes after earlier deliveries. The unit has the bytes of all its fragments, and its
 -- other fields are those of the delivery.
 abbrev pub completed : List Delivery → Delivery → WholeUnit
 completed before d = record {

@@ -39,7 +39,7 @@ swapped_records =
     recorded_stream 1003400000 33 ∷
     []
 
--- A listener with the clock of `clocked_packets`. The listener adds a microsecond to the clock's timestamps. All its
--- other options have the default values of `listen`.
+-- A listener with the clock of `clocked_packets`. The listener adds a microsecond to the clock's timestamps. All other
+-- options of the listener have the default values of `listen`.
 abbrev pub clocked_listener : ListenPlan
 clocked_listener = record { stream = 0x0200000000010001; clock = Some 0x0200000000010002; buffer = 4096; room = 67108864; look = 0; lead = 2000000; shift = pos 1000 }

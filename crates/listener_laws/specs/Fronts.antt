@@ -16,9 +16,9 @@ use Rattle.listener.specs.Laws.{AreOther, ComesBefore, IsFurther, IsHeardFrom, I
 abbrev pub IsSettled : ListenPlan → List Record → ℕ → Type 0
 IsSettled plan records place = place + plan.look < length (items_so_far (deliveries_of plan records))
 
--- Whatever records follow, the due items of the first records are a prefix of what is shown. The due items are as the
--- headline says. The item of each batch was made of a packet of the talker, and the batch has the bytes and the
--- instants of that packet. No packet is presented twice, and first instants never decrease.
+-- Whatever records follow, the due items of the first records are a prefix of what is shown. The due items keep three
+-- promises of the law `headline_holds`. The item of each batch was made of a packet of the talker, and the batch has
+-- the bytes and the instants of that packet. No packet is presented twice, and first instants never decrease.
 --
 -- The last three fields are about the items that are judged once the first records are read. An item that must be
 -- presented is presented, a further copy is flagged as a repeat, and each item is shown once, as its verdict says.

@@ -27,7 +27,7 @@ ghost use Rattle.listener_laws.specs.Fronts.{IsTrueFront};
 use listener::laws::{headline_holds, units_are_true};
 
 /// If the first records of a capture are a talker's, the due items of these records are as the headline says, whatever
-/// records follow. What is shown of the whole capture begins with these due items. This holds even if the capture is
+/// records follow. What is shown of the whole capture begins with these due items. The law holds even if the capture is
 /// cut short or records of other talkers follow.
 pub fn fronts_are_true()
     ensures { (shift : ℤ) (p : PacketJournal) (plan : ListenPlan) (records others : List Record) → HearsTalker shift p plan records → IsTrueFront p plan records others }
@@ -41,7 +41,7 @@ pub fn shorter_captures_are_heard()
 
 /// What a listener returns from a talker's records is as the headline says. Before the records have ended, the listener
 /// returns what is due, as `fronts_are_true` says. Once the records have ended, the listener returns everything that is
-/// shown of these records. `RecordListener::next_out` returns exactly these items, one by one.
+/// shown of these records. `RecordListener::next_out` returns exactly the items described here, one by one.
 pub fn records_are_given_truly()
     ensures ended { (shift : ℤ) (p : PacketJournal) (listener : ListenState) (records : List Record) → is_closed listener ≡ true → HearsTalker shift p listener.plan records → KeepsHeadline shift p listener.plan records (out listener records) }
     ensures due { (shift : ℤ) (p : PacketJournal) (listener : ListenState) (records others : List Record) → is_closed listener ≡ false → HearsTalker shift p listener.plan records → (out listener records ≡ due_of listener.plan records) × IsTrueFront p listener.plan records others }
@@ -53,7 +53,7 @@ pub fn records_are_given_truly()
 /// Suppose that a listener is fed the bytes of a talker's capture in pieces of any length. Then what the listener
 /// returns is as the headline says. Before the capture has ended, the listener returns what is due, as
 /// `fronts_are_true` says. Once the capture has ended, the listener returns everything that is shown of the capture.
-/// `Listener::next_out` returns exactly these items, one by one.
+/// `Listener::next_out` returns exactly the items that are due, one by one.
 pub fn bytes_are_given_truly()
     ensures ended { (shift : ℤ) (p : PacketJournal) (fed : Feeding) (bytes : List ℕ) → is_ended fed ≡ true → HearsTalker shift p fed.listener.plan (whole_records bytes) → KeepsHeadline shift p fed.listener.plan (whole_records bytes) (out_of fed bytes) }
     ensures due { (shift : ℤ) (p : PacketJournal) (fed : Feeding) (bytes : List ℕ) (others : List Record) → is_ended fed ≡ false → HearsTalker shift p fed.listener.plan (whole_records bytes) → (out_of fed bytes ≡ due_of fed.listener.plan (whole_records bytes)) × IsTrueFront p fed.listener.plan (whole_records bytes) others }
@@ -63,8 +63,8 @@ pub fn bytes_are_given_truly()
 
 /// A copy of an audio packet must be presented if four conditions hold. The copy can be timed from the packets that
 /// came. No copy of the packet came before. The buffer has room for the copy. All deliveries up to and including the
-/// copy were captured no later than the packet's first instant. This holds anywhere in a capture, whatever the capture
-/// loses, repeats or reorders, and for listeners with the talker's clock or without it.
+/// copy were captured no later than the packet's first instant. The law holds anywhere in a capture, whatever the
+/// capture loses, repeats or reorders, and for listeners with the talker's clock or without it.
 pub fn copies_anywhere_are_welcome()
     ensures { (shift : ℤ) (p : PacketJournal) (plan : ListenPlan) (records : List Record) (place n : ℕ) (d : Delivery) → HearsTalker shift p plan records → IsAudioKind p.times.kind → MustBePresented p plan records place n d → IsWelcome p plan records place n (made_of_one d) }
 {}
@@ -78,10 +78,10 @@ pub fn copies_anywhere_are_further()
 {}
 
 /// A unit of H.264 must be presented if four conditions hold. One copy of each of the unit's packets came, in order,
-/// with no other packet of the stream between them. All deliveries up to and including the last of these copies were
-/// captured no later than the instant at which the unit is due. No other copy of the unit's last packet came earlier.
-/// The buffer has room for the unit. If the conditions hold, the unit is made of exactly these copies. This holds
-/// anywhere in a capture, whatever the capture loses, repeats or reorders.
+/// with no other packet of the stream between them. All deliveries up to and including the copy of the unit's last
+/// packet were captured no later than the instant at which the unit is due. No other copy of the unit's last packet
+/// came earlier. The buffer has room for the unit. If the conditions hold, the unit is made of exactly these copies.
+/// The law holds anywhere in a capture, whatever the capture loses, repeats or reorders.
 pub fn units_anywhere_are_welcome()
     ensures { (shift : ℤ) (p : PacketJournal) (plan : ListenPlan) (records : List Record) (part : ℕ → Part) (from n : ℕ) (before : List Delivery) (last : Delivery) → HearsTalker shift p plan records → p.times.kind ≡ H264 part
         → UnitMustBePresented p plan records part from n before last → IsWelcome p plan records (unit_place before last) n (unit_by before last) }

@@ -55,7 +55,7 @@ three true true w h = h
 three true false w h = absurd (cc)
 three false v w h = absurd (cc)
 
--- each of these batches has a position below n
+-- each batch of the list has a position below n
 abbrev AllBelow : ℕ → List Placed → Type 0
 AllBelow n u = AllByRecursion (λ y. y.place < n) u
 
@@ -138,8 +138,8 @@ none-below k lo hi (y ∷ u) h lt =
 abbrev Paired-at : ℕ → List Paired → ℕ
 Paired-at k ps = length (filter (is_in k) ps)
 
--- If k is less than `place`, the count `times` is at most the number of batches of `u` at position k. Otherwise the
--- count is at most 1.
+-- If k is less than `place`, the count `times` is at most the number of batches of `u` at position k. If k is at least
+-- `place`, the count is at most 1.
 abbrev Bound : ℕ → ℕ → List Placed → ℕ → Type 0
 Bound k place u times = (k < place → times ≤ length (filter (at k) u)) × (place ≤ k → times ≤ 1)
 

@@ -42,8 +42,7 @@ stepped s b old new place counts pair same enters is_place is_counts =
       counts = is_counts ∙ ap (counted s pair) (ap (λ (m : MatchingState). m.counts) same ∙ counts-same s old);
     }
 
--- The next batch of side `s` was worked through. `entered` states the difference of the pair that this batch made, if
--- any.
+-- The next batch of side `s` was processed. `entered` states the difference of the pair that this batch made, if any.
 pub record Came (s : Which) (old new : MatchingState) (entered : Entered) : Type 0 where
   pub batch : Presented
   pub next : next_of s old ≡ Some batch

@@ -12,8 +12,8 @@ use Rattle.listener_pair.specs.Merged.{Sided, is_side, known, merged}
 use Rattle.listener_pair.specs.Pairs.{unpaired}
 use Rattle.listener_pair.specs.Differences.{counts_of, differences}
 
--- A matching. For each side it has the next batch, whether the side has ended, and the batches that wait for a partner.
--- It also has the position of the next batch in the merged list, and the counts.
+-- A matching. For each side, a matching has the next batch, whether the side has ended, and the batches that wait for a
+-- partner. A matching also has the position of the next batch in the merged list, and the counts.
 pub record MatchingState : Type 0 where
   pub next_a : Option Presented
   pub next_b : Option Presented
@@ -97,8 +97,8 @@ is_within side place y = is_side side y.side && nat_le place (y.place + 512)
 abbrev pub window : Which → ℕ → List Placed → List Placed
 window side place list = filter (is_within side place) list
 
--- The matching was given the batches `xs` of A and `ys` of B, each list in order. It has returned the first `given`
--- differences of the merged list. The list `done` is the prefix of the merged list that the matching has worked
+-- The matching was given the batches `xs` of A and `ys` of B, each list in order. The matching has returned the first
+-- `given` differences of the merged list. The list `done` is the prefix of the merged list that the matching has worked
 -- through.
 pub record StandsFor (xs ys : List Presented) (given : ℕ) (m : MatchingState) : Type 0 where
   pub few : length xs + length ys < 2 ^ 63
@@ -106,8 +106,8 @@ pub record StandsFor (xs ys : List Presented) (given : ℕ) (m : MatchingState) 
   pub a : batches_of A done ++ option_to_list m.next_a ≡ xs
   pub b : batches_of B done ++ option_to_list m.next_b ≡ ys
   pub sorted : IsSorted (done ++ nexts m.next_a m.next_b)
-  -- If a side lacks its next batch, the last batch of the list `done` is of that side. If both sides lack it, `done` is
-  -- empty.
+  -- If a side lacks its next batch, the last batch of the list `done` is of that side. If both sides lack their next
+  -- batch, `done` is empty.
   pub last_a : lacks m.ended_a m.next_a ≡ true → EndsOn A done
   pub last_b : lacks m.ended_b m.next_b ≡ true → EndsOn B done
   pub none : lacks m.ended_a m.next_a ≡ true → lacks m.ended_b m.next_b ≡ true → done ≡ []

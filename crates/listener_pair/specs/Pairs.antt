@@ -11,13 +11,13 @@ use Rattle.listener_pair.specs.Merged.{Sided, is_side}
 -- ---- what may be a pair
 
 -- The first instants of a batch of A and a batch of B differ by at most 64 times the duration of A's batch. A's line
--- gives this duration.
+-- gives the duration of A's batch.
 abbrev pub are_near : Presented → Presented → Bool
 are_near a b = nat_le (unsigned_abs (first_instant a -ℤ first_instant b) * a.line.den) (64 * a.count * a.line.num)
 
 -- A batch of A and a batch of B are close enough in time to present the same packet or unit. If neither batch is a unit
--- of H.264, this means that `are_near` is true of them. Otherwise it means that both batches are units with the same
--- instant.
+-- of H.264, `are_near` is true of the two batches. If either batch is a unit of H.264, both batches are units with the
+-- same instant.
 unfoldable pub within_reach : Presented → Presented → Bool
 within_reach a b =
     if is_unit a || is_unit b
@@ -58,8 +58,8 @@ at_place place x = record { place = place; side = x.side; batch = x.batch }
 abbrev pub partner_of : Placed → List Placed → Option Placed
 partner_of x unpaired = find (may_pair x) unpaired
 
--- The unpaired batches after x is added. If x has a partner, these are the earlier unpaired batches except that
--- partner. Otherwise, these are the earlier unpaired batches and x.
+-- The unpaired batches after x is added. If x has a partner, the result is the earlier unpaired batches except that
+-- partner. If x has no partner, these are the earlier unpaired batches and x.
 abbrev pub left_by : Placed → List Placed → Option Placed → List Placed
 left_by x unpaired None = unpaired ++ x ∷ []
 left_by x unpaired (Some partner) = without_first (may_pair x) unpaired
@@ -73,8 +73,8 @@ abbrev pub pair_by : Placed → Option Placed → List Paired
 pair_by x None = []
 pair_by x (Some partner) = record { earlier = partner; later = x } ∷ []
 
--- The pairs that successive batches make. `place` is the position of the first of these batches, and `unpaired` are the
--- unpaired batches before it.
+-- The pairs that successive batches make. `place` is the position of the first batch, and `unpaired` are the unpaired
+-- batches before the first batch.
 unfoldable pub pairs_from : ℕ → List Placed → List Sided → List Paired
 pairs_from place unpaired [] = []
 pairs_from place unpaired (x ∷ rest) =
@@ -87,8 +87,8 @@ unfoldable pub unpaired_from : ℕ → List Placed → List Sided → List Place
 unpaired_from place unpaired [] = unpaired
 unpaired_from place unpaired (x ∷ rest) = unpaired_from (suc place) (unpaired_with (at_place place x) unpaired) rest
 
--- The pairs of a merged list, in the order of their later batches. From first to last, each batch is paired with the
--- first earlier unpaired batch with which it may be paired, if there is one.
+-- The pairs of a merged list, in the order of their later batches. Batches are taken in order. Each batch is paired
+-- with the first earlier unpaired batch with which it may be paired, if there is one.
 abbrev pub pairs : List Sided → List Paired
 pairs list = pairs_from 0 [] list
 

@@ -54,7 +54,7 @@ impl PairCounts {
         }
     }
 
-    /// The counts after one more batch of `side`. This batch is in no pair.
+    /// The counts after one more batch of `side`. The added batch is in no pair.
     pub(crate) fn with_alone(self, side: Which) -> Self
         ensures { result ≡ with_alone side self }
     {

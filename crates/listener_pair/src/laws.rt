@@ -1,4 +1,4 @@
-//! Laws of pairs and differences. Each is a function whose contract states the law; a call does nothing.
+//! Laws of pairs and differences. Each law is the contract of a function; a call of the function does nothing.
 
 ghost use Rattle.std.specs.Prelude.{◌≡◌, ◌+◌, ◌≤◌, ◌++◌, Bool, true, ℕ, List, length};
 ghost use Rattle.std.specs.List.{AllByRecursion};
@@ -18,7 +18,7 @@ pub fn pairs_stay()
     ensures differences { (list more : List Sided) → IsPrefix (differences list) (differences (list ++ more)) }
 {}
 
-/// The known part is a prefix of the merged list. After both sides have ended, it is the whole merged list.
+/// The known part is a prefix of the merged list. After both sides have ended, the known part is the whole merged list.
 pub fn known_comes_first()
     ensures first { (ended_a ended_b : Bool) (list : List Sided) → IsPrefix (known ended_a ended_b list) list }
     ensures all { (list : List Sided) → known true true list ≡ list }

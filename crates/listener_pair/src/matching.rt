@@ -18,9 +18,9 @@ use sample_schedule::Batch;
 use std::alloc::Global;
 use std::marker::Model;
 
-/// Matches what two listeners present. It takes the batches of each listener, one at a time, and returns the difference
-/// of each pair that differs. A difference is returned as soon as both batches of its pair are in the known part of the
-/// merged list.
+/// Matches what two listeners present. A matching takes the batches of each listener, one at a time, and returns the
+/// difference of each pair that differs. A difference is returned as soon as both batches of its pair are in the known
+/// part of the merged list.
 ///
 /// Memory is reserved when the matching is made. A batch is dropped when it is paired, or when none of the 512 batches
 /// after it was its partner.
@@ -46,7 +46,7 @@ impl Model for Matching {
 }
 
 impl Matching {
-    /// A matching before its first batch. It reserves all the memory that it needs.
+    /// A matching before its first batch. `begin` reserves all the memory that the matching needs.
     pub fn begin(alloc: Global) -> Result<Self, NoMemory>
         ensures stands { IfOk result (StandsFor [] [] 0) }
         ensures open { IfOk result (λ m. wanted m ≡ Some Which.A) }
@@ -131,8 +131,8 @@ impl Matching {
         self.counts
     }
 
-    /// Returns the memory of a batch of side `which` that was paired or dropped, so that it can be used again. Returns
-    /// `None` if no such memory is kept.
+    /// Returns the memory of a batch of side `which` that was paired or dropped, so that the memory can be used again.
+    /// Returns `None` if no memory of a paired or dropped batch of that side is kept.
     pub fn take_spent(&mut self, which: Which) -> Option<Bytes>
         ensures { self.new ≡ self.old }
     {
@@ -197,8 +197,8 @@ impl Matching {
         }
     }
 
-    /// Takes the next batch of the known part. This batch is of side `side`. If the batch makes a pair that differs,
-    /// returns the difference.
+    /// Takes the next batch of the known part. The next batch must be of side `side`. If the batch makes a pair that
+    /// differs, returns the difference.
     fn step(&mut self, side: Which) -> Option<Difference>
         requires { next_side self.old ≡ Some side }
         ensures stands { (xs ys : List Presented) (given : ℕ) → StandsFor xs ys given self.old → StandsFor xs ys (given + length (option_to_list result)) self.new }

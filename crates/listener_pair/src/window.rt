@@ -126,8 +126,8 @@ fn find_partner(waiting: &VecDeque<Placed>, side: Which, x: &Timed) -> Option<us
     None
 }
 
-/// Takes the next batch of a side. If it may be paired with a waiting batch of the other side, it is paired with the
-/// first such batch. Otherwise it waits. Waiting batches that are no longer among the last 512 batches are dropped.
+/// Takes the next batch of a side. If the batch may be paired with waiting batches of the other side, it is paired with
+/// the first of them. Otherwise it waits. Waiting batches that are no longer among the last 512 batches are dropped.
 #[inline(always)]
 pub fn enter(
     side: Which,

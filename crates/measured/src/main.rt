@@ -11,7 +11,7 @@
 //! nanoseconds.
 //!
 //! `measured samples BATCHES TIMES` prints the samples of `BATCHES` batches `TIMES` times, to a sink that keeps
-//! nothing. It prints the number of bytes of text, and how many nanoseconds the printing took.
+//! nothing. `measured samples` prints the number of bytes of text, and how many nanoseconds the printing took.
 #![tactic(auto)]
 
 mod capture;

@@ -1,4 +1,4 @@
-//! The entries of a stream. The instants of its packets are in one of several orders.
+//! The entries of a stream. The instants of the stream's packets are in one of several orders.
 
 ghost use Rattle.std.specs.Prelude.{◌≡◌, ◌≤◌, ◌<◌, ◌^◌, All, IfOk, OnOk};
 ghost use Rattle.sample_schedule.specs.Limits.{IsEntry};

@@ -24,7 +24,7 @@ pub record IsClockCopyOf (p : PacketJournal) (m : ℕ) (d : Delivery) : Type 0 w
   pub known : m < p.times.clock.packets
   pub spelled : Spells (crf_spelling (p.clock_packet m)) d.packet
 
--- the packet of which a delivery is a copy: a packet of the stream, or of the clock
+-- the packet that a delivery copies: a packet of the stream, or a packet of the clock
 pub data Origin : Type 0 where
   OfStream : ℕ → Origin
   OfClock : ℕ → Origin

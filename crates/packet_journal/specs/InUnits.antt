@@ -3,8 +3,8 @@ use Rattle.std.specs.Prelude.{◌≡◌, ℕ, ◌<◌, ◌≤◌}
 use Rattle.stream_journal.specs.Journal.{Journal, Part}
 use Rattle.packet_journal.specs.Units.{AreUnit}
 
--- Packets `from` to `to` carry one NAL unit, and packet n is one of them. The talker sent all these packets, and they
--- are due at the same instant.
+-- Packets `from` to `to` carry one NAL unit, and packet n is one of them. The talker sent packets `from` to `to`, and
+-- they are due at the same instant.
 pub record IsInUnit (j : Journal) (part : ℕ → Part) (n : ℕ) : Type 0 where
   pub from : ℕ
   pub to : ℕ

@@ -92,9 +92,9 @@ IsPacket (H264 part) j stream n (H264Data v) = IsCvfPacket j (part n) stream n v
 abbrev pub audio_sample_type : ℕ
 audio_sample_type = 1
 
--- Packet m of a clock (IEEE 1722-2016, 10). The packet has the type for audio samples, and its bit `tu` is 0. Its base
--- frequency, pull, interval and restart bit are those in the clock's journal. The packet's timestamps plus `shift` are
--- the journal's points.
+-- Packet m of a clock (IEEE 1722-2016, 10). The packet has the type for audio samples, and its bit `tu` is 0. The
+-- packet's base frequency, pull, interval and restart bit are those in the clock's journal. The packet's timestamps
+-- plus `shift` are the journal's points.
 pub record IsClockPacket (c : ClockJournal) (shift : ℤ) (id m : ℕ) (v : Crf) : Type 0 where
   pub writable : IsWritableCrf v
   pub fits : Fits crf_layout v

@@ -17,8 +17,8 @@ pub record AreFragments (part : ℕ → Part) (from to : ℕ) : Type 0 where
 abbrev pub AreUnit : (ℕ → Part) → ℕ → ℕ → Type 0
 AreUnit part from to = ((from ≡ to) × (part to ≡ Single)) ⊎ AreFragments part from to
 
--- A packet of H.264 carries a NAL unit or a part of one. The result has one element, the first byte of that unit. For a
--- packet of audio, the result is empty.
+-- A packet of H.264 carries a NAL unit or a part of one. The result has one element: the first byte of the packet's NAL
+-- unit. For a packet of audio, the result is empty.
 abbrev pub first_byte : PacketView → List ℕ
 first_byte (Pcm v) = []
 first_byte (Am824Data v) = []

@@ -1,5 +1,5 @@
-//! The packets of a talker's journal, and which records of a capture are copies of them. This crate holds the
-//! definitions. Each function states a law about the definitions, and does nothing.
+//! The packets of a talker's journal, and which records of a capture are copies of them. The crate defines these
+//! packets and copies. Each function states a law about the definitions, and does nothing.
 #![tactic(auto)]
 
 pub mod examples;

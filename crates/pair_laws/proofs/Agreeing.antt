@@ -218,8 +218,8 @@ list-one by p list is h = pairs-one by p (pairs list) is (pairs-are list) (pairs
 pub list-none : (by : Bool) (p : PacketJournal) (list : List Sided) → Conforms p.times → AllByRecursion (λ (x : Sided). IsPresentedOfTalker by p x.batch) list → differences list ≡ []
 list-none by p list is h = pairs-none by p (pairs list) is (list-one by p list is h)
 
--- Let two listeners hear one talker, both with the clock or both without it. Then all batches that they present are
--- batches of the talker.
+-- Let two listeners hear one talker, both with the clock or both without it. Then all batches that the listeners
+-- present are batches of the talker.
 both-presented : (shift : ℤ) (p : PacketJournal) (plan other : ListenPlan) (records others : List Record) → HearsTalker shift p plan records → HearsTalker shift p other others → by_clock other ≡ by_clock plan
     → AllByRecursion (λ (x : Sided). IsPresentedOfTalker (by_clock plan) p x.batch) (merged (presented_of (shown_of plan records)) (presented_of (shown_of other others)))
 both-presented shift p plan other records others h k e =

@@ -105,7 +105,7 @@ part-few t front part back all p =
 
 -- ---- the positions of the batches that wait
 
--- The waiting batch `u` is of A. `done` has this batch at the position that `u` states.
+-- The waiting batch `u` is of A. The list `done` has the batch of `u` at the position that `u` states.
 record IsAt (done : List Sided) (u : Placed) : Type 0 where
   front : List Sided
   back : List Sided
@@ -185,8 +185,8 @@ near done u x rest xs ys h same sorted ea eb px py =
 
 -- ---- the pairs
 
--- All pairs that the batches `rest` add are pairs of equal batches. There are as many of them as batches of B in
--- `rest`, and no batch is left unpaired.
+-- All pairs that the batches `rest` add are pairs of equal batches. The batches `rest` add as many pairs as there are
+-- batches of B in `rest`, and no batch is left unpaired.
 record AreSame (place : ℕ) (waiting : List Placed) (rest : List Sided) : Type 0 where
   pairs : AllByRecursion (λ (p : Paired). p.earlier.batch ≡ p.later.batch) (pairs_from place waiting rest)
   left : unpaired_from place waiting rest ≡ []

@@ -467,7 +467,8 @@ found-at by p n xs ys a b list x1 x2 y1 y2 is g sorted ea eb ex ey = at (locate 
         (sa.whole ∙ ap (λ (l : List Sided). l ++ of_side A a ∷ sa.rest) sb.whole ∙ append_assoc sb.front (of_side B b ∷ sb.rest) (of_side A a ∷ sa.rest)) ex ey sb.ahead
         (sym (batches-append A sb.front (of_side B b ∷ sb.rest)) ∙ ap (batches_of A) (sym sb.whole) ∙ sa.ahead) (ap (λ (l : List Presented). l ++ batches_of B sa.rest) sb.behind ∙ sym h.then) sa.behind refl
 
--- if two listeners present batches of the same packet, these are a pair, and no batch of the packet is left unpaired
+-- if two listeners present batches of the same packet, the two batches are a pair, and no batch of the packet is left
+-- unpaired
 captures-found : (shift : ℤ) (p : PacketJournal) (plan other : ListenPlan) (records others : List Record) → HearsTalker shift p plan records → HearsTalker shift p other others → by_clock other ≡ by_clock plan → (n i k : ℕ) (a b : Presented)
     → slice_get (presented_of (shown_of plan records)) i ≡ Some a → slice_get (presented_of (shown_of other others)) k ≡ Some b → IsOfPacket (by_clock plan) p n a → IsOfPacket (by_clock plan) p n b → AreFound (by_clock plan) p n a b (merged (presented_of (shown_of plan records)) (presented_of (shown_of other others)))
 captures-found shift p plan other records others h g e n i k a b there_a there_b oa ob =
@@ -484,7 +485,7 @@ captures-found shift p plan other records others h g e n i k a b there_a there_b
     (record { talkers_a = tx; talkers_b = ty; is_a = px; is_b = py; of_a = oa; of_b = ob; talker_a = talker-in (by_clock plan) p ca.before a ca.after xs ca.is tx; talker_b = talker-in (by_clock plan) p cb.before b cb.after ys cb.is ty })
     m.sorted m.a m.b ca.is cb.is
 
--- if two listeners present batches of the same packet, these are a pair
+-- if two listeners present batches of the same packet, the two batches are a pair
 pub captures-paired : (shift : ℤ) (p : PacketJournal) (plan other : ListenPlan) (records others : List Record) → HearsTalker shift p plan records → HearsTalker shift p other others → by_clock other ≡ by_clock plan → (n i k : ℕ) (a b : Presented)
     → slice_get (presented_of (shown_of plan records)) i ≡ Some a → slice_get (presented_of (shown_of other others)) k ≡ Some b → IsOfPacket (by_clock plan) p n a → IsOfPacket (by_clock plan) p n b → Any (IsPairOf a b) (pairs (merged (presented_of (shown_of plan records)) (presented_of (shown_of other others))))
 captures-paired shift p plan other records others h g e n i k a b there_a there_b oa ob = (captures-found shift p plan other records others h g e n i k a b there_a there_b oa ob).pair

@@ -1,4 +1,4 @@
-//! Laws of the pairs of two captures. Each is a function whose contract states the law; a call does nothing.
+//! Laws of the pairs of two captures. Each law is a function whose contract states the law; a call does nothing.
 
 ghost use Rattle.std.specs.Prelude.{◌≡◌, ◌<◌, ◌≤◌, ◌++◌, [], ℕ, ℤ, Any, Bool, true, false, List, Some, length, slice_get, take};
 ghost use Rattle.std.specs.List.{AllByRecursion};
@@ -29,9 +29,9 @@ pub fn a_capture_beside_itself_never_differs()
 /// talker and of its clock, and the talker and the clock may restart anywhere.
 ///
 /// The captures never differ. Each pair is of one packet or unit of the talker, and no pair differs. If both captures
-/// present the same packet or unit, the two batches are a pair. So the packets and units of which there is a pair are
-/// exactly those that both captures present. This requires that both listeners use the clock or neither does. The two
-/// listeners may have different buffers, look-ahead and max transit times.
+/// present the same packet or unit, the two batches are a pair. So a packet or unit is in a pair if and only if both
+/// captures present it. The law requires that both listeners use the clock or neither does. The two listeners may have
+/// different buffers, look-ahead and max transit times.
 pub fn captures_of_one_talker_never_differ()
     ensures differ { (shift : ℤ) (p : PacketJournal) (plan other : ListenPlan) (records others : List Record) → HearsTalker shift p plan records → HearsTalker shift p other others → by_clock other ≡ by_clock plan
         → differences (merged (presented_of (shown_of plan records)) (presented_of (shown_of other others))) ≡ [] }
@@ -64,9 +64,10 @@ pub fn what_was_given_stays()
 {}
 
 /// Let a `RecordPair` still want more of one capture, for example because that capture cannot be read any further. Then
-/// the known part of the merged list depends on two lists only. One list has the batches of that capture that are
-/// certain to be presented, whatever follows. The other list has all batches of the other capture. Reading more of the
-/// other capture does not change the known part. After both captures are closed, all that both listeners show is known.
+/// the known part of the merged list depends on two lists only. One list has the batches of the wanted capture that are
+/// certain to be presented, whatever follows. The second list has all batches of the capture that the pair does not
+/// want. Reading more of the other capture does not change the known part. After both captures are closed, all that
+/// both listeners show is known.
 pub fn what_a_fault_leaves_is_known()
     ensures a { (plan : ListenPlan) (records others more : List Record) (given : ℕ) (pair : PairState) → StandsFor records others given pair → HavePlan plan pair → EndsAreClosed pair → wanted_by pair ≡ Some A → is_closed pair.a ≡ false → (is_closed pair.b ≡ true → more ≡ [])
         → known_by pair records others ≡ known false true (merged (presented_of (due_of plan records)) (presented_of (shown_of plan (others ++ more)))) }
@@ -77,8 +78,8 @@ pub fn what_a_fault_leaves_is_known()
 {}
 
 /// If two captures are of one talker, the known part of their merged list has no differences, however far each capture
-/// was read. The batches of each capture may be all that are shown, or only those that are certain to be presented
-/// whatever follows.
+/// was read. For each capture, the batches can be all batches that are shown, or only the batches that are certain to
+/// be presented, whatever follows.
 pub fn what_is_known_of_one_talker_never_differs()
     ensures pair { (shift : ℤ) (p : PacketJournal) (plan : ListenPlan) (records others : List Record) (pair : PairState) → HearsTalker shift p plan records → HearsTalker shift p plan others → HavePlan plan pair → differences (known_by pair records others) ≡ [] }
     ensures due_a { (shift : ℤ) (p : PacketJournal) (plan : ListenPlan) (records others : List Record) (ended_a ended_b : Bool) → HearsTalker shift p plan records → HearsTalker shift p plan others

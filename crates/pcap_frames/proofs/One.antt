@@ -46,8 +46,8 @@ spells_one style r first s =
     ∙ (ap (λ (n : ℕ). make (record_of style first).arrival n r.bytes) (sym s.orig_len)
     ∙ ap (λ (b : List ℕ). make (record_of style first).arrival (record_of style first).orig_len b) (sym s.packet_bytes))
 
--- What follows the whole records. If x is `None`, nothing follows. Otherwise the bytes that follow, read as a record,
--- have the first refusal x.
+-- What follows the whole records. If x is `None`, nothing follows. If x is a refusal, it is the first refusal of the
+-- bytes that follow, read as a record.
 abbrev pub Ends : Style → ℕ → List ℕ → Option Refusal → Type 0
 Ends style start rest x =
     ((rest ≡ []) × (x ≡ None))

@@ -48,8 +48,8 @@ spells_front style start bytes e =
       packet_bytes = refl;
     }
 
--- The bytes are the encodings of these records, followed by an ending. If `x` is `None`, the ending is empty. Otherwise
--- the first refusal of the ending, read as a record, is `x`.
+-- The bytes are the encodings of these records, followed by an ending. If `x` is `None`, the ending is empty. If `x` is
+-- a refusal, it is the first refusal of the ending, read as a record.
 abbrev Cut : Style → ℕ → List ℕ → List Record → Option Refusal → Type 0
 Cut style start bytes records x =
     (front : List ℕ) × (rest : List ℕ) × (bytes ≡ front ++ rest) × SpellsAll style records front × Ends style (start + length front) rest x

@@ -57,8 +57,8 @@ abbrev pub IsRefused : List ℕ → List Record → Refusal → Type 0
 IsRefused bytes records refusal =
     ((records ≡ []) × (file_refusal bytes ≡ Some refusal)) ⊎ IsRefusedInRecord bytes records refusal
 
--- If there is no refusal, the bytes are a capture of these records. Otherwise the refusal is the first refusal of the
--- bytes, and `records` are the whole records before it.
+-- If there is no refusal, the bytes are a capture of these records. If there is a refusal, it is the first refusal of
+-- the bytes, and `records` are the whole records before it.
 abbrev pub Holds : List ℕ → List Record → Option Refusal → Type 0
 Holds bytes records None = (style : Style) × IsCapture style records bytes
 Holds bytes records (Some refusal) = IsRefused bytes records refusal

@@ -8,8 +8,8 @@ use Rattle.pcap_frames.specs.Capture.{Record}
 use Rattle.pcap_frames.specs.Layout.{IsRecordTime}
 
 -- What the bytes of a capture mean in one layout. `records` are the whole records before the first refusal. `refusal`
--- is the first refusal if the capture ends with these bytes. `certain` is that refusal, if no later bytes can change
--- it.
+-- is the first refusal if the capture ends with these bytes. `certain` is the value of `refusal`, if no later bytes can
+-- change it.
 pub record Meaning : Type 0 where
   pub records : List ℕ → List Record
   pub refusal : List ℕ → Option Refusal

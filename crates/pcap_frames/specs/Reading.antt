@@ -40,21 +40,21 @@ held_by None (Some style) start part = whole_record style start part
 abbrev pub held : Reading → Option Record
 held r = held_by r.refusal r.style r.start r.part
 
--- `part` are the bytes of a record that were taken so far. Nothing in them is refused, and they do not extend past the
--- end of the record.
+-- `part` are the bytes of a record that were taken so far. `part` contains nothing that is refused, and does not extend
+-- past the end of the record.
 pub record IsPart (order : Order) (start : ℕ) (part : List ℕ) : Type 0 where
   pub accepted : certain (record_refusal order start part) ≡ None
   pub within : (length part ≤ 16) ⊎ (length part ≤ 16 + number_at order 8 4 part)
 
--- `part` are the bytes of a file header that were taken so far, from the start of the capture on. They are not the
--- whole header, and nothing in them is refused.
+-- `part` are the bytes of a file header that were taken so far, from the start of the capture on. `part` is not the
+-- whole header, and nothing in it is refused.
 pub record IsHeaderPart (start : ℕ) (part : List ℕ) : Type 0 where
   pub begins : start ≡ 0
   pub accepted : certain (file_refusal part) ≡ None
   pub partial : length part < 24
 
--- The invariant of a reader. A refusal is at a complete field. Without a refusal, `part` belongs to the file header if
--- there is no style, and to a record if there is a style.
+-- The invariant of a reader. If the reader has a refusal, the refused field is complete. Without a refusal, `part`
+-- belongs to the file header if there is no style, and to a record if there is a style.
 abbrev pub IsReading : Option Refusal → Option Style → ℕ → List ℕ → Type 0
 IsReading (Some refusal) style start part = refusal.short ≡ false
 IsReading None None start part = IsHeaderPart start part
@@ -99,8 +99,8 @@ GoesOn old more new = readers.GoesOn (progress old) more (progress new)
 abbrev pub with_part : Reading → List ℕ → Reading
 with_part r bytes = record r { part = bytes }
 
--- These bytes are the next whole record, and none of them was taken yet. After taking them, the reader holds the
--- record.
+-- `bytes` is the next whole record, and none of its bytes was taken yet. After the reader has taken the bytes, it holds
+-- the record.
 pub record IsNext (r : Reading) (bytes : List ℕ) : Type 0 where
   pub untaken : r.part ≡ []
   pub reading : IsReading r.refusal r.style r.start bytes

@@ -15,8 +15,8 @@ pub fn one_capture()
     ensures one_style { (bytes : List ℕ) (records others : List Record) (style other : Style) → IsCapture style records bytes → IsCapture other others bytes → style ≡ other }
 {}
 
-/// A law: a capture in its canonical spelling is a capture of exactly its style and its records. Reading it back
-/// therefore gives the same records.
+/// A law: a capture in its canonical spelling is a capture of exactly its style and its records. So reading the
+/// canonical spelling back gives the same records.
 pub fn capture_again()
     ensures capture { (style : Style) (records : List Record) → AllByRecursion (HasSpelling style) records → IsCapture style records (capture_spelling style records) }
     ensures records { (style : Style) (records : List Record) → AllByRecursion (HasSpelling style) records → whole_records (capture_spelling style records) ≡ records }

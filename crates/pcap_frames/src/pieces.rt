@@ -10,7 +10,7 @@ use crate::style::Style;
 use avtp_base::{Bytes, NoMemory, Refusal};
 use std::alloc::Global;
 
-/// A record of a capture that owns its bytes.
+/// A captured record that owns its bytes.
 #[derive(Debug, Drop)]
 pub struct KeptRecord {
     /// When the frame was captured, in nanoseconds.

@@ -22,15 +22,15 @@ use std::marker::Model;
 /// of any length, and holds one record at a time. Feed a piece until all of it is taken; after each call, look at the
 /// held record and release it.
 ///
-/// A record that is complete in a piece need not be copied. If `whole_ahead` finds such a record, use `lend` to see the
-/// record in the piece and `pass` to skip the record, instead of `feed`, `held` and `release`.
+/// A record that is complete in a piece need not be copied. If `whole_ahead` finds a complete record, use `lend` to see
+/// the record in the piece and `pass` to skip the record, instead of `feed`, `held` and `release`.
 #[derive(Debug, Drop)]
 pub struct Reader {
     style: Option<Style>,
     /// The offset, in the capture, of the file header or record that is being read.
     start: u64,
-    /// The bytes taken of the file header or of the record. The header and the captured bytes of a record share this
-    /// buffer.
+    /// The bytes taken so far of the file header or of the current record. The header and the captured bytes of a
+    /// record share this buffer.
     part: Vec<u8>,
     refusal: Option<Refusal>,
 }
@@ -48,7 +48,7 @@ impl Model for Reader {
 }
 
 impl Reader {
-    /// A reader that has taken nothing. This call allocates memory for one record. Later calls allocate nothing.
+    /// A reader that has taken nothing. `new` allocates memory for one record. Later calls allocate nothing.
     #[tactic(auto, using(crate::proofs::Fields::header_begins, crate::proofs::Steps::read_nothing))]
     pub fn new(alloc: Global) -> Result<Self, NoMemory>
         ensures empty { IfOk result (λ reader. reader ≡ nothing_read) }
@@ -69,9 +69,9 @@ impl Reader {
     /// Takes bytes up to the end of one record or of the piece, and returns how many it took.
     ///
     /// While nothing is refused, the call returns `Ok(0)` if and only if the piece is empty or a whole record is held.
-    /// As soon as the bytes so far show the first refusal of the capture, the call returns that refusal. From then on
-    /// every `feed` and every `finish` returns the same refusal without looking at further bytes, and each fed piece
-    /// counts as read.
+    /// As soon as the bytes so far show the first refusal of the capture, the call returns that refusal. Once `feed`
+    /// has returned a refusal, every `feed` and every `finish` returns the same refusal without looking at further
+    /// bytes, and each fed piece counts as read.
     ///
     /// At most 2^62 bytes may be taken in all, including the piece.
     pub fn feed(&mut self, piece: &[u8]) -> Result<usize, Refusal>
@@ -197,8 +197,8 @@ impl Reader {
 
     /// The size of the next record, if the piece begins with the whole record and no byte of the record was taken yet.
     ///
-    /// The result is `None` before the end of the file header. It is also `None` if some bytes of the record were
-    /// taken, a field is refused, or the record continues after the piece. At `None` the piece must be fed.
+    /// The result is `None` before the end of the file header. The result is also `None` if some bytes of the record
+    /// were taken, a field is refused, or the record continues after the piece. At `None` the piece must be fed.
     pub fn whole_ahead(&self, piece: &[u8]) -> Option<usize>
         ensures within { IfSome result (λ size. size ≤ length piece.now) }
         ensures limit { IfSome result (λ size. size ≤ 262160) }
@@ -212,8 +212,8 @@ impl Reader {
         layout::whole_size(style.order, piece)
     }
 
-    /// A view of the next record. `bytes` are the header and the captured bytes of that record, at the front of the
-    /// piece.
+    /// A view of the next record. `bytes` are the start of the piece: the header and the captured bytes of the next
+    /// record.
     pub fn lend<'a>(&self, bytes: &'a [u8]) -> RecordView<'a>
         requires { IsNext self.now bytes.now }
         ensures exact { held (with_part self.now bytes.now) ≡ Some (shown result) }
@@ -227,7 +227,7 @@ impl Reader {
 
     /// Skips the next record, as if its bytes had been fed and the record released.
     ///
-    /// At most 2^62 bytes may be taken in all, including these.
+    /// At most 2^62 bytes may be taken in all, including `bytes`.
     pub fn pass(&mut self, bytes: &[u8])
         requires next { IsNext self.old bytes.now }
         requires bounded { taken self.old + length bytes.now ≤ 2 ^ 62 }
@@ -239,9 +239,9 @@ impl Reader {
 
     /// Whether the bytes so far are a whole capture: a file header and whole records.
     ///
-    /// If the capture is not whole, the call returns the refusal that an earlier `feed` returned, if there is one.
-    /// Otherwise the call refuses the first field of which a byte is missing, with `short` set. A held record counts as
-    /// whole. The call changes nothing, and more bytes can be fed afterwards.
+    /// If the capture is not whole, the call returns the refusal that an earlier `feed` returned, if there is one. If
+    /// no earlier `feed` returned a refusal, the call refuses the first field of which a byte is missing, with `short`
+    /// set. A held record counts as whole. The call changes nothing, and more bytes can be fed afterwards.
     pub fn finish(&self) -> Result<(), Refusal>
         ensures exact { (bytes : List ℕ) (records : List Record) → HasRead self.now bytes records → Holds bytes (records ++ option_to_list (held self.now)) (result_err result) }
         ensures ends { Ends meaning (progress self.now) result }

@@ -13,7 +13,8 @@ use avtp_base::octets::write_front;
 /// Writes the file header of a capture of Ethernet frames (draft-ietf-opsawg-pcap, section 4), and returns its length.
 /// The header has version 2.4, zone and accuracy 0, a snapshot length of 262,144 bytes, and link type 1.
 ///
-/// The call returns `Room` if and only if `out` has fewer than 24 bytes. In that case nothing is written.
+/// The call returns `Room` if and only if `out` has fewer than 24 bytes. If the call returns `Room`, nothing is
+/// written.
 pub fn write_header(out: &mut [u8], style: Style) -> Result<usize, Room>
     ensures fits { IsOk result ↔ (24 ≤ length out.old) }
     ensures size { IfOk result (λ n. n ≡ 24) }
@@ -43,13 +44,13 @@ pub fn write_header(out: &mut [u8], style: Style) -> Result<usize, Room>
     Ok(FILE_HEADER)
 }
 
-/// Writes a record (draft-ietf-opsawg-pcap, section 5): its header, with a fraction below one second, and its bytes.
-/// Returns the record's length.
+/// Writes a record (draft-ietf-opsawg-pcap, section 5): its header, whose fraction is below one second, and then its
+/// captured bytes. Returns the record's length.
 ///
-/// `arrival` is in nanoseconds, from 0 to below 2^32 seconds. In a capture that counts microseconds, it is a multiple
-/// of 1000. `orig_len` is the frame's length on the wire, and there are at most 262,144 `bytes`. The call returns
-/// `Room` if and only if `out` is shorter than the 16-byte header and `bytes` together. In that case nothing is
-/// written.
+/// `arrival` is in nanoseconds, from 0 to below 2^32 seconds. In a capture that counts microseconds, `arrival` is a
+/// multiple of 1000. `orig_len` is the frame's length on the wire, and there are at most 262,144 `bytes`. The call
+/// returns `Room` if and only if `out` is shorter than the 16-byte header and `bytes` together. If the call returns
+/// `Room`, nothing is written.
 pub fn write_record(
     out: &mut [u8],
     style: Style,

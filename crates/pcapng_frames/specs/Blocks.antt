@@ -17,13 +17,14 @@ use Rattle.pcapng_frames.specs.declared.interface.Interface.{Interface}
 use Rattle.pcapng_frames.specs.Interface.{microseconds}
 use Rattle.pcapng_frames.specs.Fields.{kind_of, order_of_magic, padded, Row, row, refusal_at, first_refused, section_rows, interface_rows, packet_rows, packet_arrival, other_rows, option_code, option_length, option_rows, with_option}
 
--- A place in a capture: a point at which a block, an option or a trailer begins. `stage` says which of them begins
--- there. The other fields are what is known from the bytes before the place.
+-- A place in a capture: a point at which a block, an option or a trailer begins. `stage` says whether a block, an
+-- option or a trailer begins at the place. Every field other than `stage` says what is known from the bytes before the
+-- place.
 --
 -- `order` is the byte order of the section, or `None` before the first section. `interfaces` are the interfaces
 -- described in the section so far. `start` is the offset of the block, and `total` is its total length. In an interface
--- description, `interface` is what the options so far state, and `left` is the number of remaining bytes of options.
--- Before the trailer of a packet's block, `packet` is that packet.
+-- description, `interface` is what the options so far state, and `left` is the number of remaining bytes of options. If
+-- the place is before the trailer of a packet's block, `packet` is the packet of that block.
 pub record Place : Type 0 where
   pub stage : Stage
   pub order : Option Order
@@ -85,7 +86,7 @@ block_rows k order interfaces bytes =
 unfoldable pub block_refused : Option Order → List Interface → ℕ → List ℕ → Option Refusal
 block_refused order interfaces start bytes = first_refused start (length bytes) (block_rows (kind_at order bytes) order interfaces bytes)
 
--- The first refused field of the option that the bytes begin with, among the fields that the bytes contain. `left`
+-- The first refused field of the option at the start of the bytes, among the fields that the bytes contain. `left`
 -- bytes of options remain.
 unfoldable pub option_refused : Order → ℕ → ℕ → List ℕ → Option Refusal
 option_refused order at left bytes = first_refused at (length bytes) (option_rows (option_code order bytes) (option_length order bytes) left bytes)
@@ -110,8 +111,8 @@ refusal_by stage.Trailer p bytes = trailer_refused (order_or_little p.order) (p.
 unfoldable pub refusal_here : Place → List ℕ → Option Refusal
 refusal_here p bytes = refusal_by p.stage p bytes
 
--- The number of bytes from the start of a block to the next place. For an interface description, that is the size of
--- the fixed fields. For any other block, it is the size of everything before the trailer.
+-- The number of bytes from the start of a block to the next place. For an interface description, the result is the size
+-- of the fixed fields. For any other block, the number is the size of everything before the trailer.
 abbrev pub block_size : Kind → ℕ → ℕ
 block_size kind.Section total = 16 + (total - 20)
 block_size kind.Interface total = 16

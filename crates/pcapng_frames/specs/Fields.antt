@@ -72,8 +72,7 @@ section_rows order bytes =
     ∷ row SectionVersion 12 14 (not (nat_eq (number_at order 12 2 bytes) 1))
     ∷ []
 
--- the fields that are checked in an interface description that follows `count` other interface descriptions in its
--- section
+-- the fields that are checked in interface description number `count` of its section, counted from 0
 abbrev pub interface_rows : Order → ℕ → List ℕ → List Row
 interface_rows order count bytes =
     row BlockLength 4 8 (bad_length kind.Interface (number_at order 4 4 bytes))
@@ -127,7 +126,7 @@ option_rows code len left bytes =
     ∷ row IfTsresol 0 5 (nat_eq code 9 && not (is_resolution (slice_index bytes 4)))
     ∷ []
 
--- The interface once the option that the bytes begin with was read. If an option occurs twice, the later one counts.
+-- The interface after the option at the front of the bytes was read. If an option occurs twice, the later one counts.
 abbrev pub with_option : Order → ℕ → Interface → List ℕ → Interface
 with_option order code interface bytes =
     if nat_eq code 9 then record interface { resolution = slice_index bytes 4 }

@@ -13,8 +13,8 @@ use Rattle.pcapng_frames.specs.Fields.{first_refused, kind_of, number_at, packet
 use Rattle.pcapng_frames.specs.Blocks.{Place, Contents, after_block, order_or_little, contents, contents_from, whole_records, first_refusal, settled, ends, and_then, first_place, after_trailer, short_at}
 
 -- The state of a reader. `place` is the place at which the reader reads, once it has skipped `skip` further bytes.
--- `part` are the bytes taken from that place on. `whole` tells whether the block's packet is whole. `refusal` is the
--- refusal that the reader has returned, if any.
+-- `part` are the bytes that were taken from `place` on. `whole` tells whether the block's packet is whole. `refusal` is
+-- the refusal that the reader has returned, if any.
 pub record Reading : Type 0 where
   pub place : Place
   pub skip : ℕ
@@ -37,16 +37,16 @@ contents_past skip p part more =
     if nat_lt (length more) skip then ends (Some (short_at BlockBody (p.start + 8)))
     else contents_at p (part ++ drop skip more)
 
--- The contents of the capture that a reader has not released yet, if `more` are the bytes that follow those taken. If
+-- The contents of the capture that a reader has not released yet, if the bytes taken so far are followed by `more`. If
 -- the reader has a refusal, the contents are only that refusal. If the reader holds a packet, the contents are that
--- packet, followed by the contents after the packet's block. Otherwise they are the contents from the reader's place
--- on.
+-- packet, followed by the contents after the packet's block. If the reader has no refusal and holds no packet, they are
+-- the contents from the reader's place on.
 abbrev pub rest_by : Option Refusal → Bool → Reading → List ℕ → Contents
 rest_by (Some refusal) whole r more = ends (Some (record { refusal = refusal; cut = false }))
 rest_by None true r more = and_then r.place.packet (contents_at (after_trailer r.place) more)
 rest_by None false r more = contents_past r.skip r.place r.part more
 
--- the contents of the capture that this reader has not released yet, if `more` are the bytes that follow those taken
+-- the contents of the capture that this reader has not released yet, if the bytes taken so far are followed by `more`
 abbrev pub rest_of : Reading → List ℕ → Contents
 rest_of r more = rest_by r.refusal r.whole r more
 
@@ -106,8 +106,8 @@ pub record IsPacketBlock (order : Order) (interfaces : List Interface) (block : 
   pub trailer : number_at order 0 4 (drop (length block - 4) block) ≡ length block
   pub long : 32 ≤ length block
 
--- These bytes are the block of the next packet, and none of them was taken yet. After taking them, the reader holds the
--- packet.
+-- `block` is the block of the next packet, and none of its bytes was taken yet. After taking the bytes, the reader
+-- holds the packet.
 pub record IsNext (r : Reading) (block : List ℕ) : Type 0 where
   pub accepted : r.refusal ≡ None
   pub free : r.whole ≡ false
@@ -117,7 +117,7 @@ pub record IsNext (r : Reading) (block : List ℕ) : Type 0 where
   pub opened : is_some r.place.order ≡ true
   pub packet : IsPacketBlock (order_or_little r.place.order) r.place.interfaces block
 
--- The reader after it took the block of the next packet. The reader now holds that packet.
+-- The reader after it took the block of the next packet. The reader now holds the packet in `block`.
 abbrev pub with_block : Reading → List ℕ → Reading
 with_block r block = record {
   place = after_block kind.Packet r.place (length block) block;

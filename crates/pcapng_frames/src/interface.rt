@@ -96,7 +96,8 @@ fn any_arrival(interface: Interface, timestamp: u64) -> Option<u64>
 /// The arrival of a packet, in nanoseconds. `None` if the arrival is before the epoch, or at least 2^32 seconds after
 /// the epoch.
 ///
-/// Most clocks count nanoseconds or microseconds from the epoch. For such a clock, one multiplication is enough.
+/// Most clocks count nanoseconds or microseconds from the epoch. For a clock that counts nanoseconds or microseconds
+/// from the epoch, one multiplication is enough.
 #[tactic(auto, using(crate::proofs::Numbers::nanosecond_arrival, crate::proofs::Numbers::microsecond_arrival, crate::proofs::Numbers::nanosecond_late, crate::proofs::Numbers::microsecond_late))]
 #[inline(always)]
 pub fn arrival(interface: Interface, timestamp: u64) -> Option<u64>

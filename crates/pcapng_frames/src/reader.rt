@@ -28,8 +28,8 @@ const TAIL_ROOM: usize = 12;
 /// holds one packet at a time. Feed a piece until all of it is taken; after each call, look at the held packet and
 /// release it.
 ///
-/// A packet whose block is complete in a piece need not be copied. If `whole_ahead` finds such a block, use `lend` to
-/// see the packet in the piece and `pass` to skip it, instead of `feed`, `held` and `release`.
+/// A packet whose block is complete in a piece need not be copied. If `whole_ahead` finds a complete block, use `lend`
+/// to see the packet in the piece and `pass` to skip it, instead of `feed`, `held` and `release`.
 #[derive(Debug, Drop)]
 pub struct Ng {
     cursor: Cursor,
@@ -85,8 +85,8 @@ impl Ng {
     /// Takes bytes up to the end of one packet's block or of the piece, and returns how many it took.
     ///
     /// While nothing is refused, the call returns `Ok(0)` if and only if the piece is empty or a whole packet is held.
-    /// As soon as the bytes so far show the first refusal of the capture, the call returns that refusal. From then on
-    /// every `feed` and every `finish` returns the same refusal.
+    /// As soon as the bytes so far show the first refusal of the capture, the call returns that refusal. Once `feed`
+    /// has returned a refusal, every `feed` and every `finish` returns the same refusal.
     ///
     /// The bytes taken before and the bytes of the piece must together number at most 2^62.
     pub fn feed(&mut self, piece: &[u8]) -> Result<usize, Refusal>
@@ -203,12 +203,12 @@ impl Ng {
         self.cursor.start += block.len() as u64;
     }
 
-    /// Whether the bytes so far are a whole capture: whole blocks, the first of which is a section header.
+    /// Whether the bytes so far are a whole capture, which consists of whole blocks and begins with a section header.
     ///
     /// If the capture is not whole, the call returns the refusal that an earlier `feed` returned, if there is one.
-    /// Otherwise the call refuses the first field of which a byte is missing, with `short` set; or, if only the block
-    /// type of a section's 257th interface description is present, it refuses that interface. The call changes nothing,
-    /// and more bytes can be fed afterwards.
+    /// Otherwise the call refuses the first incomplete field, with `short` set. If only the block type of a section's
+    /// 257th interface description is present, the call refuses that interface instead. The call changes nothing, and
+    /// more bytes can be fed afterwards.
     pub fn finish(&self) -> Result<(), Refusal>
         ensures { Ends meaning (progress self.now) result }
     {

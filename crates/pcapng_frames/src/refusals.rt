@@ -70,7 +70,7 @@ pub fn interface_refusal(order: Order, count: usize, start: u64, bytes: &[u8]) -
     None
 }
 
-/// In a section with these interfaces, the first refused field of an enhanced packet block, among the fields that these
+/// The first refused field of an enhanced packet block in a section with these interfaces, among the fields that these
 /// bytes contain.
 pub fn packet_refusal(
     order: Order,

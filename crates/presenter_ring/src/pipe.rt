@@ -178,11 +178,12 @@ impl Pipe {
     }
 
     /// Runs one round, in which each side takes its turn in a thread of its own. The receiver's side pulls and pushes
-    /// at most as many items as the ring can hold. It stops earlier if there is no free slot, if the receiver has
-    /// ended, or if, after the first push, the receiver may have to wait. The receiver's side keeps an item for which
-    /// there is no free slot. If a round pushes and pops nothing, the kept item is presented directly, without the
-    /// ring. The presenter's side pops and presents at most as many items as the ring can hold. It stops earlier if the
-    /// ring is empty or a presentation fails. The gate is called after each push and each pop.
+    /// at most as many items as the ring can hold. The receiver's side stops earlier if there is no free slot or the
+    /// receiver has ended. After the first push, it also stops if the receiver may have to wait. The receiver's side
+    /// keeps an item for which there is no free slot. If a round pushes and pops nothing, the kept item is presented
+    /// directly, without the ring. The presenter's side pops and presents at most as many items as the ring can hold.
+    /// The presenter's side stops earlier if the ring is empty or a presentation fails. The gate is called after each
+    /// push and each pop.
     ///
     /// If `ended` is `None`, the receiver must not have ended. In all rounds together, the receiver may give at most
     /// 2^62 items.

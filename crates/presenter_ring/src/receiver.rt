@@ -39,20 +39,21 @@ pub trait Receiver: Send {
     /// The answer with which the receiver ended, if it has ended.
     ghost ended: { Self → Option PullValue };
 
-    /// Gives the next item. Any other answer means that the receiver has ended and must not be called again.
+    /// Gives the next item. Any answer other than an item means that the receiver has ended and must not be called
+    /// again.
     fn next(&mut self) -> Pull
         requires { ended self.old ≡ None }
         ensures gave { (begun : Self) (items : List ShownValue) → gave begun self.old items → gave begun self.new (items ++ items_of result) }
         ensures left { left self.new + length (items_of result) ≤ left self.old }
         ensures ended { ended self.new ≡ ending_of result };
 
-    /// Whether `next` may have to wait for its input. The items that were given so far should be presented before such
-    /// a wait.
+    /// Whether `next` may have to wait for its input. The items that were given so far should be presented before
+    /// `next` waits.
     fn may_wait(&self) -> bool {
         false
     }
 
-    /// Gets back the samples of a presented item. The receiver is free to reuse their memory.
+    /// Gets back the samples of a presented item. The receiver is free to reuse the memory of `samples`.
     fn take_back(&mut self, samples: Bytes)
         ensures gave { (begun : Self) (items : List ShownValue) → gave begun self.old items → gave begun self.new items }
         ensures left { left self.new ≡ left self.old }

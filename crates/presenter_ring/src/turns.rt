@@ -51,7 +51,7 @@ pub fn both_turns<T: Threads + Sync, R: Receiver, P: Presenter, G: Gate>(
     presented
 }
 
-/// Lets the presenter's side see all items that were pushed. Both ends of the ring are needed for this.
+/// Lets the presenter's side see all items that were pushed. The call needs both ends of the ring.
 pub fn see_all(front: &mut Front, back: &mut Back)
     requires { IsPair front.old.producer back.old.consumer }
     ensures pair { IsPair front.new.producer back.new.consumer }

@@ -37,7 +37,7 @@ makes bytes input output files after handed still failed input_is output_is apar
     (subst (λ it. MakesOutput (Some output) report.made ran.shelf.files it) ran.told_after whole.4)) in
     (done.0, put.0)
 
--- ---- how it ends
+-- ---- how the run of `talk` ends
 
 -- an input of whole sample frames has no fault
 no_fault : (bytes : List ℕ) → IsPlan (plain false) → length bytes ≤ most_input → length bytes % 4 ≡ 0 → fault_of (plain false) bytes ≡ None

@@ -1,4 +1,4 @@
--- The shortest words of `talk` and `listen`, and what they ask for.
+-- The shortest command lines of `talk` and `listen`, and the requests that they make.
 use Rattle.std.specs.Prelude.{ℕ, ◌^◌, pos, List, [], ◌∷◌, false, None, codes}
 use Rattle.aaf_format.specs.declared.aaf.AafFormat.TheVariants.{Int16}
 use Rattle.avtp_words.specs.declared.talk.Kind.TheVariants.{Aaf}

@@ -36,9 +36,9 @@ pub fn default_words_are_command_lines()
 {}
 
 /// Let a file hold a capture of a plan that has the default lead. Let `listen`, given the plan's stream ID and this
-/// file, end with `Done`. Then the devices got the whole stream of the plan from the capture (`GaveAll`): each packet
-/// or, for H.264, each NAL unit. This follows from what `run` promises (`HasRun.reports.headline`). For audio, the run
-/// of `listen` ends with `Done`, unless memory runs out, a write fails or a device fails.
+/// file, end with `Done`. The devices then got the whole stream of the plan from the capture (`GaveAll`): each packet
+/// or, for H.264, each NAL unit. The law follows from what `run` promises (`HasRun.reports.headline`). For audio, the
+/// run of `listen` ends with `Done`, unless memory runs out, a write fails or a device fails.
 pub fn default_words_present_all<D: Devices>()
     ensures given { (plan : TalkPlan) (input word name : List ℕ) (files after : Files) (old new : D) (failed : Bool) → HasDefaultLead plan input → IsId word plan.id → IsName name
         → files name ≡ Some (capture plan input) → Ran (listen_words word name) (HandsOn D.handed old new) (new ≡ old) failed files after Done → GaveAll plan input (each_packet plan input) (HandsOn D.handed old new) }

@@ -82,7 +82,7 @@ own-put (x ∷ xs) k o p = elim (int_lt k.instant x.instant) as (λ v. HaveOwnSl
 
 -- ---- one more batch waits
 
--- A batch was put into a free slot. Its key was put after all keys with earlier or equal instants.
+-- A batch was put into a free slot. The batch's key was put after all keys with earlier or equal instants.
 pub record IsPut (s t : Slab Accepted) (ks ls : List Key) (k : Key) (a : Accepted) : Type 0 where
   pub free : get s k.slot ≡ None
   pub slot : Updates s t k.slot (Some a)

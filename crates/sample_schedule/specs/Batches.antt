@@ -4,7 +4,8 @@ use Rattle.time_unfold.specs.declared.line.Line.{Line}
 use Rattle.time_unfold.specs.Lines.{instant_at}
 use Rattle.time_unfold.specs.Time.{IsInstant}
 
--- A batch of samples that is presented. It has `count` samples; sample j of the batch is sample `from` + j of the line.
+-- A batch of samples that is presented. The batch has `count` samples; sample j of the batch is sample `from` + j of
+-- the line.
 pub record Presented : Type 0 where
   pub frame : ℕ
   pub seq : ℕ

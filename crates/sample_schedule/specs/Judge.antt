@@ -80,8 +80,8 @@ pub record StandsFor (clock : Clock) (entries : List Entry) (given : ℕ) (judge
   pub now : judge.time ≡ latest (take (begun judge) entries)
   -- as long as the list has not ended, an entry is judged or current if and only if at least `look` entries follow it
   pub settles : judge.closed ≡ false → begun judge ≡ settled judge.plan entries
-  -- `passed` holds the batches that have been presented since the current entry was taken; together with the batches
-  -- that still wait, they are all the batches that waited before
+  -- `passed` holds the batches that were presented since the current entry was taken; these batches and the waiting
+  -- ones are together all batches that waited when the entry was taken
   pub passed : List Accepted
   pub waiting : passed ++ judge.waiting ≡ by_instant (standing (latest (take judge.place entries)) (accepted clock judge.plan entries judge.place))
   pub early : is_over judge ≡ false → AllByRecursion (λ a. a.instant <ℤ judge.time) passed

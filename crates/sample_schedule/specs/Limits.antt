@@ -23,8 +23,8 @@ pub record IsPlan (plan : SchedulePlan) : Type 0 where
   pub shift_from : neg_ℤ (pos 1000000000) ≤ℤ plan.shift
   pub shift_to : plan.shift ≤ℤ pos 1000000000
 
--- A packet of audio as the formats yield it. All its samples have the same number of bytes. Its rate is 0 or from 8,000
--- to 192,000 Hz.
+-- A packet of audio as the formats yield it. All samples of the packet have the same number of bytes. The packet's rate
+-- is 0 or from 8,000 to 192,000 Hz.
 pub record IsPacket (p : Packet) : Type 0 where
   pub arrival : IsArrival p.arrival
   pub count : p.count ≤ 65535

@@ -1,5 +1,5 @@
--- How far the head of a packet can be from the packet's samples. This distance bounds the instants that are counted
--- from the head.
+-- How far the head of a packet can be from the packet's samples. The distance from a packet's head to its samples
+-- bounds the instants that are counted from the head.
 use Rattle.std.specs.Prelude.{◌+◌, ◌*◌, ◌^◌, pos, neg_ℤ, ◌≤ℤ◌, ◌<ℤ◌}
 use Rattle.time_unfold.specs.declared.head_rule.Head.{Head}
 

@@ -111,8 +111,8 @@ unfoldable pub steps : Clock → SchedulePlan → List Entry → ℕ → List Gi
 steps clock plan entries zero = []
 steps clock plan entries (suc i) = steps clock plan entries i ++ step clock plan entries i
 
--- The accepted items that no step presents, because no entry arrives after their first instants. They are presented
--- after the last entry.
+-- The accepted items that no step presents, because no entry arrives after their first instants. The schedule presents
+-- these items after the last entry.
 abbrev pub rest_of : Clock → SchedulePlan → List Entry → List Given
 rest_of clock plan entries =
     map Presents (by_instant (standing (latest entries) (accepted clock plan entries (length entries))))

@@ -110,7 +110,7 @@ is_full plan waiting size =
     if nat_le plan.buffer (length waiting) then true else nat_lt plan.room (total_bytes waiting + size)
 
 -- The first condition that holds decides: the first instant has passed (late); a copy was accepted before (repeat); the
--- buffer is full. If none holds, the item is accepted.
+-- buffer is full. If none of these conditions holds, the item is accepted.
 abbrev pub decided : Bool → Bool → Bool → ℕ → Presented → Result Accepted Reason
 decided late repeat full place batch =
     if late then Err Late else
@@ -118,8 +118,8 @@ decided late repeat full place batch =
     if full then Err Full else
     Ok (record { place = place; instant = first_instant batch; batch = batch })
 
--- The verdict on the item at index `place`. `now` is the greatest arrival up to and including that of the item, and
--- `earlier` holds the items that were accepted before.
+-- The verdict on the item at index `place`. `now` is the greatest arrival so far, including the arrival of the item,
+-- and `earlier` holds the items that were accepted before.
 unfoldable pub verdict : SchedulePlan → ℤ → List Accepted → ℕ → Result Presented Reason → Result Accepted Reason
 verdict plan now earlier place (Err reason) = Err reason
 verdict plan now earlier place (Ok batch) =

@@ -46,7 +46,8 @@ impl Batch {
         self.line.at(self.from + i64::from(j))
     }
 
-    /// The instant of the first sample. For most batches this is the line's base, so nothing has to be computed.
+    /// The instant of the first sample. For most batches the first instant is the line's base, so nothing has to be
+    /// computed.
     #[inline(always)]
     pub(crate) fn first_instant(&self) -> i64
         ensures { result ≡ sample_instant self.now 0 }

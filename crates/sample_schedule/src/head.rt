@@ -102,8 +102,9 @@ fn head_back(plan: &SchedulePlan, noted: &Noted, packet: &Packet) -> Option<Head
     })
 }
 
-/// The head of a packet that has samples and a rate. If the packet's own timestamp is usable, it gives the head.
-/// Otherwise the latest fitting stamp among the noted stamps gives the head; if none fits, there is no head.
+/// The head of a packet that has samples and a rate. If the packet's own timestamp is usable, it gives the head. If the
+/// packet's own timestamp is not usable, the latest fitting stamp among the noted stamps gives the head; if no stamp
+/// fits, there is no head.
 pub fn head_of(plan: &SchedulePlan, noted: &Noted, packet: &Packet) -> Option<Head>
     requires plan { IsPlan plan.now }
     requires packet { IsPacket packet.now }

@@ -8,7 +8,8 @@ ghost use Rattle.sample_schedule.specs.Instants.{IsInstantOf, IsRestOf};
 use crate::batch::Batch;
 
 /// The instant of sample `j` of a batch: the whole nanoseconds, and the remainder in units of 1 / `den` ns. `den` is
-/// that of the batch's line. The instant of the next sample then needs only an addition, and no division.
+/// the denominator of the batch's line. Because the remainder is kept, the instant of the next sample needs only an
+/// addition, and no division.
 #[derive(Clone, Copy)]
 pub struct Instant {
     pub j: u32,

@@ -32,7 +32,7 @@ pub struct Packet {
 pub struct Unit {
     /// The number of the record that completed the unit; the capture's records are numbered from 1.
     pub frame: u64,
-    /// When that record was captured, in nanoseconds of gPTP.
+    /// When the record that completed the unit was captured, in nanoseconds of gPTP.
     pub arrival: i64,
     pub seq: u8,
     /// When the unit is presented, in nanoseconds of gPTP.

@@ -28,7 +28,7 @@ use clock_track::Points;
 use std::alloc::Global;
 use std::marker::Model;
 
-/// A judge takes the entries of a stream one at a time, in capture order. It shows each item of the stream once:
+/// A judge takes the entries of a stream one at a time, in capture order. A judge shows each item of the stream once:
 /// presented, or flagged with the first reason that holds.
 ///
 /// An item is judged as soon as `look` later entries are known, so that its samples can be counted from the timestamp
@@ -45,7 +45,8 @@ pub struct Judge {
     noted: Noted,
     /// The accepted batches, which wait for their instants.
     waiting: Waiting,
-    /// The current entry. First, everything that its arrival makes due is returned. Then the entry is judged.
+    /// The current entry. First, everything that the entry's arrival makes due is returned. The entry is judged after
+    /// the due items were returned.
     current: Option<Pending>,
     /// The entries after the current one: the delay line.
     ahead: HeapCircularBuffer<Pending>,
@@ -105,7 +106,7 @@ impl Judge {
         };
     }
 
-    /// Puts an entry into the delay line. If the line then has more entries than the look-ahead, its first entry
+    /// Puts an entry into the delay line. If the delay line then has more entries than the look-ahead, its first entry
     /// becomes the current one.
     fn put_ahead(&mut self, pending: Pending)
         requires idle { IsIdle self.old }
@@ -229,8 +230,8 @@ impl Judge {
         }
     }
 
-    /// Returns, one after another, the batches that the current entry makes due. Then returns the entry's flag, if it
-    /// has one.
+    /// Returns, one after another, the batches that the current entry makes due. After these batches, returns the
+    /// entry's flag, if the entry has one.
     #[inline(always)]
     fn give_or_judge(&mut self) -> Option<Shown>
         ensures given { (clock : Clock) (entries : List EntryValue) (given : ℕ) → StandsFor clock entries given self.old → IfSome result (λ shown. slice_get (out clock self.old entries) given ≡ Some shown) }
@@ -293,8 +294,8 @@ impl Judge {
         }
     }
 
-    /// Of the items that are shown for the entries so far, returns the next one. Before `close`, only items that are
-    /// due are returned; after `close`, all items. Returns `None` if and only if none of these items is left. Allocates
+    /// Returns the next of the items that are shown for the entries so far. Before `close`, only items that are due are
+    /// returned; after `close`, all items. The result is `None` if and only if no item is left to return. Allocates
     /// nothing.
     pub fn next_out(&mut self) -> Option<Shown>
         ensures given { (clock : Clock) (entries : List EntryValue) (given : ℕ) → StandsFor clock entries given self.old → result ≡ slice_get (out clock self.old entries) given }
@@ -327,9 +328,9 @@ impl Judge {
         self.closed = true;
     }
 
-    /// How many batches wait: at most the plan's `buffer`. Together they have at most `room` bytes. If nothing is due,
-    /// the waiting batches are all batches that were accepted and not yet returned. After `close`, no batch waits once
-    /// `next_out` has returned `None`.
+    /// How many batches wait: at most the plan's `buffer`. The waiting batches together have at most `room` bytes. If
+    /// nothing is due, the waiting batches are all batches that were accepted and not yet returned. After `close`, no
+    /// batch waits once `next_out` has returned `None`.
     pub fn held(&self) -> u32
         ensures held { result ≡ length self.now.waiting }
         ensures batches { result ≤ self.now.plan.buffer }

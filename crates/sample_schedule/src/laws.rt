@@ -72,8 +72,8 @@ pub fn what_is_not_due_waits()
     ensures unjudged { (plan : SchedulePlan) (entries : List Entry) → length entries ≤ settled plan entries + plan.look }
 {}
 
-/// If a copy arrives in time, the item that it repeats still waits. Hence a search among the waiting items finds that
-/// item if and only if a search among all accepted items does.
+/// If a copy arrives in time, the item that it repeats still waits. Hence a search among the waiting items finds the
+/// repeated item if and only if a search among all accepted items finds it.
 pub fn copies_wait()
     ensures { (now instant : ℤ) (seq : ℕ) (earlier : List Accepted) → now ≤ℤ instant → list_any (is_copy instant seq) (standing now earlier) ≡ list_any (is_copy instant seq) earlier }
 {}

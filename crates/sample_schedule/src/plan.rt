@@ -5,7 +5,7 @@
 pub struct SchedulePlan {
     /// The maximum number of batches that wait for their instants, from 1 to 65,536.
     pub buffer: u32,
-    /// The maximum number of bytes of these batches together, from 1 to 1,073,741,824.
+    /// The maximum number of bytes of the waiting batches together, from 1 to 1,073,741,824.
     pub room: u32,
     /// How many later entries are read before an item is judged, from 0 to 64.
     pub look: u32,

@@ -66,8 +66,8 @@ fn on_nominal_line(packet: Packet, head: &Head) -> Batch
     samples_on(packet, line, head.first)
 }
 
-/// The samples of a packet on a line of the clock. `number` is the number that the packet's stamped sample has on that
-/// line.
+/// The samples of a packet on a line of the clock. `number` is the number that the packet's stamped sample has on
+/// `line`.
 fn on_clock_line(packet: Packet, head: &Head, line: Line, number: u64) -> Batch
     requires packet { IsPacket packet }
     requires some { 1 ≤ packet.count }

@@ -30,8 +30,8 @@ fn size(accepted: &Accepted) -> u64
     accepted.batch.bytes.as_slice().len() as u64
 }
 
-/// Accepted batches that wait for their instants, sorted by first instant and then by index. Only small keys are kept
-/// in that order: the batches themselves stay in slots and are not moved while they wait.
+/// Accepted batches that wait for their instants, sorted by first instant and then by index. Only small keys are
+/// sorted: the batches themselves stay in slots and are not moved while they wait.
 #[derive(Drop)]
 pub struct Waiting {
     keys: SortedKeys,

@@ -1,4 +1,5 @@
--- The findings in a packet of a capture, given the notes of the packets before it. These rules are this project's own.
+-- The findings in a packet of a capture, given the notes of the packets before it. The rules for findings are this
+-- project's own.
 use Rattle.std.specs.Prelude.{ℕ, ◌+◌, ◌-◌, ◌%◌, ◌==◌, Bool, true, false, not, ◌&&◌, nat_lt, if◌then◌else◌, List, [], ◌∷◌, ◌++◌, length, map, filter, reverse, take, Option, Some, None}
 use Rattle.std.specs.Bool.{beq}
 use Rattle.std.specs.List.{list_any, prefix_len}
@@ -57,9 +58,10 @@ stood mr notes = prefix_len (λ note. beq note.mr mr) notes
 abbrev pub least_hold : ℕ
 least_hold = 8
 
--- `all` is the number of the stream's packets. `packets` is how many of them in a row, counted back from the newest,
--- have the same media clock restart bit. If `packets` is less than 8 and less than `all`, the answer is `packets`.
--- Otherwise the answer is `None`. If `packets` equals `all`, the bit has never changed.
+-- `all` is the number of the stream's packets. `packets` is how many of the stream's packets in a row, counted back
+-- from the newest, have the same media clock restart bit. If `packets` is less than 8 and less than `all`, the answer
+-- is `packets`. If `packets` is at least 8 or at least `all`, the answer is `None`. If `packets` equals `all`, the bit
+-- has never changed.
 abbrev pub early : ℕ → ℕ → Option ℕ
 early packets all = if nat_lt packets all && nat_lt packets least_hold then Some packets else None
 

@@ -37,7 +37,7 @@ pub struct StreamState {
     /// The media clock restart bit of the newest packet.
     mr: bool,
     /// The number of packets for which the media clock restart bit has kept its value, or 8 if the number is greater.
-    /// `None` if the bit has never changed.
+    /// `None` if the media clock restart bit has never changed.
     held: Option<u32>,
 }
 
@@ -78,8 +78,8 @@ impl StreamState {
         if step == 1 { None } else { Some(step) }
     }
 
-    /// If the media clock restart bit changes again too early at the next packet: for how many packets it kept its
-    /// previous value.
+    /// For how many packets the media clock restart bit kept its previous value, if the bit changes again too early at
+    /// the next packet.
     fn hold(&self, seen: &Seen) -> Option<u32>
         ensures { (recent : List SeenValue) → state_of recent ≡ Some self.now → result ≡ hold_after recent seen.now }
     {

@@ -10,8 +10,8 @@ use Rattle.soak_run.specs.Soak.{all_copies, by_arrival, copies, copies_by, copie
 use Rattle.talk_plan.specs.Timing.{arrival_of}
 use Rattle.soak_run.proofs.SoakLemmas.{copies-more, sent_soon}
 
--- The delivery is a copy of a packet whose number is less than `packets`. It arrives at most 2.52 ms after the packet
--- is sent.
+-- The delivery is a copy of a packet whose number is less than `packets`. The copy arrives at most 2.52 ms after the
+-- packet is sent.
 pub record IsCopy (packets : ℕ) (delivery : ℤ × ℕ) : Type 0 where
   pub known : delivery.1 < packets
   pub delay : ℕ

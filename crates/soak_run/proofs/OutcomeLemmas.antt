@@ -1,4 +1,5 @@
--- Each delivery is an item with samples at a known rate. So it can be flagged only for one of the counted reasons.
+-- Each delivery is an item with samples at a known rate. So a delivery can be flagged only for one of the counted
+-- reasons.
 use Rattle.std.proofs.Common.{◌≡◌, ℕ, ℤ, zero, suc, ◌+◌, Bool, true, false, cond, List, [], ◌∷◌, ◌++◌, length, map, Option, Some, None, refl, sym, subst, arith}
 use Rattle.std.specs.Prelude.{◌==◌, count_by, if◌then◌else◌, slice_get, Result, Ok, Err, option_and_then}
 use Rattle.std.specs.List.{AllByRecursion}

@@ -26,7 +26,7 @@ use Rattle.soak_run.specs.state.Showing.{HasShown}
 use Rattle.soak_run.proofs.CountLemmas.{counts_all}
 use Rattle.soak_run.proofs.HearingLemmas.{records_few}
 
--- ---- the two sides
+-- ---- the two sides of the pipe
 
 abbrev pub left : Hearing → ℕ
 left hearing = left_of hearing.deliveries.now hearing.listener

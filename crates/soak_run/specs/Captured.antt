@@ -1,5 +1,5 @@
 -- The stream that is sent over a bad network, the capture of its deliveries, and the listener that hears the capture.
--- This project defines them; no standard does.
+-- The stream, the capture and the listener are defined by this project, not by a standard.
 use Rattle.std.specs.Prelude.{ℕ, ℤ, pos, ◌-◌, ◌*◌, ◌%◌, List, ◌++◌, map, None}
 use Rattle.std.specs.List.{flat_map, range_with_len}
 use Rattle.byteorder.specs.Endian.{big_bytes}

@@ -1,5 +1,5 @@
--- Pseudo-random numbers, the same in each run. They come from the linear congruential generator that the C standard
--- gives as an example, with 31 bits of state. The number of bits is this project's own choice.
+-- Pseudo-random numbers, the same in each run. The numbers come from the linear congruential generator that the C
+-- standard gives as an example, with 31 bits of state. The 31 bits of state are this project's own choice.
 use Rattle.std.specs.Prelude.{ℕ, zero, suc, ◌+◌, ◌*◌, ◌/◌, ◌%◌, ◌^◌}
 
 -- the number of states; each state is less than this number

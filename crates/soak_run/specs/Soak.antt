@@ -57,7 +57,7 @@ copies seed n = map (copy_of seed n) (range_with_len 0 (copies_of seed n))
 abbrev pub all_copies : ℕ → ℕ → List (ℤ × ℕ)
 all_copies seed packets = flat_map (copies seed) (range_with_len 0 packets)
 
--- ---- as they arrive
+-- ---- the copies, sorted by arrival
 
 -- a sorted list with one more copy inserted directly after all copies that arrive earlier
 abbrev pub put_in : ℤ × ℕ → List (ℤ × ℕ) → List (ℤ × ℕ)
@@ -69,7 +69,7 @@ abbrev pub by_arrival : List (ℤ × ℕ) → List (ℤ × ℕ)
 by_arrival [] = []
 by_arrival (copy ∷ rest) = put_in copy (by_arrival rest)
 
--- The deliveries of this many packets, from packet 0 on. They are sorted by arrival, then by packet, then by copy. The
--- seed of the noise is the number of packets.
+-- The deliveries of this many packets, from packet 0 on. The deliveries are sorted by arrival, then by packet, then by
+-- copy. The seed of the noise is the number of packets.
 abbrev pub deliveries_of : ℕ → List (ℤ × ℕ)
 deliveries_of packets = by_arrival (all_copies packets packets)

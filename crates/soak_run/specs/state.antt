@@ -1,4 +1,4 @@
--- Kept for proofs alone. No clause of a public call uses these definitions.
+-- Only private functions and proofs use these definitions.
 pub mod Counting
 pub mod Hearing
 pub mod Showing

@@ -9,7 +9,7 @@ use presenter_ring::Presenter;
 use sample_schedule::{Reason, Shown};
 
 /// How many deliveries of a stream have each outcome. As a presenter, this type counts the items that it gets. Each
-/// count stops at 2^64 - 1, because a presenter can get any number of items. No count of `soak` gets that far.
+/// count stops at 2^64 - 1, because a presenter can get any number of items. No count of `soak` reaches 2^64 - 1.
 #[derive(Clone, Copy, Debug, PartialEq, Eq)]
 pub struct SoakCounts {
     /// The number of deliveries, which are the packets that arrive. A packet that arrives twice counts twice.

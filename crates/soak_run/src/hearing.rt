@@ -1,4 +1,4 @@
-//! A listener hears deliveries one by one. The items that it shows are returned one by one.
+//! A listener hears deliveries one by one. The items that the listener shows are returned one by one.
 
 ghost use Rattle.std.specs.Prelude.{◌≡◌, ◌≤◌, ◌<◌, ◌^◌, [], All, IfOk, IsTrue, List, None, false, length, ℕ};
 ghost use Rattle.listener.specs.Listening.{StandsFor, is_closed};

@@ -1,4 +1,4 @@
-//! Laws of what becomes of deliveries. Each is a function whose contract states the law.
+//! Laws of what becomes of deliveries. Each law is a function whose contract states the law.
 
 ghost use Rattle.std.specs.Prelude.{◌≡◌, ◌≤◌, ℕ, None, pos};
 ghost use Rattle.listener.specs.Headline.{KeepsHeadline};

@@ -19,7 +19,7 @@ pub const FULL: usize = 512;
 
 pub const HALF: usize = FULL / 2;
 
-/// How many of the sorted keys are at or before the instant. Usually all keys are at or before it.
+/// How many of the sorted keys are at or before the instant. Usually all keys are at or before the instant.
 #[inline(always)]
 fn place_behind(keys: &VecDeque<Key>, instant: i64) -> usize
     requires { KeysAreInOrder keys.now.items }

@@ -36,7 +36,8 @@ fn find_block(blocks: &VecDeque<Block>, instant: i64) -> usize
         .saturating_sub(1)
 }
 
-/// Puts a key into its block. Returns the index of that block. The block can be full afterwards.
+/// Puts a key into its block. Returns the index of the block that the key was put into. The block can be full
+/// afterwards.
 pub fn put_into(blocks: &mut VecDeque<Block>, key: Key) -> usize
     requires { AreBlocks blocks.old.items }
     ensures all { all_keys blocks.new.items ≡ put_key (all_keys blocks.old.items) key }
@@ -60,8 +61,8 @@ pub fn insert_block(blocks: &mut VecDeque<Block>, place: usize, block: Block)
     };
 }
 
-/// Splits a full block. Its upper half goes into `upper`, which must be empty before the call. `upper` is inserted
-/// after the block.
+/// Splits a full block. The upper half of the block goes into `upper`, which must be empty before the call. `upper` is
+/// inserted after the block.
 pub fn split(blocks: &mut VecDeque<Block>, place: usize, mut upper: Block)
     requires blocks { AreBlocksBut place blocks.old.items }
     requires full { length (slice_index_or blocks.old.items place []) ≡ 512 }

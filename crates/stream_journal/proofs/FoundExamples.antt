@@ -1,4 +1,4 @@
--- Stamps and clock packets of small journals are at hand.
+-- In small journals, the stamps and clock packets that are needed are at hand.
 use Rattle.std.proofs.Common.{true, subst, inl, ◌≡◌, inr, ℕ, zero, suc, ◌<◌, false, pos, ◌+ℤ◌, [], ◌∷◌, All, Some, refl, arith}
 use Rattle.std.specs.Prelude.{get_or, replicate}
 use Rattle.avtp_base.specs.Octets.{bits}

@@ -1,5 +1,4 @@
--- The time between the instants at which two packets are due, and the instant at which a sample that is counted from a
--- stamp is due.
+-- The time between the due instants of two packets, and the due instant of a sample that is counted from a stamp.
 use Rattle.std.proofs.Common.{◌≡◌, ℕ, zero, suc, ◌+◌, ◌-◌, ◌*◌, ◌<◌, ◌≤◌, ℤ, pos, neg_ℤ, ◌+ℤ◌, ◌-ℤ◌, refl, ap, inl, inr, subst, arith}
 use Rattle.std.proofs.Math.Nat.{mul-le-mul_left}
 use Rattle.std.proofs.lemmas.Bool.{cases_lt}

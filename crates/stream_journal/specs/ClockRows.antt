@@ -30,7 +30,7 @@ pub record IsTruePair (c : ClockJournal) (pair : Pair) : Type 0 where
   pub joined : IsJoinedAt c earlier later
   pub same : pair ≡ pair_at c earlier later
 
--- The spot is that of a sample whose presentation time is `instant`. The spot follows from a joined pair of the clock's
+-- The spot belongs to a sample whose presentation time is `instant`. The spot follows from a joined pair of the clock's
 -- points that covers `instant`.
 pub record IsSpotAt (j : Journal) (instant : ℤ) (spot : Spot) : Type 0 where
   pub earlier : Place

@@ -68,8 +68,8 @@ pub record IsJoinedAt (c : ClockJournal) (p q : Place) : Type 0 where
   pub joined : IsJoined (pair_at c p q)
 
 -- A listener considers the points at p and q adjacent. Either the two points are adjacent in one packet, or p is the
--- last point of a packet and q is the first point of another packet. In the second case, the packet of q has the
--- sequence number after that of the packet of p.
+-- last point of a packet and q is the first point of another packet. If p and q are in different packets, the sequence
+-- number of q's packet is the successor of the sequence number of p's packet.
 abbrev pub SeemNext : ClockJournal → Place → Place → Type 0
 SeemNext c p q =
     ((q.packet ≡ p.packet) × (q.at ≡ suc p.at))

@@ -80,7 +80,7 @@ StampsUnits j part =
 pub record IsVideo (j : Journal) (part : ℕ → Part) : Type 0 where
   pub stamps : StampsUnits j part
   pub one_instant : (n instant : ℕ) → n < j.packets → j.stamp n ≡ Some instant → instant ≡ j.due n
-  -- the fragments of a unit are adjacent packets: a first, then only middle ones, then a last
+  -- the fragments of a unit are adjacent packets: a first fragment, then only middle fragments, then a last fragment
   pub first : 1 ≤ j.packets → Begins (part 0)
   pub last : (n : ℕ) → j.packets ≡ suc n → Ends (part n)
   pub beside : (n : ℕ) → suc n < j.packets → Ends (part n) ↔ Begins (part (suc n))
@@ -112,8 +112,8 @@ pub record IsCovered (j : Journal) (n instant : ℕ) (p q : Place) : Type 0 wher
   pub joined : IsJoinedAt j.clock p q
   pub covers : Covers (pair_at j.clock p q) j.rate (pos instant)
 
--- The clock fits the timestamps of an audio stream. At most one joined pair covers each timestamp. If the clock's
--- frequency is the stream's rate, a covered timestamp is the instant of an event.
+-- The clock fits the timestamps of an audio stream. Each timestamp is covered by at most one joined pair. If the
+-- clock's frequency is the stream's rate, a covered timestamp is the instant of an event.
 pub record AgreesWithClock (j : Journal) : Type 0 where
   -- each timestamp is covered by at most one joined pair of the clock's points
   pub one : (n instant : ℕ) (p q r s : Place) → IsCovered j n instant p q → IsCovered j n instant r s → (p ≡ r) × (q ≡ s)

@@ -50,8 +50,8 @@ IsNear j n m =
     IsFragment j.kind n → IsFragment j.kind m → ((j.stamp n ≡ None) ⊎ (j.stamp m ≡ None)) →
     (n ≤ m + 254) × (m ≤ n + 254)
 
--- `IsNear` holds for any two adjacent packets of the list. So if at least one of two adjacent fragments has no
--- timestamp, and the second has the next sequence number modulo 256, the second is the next packet.
+-- `IsNear` holds for any two adjacent packets of the list. Let at least one of two adjacent fragments have no
+-- timestamp. If the second fragment has the next sequence number modulo 256, it is the packet right after the first.
 abbrev pub AreNear : Journal → List ℕ → Type 0
 AreNear j [] = ⊤
 AreNear j (n ∷ []) = ⊤

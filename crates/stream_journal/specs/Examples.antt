@@ -106,8 +106,8 @@ sixteenth_copies =
     came 7 1000437500 ∷
     []
 
--- Sixty-four packets of 6 sample frames at 48 kHz, each with a timestamp. The clock has the base frequency `base`. Its
--- two packets have two points each. Adjacent points are 2 ms apart, with an interval of 96 events.
+-- Sixty-four packets of 6 sample frames at 48 kHz, each with a timestamp. The clock has the base frequency `base`. The
+-- clock's two packets have two points each. Adjacent points are 2 ms apart, with an interval of 96 events.
 abbrev pub clocked : ℕ → Journal
 clocked base = record {
   kind = DenseAaf;
@@ -148,7 +148,7 @@ video = record {
   clock = no_clock;
 }
 
--- ---- at the limits of the rules
+-- ---- examples at the limits of the rules
 
 -- a clock without packets, with this pull code
 abbrev pub pulled : ℕ → ClockJournal
@@ -165,8 +165,8 @@ unsteady late = record {
   mr = λ m. false;
 }
 
--- A clock of 44.1 kHz with three points, the last of which is 4,000 ns early. Some instants are covered by both pairs
--- of points, and a packet is due at one of these instants.
+-- A clock of 44.1 kHz with three points; the last point is 4,000 ns early. Some instants are covered by both pairs of
+-- points, and a packet is due at one of these instants.
 abbrev pub overlapped : Journal
 overlapped = record {
   kind = DenseAaf;

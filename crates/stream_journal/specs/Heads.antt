@@ -29,8 +29,8 @@ pub record IsTrue (j : Journal) (stamp : Stamp) : Type 0 where
   pub number : ℕ
   pub is : IsStampOf j number stamp
 
--- The stamp that a listener searches for if it has a copy of a packet without a timestamp. `far` says how far back that
--- stamp is.
+-- The stamp that a listener searches for if it has a copy of a packet without a timestamp. `far` says how far back the
+-- wanted stamp is.
 abbrev pub wanted : Journal → ℕ → Copy → Distance → Want
 wanted j lead c far = record {
   seq = (c.number % 256 + 256 - far.packets) % 256;
@@ -66,7 +66,7 @@ pub record IsHeadOf (j : Journal) (n : ℕ) (far : Distance) (stamp : Stamp) : T
 abbrev pub behind : Journal → ℕ → ℕ → ℕ
 behind j instant samples = instant + samples * 1000000000 / j.rate
 
--- from the instant `from` to the instant `to`, more than the time of `times` packets passes
+-- the instant `to` is later than the instant `from` by more than the time of `times` packets
 abbrev pub IsFarther : Journal → ℕ → ℕ → ℕ → Type 0
 IsFarther j times from to = from * j.rate + times * (j.count * 1000000000) < to * j.rate
 

@@ -60,8 +60,8 @@ own_head j n =
     option_map (λ instant. record { instant = pos instant; first = neg_ℤ (pos (stamped_index (rule_of j.kind n))) }) (j.stamp n)
 
 -- The head of packet n according to the timestamp of an earlier packet, the one that was sent `far.packets` packets
--- before packet n. `None` if there is no such packet, if that packet has no timestamp, or if the two packets have
--- different `mr`.
+-- before packet n. The result is `None` if the earlier packet does not exist or has no timestamp, or if the two packets
+-- have different `mr`.
 abbrev pub head_from : Journal → ℕ → Distance → Option Head
 head_from j n far =
     if nat_le far.packets n then
@@ -70,8 +70,8 @@ head_from j n far =
     else None else None
 
 -- The head of packet n according to its own timestamp. If packet n has no timestamp, the head follows from the
--- timestamp of the packet from which packet n is counted. `None` if that packet has no timestamp either, or has a
--- different `mr`.
+-- timestamp of the packet from which packet n is counted. The result is `None` if packet n has no timestamp, and the
+-- packet from which it is counted has none or a different `mr`.
 abbrev pub head_of : Journal → ℕ → Option Head
 head_of j n = option_or (own_head j n) (option_and_then (head_from j n) (distance (rule_of j.kind n) n j.count))
 

@@ -19,8 +19,9 @@ abbrev pub stamps_in : Journal → List ℕ → List Stamp
 stamps_in j came = filter_map (λ n. option_map (stamp_at j n) (j.stamp n)) came
 
 -- A copy of a packet without a timestamp can be counted. One of the last `room` timestamps that arrived belongs to the
--- packet from which the copy is counted. There is no restart between the two packets. The copy's arrival plus `lead`
--- differs from the packet's first instant by at most the time of 60 packets.
+-- packet from which the copy is counted. There is no restart between the packet of the copy and the packet from which
+-- the copy is counted. The copy's arrival plus `lead` differs from the packet's first instant by at most the time of 60
+-- packets.
 pub record IsCounted (j : Journal) (lead room : ℕ) (c : Copy) (came : List ℕ) : Type 0 where
   pub none : j.stamp c.number ≡ None
   pub far : Distance
@@ -46,11 +47,10 @@ pub record IsCoveredBy (c : ClockJournal) (shift : ℤ) (rate : ℕ) (came : Lis
   pub later_came : Contains (last_of 64 came) later.packet
   pub covers : Covers (pair_at c earlier later) rate instant
 
--- `c` is a copy of an audio packet. A listener to which the stream's packets `came` and the clock's packets
--- `clock_came` were delivered knows the instants of the samples of `c`. The conditions are these: the packet has a
--- timestamp, or is counted from one of the last 16 + `look` timestamps that arrived. If the listener has the clock, two
--- of the clock's points also cover this timestamp, which is the packet's own or the one from which the packet is
--- counted.
+-- `c` is a copy of an audio packet. A listener got the stream's packets in `came` and the clock's packets in
+-- `clock_came`, and knows the instants of the samples of `c`. The conditions are these: the packet has a timestamp, or
+-- is counted from one of the last 16 + `look` timestamps that arrived. If the listener has the clock, two of the
+-- clock's points also cover the timestamp that the packet carries or is counted from.
 pub record IsKnown (by_clock : Bool) (j : Journal) (shift : ℤ) (lead look : ℕ) (c : Copy) (came clock_came : List ℕ) : Type 0 where
   pub timed : IsTimed j lead (look + 16) c came
   pub covered : by_clock ≡ true → (head : Head) → head_of j c.number ≡ Some head → IsCoveredBy j.clock shift j.rate clock_came head.instant

@@ -1,5 +1,5 @@
--- Further rules that a regular talker keeps, as `avtp talk` does. No promise about listeners rests on them. A rule is
--- this project's own if no standard is named.
+-- Further rules that a regular talker keeps, as `avtp talk` does. No promise about listeners rests on these rules. A
+-- rule is this project's own if no standard is named.
 use Rattle.std.specs.Prelude.{◌≡◌, ℕ, ◌+◌, ◌*◌, ◌^◌, ◌<◌, ◌≤◌, Some}
 use Rattle.clock_track.specs.declared.pair.Pair.{Pair}
 use Rattle.clock_track.specs.Pairs.{period}
@@ -32,7 +32,7 @@ pub record IsRegularClock (c : ClockJournal) : Type 0 where
       → point c q + period (pair_at c p q) ≤ point c r
   pub holds : HoldsEight c.packets c.mr
 
--- the journal keeps the further rules, too
+-- the journal also keeps the further rules of a regular talker
 pub record IsRegular (j : Journal) : Type 0 where
   pub instants : AreInstants j
   -- packets that are due at the same instant are adjacent, for example those of an access unit of H.264

@@ -39,8 +39,8 @@ pub fn restarted_talker_conforms()
 {}
 
 /// Talkers of AM824 with 6 blocks in a packet keep the rules. At 48 kHz, packet 2 is counted from its own block 4.
-/// Packet 3 has no timestamp. It is counted from the same block, which is 2 blocks before the first block of packet 3.
-/// At 96 kHz, packet 4 is counted from a block two packets back.
+/// Packet 3 has no timestamp. Packet 3 is counted from block 4 of packet 2, which is 2 blocks before the first block of
+/// packet 3. At 96 kHz, packet 4 is counted from a block two packets back.
 pub fn block_talkers_conform()
     ensures eighth { Conforms each_eighth }
     ensures sixteenth { Conforms each_sixteenth }
@@ -50,8 +50,8 @@ pub fn block_talkers_conform()
 {}
 
 /// Of the packets of `each_sixteenth`, packet 2 was lost. The copies are delivered to a listener that expects packets 2
-/// ms before their first instant. For packet 4, a listener that has the stamp of packet 2 finds this stamp. A listener
-/// that lacks this stamp finds no stamp.
+/// ms before their first instant. For packet 4, a listener that has the stamp of packet 2 finds this stamp. For packet
+/// 4, a listener that lacks the stamp of packet 2 finds no stamp.
 pub fn block_copies_are_delivered()
     ensures delivered { AreDelivered each_sixteenth 2000000 sixteenth_copies }
     ensures known { found 16 (wanted each_sixteenth 2000000 (came 4 1000250000) (record { packets = 2; samples = 8 })) (stamp_at each_sixteenth 0 1002000000 ∷ stamp_at each_sixteenth 2 1002166666 ∷ [])

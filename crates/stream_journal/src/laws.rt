@@ -34,26 +34,26 @@ pub fn packets_are_spaced()
 {}
 
 /// Suppose that packet k has the sequence number of the packet from which packet n is counted, but is another packet.
-/// Then the numbers of packet k and of the packet from which packet n is counted differ by at least 256. An instant
-/// counted from packet k's timestamp differs from the instant at which packet n is due by more than the time of 189
-/// packets.
+/// The numbers of packet k and of the packet from which packet n is counted then differ by at least 256. An instant
+/// counted from packet k's timestamp is more than the time of 189 packets away from the instant at which packet n is
+/// due.
 pub fn other_stamps_are_far()
     ensures numbers { (n k : ℕ) (far : Distance) → IsOther n k far → (k + far.packets + 256 ≤ n) ⊎ (n + 256 ≤ k + far.packets) }
     ensures instants { (j : Journal) (n k instant : ℕ) (far : Distance) → IsAudio j → n < j.packets → k < j.packets → j.stamp k ≡ Some instant → distance (rule_of j.kind n) n j.count ≡ Some far → IsOther n k far → AreApart j 189 (j.due n) (behind j instant far.samples) }
 {}
 
 /// A listener has a copy of a packet without a timestamp. If the stamp of another packet has the right sequence number,
-/// the listener refuses this stamp. The first instant that would be counted from this stamp is too far from the copy's
-/// arrival plus `lead`.
+/// the listener refuses this stamp. The first instant that would be counted from the refused stamp is too far from the
+/// copy's arrival plus `lead`.
 pub fn other_stamps_are_refused()
     ensures candidate { (j : Journal) (lead : ℕ) (c : Copy) (far : Distance) (k : ℕ) (stamp : Stamp) (is : IsStampOf j k stamp) → candidate (wanted j lead c far) stamp ≡ pos (behind j is.instant far.samples) }
     ensures refused { (j : Journal) (lead : ℕ) (c : Copy) (far : Distance) (k : ℕ) (stamp : Stamp) → IsAudio j → IsUnstamped j lead c far → IsStampOf j k stamp → IsOther c.number k far → is_near (wanted j lead c far) stamp ≡ false }
 {}
 
 /// For a copy of a packet without a timestamp, the only stamp that a listener can find is that of the packet from which
-/// the copy is counted. The talker's other stamps do not change this result. A listener finds no stamp if there is a
-/// restart between the two packets. If a listener finds a head, it is the one that the packet has in the journal. If
-/// the packet has no head there, a listener finds none.
+/// the copy is counted. No other stamp of the talker changes what the listener finds. A listener finds no stamp if
+/// there is a restart between the copied packet and the stamped packet. A head that a listener finds for a packet is
+/// the packet's head in the journal. If the packet has no head in the journal, a listener finds none.
 pub fn heads_are_true()
     ensures stamp { (j : Journal) (lead room : ℕ) (c : Copy) (far : Distance) (stamps : List Stamp) → IsAudio j → IsUnstamped j lead c far → All (IsTrue j) stamps → IfSome (found room (wanted j lead c far) stamps) (IsHeadOf j c.number far) }
     ensures head { (j : Journal) (lead room : ℕ) (c : Copy) (far : Distance) (stamps : List Stamp) → IsAudio j → IsUnstamped j lead c far → All (IsTrue j) stamps → IfSome (found room (wanted j lead c far) stamps) (IsCountedFrom j c.number far) }
@@ -66,15 +66,17 @@ pub fn samples_have_one_instant()
 {}
 
 /// If a listener joins two points from copies of the clock's packets, they are a joined pair of the list of all points.
-/// Packets whose numbers differ by 256 have the same sequence number, but their points are too far apart in time.
+/// Packets whose numbers differ by 256 have the same sequence number, but their points are too far apart in time to be
+/// joined.
 pub fn joined_pairs_are_true()
     ensures { (c : ClockJournal) (p q : Place) → IsClock c → SeemsJoined c p q → IsJoinedAt c p q }
 {}
 
 /// A listener has copies of some or all of a clock's packets, in any order. Each pair that the listener joins is a
-/// joined pair of the list of all points. Each line that the listener finds is that of a joined pair that covers the
-/// instant. If the stream agrees with the clock, there is at most one such line for the instant of a packet's head. On
-/// such a line, the packet's samples are at the instants that the journal gives them by the clock.
+/// joined pair of the list of all points. Each line that the listener finds comes from a joined pair that covers the
+/// instant. If the stream agrees with the clock, the listener can find at most one line for the instant of a packet's
+/// head. On the line for the packet's head, the packet's samples are at the instants that the journal gives them by the
+/// clock.
 pub fn clock_lines_are_true()
     ensures pairs { (c : ClockJournal) (shift : ℤ) (rows : List ClockRow) → IsClock c → All (IsTrueRow c shift) rows → All (IsTruePair c) (joined_pairs shift (window rows)) }
     ensures spot { (j : Journal) (shift instant : ℤ) (rows : List ClockRow) → IsClock j.clock → All (IsTrueRow j.clock shift) rows → IfSome (clock_spot rows shift instant j.rate) (IsSpotAt j instant) }
@@ -90,24 +92,24 @@ pub fn packets_by_clock_are_told_apart()
 {}
 
 /// Audio packets are the same packet if their sequence numbers are equal and their first instants differ by at most the
-/// time of 72 packets. The law holds with the clock and without. The instants at which different packets with equal
-/// sequence numbers are due differ by at least the time of 192 packets. The clock moves a first instant by less than
-/// the time of 18 packets.
+/// time of 72 packets. The law holds with the clock and without. If different packets have equal sequence numbers,
+/// their due instants are at least the time of 192 packets apart. The clock moves a first instant by less than the time
+/// of 18 packets.
 pub fn near_packets_are_one()
     ensures { (j : Journal) (by_clock : Bool) (n m : ℕ) (x y : ℤ) → Conforms j → IsAudioKind j.kind → n < j.packets → m < j.packets → n % 256 ≡ m % 256 → IsAt by_clock j n 0 x → IsAt by_clock j m 0 y → IsNear j 72 x y → n ≡ m }
 {}
 
 /// For a copy of a packet without a timestamp, a listener finds a given stamp if and only if three conditions hold. The
 /// stamp is that of the packet from which the copy is counted, and is among the last `room` stamps. There is no restart
-/// between the two packets. The copy's arrival plus `lead` differs from the packet's first instant by at most the time
-/// of 60 packets.
+/// between the copied packet and the stamped packet. The copy's arrival plus `lead` differs from the packet's first
+/// instant by at most the time of 60 packets.
 pub fn heads_are_found()
     ensures { (j : Journal) (lead room : ℕ) (c : Copy) (far : Distance) (stamps : List Stamp) (stamp : Stamp) → IsAudio j → HoldsEight j.packets j.mr → IsUnstamped j lead c far → All (IsTrue j) stamps → (found room (wanted j lead c far) stamps ≡ Some stamp) ↔ (IsExpected j lead c × IsAtHand j room c.number far stamps stamp) }
 {}
 
 /// If two adjacent points of one run cover a packet's timestamp, and the points' packets are among the clock's last 64,
-/// a listener finds a line for the timestamp. If the stream agrees with the clock, the line is that of these two
-/// points.
+/// a listener finds a line for the timestamp. If the stream agrees with the clock, the listener finds the line given by
+/// the two points that cover the timestamp.
 pub fn lines_are_found()
     ensures some { (c : ClockJournal) (shift instant : ℤ) (rate : ℕ) (rows : List ClockRow) (p q : Place) → IsClock c → ArePointsAtHand c shift rows p q → Covers (pair_at c p q) rate instant → clock_spot rows shift instant rate ≢ None }
     ensures found { (j : Journal) (shift : ℤ) (rows : List ClockRow) (n : ℕ) (head : Head) (p q : Place) → IsClock j.clock → AgreesWithClock j → All (IsTrueRow j.clock shift) rows → n < j.packets → head_of j n ≡ Some head → ArePointsAtHand j.clock shift rows p q → Covers (pair_at j.clock p q) j.rate head.instant

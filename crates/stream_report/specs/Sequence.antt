@@ -82,9 +82,9 @@ pub record Returns (first : ℕ) (later : List ℕ) (number behind : ℕ) : Type
   pub place : number + behind ≡ greatest first later
   pub near : behind < 64
 
--- A window describes the packets of a stream. The window holds the greatest number modulo 256. It knows which of the 64
--- numbers up to and including the greatest have arrived. It also knows how far the first number is before the greatest,
--- up to 64.
+-- A window describes the packets of a stream. The window holds the greatest number modulo 256. The window knows which
+-- of the 64 numbers up to and including the greatest have arrived. The window also knows how far the first number is
+-- before the greatest, up to 64.
 pub record StandsFor (window : Window) (first : ℕ) (later : List ℕ) : Type 0 where
   pub newest : window.newest ≡ greatest first later % 256
   pub came : (number behind : ℕ) → Returns first later number behind → (bit_at window.came behind == 1) ≡ has_come first later number

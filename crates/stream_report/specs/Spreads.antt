@@ -20,7 +20,7 @@ abbrev pub rank : ℕ → ℕ → ℕ
 rank count hundredths = max 1 (div_ceil (count * hundredths) 100)
 
 -- `value` is the nearest-rank percentile `hundredths` of `values`. The number of values below `value` is less than the
--- percentile's rank. The number of values that are at most `value` is at least this rank.
+-- percentile's rank. The number of values that are at most `value` is at least the percentile's rank.
 pub record NearestRank (values : List ℤ) (hundredths : ℕ) (value : ℤ) : Type 0 where
   pub less : number_below value values < rank (length values) hundredths
   pub enough : rank (length values) hundredths ≤ number_up_to value values
@@ -62,8 +62,8 @@ abbrev pub greatest_of : List ℤ → ℤ
 greatest_of [] = negsuc (2 ^ 63 - 1)
 greatest_of (value ∷ values) = int_max (greatest_of values) value
 
--- `spread` describes `values`. It has the number of values, the least value and the greatest value. For each edge, the
--- counts of the buckets below the edge add up to the number of values that are less than the edge.
+-- `spread` describes `values`. The spread has the number of values, the least value and the greatest value. For each
+-- edge, the counts of the buckets below the edge add up to the number of values that are less than the edge.
 pub record TellsOf (spread : Spread) (values : List ℤ) : Type 0 where
   pub count : spread.count ≡ length values
   pub few : length values ≤ most_values

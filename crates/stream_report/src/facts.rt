@@ -41,7 +41,7 @@ pub enum Format {
 }
 
 impl Format {
-    /// The nominal rate of the stream's events. `None` if the format does not give it.
+    /// The nominal rate of the stream's events. `None` if the format gives no rate.
     pub fn rate(&self) -> Option<Rate> {
         match *self {
             Format::Aaf { rate, .. } | Format::Iec { rate, .. } => rate.map(Rate::of),
@@ -56,8 +56,8 @@ impl Format {
 pub struct Labels {
     /// The number of quadlets with a label other than 0x40.
     pub other: u32,
-    /// The number of quadlets whose label is reserved by IEC 61883-6. `first_reserved` is the label of the first such
-    /// quadlet.
+    /// The number of quadlets whose label is reserved by IEC 61883-6. `first_reserved` is the label of the first
+    /// quadlet with a reserved label.
     pub reserved: u32,
     pub first_reserved: u8,
 }

@@ -11,7 +11,8 @@ pub const MOST_LEAD: i64 = 250_000_000;
 /// How far TAI, the time of gPTP, has been ahead of UTC since 2017: 37 s.
 pub const TAI_AHEAD: i64 = 37_000_000_000;
 
-/// If a lead exceeds 37 s or -37 s by at most this much, the clocks differ by 37 s. The excess is a transit time.
+/// If a lead exceeds 37 s or -37 s by at most this much, the clocks differ by 37 s. The excess over 37 s or -37 s is a
+/// transit time.
 pub const MOST_TRANSIT: i64 = 250_000_000;
 
 /// The max transit times of the classes A and B: 2 ms and 50 ms (IEEE 1722-2016, table 4).
@@ -38,6 +39,6 @@ pub const LEAST_UNEVEN: u64 = 50_000;
 /// If more than one in `UNEVEN_PART` arrivals is uneven, the stream has jitter.
 pub const UNEVEN_PART: u64 = 100;
 
-/// If a lead changes by more than 100 ms from one packet to the next, the timestamps have a step. Such a step is not
-/// drift.
+/// If a lead changes by more than 100 ms from one packet to the next, the timestamps have a step. A step of the
+/// timestamps does not count as drift.
 pub const LEAST_STEP: u64 = 100_000_000;

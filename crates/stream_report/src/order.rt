@@ -76,7 +76,8 @@ impl Order {
         missing
     }
 
-    /// Counts a packet that is ahead of the newest. `missing` is the number of packets that are missing before it.
+    /// Counts a packet that is ahead of the newest. `missing` is the number of packets that are missing before the
+    /// packet.
     fn pass(&mut self, seq: u8, missing: u64, at: At)
         ensures stands { (first : ℕ) → (later : List ℕ) → (number : ℕ) → StandsFor self.old.window first later → Passes first later number → number % 256 ≡ seq
             → StandsFor self.new.window first (number ∷ later) }

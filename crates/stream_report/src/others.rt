@@ -14,7 +14,7 @@ pub enum Other {
     Ethertype(u16),
     /// AVTP in UDP over IPv4 or IPv6 (IEEE 1722-2016, annex J).
     Udp,
-    /// A frame with two VLAN tags, of which only the outer tag was read.
+    /// A frame with two VLAN tags; only the outer tag was read.
     TwoTags,
     /// An AVTP packet of an unsupported subtype.
     Subtype(u8),
@@ -143,8 +143,8 @@ pub fn unread_format(subtype: u8, field: Field, pdu: &[u8]) -> Option<Other> {
     }
 }
 
-/// Whether an IEC 61883 packet is of a part other than IEC 61883-6. Such a packet has a whole header, and was refused
-/// at a field that differs between the parts.
+/// Whether an IEC 61883 packet is of a part other than IEC 61883-6. A packet of another part has a whole header, and
+/// was refused at a field that differs between the parts.
 fn is_other_part(field: Field, pdu: &[u8]) -> bool {
     let differs = matches!(field, Field::FnBits | Field::Qpc | Field::Sph | Field::Fmt);
     differs && pdu.len() >= 32 && byte_at(pdu, 28) % 64 != AM824

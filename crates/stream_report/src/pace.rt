@@ -10,8 +10,8 @@ const PART_OF_PACKET: u64 = 8;
 
 const PART_OF_ADVANCE: u64 = 1024;
 
-/// The maximum advance of a timestamp in a stream without a rate, in nanoseconds. In such a stream, successive packets
-/// share a timestamp or are an unknown time apart.
+/// The maximum advance of a timestamp in a stream without a rate, in nanoseconds. In a stream without a rate,
+/// successive packets share a timestamp or are an unknown time apart.
 const MOST_ADVANCE: i64 = 1_000_000_000;
 
 /// A timestamp of 32 or 64 bits.
@@ -85,7 +85,7 @@ pub struct Stamped {
 #[derive(Clone, Copy)]
 pub struct Miss {
     pub at: At,
-    /// The advance that the timestamp should have had, in nanoseconds. `found` is the advance that it had.
+    /// The advance that the timestamp should have had, in nanoseconds. `found` is the advance that the timestamp had.
     pub wanted: u64,
     pub found: i64,
 }
@@ -96,7 +96,8 @@ pub struct Misses {
     pub count: u64,
     pub first: Option<Miss>,
     pub second: Option<Miss>,
-    /// Whether the first comparison was a miss. If it was, the first timestamp does not fit the timestamps that follow.
+    /// Whether the first comparison was a miss. If the first comparison was a miss, the first timestamp does not fit
+    /// the timestamps that follow.
     pub at_begin: bool,
 }
 
@@ -131,12 +132,12 @@ pub struct Pace {
     pub told: u64,
     /// The misses, on the assumption that each timestamp belongs to the event that the standard names.
     pub by_anchor: Misses,
-    /// The misses, on the assumption that each timestamp belongs to the packet's first event. Some talkers stamp this
-    /// way.
+    /// The misses, on the assumption that each timestamp belongs to the packet's first event. Some talkers stamp the
+    /// first event of each packet.
     pub by_first: Misses,
-    /// The misses of timestamps with swapped bytes, on the assumption of `by_anchor`. `swapped_by_first` holds such
-    /// misses on the assumption of `by_first`. A timestamp is tried with swapped bytes only if, with its bytes as they
-    /// are, it is a miss on both assumptions.
+    /// The misses of timestamps with swapped bytes, on the assumption of `by_anchor`. `swapped_by_first` holds the
+    /// misses of timestamps with swapped bytes on the assumption of `by_first`. A timestamp is tried with swapped bytes
+    /// only if its own byte order makes it a miss on the assumptions of both `by_anchor` and `by_first`.
     pub swapped_by_anchor: Misses,
     pub swapped_by_first: Misses,
 }
@@ -164,8 +165,8 @@ impl Pace {
         told: 0,
     };
 
-    /// After this call, the next timestamp is not compared with earlier timestamps. This is needed after a restart of
-    /// the media clock, after missing packets, and if a block count does not continue the previous one.
+    /// After this call, the next timestamp is not compared with earlier timestamps. The call is needed after a restart
+    /// of the media clock, after missing packets, and if a block count does not continue the previous one.
     pub fn restart(&mut self) {
         self.last = None;
     }
@@ -217,8 +218,8 @@ impl Pace {
         }
     }
 
-    /// Notes a timestamp of a stream with a rate. If `by_anchor` and `by_first` expect the same advance, and the
-    /// timestamp has it, one comparison is enough.
+    /// Notes a timestamp of a stream with a rate. If `by_anchor` and `by_first` expect the same advance and the
+    /// timestamp shows that advance, one comparison is enough.
     fn note_paced(
         &mut self,
         last: &Stamped,
@@ -299,7 +300,7 @@ fn better<'a>(one: &'a Misses, other: &'a Misses) -> &'a Misses {
 }
 
 impl Misses {
-    /// Whether a timestamp advanced as it should. If not, notes the miss.
+    /// Whether a timestamp advanced as it should. Notes the miss if the timestamp did not advance as it should.
     fn compare(&mut self, at: At, wanted: u64, found: i64, slack: u64, is_first: bool) -> bool {
         let slack = slack.saturating_add(wanted / PART_OF_ADVANCE);
         let wanted_signed = i64::try_from(wanted).unwrap_or(i64::MAX);

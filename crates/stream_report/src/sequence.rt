@@ -5,8 +5,8 @@ ghost use Rattle.std.specs.Int.{bit_at};
 ghost use Rattle.stream_report.specs.Sequence.{Follows, Passes, Returns, StandsFor, ahead_of, greatest, lost, lost_with, place_of};
 ghost use Rattle.stream_report.specs.state.Bits.{Moves, Marks};
 
-/// A sequence number that is at most this far ahead of the newest belongs to a later packet. A number that is further
-/// ahead belongs to an earlier packet.
+/// A sequence number that is at most this far ahead of the newest belongs to a later packet. A sequence number that is
+/// more than this far ahead of the newest belongs to an earlier packet.
 const FARTHEST: u8 = 192;
 
 /// The window knows, for this many sequence numbers up to and including the newest, whether they have arrived.
@@ -25,7 +25,8 @@ pub struct Window {
 /// How a packet's number relates to the numbers that have arrived before.
 #[derive(Clone, Copy)]
 pub enum Place {
-    /// The packet is ahead of the newest packet. `missing` is the number of packets that are missing between these two.
+    /// The packet is ahead of the newest packet. `missing` is the number of packets that are missing between the newest
+    /// packet and this packet.
     Ahead { missing: u8 },
     /// The number is between the first packet's number and the newest number, and had not arrived before. The packet is
     /// late, and was counted as missing.

@@ -27,7 +27,7 @@ pub struct Spread {
     pub greatest: i64,
 }
 
-/// The index of the bucket of a magnitude, among the buckets of one sign.
+/// The index of a magnitude's bucket, among the buckets of one sign.
 fn bucket_of(magnitude: u64) -> usize
     requires { magnitude < 2 ^ 63 }
     ensures { InBucket magnitude result }

@@ -73,7 +73,8 @@ pub struct Stream {
     pub format: Format,
     /// `None` before the first packet with a rate.
     beat: Option<Beat>,
-    /// The duration of the first packet that has any events, at the nominal rate, in nanoseconds. 0 if it is not known.
+    /// The duration of the first packet that has any events, at the nominal rate, in nanoseconds. The duration is 0 if
+    /// it is not known.
     pub packet_time: u64,
     /// The number of packets that were not refused.
     pub packets: u64,
@@ -113,7 +114,7 @@ pub struct Stream {
     pub reserved: Tally,
     /// Block counts (DBC) that do not continue the block count of the previous packet.
     pub blocks: Tally,
-    /// Quadlets with a label other than 0x40. `reserved_labels` are those with a reserved label.
+    /// Quadlets with a label other than 0x40. `reserved_labels` are quadlets with a reserved label.
     pub labels: Tally,
     pub reserved_labels: Tally,
     pub first_label: u8,
@@ -311,8 +312,8 @@ impl Stream {
         }
     }
 
-    /// Packets that are missing. The length of a gap is known only modulo 256, as a number from 0 to 255. If this
-    /// number exceeds 191 and the stream did not pause, the packet after the gap counts as an earlier packet.
+    /// Packets that are missing. The length of a gap is known only modulo 256, as a number from 0 to 255. If the length
+    /// of the gap exceeds 191 and the stream did not pause, the packet after the gap counts as an earlier packet.
     pub fn lost(&self) -> Tally {
         self.counted().lost
     }
@@ -370,8 +371,8 @@ impl Stream {
         }
     }
 
-    /// Counts a restart of the media clock if `mr` has changed. In any case, keeps the packet as the newest. Returns
-    /// whether there was a restart.
+    /// Counts a restart of the media clock if `mr` has changed. Whether or not `mr` has changed, keeps the packet as
+    /// the newest. Returns whether there was a restart.
     fn note_restart(&mut self, at: At, facts: &Facts, missing: u64) -> bool {
         let (restarted, held) = match &self.last {
             Some(last) => (last.mr != facts.mr, last.held),
@@ -396,8 +397,8 @@ impl Stream {
         restarted
     }
 
-    /// Whether the packet's block count continues the block count of the packet directly before it. If it does not, the
-    /// packet is counted in `blocks`. True if one of the block counts is not known.
+    /// Whether the packet's block count continues the block count of the packet directly before it. If the block count
+    /// does not continue, the packet is counted in `blocks`. True if one of the block counts is not known.
     fn note_block_count(&mut self, at: At, facts: &Facts, last: Option<Last>) -> bool {
         let Some(last) = last else {
             return true;
@@ -498,7 +499,8 @@ impl Stream {
     }
 }
 
-/// How a packet follows the packet before it. `missing` is the number of packets that are missing between the two.
+/// How a packet follows the packet before it. `missing` is the number of packets that are missing between the two
+/// packets.
 fn after(missing: u64) -> Step {
     if missing == 0 {
         Step::Next

@@ -3,7 +3,8 @@
 ghost use Rattle.std.specs.Prelude.{◌≡◌, ◌==◌, ◌+◌, ◌-◌, ◌^◌, min, None, Some, if◌then◌else◌};
 ghost use Rattle.std.specs.Option.{option_or};
 
-/// A frame: the number of its file, and the number of the frame in that file. Both numbers are counted from 1.
+/// A frame: the number of its file, and the number of the frame in that file. The file number and the frame number are
+/// both counted from 1.
 #[derive(Clone, Copy, PartialEq, Eq)]
 pub struct At {
     pub file: u32,

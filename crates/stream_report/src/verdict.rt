@@ -18,7 +18,7 @@ pub enum ClockGuess {
 #[derive(Clone, Copy)]
 pub enum Verdict {
     /// Most timestamps do not advance by their packets' durations. `swapped` is true if, with swapped bytes, at most
-    /// one in `FEW` timestamps would not advance by these durations.
+    /// one in `FEW` timestamps would not advance by its packet's duration.
     NotInOrder {
         off: u64,
         compared: u64,
@@ -26,7 +26,7 @@ pub enum Verdict {
         swapped: bool,
     },
     /// Presentation times are far from the packets' arrivals. `lead` is the median distance. If `exact` is true, the
-    /// distance is exact. Otherwise the distance is known only modulo 2^32.
+    /// distance is exact. If `exact` is false, the distance is known only modulo 2^32.
     Clocks {
         lead: i64,
         guess: ClockGuess,

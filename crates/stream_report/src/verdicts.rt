@@ -20,7 +20,8 @@ pub enum Class {
     B,
     /// The max transit time is longer than 50 ms.
     Longer,
-    /// Most presentation times are before the packets' arrivals or far after them, so the lead is no transit time.
+    /// Most presentation times are before the packets' arrivals or far after them, so the lead cannot be a transit
+    /// time.
     Unknown,
 }
 
@@ -73,7 +74,7 @@ fn is_more(some: u64, of: u64, part: u64) -> bool {
 }
 
 /// The verdict that most timestamps do not advance by their packets' durations. `None` if at least half of the
-/// timestamps advance by these durations.
+/// timestamps advance by their packets' durations.
 fn order_verdict(stream: &Stream) -> Option<Verdict> {
     let pace = &stream.pace;
     let compared = pace.compared;
@@ -132,7 +133,7 @@ fn near_zero(number: i64) -> i64 {
 }
 
 /// The verdict that packets arrived after their presentation time. The verdict is given if the stream is not a media
-/// clock and these packets outnumber the timestamps that do not advance as they should.
+/// clock and its late packets outnumber its timestamps that do not advance as they should.
 fn late_verdict(stream: &Stream) -> Option<Verdict> {
     let explained = stream.pace.misses().count;
     if stream.key.subtype == subtype::CRF || stream.late.count <= explained {

@@ -90,7 +90,8 @@ impl Am824Format {
     }
 
     /// The instant in the timestamp of packet `n`, which is the instant of the packet's first block whose count is a
-    /// multiple of the interval. If the packet has no such block, it has no timestamp (IEC 61883-6).
+    /// multiple of the interval. A packet in which no block count is a multiple of the interval has no timestamp (IEC
+    /// 61883-6).
     fn stamp(&self, plan: &TalkPlan, n: u64) -> Option<u64>
         requires packet { IsPacketOf plan.now n }
         requires format { IsAm824 self.now plan.now }

@@ -145,8 +145,9 @@ impl AudioStream {
 
     /// Writes the frame of packet `n`, which is sent at `arrival`. The packet's samples are `rest`, which is the end of
     /// the input, and then silence.
-    // This code seldom runs while audio is sent. It is marked cold, so that it takes no registers from the code that
-    // runs often. The code for clock packets, for stamps on a clock and for H.264 is marked cold for the same reason.
+    // The code of `write_last` seldom runs while audio is sent. The function is marked cold, so that it takes no
+    // registers from the code that runs often. The code for clock packets, for stamps on a clock and for H.264 is also
+    // marked cold, to leave the registers to the code that runs often.
     #[cold]
     #[inline(never)]
     fn write_last(&self, out: &mut [u8], n: u64, arrival: i64, rest: &[u8])

@@ -83,9 +83,9 @@ fn put_bytes<const N: usize>(out: &mut [u8], offset: usize, bytes: &[u8; N])
 /// Samples are moved in two parts of this many bytes each.
 const PART: usize = 16;
 
-/// Copies samples to a slice of the same length. Most packets have 16 to 32 bytes of samples. They are moved as two
-/// parts, which can overlap, so no call is needed. A move becomes a call if the compiler does not know the move's
-/// length.
+/// Copies samples to a slice of the same length. Most packets have 16 to 32 bytes of samples. Samples of 16 to 32 bytes
+/// are moved as two parts, which can overlap, so no call is needed. A move becomes a call if the compiler does not know
+/// the move's length.
 #[inline(always)]
 fn copy_samples(out: &mut [u8], samples: &[u8])
     requires { length out.old ≡ length samples.now }

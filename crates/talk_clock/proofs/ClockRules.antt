@@ -45,7 +45,7 @@ spaced_by : (nominal p q up : ℕ) → 7 * nominal ≤ 8 * (p * up) → p ≤ q 
 spaced_by nominal p q up least more = let times : p * up ≤ q * up = mul-le-mul_right up more in omega arith
 
 -- Point b follows point a and is the first of a run, so the instant of b is the start of that run. The instant of a is
--- computed from the start of the run before that one and the index of a in it.
+-- computed from the start of the run that ends with a, and from the index of a in that run.
 first_later : (plan : TalkPlan) (crf : CrfPlan) (packets : ℕ) (a b : Place) → IsAudioPlan plan → plan.crf ≡ Some crf
     → Follows (clock_times crf plan packets) a b → IsRunEnd plan crf (number crf a)
     → (point (clock_times crf plan packets) a

@@ -90,8 +90,8 @@ clock_times crf plan packets = record {
   mr = λ m. clock_mr crf plan m;
 }
 
--- The journal of the plan's clock that is sent with a stream of this many packets. If the plan has no clock, it is the
--- journal of a clock without packets.
+-- The journal of the plan's clock that is sent with a stream of this many packets. If the plan has no clock, the result
+-- is the journal of a clock without packets.
 abbrev pub clock_by : Option CrfPlan → TalkPlan → ℕ → ClockJournal
 clock_by None plan packets = no_clock
 clock_by (Some crf) plan packets = clock_times crf plan packets

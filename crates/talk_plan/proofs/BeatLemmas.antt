@@ -156,8 +156,8 @@ part_over w rate r p f some small over fast = elim (cases_lt (f * rate + 2 * rat
   | inr not ↦ omega arith
 ]
 
--- The nominal instant of event e is start + e * 10^9 / rate. The event's stamp is at most 1 ns after that instant, and
--- less than 3 ns before it.
+-- The nominal instant of event e is start + e * 10^9 / rate. The event's stamp is at most 1 ns after the nominal
+-- instant, and less than 3 ns before it.
 pub record IsStamped (b : Beat) (start e instant : ℕ) : Type 0 where
   pub under : instant * b.rate ≤ start * b.rate + e * 1000000000 + b.rate
   pub over : start * b.rate + e * 1000000000 < instant * b.rate + 3 * b.rate

@@ -32,8 +32,8 @@ abbrev pub point_at : Beat → ℕ → ℕ → ℕ
 point_at b start m = start + nominal_offset b.rate (m * b.spacing)
 
 -- The instant in the timestamp of event e of the run. If event e is before the second point, the instant is the event's
--- nominal instant. Otherwise, the instant is computed from the last point up to event e, with the period that ends at
--- that point.
+-- nominal instant. For any other event, the instant is computed from the last point up to event e, with the period that
+-- ends at that point.
 unfoldable pub stamped_at : Beat → ℕ → ℕ → ℕ
 stamped_at b start e =
     if nat_lt e b.spacing then start + nominal_offset b.rate e else

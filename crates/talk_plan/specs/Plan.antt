@@ -88,9 +88,9 @@ Restarts (Some packets) jump = IsRestart packets jump
 
 -- ---- the media clock
 
--- How many sample frames a stream has from one point of the clock to the next. These sample frames take as long as
--- `interval` events of the clock. The clock's frequency is its base frequency times the factor of its pull (IEEE
--- 1722-2016, 10). `rate` is the stream's sample rate.
+-- How many sample frames a stream has from one point of the clock to the next. The sample frames between two points
+-- take as long as `interval` events of the clock. The clock's frequency is its base frequency times the factor of its
+-- pull (IEEE 1722-2016, 10). `rate` is the stream's sample rate.
 unfoldable pub spacing_of : CrfPlan → ℕ → ℕ
 spacing_of crf rate = crf.interval * rate * pull_down crf.pull / (crf.rate * pull_up crf.pull)
 
@@ -126,7 +126,7 @@ abbrev pub IsAhead : Option CrfPlan → ℕ → Type 0
 IsAhead None lead = ⊤
 IsAhead (Some crf) lead = 3 ≤ lead
 
--- A plan of audio: AM824, or PCM in the AVTP audio format (sparse or not). Such a plan can have restarts, a media
+-- A plan of audio: AM824, or PCM in the AVTP audio format (sparse or not). An audio plan can have restarts, a media
 -- clock, or both.
 pub record IsAudioPlan (plan : TalkPlan) : Type 0 where
   pub kind : IsAudioKind plan.kind
@@ -177,16 +177,16 @@ pub record IsNearLead (plan : TalkPlan) (lead : ℕ) : Type 0 where
   pub to : lead * plan.rate < plan.lead * plan.rate + 127 * (plan.count * 1000000000)
 
 -- What a stream of this kind demands of a listener's lead. If some packets of audio have no timestamp, the listener's
--- lead must be near the plan's lead. Otherwise, any lead will do.
+-- lead must be near the plan's lead. For other streams, any lead will do.
 abbrev pub ExpectsBy : TalkKind → TalkPlan → ℕ → Type 0
 ExpectsBy (Aaf format false) plan lead = ⊤
 ExpectsBy (Aaf format true) plan lead = IsNearLead plan lead
 ExpectsBy Am824 plan lead = plan.count < interval_of plan.rate → IsNearLead plan lead
 ExpectsBy (H264 last_stamp) plan lead = ⊤
 
--- If an audio packet has no timestamp, a listener identifies it by its arrival time. If a plan has such packets, the
--- listener's lead must be near the plan's lead. Any lead will do for PCM that is not sparse, for AM824 whose packets
--- have at least SYT_INTERVAL data blocks, and for H.264.
+-- If an audio packet has no timestamp, a listener identifies it by its arrival time. If a plan has audio packets
+-- without a timestamp, the listener's lead must be near the plan's lead. Any lead will do for PCM that is not sparse,
+-- for AM824 whose packets have at least SYT_INTERVAL data blocks, and for H.264.
 abbrev pub Expects : TalkPlan → ℕ → Type 0
 Expects plan lead = ExpectsBy plan.kind plan lead
 

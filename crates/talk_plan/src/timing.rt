@@ -14,7 +14,7 @@ use clock_track::{pull_down, pull_up};
 
 const NANOSECONDS: u64 = 1_000_000_000;
 
-/// If a period is divided into `whole` equal parts, how long `parts` of them take, rounded down.
+/// How long `parts` of `whole` equal parts of a period take, rounded down.
 fn part(parts: u64, period: u64, whole: u64) -> u64
     requires { parts < whole }
     ensures value { result ≡ parts * period / whole }
@@ -127,8 +127,8 @@ impl TalkPlan {
 
     /// The instant in the timestamp of sample frame `i` of packet `n`, computed from the plan's clock, in nanoseconds
     /// of gPTP. If the sample frame is before the run's second point, the instant is the sample frame's nominal
-    /// instant. Otherwise, the instant is computed from the clock's last point up to the sample frame, with the period
-    /// that ends at that point.
+    /// instant. If the sample frame is at or after the run's second point, the instant is computed from the clock's
+    /// last point up to the sample frame, with the period that ends at that point.
     #[cold]
     #[inline(never)]
     fn clocked_instant(&self, crf: &CrfPlan, n: u64, i: u32) -> u64

@@ -58,7 +58,8 @@ abbrev pub part_at : List (ℕ × ℕ) → Place → NalPart
 part_at units p = part_by (packets_at units p.unit) p.fragment
 
 -- What fragment k carries of `rest`, the bytes of its unit after the first byte. If the unit is sent whole, the
--- fragment carries all of `rest`. Otherwise, the fragment carries `full_body` bytes, or as many as are left.
+-- fragment carries all of `rest`. If the unit is sent in fragments, the fragment carries `full_body` bytes, or as many
+-- as are left.
 abbrev pub body_by : NalPart → ℕ → List ℕ → List ℕ
 body_by Single k rest = rest
 body_by First k rest = take full_body (drop (k * full_body) rest)

@@ -6,8 +6,8 @@ ghost use Rattle.talk_video.specs.AccessUnits.{HasSlice, access_unit, may_begin,
 ghost use Rattle.talk_video.specs.Fragments.{body_of, packets_at, packets_before, packets_for, place_of, rest_in};
 
 /// The first NAL unit is in access unit 0. Each later unit is in the access unit of its predecessor, or in the next
-/// access unit. It is in the next access unit if and only if the predecessor's access unit already has a slice and the
-/// later unit can begin an access unit.
+/// access unit. A later unit is in the next access unit if and only if its predecessor's access unit already has a
+/// slice and the later unit can begin an access unit.
 pub fn access_units_begin()
     ensures first { (bytes : List ℕ) (units : List (ℕ × ℕ)) → access_unit bytes units 0 ≡ 0 }
     ensures further { (bytes : List ℕ) (units : List (ℕ × ℕ)) (i : ℕ)

@@ -69,8 +69,8 @@ fn has_slice(bytes: &[u8], from: usize, to: usize) -> bool
     matches!(unit_type(bytes, from, to), 1..=5)
 }
 
-/// Whether the slice of a unit is the first of a picture: the top bit of the unit's second byte is set. A slice of one
-/// byte has no second byte, so it begins no access unit.
+/// Whether the slice of a unit is the first slice of a picture: the top bit of the unit's second byte is set. A slice
+/// of one byte has no second byte, so it begins no access unit.
 fn is_first_slice(bytes: &[u8], from: usize, to: usize) -> bool
     requires { IsInside bytes.now (from, to) }
     ensures { result ≡ is_first_slice_in bytes.now (from, to) }

@@ -40,7 +40,7 @@ const FULL_BODY: usize = 1398;
 /// How many bytes of a packet are not counted in the packet's stated length.
 const UNCOUNTED: usize = 24;
 
-/// If a unit has `packets` fragments, whether fragment `k` is the whole unit, the first fragment, a middle one or the
+/// Whether fragment `k` of a unit with `packets` fragments is the whole unit, the first fragment, a middle one or the
 /// last one.
 #[tactic(auto, unfolding(crate::specs::Fragments::part_by))]
 fn part_by(packets: u64, k: u64) -> NalPart
@@ -59,7 +59,7 @@ fn part_by(packets: u64, k: u64) -> NalPart
 }
 
 /// The number of counted bytes before the body: the H.264 timestamp, and the headers of `part`. The packet's stated
-/// length counts these bytes and the body.
+/// length counts the H.264 timestamp, the headers of `part`, and the body.
 fn counted_header(part: NalPart) -> usize
     ensures { result ≡ header_size part - 24 }
 {

@@ -62,9 +62,9 @@ is_due plan input n p limit =
 
 -- ---- a batch
 
--- The batch is packet n of the plan. It begins at most 3 ns before the packet's instant in the plan, and ends at most 2
--- ns after the packet's last instant in the plan. Its samples are at least 500 ns apart. In the plan, the packet ends
--- at 4,100,000,000 seconds or earlier.
+-- The batch is packet n of the plan. The batch begins at most 3 ns before the packet's instant in the plan, and ends at
+-- most 2 ns after the packet's last instant in the plan. The batch's samples are at least 500 ns apart. In the plan,
+-- the packet ends at 4,100,000,000 seconds or earlier.
 pub record IsSent (plan : TalkPlan) (n : ℕ) (batch : Presented) : Type 0 where
   pub from : pos (first_instant plan n) ≤ℤ (sample_instant batch 0 +ℤ pos 3)
   pub to : (k : ℕ) → k < batch.count → sample_instant batch k ≤ℤ pos (first_instant plan n + nominal_offset plan.rate (plan.count - 1) + 2)

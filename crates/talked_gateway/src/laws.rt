@@ -1,4 +1,4 @@
-//! Laws about what a gateway makes from a capture of a talker's plan. Each is a function whose contract states the law.
+//! Laws about what a gateway makes from a capture of a talker's plan. Each law is stated by the contract of a function.
 
 ghost use Rattle.std.specs.Prelude.{◌≡◌, ◌≤◌, ◌<◌, ◌^◌, Bool, ℕ, IsSome, List, None, map};
 ghost use Rattle.aaf_format.specs.declared.aaf.AafFormat.TheVariants.{Int24};
@@ -23,10 +23,11 @@ use talker::laws::{journal_conforms, losses_are_delivered};
 /// Let a listener without a clock hear a capture of an audio plan, and let a scan find no fault in this capture. It
 /// does not matter whether the capture loses, repeats or reorders packets. Then a gateway skips nothing that the
 /// listener presents, because each packet begins after the end of all earlier packets, and arrives before 2^32 seconds.
-/// The same is true of the batches that are already certain to be presented, whatever records follow.
+/// A gateway also skips none of the batches that are already certain to be presented, whatever records follow.
 ///
-/// If some packets have no timestamp, as in sparse PCM and in AM824 whose packets have fewer blocks than SYT_INTERVAL,
-/// the max transit times of the listener and of the plan must differ by less than the duration of 127 packets.
+/// Sparse PCM has packets without a timestamp, and so has AM824 with fewer blocks in a packet than SYT_INTERVAL. For
+/// these streams, the max transit times of the listener and of the plan must differ by less than the duration of 127
+/// packets.
 pub fn nothing_talked_is_skipped()
     ensures shown { (to : ToValue) (plan : TalkPlan) (input places : List ℕ) (listen : ListenPlan) → ListensTo plan input listen → listen.clock ≡ None → first_fault to listen.stream (captured plan input places) ≡ None
         → SkipsNone to (shape_in listen.stream (captured plan input places)) (presented_of (shown_of listen (captured plan input places))) }
@@ -39,8 +40,9 @@ pub fn nothing_talked_is_skipped()
 
 /// Let a listener without a clock hear a capture of an audio plan, and let a scan find no fault in this capture. A
 /// gateway converts what the listener presents, and sends it under any stream ID. A second listener, without a clock
-/// and with at least the default buffer, hears the gateway's packets. Then the buffer of the second listener is never
-/// full. So the laws about the samples that are presented from a gateway's packets apply to the second listener.
+/// and with at least the default buffer, hears the gateway's packets. Then the buffer of the listener that hears the
+/// gateway's packets is never full. Hence the laws about what is presented from a gateway's packets apply to the second
+/// listener.
 pub fn default_listeners_hear_turned_captures()
     ensures { (to : ToValue) (plan : TalkPlan) (input places : List ℕ) (listen : ListenPlan) (id : ℕ) (hearing : ListenPlan) → ListensTo plan input listen → listen.clock ≡ None → first_fault to listen.stream (captured plan input places) ≡ None
         → id < 2 ^ 64 → HasDefaultRoom id hearing → Hears id hearing (map record_of (frames_made to listen id (captured plan input places))) }

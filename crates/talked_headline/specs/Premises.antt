@@ -32,8 +32,8 @@ pub record ListensTo (plan : TalkPlan) (input : List ℕ) (listen : ListenPlan) 
 -- ---- H.264
 
 -- An H.264 plan sends `input`, and the listener listens to the plan's stream. If the plan stamps only the last
--- fragments of units, the numbers of adjacent captured packets differ by at most 254, unless both packets are stamped.
--- Any lead of the listener will do.
+-- fragments of units, two adjacent captured packets are both stamped, or their numbers differ by at most 254. Any lead
+-- of the listener will do.
 pub record ListensToVideo (plan : TalkPlan) (input places : List ℕ) (listen : ListenPlan) : Type 0 where
   pub last_stamp : Bool
   pub kind : plan.kind ≡ H264 last_stamp

@@ -113,8 +113,8 @@ stamp_kept j room k m instant e below few =
 
 -- ---- what arrived
 
--- A capture has `count` packets, from packet a on. Its first `size` packets, or all of them if it has fewer, are the
--- `m` packets from packet a on.
+-- A capture has `count` packets, from packet a on. The first `size` packets of the capture, or all of them if there are
+-- fewer, are the `m` packets from packet a on.
 record IsFront (size a count : ℕ) : Type 0 where
   m : ℕ
   numbers : stream_numbers (take size (map OfStream (range_with_len a count))) ≡ range_with_len a m

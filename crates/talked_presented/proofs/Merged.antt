@@ -139,8 +139,8 @@ all_merged plan s is = merge (clocks_in s - 0 + (packets_in s - 0)) plan s 0 0 i
 
 -- ---- the index of a packet of the stream
 
--- Packet n of the stream is at index `i` of `os`. The entries before index `i` are, in the order of sending, all
--- packets of the stream from `b` to n - 1, and those packets of the clock from `a` on that are sent before packet n.
+-- Packet n of the stream is at index `i` of `os`. The entries before index `i` are the stream's packets from `b` to n -
+-- 1 and the clock's packets from `a` on that are sent before packet n, in the order of sending.
 pub record IsPlaced (s : Stream) (a b : ℕ) (os : List Origin) (i n : ℕ) : Type 0 where
   pub low : b ≤ n
   pub known : n < packets_in s
@@ -224,7 +224,7 @@ placed plan s a b (OfStream k ∷ os) (suc i) n is least merged at =
     before e rest zero o le there = let same : OfStream k ≡ o = cc in subst (λ (x : Origin). sent_by s x ≤ s.arrival n) same (rises s.arrival is.rising k n e)
     before e rest (suc j) o le there = rest j o (omega arith) there
 
--- each packet of the stream has an index
+-- each packet of the stream that is left has an index in the list
 pub has_place : (s : Stream) (a b : ℕ) (os : List Origin) (n : ℕ) → AreMerged s a b os → b ≤ n → n < packets_in s → (i : ℕ) × (slice_get os i ≡ Some (OfStream n))
 has_place s a b [] n merged low lt = absurd (omega (arith, merged.1))
 has_place s a b (OfClock m ∷ os) n merged low lt = let rest = has_place s (a + 1) b os n merged.1 low lt in (suc rest.0, rest.1)

@@ -33,9 +33,9 @@ pub record ArePresentedFrom (p : PacketJournal) (first : ℕ) (shown : List Show
   pub in_order : AllPairs ComesBefore (presented_of shown)
   pub no_other : All (IsFrom p first) shown
 
--- Each packet of a plan of this kind stamps its first sample. PCM that is not sparse is of this kind. AM824 is of this
--- kind if the number of data blocks in a packet is a multiple of the SYT interval, as in the packets of a blocking
--- talker (IEC 61883-6).
+-- Each packet of a plan of this kind stamps its first sample. Each packet of PCM that is not sparse stamps its first
+-- sample. AM824 is of this kind if the number of data blocks in a packet is a multiple of the SYT interval, as in the
+-- packets of a blocking talker (IEC 61883-6).
 abbrev pub StampsFirst : TalkKind → TalkPlan → Type 0
 StampsFirst (Aaf format false) plan = ⊤
 StampsFirst (Aaf format true) plan = ⊥

@@ -35,7 +35,7 @@ pub record IsCloseLead (plan : TalkPlan) (lead : ℕ) : Type 0 where
   pub to : lead * plan.rate ≤ plan.lead * plan.rate + 59 * (plan.count * 1000000000)
 
 -- If some packets have no timestamp, the listener must expect packets at about the time at which the plan sends them.
--- If each packet is stamped, any lead will do.
+-- If each packet is stamped, the listener may have any lead.
 abbrev pub ExpectsCounted : TalkKind → TalkPlan → ℕ → Type 0
 ExpectsCounted (Aaf format false) plan lead = ⊤
 ExpectsCounted (Aaf format true) plan lead = IsCloseLead plan lead
@@ -43,8 +43,8 @@ ExpectsCounted Am824 plan lead = plan.count < interval_of plan.rate → IsCloseL
 ExpectsCounted (H264 last_stamp) plan lead = ⊤
 
 -- The listener can present each packet of the plan, which has no clock. Each packet has a timestamp or is counted from
--- one. The listener has no clock either, its lead is close to the plan's lead if packets are counted, and its buffer
--- has room for all waiting packets.
+-- one. The listener has no clock, and its buffer has room for all waiting packets. If packets are counted, the
+-- listener's lead is close to the plan's lead.
 pub record HearsAll (plan : TalkPlan) (input : List ℕ) (listen : ListenPlan) : Type 0 where
   pub talk : ListensTo plan input listen
   pub alone : plan.crf ≡ None
@@ -55,8 +55,8 @@ pub record HearsAll (plan : TalkPlan) (input : List ℕ) (listen : ListenPlan) :
 
 -- ---- the defaults
 
--- Each packet of a plan of this kind has a timestamp or is counted from one, because each packet is stamped or there is
--- no restart.
+-- Each packet of a plan of this kind has a timestamp or is counted from the timestamp of another packet, because each
+-- packet is stamped or there is no restart.
 abbrev pub HasEachHead : TalkKind → Option ℕ → Type 0
 HasEachHead (Aaf format false) restart = ⊤
 HasEachHead (Aaf format true) restart = restart ≡ None
@@ -98,8 +98,8 @@ pub record HoldsUnits (plan : TalkPlan) (input : List ℕ) (listen : ListenPlan)
       → n < k + listen.buffer
   pub bytes : (listen.buffer + 255) * 1500 ≤ listen.room
 
--- The listener can present each unit of a plan of H.264, because its buffer has room for all waiting units. Any lead of
--- the listener will do.
+-- The listener can present each unit of a plan of H.264, because its buffer has room for all waiting units. The
+-- listener may have any lead.
 pub record HearsUnits (plan : TalkPlan) (input : List ℕ) (listen : ListenPlan) : Type 0 where
   pub last_stamp : Bool
   pub kind : plan.kind ≡ H264 last_stamp

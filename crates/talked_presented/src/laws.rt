@@ -31,8 +31,9 @@ use talker::laws::{capture_delivers, capture_reads_back, journal_conforms, losse
 
 /// Files that `talk` makes with its default lead meet the whole premise of the headline, for listeners with the default
 /// options of `listen`. Files of audio without a media clock meet the premise if each packet has a timestamp or is
-/// counted from one. Files of audio with a clock meet the premise if each packet stamps its first sample, there are no
-/// restarts, and the listener has that clock. Files of H.264 always meet the premise.
+/// counted from the timestamp of another packet. Files of audio with a clock meet the premise if each packet stamps its
+/// first sample, there are no restarts, and the listener has that clock. Files of H.264 always meet the premise of the
+/// headline.
 pub fn files_are_heard()
     ensures audio { (plan : TalkPlan) (input : List ℕ) → HasDefaultLead plan input → HearsTalker (pos 0) (journal plan input) (default_listener plan.id) (records_in (capture plan input)) }
     ensures clocked { (plan : TalkPlan) (crf : CrfPlan) (input : List ℕ) → HasDefaultClock plan crf input → HearsTalker (pos 0) (journal plan input) (clocked_listener plan.id crf.id) (records_in (capture plan input)) }
@@ -44,10 +45,10 @@ pub fn files_are_heard()
     capture_reads_back();
 }
 
-/// Assume that each packet of an audio plan without a clock has a timestamp or is counted from one. Assume that the
-/// listener has no clock either, and has room for what is sent during the lead. If some packets have no timestamp,
-/// assume that the leads of the plan and of the listener are close. Then each packet of a whole capture is presented,
-/// once and in order, and nothing is flagged.
+/// Assume that each packet of an audio plan without a clock has a timestamp, or that its samples are counted from the
+/// timestamp of another packet. Assume that the listener, like the plan, has no clock, and that it has room for what is
+/// sent during the lead. If some packets have no timestamp, assume that the leads of the plan and of the listener are
+/// close. Then each packet of a whole capture is presented, once and in order, and nothing is flagged.
 pub fn whole_capture_is_presented()
     ensures { (plan : TalkPlan) (input : List ℕ) (listen : ListenPlan) → HearsAll plan input listen
         → ArePresented false (journal plan input) (range_with_len 0 (journal plan input).times.packets) (shown_of listen (whole_records (capture plan input))) }
@@ -72,8 +73,8 @@ pub fn defaults_present_all()
 /// Assume that each packet of an audio plan with a clock stamps its first sample. Assume that there are no restarts,
 /// and that the lead is at least 3 ns. Assume that the listener has the talker's clock, no look-ahead, and room for
 /// what is sent during the lead. Then, from the second timestamp of the clock on, each packet of a whole capture is
-/// presented, once and in order. Any other shown item is a flag of a packet before that timestamp, with the reason
-/// `noclock`.
+/// presented, once and in order. Any other shown item is a flag with the reason `noclock`, of a packet before the
+/// clock's second timestamp.
 pub fn clocked_capture_is_presented()
     ensures { (plan : TalkPlan) (crf : CrfPlan) (input : List ℕ) (listen : ListenPlan) → HearsClock plan crf input listen
         → ArePresentedFrom (journal plan input) (first_covered crf plan) (shown_of listen (whole_records (capture plan input))) }
@@ -96,8 +97,8 @@ pub fn defaults_present_by_clock()
 }
 
 /// If the listener has room for the waiting units, it presents each unit of a whole capture of an H.264 plan, once and
-/// in order, and flags nothing. This holds both for plans that stamp all packets and for plans that stamp only the last
-/// packet of each unit.
+/// in order, and flags nothing. The law holds both for plans that stamp all packets and for plans that stamp only the
+/// last packet of each unit.
 pub fn whole_video_is_presented()
     ensures { (plan : TalkPlan) (input : List ℕ) (listen : ListenPlan) → HearsUnits plan input listen
         → ArePresented (by_clock listen) (journal plan input) (unit_ends plan input) (shown_of listen (whole_records (capture plan input))) }

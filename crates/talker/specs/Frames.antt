@@ -99,17 +99,17 @@ abbrev pub packet_numbers : List SentFrame → List ℕ
 packet_numbers [] = []
 packet_numbers (f ∷ frames) = if f.clock then packet_numbers frames else f.number ∷ packet_numbers frames
 
--- If a stream of H.264 stamps only last fragments, adjacent packets in the list of numbers are near each other. For
--- other streams, nothing is required.
+-- If a stream of H.264 stamps only last fragments, adjacent packets in the list of numbers are near each other. For a
+-- stream that is not H.264, or that stamps every fragment, nothing is required.
 abbrev pub StaysNearBy : TalkKind → Journal → List ℕ → Type 0
 StaysNearBy (Aaf format sparse) j numbers = ⊤
 StaysNearBy Am824 j numbers = ⊤
 StaysNearBy (H264 false) j numbers = ⊤
 StaysNearBy (H264 true) j numbers = AreNear j numbers
 
--- If a plan stamps only the last fragment of each NAL unit, the numbers of adjacent captured packets differ by at most
--- 254, unless both packets are stamped. The reason: fragments without a timestamp are told apart only by their sequence
--- numbers.
+-- If a plan stamps only the last fragment of each NAL unit, two adjacent captured packets are both stamped, or their
+-- numbers differ by at most 254. The limit is needed because fragments without a timestamp are told apart only by their
+-- sequence numbers.
 abbrev pub StaysNear : TalkPlan → List ℕ → List SentFrame → Type 0
 StaysNear plan input frames = StaysNearBy plan.kind (journal plan input).times (packet_numbers frames)
 

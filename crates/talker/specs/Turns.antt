@@ -12,8 +12,8 @@ frame_in turn bytes = record { arrival = turn.arrival; number = turn.number; clo
 abbrev pub turn_of : SentFrame → Turn
 turn_of f = record { arrival = f.arrival; number = f.number; clock = f.clock; size = length f.bytes }
 
--- `turn` is the turn of the talker's next frame. A capture can record the frame, because its arrival is at least 0 and
--- below 2^32 seconds and it has at most 1518 bytes.
+-- `turn` is the turn of the talker's next frame. A capture can record the frame: the arrival is at least 0 and below
+-- 2^32 seconds, and the frame has at most 1518 bytes.
 pub record IsTurn (t : Talking) (turn : Turn) : Type 0 where
   pub next : option_map turn_of (slice_get (frames t.plan t.input) t.given) ≡ Some turn
   pub begun : pos 0 ≤ℤ turn.arrival

@@ -5,8 +5,8 @@ ghost use Rattle.stream_journal.specs.Examples.{each_eighth, each_sixteenth, res
 ghost use Rattle.talker.specs.Examples.{HasSameTimes, restarting, six_blocks};
 ghost use Rattle.talker.specs.Journal.{journal};
 
-/// A sparse stream restarts after every ten packets. Its first twenty packets have the times, timestamps and restart
-/// bits that a journal lists packet by packet.
+/// A sparse stream restarts after every ten packets. The stream's first twenty packets have the times, timestamps and
+/// restart bits that a journal lists packet by packet.
 pub fn restarting_plan_is_worked_out()
     ensures { (input : List ℕ) (n : ℕ) → n < 20 → HasSameTimes (journal restarting input).times restarted n }
 {}

@@ -75,7 +75,8 @@ pub fn packets_are_sent_in_time()
 {}
 
 /// If no restart lies between packet n and the seventh packet before it, packet n has a head in the plan's journal. At
-/// least one of these eight packets is stamped, and the time of packet n is counted from a stamped one.
+/// least one of the packets n - 7 to n is stamped, and the time of packet n is counted from one of these stamped
+/// packets.
 pub fn packets_have_heads()
     ensures { (plan : TalkPlan) (input : List ℕ) (n : ℕ) → IsAudioPlan plan → 7 ≤ n → run_of plan (n - 7) ≡ run_of plan n
         → IsSome (head_of (journal plan input).times n) }

@@ -1,6 +1,6 @@
 //! A frame as it is sent.
 
-/// A frame as it is sent. Its bytes are borrowed.
+/// A frame as it is sent. The frame's bytes are borrowed.
 #[derive(Clone, Copy, Debug)]
 pub struct Sent<'a> {
     /// When the frame is sent, in nanoseconds of gPTP.

@@ -31,8 +31,8 @@ pub struct Talker<'a> {
     clock: Option<ClockStream>,
     packets: u64,
     clocks: u64,
-    /// How many of the stream's packets were already given in the order of sending. `given_clocks` counts the clock's
-    /// packets in the same way.
+    /// How many of the stream's packets were already given in the order of sending. `given_clocks` is the number of the
+    /// clock's packets that were already given.
     given_packets: u64,
     given_clocks: u64,
     /// The memory of the frame that was most recently lent.
@@ -79,8 +79,8 @@ impl<'a> Talker<'a> {
     /// Returns `Frames` exactly if an audio input is not a whole number of sample frames. An input of H.264 is tested
     /// for three faults, and the first one found is returned. `StartCode`: there is no start code. `NalType`: a NAL
     /// unit has a type other than 1 to 23. `Packets`: an access unit needs more than 255 packets. Returns `Arrival`
-    /// exactly if there is none of these faults and a packet would arrive at 2^32 seconds or later. No packet of a plan
-    /// within these limits arrives so late. Returns `Memory` if memory runs out.
+    /// exactly if the input itself has no fault, and a packet would arrive at 2^32 seconds or later. No packet of a
+    /// plan within these limits arrives at 2^32 seconds or later. Returns `Memory` if memory runs out.
     pub fn begin(alloc: Global, plan: TalkPlan, input: &'a [u8]) -> Result<Self, TalkFault>
         requires plan { IsPlan plan }
         requires limit { length input.now ≤ most_input }
@@ -193,7 +193,7 @@ impl<'a> Talker<'a> {
         write_frame(&self.source, &self.clock, turn, out);
     }
 
-    /// Counts the frame of `turn` as given. This frame is the next frame to be sent.
+    /// Counts the frame of `turn` as given. The frame of `turn` is the next frame to be sent.
     #[inline(always)]
     pub fn go_on(&mut self, turn: Turn)
         requires { IsTurn self.old turn }
@@ -268,8 +268,7 @@ fn write_front(source: &Source<'_>, clock: &Option<ClockStream>, turn: Turn, out
     write_frame(source, clock, turn, &mut out[..turn.size]);
 }
 
-/// Whether packet `m` of the clock exists, and packet `n` of the stream, if it exists, is sent at the same time or
-/// later.
+/// Whether packet `m` of the clock exists and is sent no later than packet `n` of the stream, if that packet exists.
 fn clock_is_first(
     clock: &Option<ClockStream>,
     source: &Source<'_>,

@@ -48,7 +48,7 @@ pcapng 44=0e => if_tsoffset at 44
 pcapng 68=01 => interface_id at 68
 pcapng 80=45 => captured_length at 80
 pcapng 156=60 => block_trailer at 156
-// Units of an interface, each with a timestamp in that unit.
+// Timestamp units of an interface, and a timestamp in each unit.
 pcapng 48=00 72=0000000001000000 => 1000000000 66 66, Some(Whole)
 pcapng 48=00 72=0100000000000000 => timestamp_range at 72
 pcapng 48=00 72=00000000ffffffff => 4294967295000000000 66 66, Some(Whole)

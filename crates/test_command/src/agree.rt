@@ -135,8 +135,8 @@ fn a_side_that_ends_early_is_compared_up_to_there(rt: HostRuntime) -> Result<(),
 
 /// A row has the input of `talk`, the options of `talk`, and the options of `agree`. Then the row has, for each of two
 /// captures, the records that are delivered, written as in the rows of `losses`. In the first row of H.264, each access
-/// unit has 255 NAL units. In the other row of H.264, the second access unit is a single NAL unit in 255 fragments, all
-/// of which are delivered.
+/// unit has 255 NAL units. In the second row of H.264, the second access unit is a single NAL unit in 255 fragments,
+/// all of which are delivered.
 const ROWS: &str = "\
 noise:2400 | --sparse --restart 12 |  | mixed | 0/0/0
 noise:2400 | --sparse --restart 12 |  | mixed | 9/3/4

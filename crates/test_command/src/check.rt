@@ -92,8 +92,8 @@ fn each_packet_is_checked_by_itself(rt: HostRuntime) -> Result<(), NoMemory> {
     follow(&rt, rt.alloc(), CAPTURES)
 }
 
-/// First, all packets are captured as they were sent. Then one packet is lost and one packet is repeated. Then a media
-/// clock restart is too early.
+/// First, all packets are captured as they were sent. Then one packet is lost and one packet is repeated. In a further
+/// capture, a media clock restart comes too early.
 const STREAMS: &str = "\
 < a.raw noise:480
 $ talk --sparse a.raw c.pcap

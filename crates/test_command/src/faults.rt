@@ -1,5 +1,5 @@
-//! In each run, a different call to the shelf or the sink fails. This is tested with calls that move few bytes and with
-//! calls that move many. The status names the fault, and the text is what was certain before the fault.
+//! In each run, a different call to the shelf or the sink fails. The test is run with calls that move few bytes and
+//! with calls that move many. The status names the fault, and the text is what was certain before the fault.
 
 use crate::recipe::file_of;
 use crate::transcript::{status_of, words_of};
@@ -109,7 +109,8 @@ const HEARD_NG: Case = Case {
 };
 
 /// Two packets in each of two captures. The first packet of a capture is due once the second packet arrives. The first
-/// packets of the two captures differ. This difference is certain once the first capture has ended.
+/// packets of the two captures differ. The difference between the first packets is certain once the first capture has
+/// ended.
 const AGREED: Case = Case {
     line: "agree --buffer 8 --room 192 0200000000010001 c.pcap d.pcap",
     capture: "\

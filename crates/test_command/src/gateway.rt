@@ -327,9 +327,9 @@ fn a_second_turned_there_and_back_is_the_same_bytes(rt: HostRuntime) -> Result<(
 const TURN: &str = "gateway --to am824 0200000000010001 a.pcap c.pcap";
 
 /// The status for a capture of 106 bytes, and the size of the capture that is made. Call number `call` of the shelf
-/// fails, and each call moves at most `most` bytes. The calls open the input, read it and find its end. Then they
-/// create the capture, and open and read the input again. Finally they write the capture's 122 bytes or, after a failed
-/// read, only its header.
+/// fails, and each call moves at most `most` bytes. The calls open the input, read it and find its end. Then the calls
+/// create the capture, and open and read the input again. Finally the calls write the 122 bytes of the capture or,
+/// after a failed read, only the file header.
 fn made(call: usize, most: usize) -> (Status, Option<usize>) {
     let reading = 106usize.div_ceil(most.max(1)).saturating_add(2);
     let create = reading.saturating_add(1);

@@ -161,7 +161,8 @@ fn is_among(alloc: Global, whole: &str, text: &str, places: &[usize]) -> Result<
     Ok(true)
 }
 
-/// If `end` is a number, whether the text presents at least `end` packets. Otherwise, whether the text ends with `end`.
+/// If `end` is a number, whether the text presents at least `end` packets. If `end` is not a number, whether the text
+/// ends with `end`.
 fn ends_as_stated(text: &str, end: &str) -> bool {
     if end.starts_with("presented") {
         return text.trim_ascii_end().ends_with(end);

@@ -5,8 +5,8 @@
 //!   samples that differ from packet to packet.
 //! - `..24` keeps only the first 24 bytes.
 //! - `75=50ff` overwrites bytes from offset 75 on. `ts:9` writes an AVTP timestamp into a packet, `point:9` a CRF timestamp.
-//! - `record:9` puts a packet into a frame, and the frame into a record that arrived at 9 ns. `capture:9` makes a capture of
-//!   this record alone.
+//! - `record:9` puts a packet into a frame, and the frame into a record that arrived at 9 ns. `capture:9` makes a
+//!   capture whose only record arrived at 9 ns.
 //!
 //! Any other step does nothing, so the test that states the file's bytes fails.
 

@@ -78,7 +78,8 @@ struct Meeting {
     met: AtomicBool,
 }
 
-/// Waits until the other call is running, for at most 20,000,000 rounds. Once a call has seen the other, no call waits.
+/// Waits until the other call is running, for at most 20,000,000 rounds. Once one of the two calls has seen the other,
+/// neither call waits.
 fn stay(mine: &AtomicBool, other: &AtomicBool, met: &AtomicBool) {
     mine.store(true, Ordering::SeqCst);
     for _ in 0..20_000_000 {
@@ -138,7 +139,7 @@ impl Shelf for MeetingShelf {
     }
 }
 
-/// A sink. Each of its writes waits until it sees that a read of the shelf is running.
+/// A sink. Each write to this sink waits until a read of the shelf is running.
 #[derive(Drop)]
 struct MeetingSink {
     sink: MemorySink,

@@ -284,7 +284,8 @@ fn a_sample_longer_than_a_piece_of_digits_is_printed_whole(
 ) -> Result<(), NoMemory> {
     let alloc = rt.alloc();
     let mut bench = Bench::new(alloc);
-    // One sample frame of 1,023 channels of 32 bits has 4,092 bytes. Its record has 4,134 bytes.
+    // One sample frame of 1,023 channels of 32 bits has 4,092 bytes. The record with this wide sample frame has 4,134
+    // captured bytes.
     let wide = "V1 32=2610 36=2610 74=0253ff20 78=0ffc ..82 noise:4092";
     let capture = bytes_of(alloc, wide)?;
     let digits = hex::encode(alloc, capture.get(82..).unwrap_or(&[]))?;

@@ -2,12 +2,12 @@
 //!
 //! - `< NAME STEPS` puts a file on the shelf. `+ NAME STEPS` adds to a file. `@ NAME PLACES` keeps only these records of a
 //!   file, in this order.
-//! - `? NAME STEPS` asserts what a file holds. `~ NAME OTHER` asserts that two files hold the same. `# NAME 24` asserts that a
-//!   file holds 24 bytes.
+//! - `? NAME STEPS` asserts what a file holds. `~ NAME OTHER` asserts that two files hold the same bytes. `# NAME 24`
+//!   asserts that a file holds 24 bytes.
 //! - `! shelf 3` makes the third call of the shelf fail in the next run, and `! sink 3` the third call of the sink.
 //!   `! devices 0 3 0` makes the third call of the second of the three devices fail.
-//! - `$ WORDS` runs the command. The lines after it are the command's text. There, `...` stands for any lines, and `*` at the
-//!   end of a line for any rest of this line.
+//! - `$ WORDS` runs the command. The lines after `$ WORDS` are the text that the command prints. In the text of a
+//!   command, `...` stands for any lines, and `*` at the end of a line stands for the rest of that line.
 //! - `[3]` is the exit status, if it is not 0. `= 12 1 12` has a number for each device: its digits are the frame
 //!   numbers of the items that the device took.
 

@@ -8,7 +8,8 @@ use std::test::Fail;
 use std::{env, fs};
 
 /// How many bytes are written if call 1, 2, 3 .. of a sink fails. The sink takes 10 bytes at a time. The bytes are two
-/// packets with 24 bytes of silence between them. Call 10 is never made, so all 72 bytes are written.
+/// packets with 24 bytes of silence between them. Only nine calls are made, so call 10 cannot fail and all 72 bytes are
+/// written.
 const RAW: [usize; 10] = [0, 10, 20, 24, 34, 44, 48, 58, 68, 72];
 
 #[test]
@@ -39,8 +40,8 @@ fn samples_are_written_up_to_the_call_that_fails(rt: HostRuntime) -> Result<(), 
     Ok(())
 }
 
-/// How many bytes of two units are written if call 1, 2, 3 .. of a sink fails. The sink takes all bytes at once. Call 5
-/// is never made, so all 14 bytes are written.
+/// How many bytes of two units are written if call 1, 2, 3 .. of a sink fails. The sink takes all bytes at once. Only
+/// four calls are made, so call 5 cannot fail and all 14 bytes are written.
 const UNITS: [usize; 5] = [0, 4, 8, 12, 14];
 
 #[test]

@@ -24,8 +24,8 @@ struct Gap {
 }
 
 const GAPS: [Gap; 8] = [
-    // In the first of these three rows, one packet is missing. In the second, no packet is missing. In the third, the
-    // next packet begins at the same instant as the packet before it.
+    // In the first of these three rows, one packet is missing. In the second row, no packet is missing. In the third
+    // row, the next packet begins at the same instant as the packet before it.
     Gap {
         before: PACKET,
         next: 1_002_250_000,
@@ -53,7 +53,7 @@ const GAPS: [Gap; 8] = [
         silent: 0,
     },
     // Two samples end at 8 / 3 ns, which is rounded down to 2 ns. One and a half samples of 4 / 3 ns fit into the 2 ns
-    // from there to 4 ns.
+    // from 2 ns to 4 ns.
     Gap {
         before: Samples {
             num: 4,

@@ -31,7 +31,7 @@ fn push(assembler: &mut Assembler, frame: u64, packet: &[u8]) -> Option<Pushed>
     Some(assembler.push(mark, instant, &view))
 }
 
-/// The numbers of the frames that the latest push or cut gave up. `lost` is the number of these frames.
+/// The numbers of the frames that the latest push or cut gave up. `lost` is the number of frames that were given up.
 fn given_up(alloc: Global, assembler: &Assembler, lost: u32) -> Result<String, Fail>
     requires { lost ≤ length assembler.now.lost }
 {
@@ -102,8 +102,8 @@ fn a_unit_is_whole_if_its_fragments_go_on_with_each_other(rt: HostRuntime) -> Re
     Ok(())
 }
 
-/// Pushes all fragments of one unit. `fragments` is the number of fragments. All but the last have equal bodies.
-/// Returns what becomes of the last fragment.
+/// Pushes all fragments of one unit. `fragments` is the number of fragments. All fragments but the last have equal
+/// bodies. Returns what becomes of the last fragment.
 fn push_long(
     assembler: &mut Assembler,
     fragments: u64,
@@ -154,7 +154,7 @@ const LONG: [(u64, &str, &str, &str); 5] = [
     ),
 ];
 
-/// A unit that is too long is lost with all its fragments. Fragments that follow are lost, too.
+/// A unit that is too long is lost with all its fragments. Fragments that follow a unit that is too long are lost, too.
 #[test]
 fn a_unit_has_at_most_4096_fragments_and_4194304_bytes(rt: HostRuntime) -> Result<(), Fail> {
     let mut assembler = Assembler::new(rt.alloc())?;

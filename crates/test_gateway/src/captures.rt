@@ -137,7 +137,7 @@ fn interval_of(rate: u64) -> u64
     }
 }
 
-/// FDF of a rate, and its code in AAF.
+/// The FDF of a rate, and the rate's code in AAF.
 fn codes_of(rate: u64) -> (u8, u8) {
     match rate {
         32_000 => (0, 3),

@@ -1,6 +1,6 @@
-//! Streams that are converted, and then converted back. Among them are streams of all rates, streams of several numbers
-//! of channels, streams with packets about as long as the longest piece, sparse PCM, AM824 whose timestamps belong to a
-//! later block, and streams with restarts and losses.
+//! Streams that are converted, and then converted back. The streams cover all rates, several numbers of channels,
+//! packets about as long as the longest piece, sparse PCM, AM824 whose timestamps belong to a later block, and restarts
+//! and losses.
 
 use crate::captures::{Recorded, records_of};
 use crate::checking::is_clean;
@@ -110,9 +110,10 @@ fn are_same(a: &[Recorded], b: &[Recorded]) -> bool {
     true
 }
 
-/// Checks that a row's stream is converted to as many packets as the row says. From these packets, a listener must
-/// present the same values at the same instants, and `check` must find nothing in the packets. Checks the same for the
-/// conversion back. If AM824 that a gateway made is converted to PCM and back, the frames must stay the same.
+/// Checks that a row's stream is converted to as many packets as the row says. From the converted packets, a listener
+/// must present the same values at the same instants, and `check` must find nothing in them. The conversion back must
+/// also keep the values and the instants, and `check` must find nothing in its packets. If AM824 that a gateway made is
+/// converted to PCM and back, the frames must stay the same.
 fn check_row(rt: &impl Abort, alloc: Global, to: To, line: &str) -> Result<(), Fail> {
     let (words, wanted) = row_of(line)?;
     let back = match to {

@@ -8,7 +8,7 @@ use std::test::Fail;
 pub const STAMPED: Captured =
     captured!(AUDIO, format: Format::Blocks, arrival: 4_997_916_666, stamp: Some(5_000_000_000), changes: &[(27, 12)]);
 
-/// The next six data blocks. None of them is stamped.
+/// The next six data blocks. None of these data blocks is stamped.
 pub const NEXT: Captured =
     captured!(AUDIO, format: Format::Blocks, arrival: 4_998_041_666, seq: 1, stamp: None, changes: &[(27, 18)]);
 

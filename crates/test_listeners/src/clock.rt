@@ -64,7 +64,7 @@ const POINTLESS: [(&[(usize, u8)], bool); 6] = [
 ];
 
 /// A clock packet without a valid timestamp counts for the look-ahead. The timestamps of the clock packets before and
-/// after it still make a line.
+/// after the packet without points still make a line.
 #[test]
 fn a_clock_packet_without_points_is_waited_for(rt: HostRuntime) -> Result<(), Fail> {
     for row in &POINTLESS {

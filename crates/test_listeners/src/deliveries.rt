@@ -21,7 +21,8 @@ fn numbers_are_drawn_from_a_seed(rt: HostRuntime) {
 }
 
 /// How many packets are sent, and how many copies of them are delivered. The third value is the index of a copy. The
-/// list has some of the copies from that index on: the arrival of each copy, and the number of its packet.
+/// list has some copies in a row, the first of them at the index in the third value: for each copy, its arrival and the
+/// number of its packet.
 const ROWS: [(u32, usize, usize, &[(i64, u64)]); 6] = [
     (0, 0, 0, &[]),
     (1, 1, 0, &[(1_002_480_000, 0)]),

@@ -27,14 +27,15 @@ const MOST: u64 = 1024;
 /// A packet and its findings. The first three values are the packet's sequence number, its restart bit, and whether it
 /// has both a reserved bit and a wrong timestamp. The fourth value is the step of the sequence number, unless that step
 /// is 1. If the restart bit changes at this packet after fewer than eight packets with the previous value, the fifth
-/// value is the number of those packets. Otherwise, or if the stream began with that previous value, it is `None`.
+/// value is the number of those packets. Otherwise, or if the stream began with the previous value of the restart bit,
+/// the fifth value is `None`.
 type Noted = (u8, bool, bool, Option<u8>, Option<u32>);
 
 /// Separate streams, each with its packets in order.
 const STREAMS: [&[Noted]; 4] = [
     // Each finding by itself, and all findings together. The first change of the restart bit is no finding, because the
-    // value before it began with the stream. The bit then keeps its second value for four packets, and its third value
-    // for one packet.
+    // value before it began with the stream. The restart bit then keeps its second value for four packets, and its
+    // third value for one packet.
     &[
         (0, false, false, None, None),
         (1, true, false, None, None),

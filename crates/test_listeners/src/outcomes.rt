@@ -8,8 +8,8 @@ use std::test::Fail;
 /// find no room in the buffer.
 type Row = (u32, [u64; 6]);
 
-/// The counts for at most ten packets were worked out by hand. The other counts come from another program, which has
-/// the same rules for the noise, the deliveries and the listener.
+/// The counts for at most ten packets were worked out by hand. The counts for more packets come from another program,
+/// which has the same rules for the noise, the deliveries and the listener.
 const ROWS: [Row; 7] = [
     (0, [0, 0, 0, 0, 0, 0]),
     // one copy, which arrives 0.48 ms after its presentation time

@@ -30,8 +30,8 @@ fn split<'a>(text: &'a str, sign: char, other: &'a str) -> (&'a str, &'a str) {
     text.split_once(sign).unwrap_or((text, other))
 }
 
-/// The samples that a word describes before the `=` and the bytes. `1000` means six samples at 48 kHz from instant
-/// 1,000; `1000*3` means three samples; `1000/44100` means six samples at 44.1 kHz; and `1000u` means a unit.
+/// The samples that the part of a word before `=` describes. `1000` means six samples at 48 kHz from instant 1,000;
+/// `1000*3` means three samples; `1000/44100` means six samples at 44.1 kHz; and `1000u` means a unit.
 fn samples_of(word: &str) -> Samples {
     if let Some(first) = word.strip_suffix('u') {
         return Samples {

@@ -99,7 +99,7 @@ fn end(alloc: Global, bounded: &mut Bounded, which: Which) -> Result<String, Fai
     }
 }
 
-/// Feeds at most `most` of the bytes that are left of the wanted side. If none are left, ends the side. Returns the
+/// Feeds at most `most` of the bytes that are left of the wanted side. If no bytes are left, ends the side. Returns the
 /// bytes that are left afterwards and, if it ended the side, the side's refusal.
 fn put<'a>(
     alloc: Global,

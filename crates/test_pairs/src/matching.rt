@@ -25,10 +25,10 @@ const ROWS: &str = "\
 0@0 512x1@0 | 0@0 => matched 0 only 513 1 differ 0
 0@1 | 0@0 511x1@0 => 1 1 seq 0 At { sample: 0, a: 1, b: 0 }, matched 1 only 0 511 differ 1
 0@1 | 0@0 512x1@0 => matched 0 only 1 513 differ 0
-// The positions of batches that are already paired count, too.
+// Positions are counted over all batches, including those that are already paired.
 0@0 255x1@0 | 255x1@0 0@0 => matched 256 only 0 0 differ 0
 0@0 256x1@0 | 256x1@0 0@0 => matched 256 only 1 1 differ 0
-// The reach is 64 times the duration of A's six samples. One nanosecond more is too much.
+// The reach is 64 times the duration of A's six samples. One nanosecond beyond the reach is too much.
 0@0 | 0@8000000 => 1 1 seq 0 At { sample: 0, a: 0, b: 8000000 }, matched 1 only 0 0 differ 1
 0@0 | 0@8000001 => matched 0 only 1 1 differ 0
 0@8000000 | 0@0 => 1 1 seq 0 At { sample: 0, a: 8000000, b: 0 }, matched 1 only 0 0 differ 1
@@ -47,9 +47,9 @@ const ROWS: &str = "\
 0@0 0@8000000 | 0@8000001 => 2 1 seq 0 At { sample: 0, a: 8000000, b: 8000001 }, matched 1 only 1 0 differ 1
 256x0@0 | 256x0@8000001 => matched 0 only 256 256 differ 0
 256x0@0 256x0@8000001 | 256x0@8000001 => matched 256 only 256 0 differ 0
-// At the same instant, batches of A come before batches of B. So the differences are in the order of B's batches.
+// At the same instant, batches of A come before batches of B. Hence the differences are in the order of B's batches.
 0@0=010101010101 1@0=010101010101 | 1@0 0@0 => 2 1 seq 1 Bytes { sample: 0 }, 1 2 seq 0 Bytes { sample: 0 }, matched 2 only 0 0 differ 2
-// A unit compared with samples, and two units at the same instant and at different ones.
+// A unit compared with samples, and two units at the same instant and at different instants.
 0@5u=65 | 0@5 => matched 0 only 1 1 differ 0
 0@5 | 0@5u=65 => matched 0 only 1 1 differ 0
 0@5u=65 | 0@5u=65 => matched 1 only 0 0 differ 0

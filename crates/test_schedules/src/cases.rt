@@ -24,8 +24,8 @@ pub const STEPS: [i64; 6] = [0, 20_833, 41_666, 62_500, 83_333, 104_166];
 /// What is shown of a frame.
 #[derive(Clone, Copy, Debug, PartialEq, Eq)]
 pub enum Seen {
-    /// The frame with this number is presented. Its first sample is at this instant, and its other samples are at the
-    /// steps of the case.
+    /// The frame with this number is presented. The frame's first sample is at this instant, and its other samples are
+    /// at the steps of the case.
     At(u64, i64),
     /// The frame with this number is presented, but one of its samples is not at its step. The second number is the
     /// number of that sample, and the third number is its instant.

@@ -25,7 +25,7 @@ const ONE: Captured = Audio(0, 1_004_000_000, 1_002_000_000);
 
 const TWO: Captured = Audio(1, 1_004_125_000, 1_002_125_000);
 
-/// The second clock timestamp arrives after both packets. Both packets need this timestamp for their line.
+/// The second clock timestamp arrives after both packets. Both packets need the second clock timestamp for their line.
 const LATER: [Captured; 4] = [Clock(FIRST), ONE, TWO, Clock(SECOND)];
 
 const NONE: [Seen; 2] = [Flag(2, Reason::NoClock), Flag(3, Reason::NoClock)];

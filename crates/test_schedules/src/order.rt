@@ -14,7 +14,7 @@ fn drawn(draws: &mut Draws, n: u16) -> (u32, Captured) {
     (instant, Captured::Unit((n % 256) as u8, arrival, instant))
 }
 
-/// Draws 4,000 units, of which about 1,000 wait at a time. Returns two lists, which must be equal: all units, sorted by
+/// Draws 4,000 units; about 1,000 of them wait at a time. Returns two lists, which must be equal: all units, sorted by
 /// instant and then by index; and the units as the schedule shows them.
 fn sorted_and_shown(alloc: Global) -> Result<[Vec<Seen>; 2], NoMemory> {
     let mut draws = Draws::seeded(10);

@@ -68,9 +68,9 @@ fn answers(alloc: Global, row: &Stamped) -> Result<[ClockAnswer; 2], NoMemory> {
     Ok([kept, line_over(&[first, second], 0, instant, 48_000)])
 }
 
-/// The two timestamps are 2 ms apart, the time of 96 events at 48 kHz. Their line covers the 2 ms that begin 10,416.7
-/// ns before the later timestamp. At 40 kHz, 96 events take 2.4 ms, which is more than 8/7 of 2 ms, so no instant is
-/// covered. The last two clocks have pulls of 1000/1001 and of 1/8.
+/// The two timestamps are 2 ms apart, the time of 96 events at 48 kHz. The line of these timestamps covers the 2 ms
+/// that begin 10,416.7 ns before the later timestamp. At 40 kHz, 96 events take 2.4 ms, which is more than 8/7 of 2 ms,
+/// so no instant is covered. The last two clocks have pulls of 1000/1001 and of 1/8.
 #[test]
 fn a_sample_stands_by_the_pair_that_covers_it(rt: HostRuntime) {
     for row in [

@@ -9,9 +9,9 @@ struct Unfolded {
     instant: i64,
 }
 
-/// Four timestamps. The first is the greatest one that is read as later than the arrival. The second is one greater,
-/// and is read as earlier than the arrival. The third is after a wrap of the 32 bits. The fourth means an instant
-/// before the epoch.
+/// Four timestamps. The first timestamp is the greatest one that is read as later than the arrival. The second
+/// timestamp is one greater, and is read as earlier than the arrival. In the third row, the 32 bits wrap between the
+/// arrival and the instant. The fourth means an instant before the epoch.
 const UNFOLDED: [Unfolded; 4] = [
     Unfolded {
         timestamp: 3_557_549_055,

@@ -194,7 +194,7 @@ fn print_talk(text: &mut Text, out: &mut MemorySink) -> Result<(), Failed> {
 }
 
 /// Prints the lines for a packet without findings, for packets with one finding each, and for a packet with all
-/// findings and the longest numbers. Then prints the other lines of `check`.
+/// findings and the longest numbers. Prints the remaining lines of `check` at the end.
 fn print_findings(text: &mut Text, out: &mut MemorySink) -> Result<(), Failed> {
     let alone = [
         NOTHING,

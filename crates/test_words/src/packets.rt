@@ -1,4 +1,4 @@
-//! Packets of each format. Some have short numbers, and others have the longest numbers.
+//! Packets of each format. Some packets have short numbers, and others have the longest numbers.
 
 use aaf_format::{AafFormat, AafView};
 use avtp_header::StreamHeader;

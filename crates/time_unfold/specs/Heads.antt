@@ -6,8 +6,9 @@ use Rattle.time_unfold.specs.declared.head_rule.Distance.{Distance}
 use Rattle.time_unfold.specs.declared.head_rule.HeadRule.{HeadRule}
 use Rattle.time_unfold.specs.declared.head_rule.HeadRule.TheVariants.{Own, Eight, Blocks}
 
--- The index of the sample to which a packet's timestamp belongs. In AAF this is the first sample (IEEE 1722-2016, 7).
--- In IEC 61883-6 it is the first block whose block count is a multiple of the interval.
+-- The index of the sample to which a packet's timestamp belongs. In AAF, the timestamp belongs to the first sample
+-- (IEEE 1722-2016, 7). In IEC 61883-6 the timestamp belongs to the first block whose block count is a multiple of the
+-- interval.
 abbrev pub stamped_index : HeadRule → ℕ
 stamped_index Own = 0
 stamped_index Eight = 0
@@ -20,9 +21,10 @@ stamped_block Eight = None
 stamped_block (Blocks dbc interval) = Some ((dbc + stamped_index (Blocks dbc interval)) % 256)
 
 -- How far back the stamped sample is if packet n, which has `count` samples, has no timestamp. In sparse AAF, the
--- stamped sample is the first sample of the nearest earlier packet whose number is a multiple of 8. In IEC 61883-6, it
--- is the nearest earlier block whose block count is a multiple of the interval. `None` for AAF that is not sparse. Also
--- `None` if the packet's own first sample should be stamped, or if the stamped sample is more than 7 packets back.
+-- stamped sample is the first sample of the nearest earlier packet whose number is a multiple of 8. In IEC 61883-6, the
+-- stamped sample is the nearest earlier block whose block count is a multiple of the interval. `None` for AAF that is
+-- not sparse. The result is also `None` if the packet's own first sample should be stamped, or if the stamped sample is
+-- more than 7 packets back.
 abbrev pub distance : HeadRule → ℕ → ℕ → Option Distance
 distance Own n count = None
 distance Eight n count =

@@ -13,8 +13,8 @@ pub record IsStamp (stamp : Stamp) : Type 0 where
   pub from : neg_ℤ (pos (2 ^ 62)) ≤ℤ stamp.instant
   pub to : stamp.instant <ℤ pos (2 ^ 62 + 2 ^ 31)
 
--- The packet's arrival is valid, its rate is at least 1 Hz, and it has at most 65,535 samples. From the stamped sample
--- to the packet's first sample, there are at most 7 times as many samples as the packet has.
+-- The packet's arrival is valid, its rate is at least 1 Hz, and it has at most 65,535 samples. The stamped sample is at
+-- most 7 * `count` samples before the packet's first sample; `count` is the packet's number of samples.
 pub record IsWant (want : Want) : Type 0 where
   pub arrival : IsArrival want.arrival
   pub rate : 1 ≤ want.rate

@@ -48,7 +48,7 @@ find_last {T} test (x ∷ xs) = last_or (find_last test xs) (if test x then Some
 abbrev pub last_of : {T : Type 0} → ℕ → List T → List T
 last_of n xs = drop (length xs - n) xs
 
--- the stamp from which the packet is counted: of the last `room` stamps of the list, the last that fits
+-- the stamp from which the packet is counted: the last stamp that fits, among the last `room` stamps of the list
 abbrev pub found : ℕ → Want → List Stamp → Option Stamp
 found room want stamps = find_last (fits want) (last_of room stamps)
 

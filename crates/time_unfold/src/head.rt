@@ -67,7 +67,7 @@ pub fn last_fit(stamps: &[Stamp], want: &Want) -> Option<Stamp>
 }
 
 /// The stamp from which a packet without a timestamp is counted: of the last `room` stamps of the list, the last that
-/// fits. `None` if and only if none of these stamps fits.
+/// fits. `None` if and only if none of the last `room` stamps fits.
 ///
 /// A stamp fits if it has the wanted sequence number, media clock restart bit, rate and block count, and is near (IEEE
 /// 1722-2016, 7, sparse timestamps; IEC 61883-6, block counts). A stamp is near if the packet's first sample, counted

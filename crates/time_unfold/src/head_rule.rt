@@ -76,9 +76,9 @@ fn block_distance(dbc: u8, interval: u32, count: u32) -> Option<Distance>
 }
 
 impl HeadRule {
-    /// The sample, counted from 0, to which the timestamp of a packet belongs. In AAF this is the first sample (IEEE
-    /// 1722-2016, 7). In IEC 61883-6 it is the first block whose block count is a multiple of the interval, which is 8,
-    /// 16 or 32. That block can be past the end of the packet.
+    /// The sample, counted from 0, to which the timestamp of a packet belongs. In AAF the stamped sample is the first
+    /// sample (IEEE 1722-2016, 7). In IEC 61883-6 the timestamp belongs to the first block whose block count is a
+    /// multiple of the interval, which is 8, 16 or 32. The stamped block can be past the end of the packet.
     pub fn stamped_index(self) -> u32
         requires { IsRule self }
         ensures value { result ≡ stamped_index_of self }
@@ -105,7 +105,8 @@ impl HeadRule {
     }
 
     /// The time of a packet without a timestamp is counted from an earlier stamped block. In IEC 61883-6, the result is
-    /// the block count of that block, modulo 256; for AAF it is `None`. The interval is 8, 16 or 32.
+    /// the block count, modulo 256, of the earlier stamped block; for AAF the result is `None`. The interval of a
+    /// `Blocks` rule is 8, 16 or 32.
     pub fn counted_block(self) -> Option<u8>
         requires { IsRule self }
         ensures { result ≡ counted_block_of self }
@@ -119,11 +120,12 @@ impl HeadRule {
     }
 
     /// How far back the stamped sample is if the packet has no timestamp. In sparse AAF, the stamped sample is the
-    /// first sample of the nearest earlier packet whose sequence number is a multiple of 8. In IEC 61883-6, it is the
-    /// nearest earlier block whose block count is a multiple of the interval.
+    /// first sample of the nearest earlier packet whose sequence number is a multiple of 8. In IEC 61883-6, the stamped
+    /// sample is the nearest earlier block whose block count is a multiple of the interval.
     ///
-    /// `None` for AAF that is not sparse. Also `None` if the packet's own first sample should be stamped, or if the
-    /// stamped sample is more than 7 packets back. The packet has 1 to 65,535 samples, and the interval is 8, 16 or 32.
+    /// `None` for AAF that is not sparse. The result is also `None` if the packet's own first sample should be stamped,
+    /// or if the stamped sample is more than 7 packets back. The packet has 1 to 65,535 samples, and the interval is 8,
+    /// 16 or 32.
     pub fn distance(self, seq: u8, count: u32) -> Option<Distance>
         requires rule { IsRule self }
         requires some { 1 ≤ count }

@@ -5,7 +5,7 @@ use avtp_base::Refusal;
 use std::alloc::{AllocError, Global};
 use std::test::Fail;
 
-/// The offset of the frame in the first vector. `PACKET` is the offset of the frame's packet in the same vector.
+/// The offset of the frame in the first vector. `PACKET` is the offset of the frame's packet in the first vector.
 const FRAME: usize = 40;
 
 const PACKET: usize = 58;

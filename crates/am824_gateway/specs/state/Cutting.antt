@@ -1,4 +1,4 @@
--- Kept for proofs alone. No clause of a public call uses these definitions. How a batch is cut.
+-- Only private functions and proofs use these definitions. How a batch is cut.
 use Rattle.std.specs.Prelude.{◌≡◌, ℕ, ◌+◌, ◌-◌, ◌<◌, ◌≤◌, Bool, min, pos, List, length}
 use Rattle.std.specs.List.{list_any}
 use Rattle.sample_schedule.specs.Batches.{Presented}
@@ -27,9 +27,9 @@ pub record CountsPiece (rate most : ℕ) (batch : Presented) (old new : Instant)
   pub after : new.j ≡ old.j + count
   pub is : IsInstantOf new batch
 
--- A batch is cut into `pieces`, the first of which has the block count `block`. `next` is the block count of the packet
--- after `pieces`. `late` says whether the packet of any of the pieces would arrive at a time that a capture cannot
--- state.
+-- A batch is cut into `pieces`, and the first piece has the block count `block`. `next` is the block count of the
+-- packet after `pieces`. `late` says whether the packet of any of the pieces would arrive at a time that a capture
+-- cannot state.
 pub record CutsBatch (to : To) (shape : Shape) (batch : Presented) (block : ℕ) (pieces : List Piece) (next : ℕ) (late : Bool) : Type 0 where
   pub cut : pieces ≡ pieces_of to shape batch block
   pub following : next ≡ block_after (interval_of shape.rate) block (pieces_of to shape batch block)

@@ -1,4 +1,4 @@
--- Kept for proofs alone. No clause of a public call uses these definitions. The invariant of a gateway.
+-- Only private functions and proofs use these definitions. The invariant of a gateway.
 use Rattle.std.specs.Prelude.{◌≡◌, ℕ, ◌+◌, ◌*◌, ◌^◌, ◌≤◌, false, List, [], length, Option, Some, None, IfSome, vec_capacity}
 use Rattle.std.specs.List.{AllByRecursion}
 use Rattle.sample_schedule.specs.Batches.{IsPresentable, Presented}
@@ -29,8 +29,8 @@ pub record IsCut (c : Current) (pieces : List Piece) : Type 0 where
   pub size : length c.batch.bytes ≡ c.batch.count * (value_in c.stream.to * c.stream.shape.channels)
   pub within : AllByRecursion (IsWithin c.stream.to c.stream.shape c.batch) pieces
 
--- The batch that the gateway holds, which is the last that was not skipped, is cut into these pieces. If the gateway
--- holds no batch, there are no pieces.
+-- The gateway holds the last batch that was not skipped, and this batch is cut into these pieces. If the gateway holds
+-- no batch, there are no pieces.
 abbrev pub IsCutFrom : Option Current → List Piece → Type 0
 IsCutFrom None pieces = pieces ≡ []
 IsCutFrom (Some c) pieces = IsCut c pieces

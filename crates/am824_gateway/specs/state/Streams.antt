@@ -1,4 +1,4 @@
--- Kept for proofs alone. No clause of a public call uses these definitions. What the packets of a stream have in
+-- Only private functions and proofs use these definitions. What the packets of a stream have in
 -- common.
 use Rattle.std.specs.Prelude.{◌≡◌, ℕ, ◌+◌, ◌*◌, ◌≤◌, pos, List, [], take}
 use Rattle.talk_plan.specs.Ethernet.{packet_bytes}
@@ -24,8 +24,7 @@ abbrev pub stated_of : To → Shape → Piece → ℕ
 stated_of Am824 shape p = 8 + p.count * (4 * shape.channels)
 stated_of Aaf shape p = p.count * (3 * shape.channels)
 
--- The stream's shape can be converted, and `s.headers` begins with the headers that a frame of the stream has if it
--- holds no samples.
+-- The stream's shape can be converted, and `s.headers` begins with the headers of a frame that has no samples.
 pub record IsStream (s : Stream) : Type 0 where
   pub shape : IsShape s.shape
   pub headers : HasHeaders s.to s.shape s.id s.headers

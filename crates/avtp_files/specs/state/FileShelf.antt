@@ -1,4 +1,4 @@
--- Kept for proofs alone. No clause of a public call uses these definitions. What contracts see of a shelf of real
+-- Only private functions and proofs use these definitions. What contracts see of a shelf of real
 -- files.
 use Rattle.std.specs.Prelude.{ℕ, None}
 use Rattle.avtp_base.specs.Files as files

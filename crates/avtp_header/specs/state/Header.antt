@@ -1,4 +1,4 @@
--- Kept for proofs alone. No clause of a public call uses these definitions. The common stream header (IEEE 1722-2016,
+-- Only private functions and proofs use these definitions. The common stream header (IEEE 1722-2016,
 -- 4.4.4).
 use Rattle.std.specs.Prelude.{ℕ, [], ◌∷◌}
 use Rattle.avtp_base.specs.declared.field.Field.TheVariants.{FormatData, FormatFlags}

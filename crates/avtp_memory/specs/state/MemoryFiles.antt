@@ -1,4 +1,4 @@
--- Kept for proofs alone. No clause of a public call uses these definitions. What contracts see of files in memory.
+-- Only private functions and proofs use these definitions. What contracts see of files in memory.
 use Rattle.std.specs.Prelude.{ℕ, Some, None, option_map, option_and_then, refl, IsSome}
 use Rattle.avtp_memory.specs.declared.memory_files.MemoryFiles.{MemoryFiles}
 use Rattle.avtp_files.specs.Entries.{entry_at}

@@ -1,4 +1,4 @@
--- Kept for proofs alone. No clause of a public call uses these definitions. What contracts see of a shelf in memory.
+-- Only private functions and proofs use these definitions. What contracts see of a shelf in memory.
 use Rattle.std.specs.Prelude.{Some}
 use Rattle.avtp_memory.specs.declared.memory_shelf.MemoryShelf.{MemoryShelf}
 use Rattle.avtp_memory.specs.state.Asked.{account_of}

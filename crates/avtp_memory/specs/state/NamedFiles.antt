@@ -1,4 +1,4 @@
--- Kept for proofs alone. No clause of a public call uses these definitions. Files in memory, as a list of names with
+-- Only private functions and proofs use these definitions. Files in memory, as a list of names with
 -- their bytes.
 use Rattle.std.specs.Prelude.{◌≡◌, ◌≢◌, ◌↔◌, ◌≤◌, ℕ, Bool, IsTrue, List, ◌++◌, Some, option_map, unwrap_or, find, String, vec_capacity}
 use Rattle.std.specs.Global.{Vec, Global}

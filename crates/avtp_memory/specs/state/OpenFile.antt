@@ -1,4 +1,4 @@
--- Kept for proofs alone. No clause of a public call uses these definitions. An open file of a shelf in memory.
+-- Only private functions and proofs use these definitions. An open file of a shelf in memory.
 use Rattle.std.specs.Prelude.{ℕ, ◌+◌, ◌≤◌, IsTrue, List, Option, IsSome, string_bytes, String}
 use Rattle.std.specs.Option.{ForSome}
 use Rattle.std.specs.Global.{Vec, Global}

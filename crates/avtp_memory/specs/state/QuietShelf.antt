@@ -1,4 +1,4 @@
--- Kept for proofs alone. No clause of a public call uses these definitions. What contracts see of a quiet shelf.
+-- Only private functions and proofs use these definitions. What contracts see of a quiet shelf.
 use Rattle.std.specs.Prelude.{Some}
 use Rattle.avtp_memory.specs.declared.quiet_shelf.QuietShelf.{QuietShelf}
 use Rattle.avtp_memory.specs.state.Asked.{account_of}

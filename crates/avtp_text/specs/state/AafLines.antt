@@ -1,4 +1,4 @@
--- Kept for proofs alone. No clause of a public call uses these definitions. The line of an AAF packet. The line's end
+-- Only private functions and proofs use these definitions. The line of an AAF packet. The line's end
 -- is reused for the next packet.
 use Rattle.std.specs.Prelude.{◌≡◌, List, ℕ, ◌++◌, codes, decimal}
 use Rattle.aaf_format.specs.Aaf.{Aaf}

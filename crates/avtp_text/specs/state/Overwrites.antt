@@ -1,4 +1,4 @@
--- Kept for proofs alone. No clause of a public call uses these definitions. A piece of a text that is overwritten.
+-- Only private functions and proofs use these definitions. A piece of a text that is overwritten.
 use Rattle.std.specs.Prelude.{◌≡◌, ℕ, List, ◌++◌, length}
 
 -- The text `new` is the text `old` with `piece` in place of equally many bytes. The number of bytes after the piece is

@@ -1,4 +1,4 @@
--- Kept for proofs alone. No clause of a public call uses these definitions. Digits that are written two at a time.
+-- Only private functions and proofs use these definitions. Digits that are written two at a time.
 use Rattle.std.specs.Prelude.{ℕ, ◌+◌, ◌/◌, ◌%◌, List, [], ◌∷◌, ◌++◌}
 
 -- the two decimal digits of a number below 100

@@ -1,4 +1,4 @@
--- Kept for proofs alone. No clause of a public call uses these definitions. The line of a sample. The line is reused
+-- Only private functions and proofs use these definitions. The line of a sample. The line is reused
 -- for the next samples.
 use Rattle.std.specs.Prelude.{◌≡◌, ℕ, ◌+◌, ◌*◌, ◌^◌, ◌<◌, ◌≤◌, ℤ, pos, ◌+ℤ◌, List, ◌++◌, length, take, codes, decimal}
 use Rattle.sample_schedule.specs.Batches.{Presented}
@@ -67,7 +67,7 @@ pub record StartsAt (instant start : ℤ) : Type 0 where
   pub at : instant ≡ pos (high * 100000000 + low)
 
 -- The line of sample `j` differs from the kept line only in the sample's number, the sample's bytes, and the last eight
--- digits of the instant. In the line of sample `j`, these digits are `low`.
+-- digits of the instant. In the line of sample `j`, the last eight digits of the instant are `low`.
 pub record Fits (from : ℤ) (numbers : Numbers) (instant : ℤ) (j low : ℕ) : Type 0 where
   pub small : low < 100000000
   pub at : instant ≡ from +ℤ pos low

@@ -1,4 +1,4 @@
--- Kept for proofs alone. No clause of a public call uses these definitions. How `agree` ends.
+-- Only private functions and proofs use these definitions. How `agree` ends.
 use Rattle.std.specs.Prelude.{◌≡◌, ℕ, ◌^◌, ◌≤◌, List, [], Result, IfOk, MatchResult}
 use Rattle.avtp_base.specs.declared.failed.Failed.{Failed}
 use Rattle.avtp_base.specs.Files.{Files}
@@ -23,8 +23,8 @@ pub record IsAgreeing (asked : Agreeing) : Type 0 where
 abbrev pub AgreeYields : Agreeing → Files → Type 0 → List (List ℕ) → Status → Yield → Type 0
 AgreeYields asked files fault came ended yields = AgreeOutcome asked files fault came ended yields.text × (yields.items ≡ [])
 
--- With `Ok`, the last lines of a run were printed, and the run ends with the status `ended`. With `Err`, the sink
--- failed, and only a prefix of the lines was printed.
+-- If the result is `Ok`, the last lines of a run were printed, and the run ends with the status `ended`. If the result
+-- is `Err`, the sink failed, and only a prefix of the lines was printed.
 pub record EndsWithLines (ended : Status) (out out' : SinkState) (waits waits' : List ℕ) (result : Result Status Failed) (lines : List ℕ) : Type 0 where
   pub status : IfOk result (λ s. s ≡ ended)
   pub written : MatchResult result (λ _. Appends (written out.held waits) (written out'.held waits') lines) (λ _. AppendsPrefix (written out.held waits) (written out'.held waits') lines)

@@ -1,4 +1,4 @@
--- Kept for proofs alone. No clause of a public call uses these definitions. What `check` prints and how it ends. The
+-- Only private functions and proofs use these definitions. What `check` prints and how it ends. The
 -- rules of `check` are this project's own.
 use Rattle.std.specs.Prelude.{◌≡◌, ◌≤◌, ℕ, List, ◌++◌, length, take, Option, MatchResult, IfOk, Result, Ok, Err}
 use Rattle.avtp_base.specs.declared.failed.Failed.{Failed}
@@ -20,10 +20,10 @@ use Rattle.avtp_tool.specs.state.Outcome.{KeepsSink}
 use Rattle.avtp_base.specs.States.{SinkState}
 use Rattle.avtp_tool.specs.Check.{noted, notes_of, found_lines, check_lines, joined_lines}
 
--- ---- what is done
+-- ---- what `check` does
 
--- With `Ok`, the lines of a record's findings, at most five, were printed and counted. With `Err`, the sink failed, and
--- none of these lines was printed.
+-- With `Ok`, the lines of a record's findings, at most five, were printed and counted. If the result is `Err`, the sink
+-- failed, and none of these lines was printed.
 pub record PrintsFound (out out' : SinkState) (waits waits' : List ℕ) (result : Result ℕ Failed) (lines : List (List ℕ)) : Type 0 where
   pub written : MatchResult result (λ _. Appends (written out.held waits) (written out'.held waits') (joined_lines lines)) (λ _. Keeps (written out.held waits) (written out'.held waits'))
   pub counted : IfOk result (λ n. n ≡ length lines)
@@ -47,7 +47,8 @@ pub record HasChecked (limit : ℕ) (name bytes : List ℕ) (fault : Type 0) (to
   pub found : total.findings ≡ length (of_each check_lines records)
   pub lines : Appends before now (capture_line name ++ joined_lines (of_each check_lines records))
 
--- With `Ok`, the records were checked. With `Err`, the sink failed, and only a prefix of their lines was printed.
+-- With `Ok`, the records were checked. With `Err`, the sink failed, and only a prefix of the records' lines was
+-- printed.
 abbrev pub ChecksRecords : ℕ → List ℕ → List ℕ → Type 0 → Option (List ℕ) → Option (List ℕ) → Result Total Failed → Type 0
 ChecksRecords limit name bytes fault before now (Ok total) = HasChecked limit name bytes fault total before now
 ChecksRecords limit name bytes fault before now (Err e) =

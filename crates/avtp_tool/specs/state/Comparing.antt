@@ -1,4 +1,4 @@
--- Kept for proofs alone. No clause of a public call uses these definitions. Two captures that are read side by side and
+-- Only private functions and proofs use these definitions. Two captures that are read side by side and
 -- compared.
 use Rattle.std.specs.Prelude.{◌≡◌, ◌≢◌, ℕ, ◌+◌, ◌^◌, ◌≤◌, Bool, true, false, List, [], ◌∷◌, ◌++◌, take, Option, Some, None, IfErr, IfOk, IsErrOf, IsSome, is_some, OnErr, OnOk, Result, Ok, Err}
 use Rattle.avtp_base.specs.declared.failed.Failed.{Failed}
@@ -116,8 +116,8 @@ pub data RefusesTwo (before after : ShelfState) (a b : List ℕ) (fault : OpenFa
   first : OnlyReads before after (a ∷ []) → Refuses before after a fault → RefusesTwo before after a b fault
   second : ((files : Files) → before.files ≡ Some files → IsSome (files a)) → OnlyReads before after (a ∷ b ∷ []) → Refuses before after b fault → RefusesTwo before after a b fault
 
--- With `Ok`, both captures were opened, and nothing was read from them yet. With `Err`, one of them was not opened, or
--- memory ran out.
+-- If the result is `Ok`, both captures were opened, and nothing was read from them yet. With `Err`, one of the captures
+-- was not opened, or memory ran out.
 pub record OpensTwo (before after : ShelfState) (limit : ℕ) (plan : ListenPlan) (a b : List ℕ) (result : Result Comparing OpenFault) : Type 0 where
   pub told : IfOk result (λ c. (files : Files) → before.files ≡ Some files → IsSome after.files → AreTold limit files a b after c)
   pub begun : IfOk result IsBegun
@@ -168,8 +168,8 @@ pub record Shuts (which : Which) (old new : PairState) : Type 0 where
   pub stands : (mine theirs : List Record) (given : ℕ) → StandsOn which mine theirs given old → StandsOn which mine theirs given new
   pub changes : Changes which 0 true old new
 
--- With `Took`, the pair took the record `held`. With `NoMemory`, there was no memory for the record, and the pair is
--- unchanged.
+-- If the step is `Took`, the pair took the record `held`. With `NoMemory`, there was no memory for the record, and the
+-- pair is unchanged.
 abbrev pub TakesHeld : Which → Option Record → PairState → PairState → Step → Type 0
 TakesHeld which held old new step.Took = (r : Record) × (held ≡ Some r) × Takes which r old new
 TakesHeld which held old new step.NoMemory = new ≡ old
@@ -187,8 +187,8 @@ StepsTo which shelf shelf' side side' pair pair' step.Fault =
 StepsTo which shelf shelf' side side' pair pair' step.NoMemory =
     (side'.end ≡ None) × GivesNext shelf shelf' side.source side'.source None × (pair' ≡ pair)
 
--- With `Ok`, one step of reading the capture `which` was done, and before it the pending text was written if necessary.
--- With `Err`, writing the pending text failed, and nothing was read.
+-- With `Ok`, the pending text was written if necessary, and then one step of reading the capture `which` was done. If
+-- the result is `Err`, writing the pending text failed, and nothing was read.
 pub record ReadsSide (which : Which) (shelf shelf' : ShelfState) (side side' : Side) (pair pair' : PairState) (out out' : SinkState) (waits waits' : List ℕ) (result : Result Step Failed) : Type 0 where
   pub steps : IfOk result (StepsTo which shelf shelf' side side' pair pair')
   pub cut : OnErr result ((shelf' ≡ shelf) × (slot_of side'.source ≡ slot_of side.source))
@@ -228,8 +228,8 @@ pub record IsAmidTwo (shelf shelf' : ShelfState) (old new : Comparing) : Type 0 
   pub plan_a : new.pair.a.plan ≡ old.pair.a.plan
   pub plan_b : new.pair.b.plan ≡ old.pair.b.plan
 
--- If the reading of the capture has ended, `records` are all its records within the limit. Otherwise `records` are the
--- records that `source` has given so far.
+-- If the reading of the capture has ended, `records` are all its records within the limit. If the reading has not
+-- ended, `records` are the records that `source` has given so far.
 abbrev pub SideRead : ℕ → List ℕ → ShelfState → Sourcing → Option End → List Record → Type 0
 SideRead limit bytes shelf source None records = HasGivenOf limit bytes shelf source records
 SideRead limit bytes shelf source (Some how) records = (how ≡ end_of limit bytes) × (records ≡ records_in (take limit bytes))
@@ -245,8 +245,8 @@ pub record IsComparedTo (asked : Agreeing) (x y : List ℕ) (shelf : ShelfState)
   pub stands : StandsFor records_a records_b given c.pair
   pub printed : Appends before now (difference_lines (take given (differences (known_by c.pair records_a records_b))))
 
--- A read fault occurred in one of two captures, after the bytes `prefix`. The differences that were known by then were
--- printed.
+-- A read fault occurred in one of two captures, after the bytes `prefix`. All differences that are known despite the
+-- fault were printed.
 pub data IsCutIn (asked : Agreeing) (x y : List ℕ) (fault : Type 0) (before now : Option (List ℕ)) : Type 0 where
   in_a : (prefix : List ℕ) → EndsAt asked.listener.limit (Some x) fault end.ReadFault prefix
       → Appends before now (difference_lines (differences (known false true (merged (due_in asked prefix) (presented_in asked y))))) → IsCutIn asked x y fault before now
@@ -267,8 +267,8 @@ ComparesTo asked x y fault before now (Ok compared.Fault) = IsCutIn asked x y fa
 ComparesTo asked x y fault before now (Ok compared.NoMemory) = AppendsPrefix before now (difference_lines (differences (merged_in asked x y)))
 ComparesTo asked x y fault before now (Err e) = AppendsPrefix before now (difference_lines (differences (merged_in asked x y)))
 
--- The count of reading faults rose if a read fault stopped the comparison. Otherwise the count is unchanged. If the
--- result is `Ended`, neither reading ended with a read fault.
+-- The count of reading faults rose if a read fault stopped the comparison. If no read fault stopped the comparison, the
+-- count is unchanged. If the result is `Ended`, neither reading ended with a read fault.
 abbrev pub CountsCompared : Result Compared Failed → ℕ → ℕ → Type 0
 CountsCompared (Ok (compared.Ended a b counts)) before after = (a ≢ end.ReadFault) × (b ≢ end.ReadFault) × (after ≡ before)
 CountsCompared (Ok compared.Fault) before after = Rose before after

@@ -1,4 +1,4 @@
--- Kept for proofs alone. No clause of a public call uses these definitions. What a command does with each file, if it
+-- Only private functions and proofs use these definitions. What a command does with each file, if it
 -- reads several files.
 use Rattle.std.specs.Prelude.{ℕ, ◌^◌, ◌≤◌, Bool, true, false, List}
 use Rattle.avtp_words.specs.Grammar.{listening_of}

@@ -1,4 +1,4 @@
--- Kept for proofs alone. No clause of a public call uses these definitions. A run of `gateway` after its scan: OUT is
+-- Only private functions and proofs use these definitions. A run of `gateway` after its scan: OUT is
 -- made, and IN is read again.
 use Rattle.std.specs.Prelude.{◌≡◌, ◌≢◌, ◌⊎◌, ℕ, ◌-◌, ◌^◌, ◌≤◌, Bool, true, false, List, [], ◌∷◌, length, Option, Some, IfOk, IsErr, IsSome, Result, Ok, Err}
 use Rattle.avtp_base.specs.declared.failed.Failed.{Failed}
@@ -43,16 +43,16 @@ pub record IsTurning (asked : Turning) : Type 0 where
 
 -- ---- the second reading
 
--- If IN could be opened again, it was converted as far as it could be read and written, and then closed. Otherwise no
--- batch was presented.
+-- If IN could be opened again, it was converted as far as it could be read and written, and then closed. If IN could
+-- not be opened again, no batch was presented.
 pub record TurnsInput (asked : Turning) (before after : ShelfState) (listener : ListenState) (old new : Output) (out out' : SinkState) (waits waits' : List ℕ) (result : Result Turned Failed) : Type 0 where
   pub told : (shape : Option Shape) (bytes : List ℕ) (files : Option Files) (all : Files) → before.files ≡ Some all → all asked.input ≡ Some bytes → IsSome after.files → IsFreshOutput asked shape files before old
       → StandsFor [] 0 listener → is_closed listener ≡ false → listener.plan ≡ plan_of asked.listener → end_of asked.listener.limit bytes ≡ end.Whole
       → TurnsTo asked shape bytes (Rose before.reading_faults after.reading_faults) files after new (written out.held waits) (written out'.held waits') result
   pub slots : KeepsOtherFiles before.slots after.slots (name_in before.slots old.writer.slot)
   pub writes : WritesOutput before after old new result
-  -- If the reading ended with a read fault, the fault was counted or the file is missing. Otherwise no read fault was
-  -- counted.
+  -- If the reading ended with a read fault, the fault was counted or the file is missing. If the reading ended without
+  -- a read fault, no read fault was counted.
   pub fault : (presented : ℕ) → result ≡ Ok (turned.Ended end.ReadFault presented) → Rose before.reading_faults after.reading_faults ⊎ IsMissing before.files asked.input
   pub quiet : (how : End) → ended_turn result ≡ Some how → how ≢ end.ReadFault → after.reading_faults ≡ before.reading_faults
   pub asks : Asks (asked.input ∷ []) before after
@@ -75,7 +75,7 @@ pub record PrintsNothing (out out' : SinkState) (waits waits' : List ℕ) : Type
   pub sink : out' ≡ out
   pub text : waits' ≡ waits
 
--- Either OUT was finished and, unless the sink failed, the last line was printed; or OUT could not be completed, and
+-- Either OUT was finished, and the last line was printed if the sink did not fail; or OUT could not be completed, and
 -- nothing was printed.
 pub data FinishesOutput (limit : ℕ) (how : End) (presented : ℕ) (before after : ShelfState) (o : Output) (out out' : SinkState) (waits waits' : List ℕ) (result : Result Status Failed) : Type 0 where
   finished : FinishesCapture before after o.writer (Ok tt) → EndsWith (turned_status (presented - o.gateway.given.batches) how) out out' waits waits' result (ended_line limit presented o.gateway how)

@@ -1,4 +1,4 @@
--- Kept for proofs alone. No clause of a public call uses these definitions. A capture that is heard item by item, and
+-- Only private functions and proofs use these definitions. A capture that is heard item by item, and
 -- what was shown of it so far.
 use Rattle.std.specs.Prelude.{◌≡◌, ℕ, ◌+◌, ◌-◌, ◌^◌, ◌≤◌, Bool, true, false, List, [], ◌++◌, length, take, Option, None, Some, IsSome, is_some, ⊤}
 use mathlib.Core.List.{IsPrefix}
@@ -81,8 +81,8 @@ IsGoing slots source stage = IsSome (slots (slot_of source)) × (pull_at stage �
 abbrev pub IsAtReading : Slots → Sourcing → Stage → Type 0
 IsAtReading slots source stage = IsSome (slots (slot_of source)) × (stage ≡ Reading)
 
--- `how` says how the reading ended. If a read fault or the limit ended the reading, the listener was left open.
--- Otherwise the listener was closed.
+-- `how` says how the reading ended. If a read fault or the limit ended the reading, the listener was left open. If
+-- neither a read fault nor the limit ended the reading, the listener was closed.
 pub record ClosesAt (how : End) (old new : ListenState) : Type 0 where
   pub stands : (records : List Record) (given : ℕ) → StandsFor records given old → StandsFor records given new
   pub plan : new.plan ≡ old.plan

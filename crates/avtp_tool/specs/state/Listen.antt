@@ -1,4 +1,4 @@
--- Kept for proofs alone. No clause of a public call uses these definitions. What `listen` prints and how it ends.
+-- Only private functions and proofs use these definitions. What `listen` prints and how it ends.
 use Rattle.std.specs.Prelude.{◌≡◌, ℕ, List, [], Option, None, Some, IfOk, IsSome, OnOk, Result, Ok, Err}
 use Rattle.avtp_base.specs.declared.failed.Failed.{Failed}
 use Rattle.avtp_base.specs.Faults.{Rose}

@@ -1,4 +1,4 @@
--- Kept for proofs alone. No clause of a public call uses these definitions. What a command does to the files of a
+-- Only private functions and proofs use these definitions. What a command does to the files of a
 -- shelf: it writes one file, or none.
 use Rattle.std.specs.Prelude.{◌≡◌, ◌≢◌, ℕ, ◌≤◌, List, [], ◌∷◌, ◌++◌, map, take, Option, None, Some, Result, Ok, IfOk, IsErrOf, IsOk, OnErr, OnOk}
 use Rattle.avtp_base.specs.declared.failed.OpenFault.{OpenFault}
@@ -19,14 +19,14 @@ use Rattle.avtp_tool.specs.declared.status.Status.TheVariants as status
 
 -- What becomes of the file `name` in a run whose task is to make this file, given the run's result. If everything was
 -- done, the file has these bytes. If memory ran out or a write failed, the file is unchanged or has a prefix of these
--- bytes. Otherwise all files are unchanged.
+-- bytes. If the run ends with a status other than `Done`, `WriteFault` and `Memory`, all files are unchanged.
 pub record Makes (name bytes : List ℕ) (files files' : Option Files) (result : Result Status Failed) : Type 0 where
   pub done : result ≡ Ok status.Done → PutsFile files files' name bytes
   pub part : MakesPrefix files files' name bytes
   pub untouched : IfOk result (λ s. s ≢ status.Done → s ≢ status.WriteFault → s ≢ status.Memory → KeepsFiles files files')
 
--- The count of writing faults of a run never falls. It rises if and only if the run ends with the status `WriteFault`.
--- If the run writes no file, the count is unchanged.
+-- The count of writing faults of a run never falls. The count rises if and only if the run ends with the status
+-- `WriteFault`. If the run writes no file, the count is unchanged.
 pub record CountsWriting (name : Option (List ℕ)) (before after : ℕ) (result : Result Status Failed) : Type 0 where
   pub never_falls : before ≤ after
   pub failed : result ≡ Ok status.WriteFault → Rose before after
@@ -36,8 +36,8 @@ pub record CountsWriting (name : Option (List ℕ)) (before after : ℕ) (result
 -- ---- one file
 
 -- A call made the file `name` with these bytes, or returned why the file was not made. If the file was not made, then
--- memory ran out or a writing fault was counted. In this case the file is unchanged or has a prefix of the bytes. All
--- else is unchanged, and no other name was asked for.
+-- memory ran out or a writing fault was counted. A file that was not made is unchanged or has a prefix of the bytes.
+-- All else is unchanged, and no other name was asked for.
 pub record MakesFile (shelf shelf' : ShelfState) (name bytes : List ℕ) (result : Result Unit OpenFault) : Type 0 where
   pub made : OnOk result (PutsFile shelf.files shelf'.files name bytes)
   pub part : OnErr result (MakesPrefix shelf.files shelf'.files name bytes)
@@ -52,7 +52,7 @@ abbrev pub frame_bytes : Option SentFrame → List ℕ
 frame_bytes None = []
 frame_bytes (Some f) = f.bytes
 
--- The first `number` of these frames were added to the capture, in order. If the shelf failed, only a prefix of the
+-- The first `number` frames of `frames` were added to the capture, in order. If the shelf failed, only a prefix of the
 -- frames was added.
 pub record WritesFrames (frames : List SentFrame) (number : ℕ) (before after : ShelfState) (old new : Writing) (result : Result Unit Failed) : Type 0 where
   pub added : OnOk result ((files : Option Files) (name : List ℕ) (records : List Record) → HoldsCapture files before old name records → HoldsCapture files after new name (records ++ map record_of (take number frames)))

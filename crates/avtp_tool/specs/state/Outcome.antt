@@ -1,4 +1,4 @@
--- Kept for proofs alone. No clause of a public call uses these definitions. The possible outcomes of a command's run:
+-- Only private functions and proofs use these definitions. The possible outcomes of a command's run:
 -- its status, and what it yields. A run that was cut short gave out only a part of what it yields.
 use Rattle.std.specs.Prelude.{◌≡◌, ◌≢◌, ◌⊎◌, ℕ, ◌≤◌, List, [], Option, Result, Ok, Err, IfOk, true, IsErr, MatchResult}
 use Rattle.avtp_base.specs.declared.failed.Failed.{Failed}
@@ -68,16 +68,16 @@ pub record EndsWith (ended : Status) (out out' : SinkState) (waits waits' : List
   pub written : MatchResult result (λ _. Appends (written out.held waits) (written out'.held waits') line) (λ _. Keeps (written out.held waits) (written out'.held waits'))
   pub sink : KeepsSink out out' result
 
--- A run ends because a file could not be opened. If memory ran out, the status says so, and nothing is printed.
--- Otherwise the line of a read fault is printed.
+-- A run ends because a file could not be opened. If memory ran out, the status says so, and nothing is printed. If
+-- memory did not run out, the line of a read fault is printed.
 pub record EndsUnopened (fault : OpenFault) (out out' : SinkState) (waits waits' : List ℕ) (result : Result Status Failed) : Type 0 where
   pub memory : fault ≡ open_fault.Memory → (result ≡ Ok status.Memory) × Keeps (written out.held waits) (written out'.held waits')
   pub other : fault ≢ open_fault.Memory → EndsWith status.ReadFault out out' waits waits' result read_fault_line
   pub sink : KeepsSink out out' result
 
 -- The pending text was written, and the run ends with the status `result`. If the sink took everything, `result` is the
--- run's own status. Otherwise `result` is `WriteFault`. The sink keeps what it held, and got all of the text or a
--- prefix of it.
+-- run's own status. If the sink did not take everything, `result` is `WriteFault`. The sink keeps what it held, and got
+-- all of the text or a prefix of it.
 pub record Finishes (out out' : SinkState) (waits waits' : List ℕ) (ended : Result Status Failed) (result : Status) : Type 0 where
   pub whole : result ≢ status.WriteFault → (ended ≡ Ok result) × (waits' ≡ [])
   pub kept : Keeps (written out.held waits) (written out'.held waits')

@@ -1,4 +1,4 @@
--- Kept for proofs alone. No clause of a public call uses these definitions. What the two sides of a ring did until
+-- Only private functions and proofs use these definitions. What the two sides of a ring did until
 -- everything was presented or the presenter failed.
 use Rattle.std.specs.Prelude.{◌≡◌, ℕ, ◌+◌, ◌^◌, ◌≤◌, ◌++◌, List, [], Option, None, IsSome, Result, Ok, Err, OnOk, OnErr}
 use mathlib.Core.List.{IsPrefix}
@@ -18,7 +18,8 @@ failures (Ok x) = 0
 failures (Err e) = 1
 
 -- The lines of these items were printed, and each item was given to the devices after its lines. If the sink failed at
--- an item, only a part of the lines was printed. The devices then got neither this item nor a later one.
+-- an item, only a part of the lines was printed. The devices got neither the item at which the sink failed nor a later
+-- one.
 pub record GivesItems (handed : List Shown → Type 0) (out out' : SinkState) (waits waits' : List ℕ) (result : Result Unit Failed) (items : List Shown) : Type 0 where
   pub prints : PrintsPart out out' waits waits' result (list_lines items)
   pub front : List Shown

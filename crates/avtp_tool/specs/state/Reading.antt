@@ -1,4 +1,4 @@
--- Kept for proofs alone. No clause of a public call uses these definitions. Files that a command reads in order: the
+-- Only private functions and proofs use these definitions. Files that a command reads in order: the
 -- possible outcomes of one file, and of all files.
 use Rattle.std.specs.Prelude.{◌≡◌, ℕ, ◌^◌, ◌≤◌, List, [], ◌∷◌, length, take, Option, Some, None, IfOk, IsSome, OnErr, Result, Ok, Err, Bool, true, false}
 use Rattle.avtp_base.specs.declared.failed.Failed.{Failed}
@@ -35,15 +35,15 @@ pub record ReadsCapture (shelf shelf' : ShelfState) (k now : ℕ) (how : Option 
   pub reads : ReadsSlot shelf shelf' k now
   pub counted : CountsFault None how shelf.reading_faults shelf'.reading_faults
 
--- With `Ok`, the next record was read or the reading ended, and before this the pending text was written if necessary.
--- With `Err`, writing the pending text failed, and nothing was read.
+-- If the result is `Ok`, the next record was read or the reading ended; before this, pending text was written if
+-- necessary. With `Err`, writing the pending text failed, and nothing was read.
 pub record ReadsAhead (shelf shelf' : ShelfState) (old new : Sourcing) (out out' : SinkState) (waits waits' : List ℕ) (result : Result (Option End) Failed) : Type 0 where
   pub gives : IfOk result (λ how. GivesNext shelf shelf' old new how)
   pub cut : OnErr result ((shelf' ≡ shelf) × (slot_of new ≡ slot_of old))
   pub kept : Keeps (written out.held waits) (written out'.held waits')
   pub sink : KeepsSink out out' result
 
--- The records of the file were read as far as possible, and reported. `Told` says what was reported. It relates the
+-- The records of the file were read as far as possible, and reported. `Told` says what was reported. `Told` relates the
 -- limit, the bytes of the file, the condition for a read fault, the known text before and after, and the result.
 pub record ReadsRecords {T : Type 0} (Told : ℕ → List ℕ → Type 0 → Option (List ℕ) → Option (List ℕ) → Result T Failed → Type 0) (ending : T → End)
     (shelf shelf' : ShelfState) (old new : Sourcing) (out out' : SinkState) (waits waits' : List ℕ) (result : Result T Failed) : Type 0 where
@@ -53,7 +53,7 @@ pub record ReadsRecords {T : Type 0} (Told : ℕ → List ℕ → Type 0 → Opt
 
 -- ---- what was done
 
--- A run that only reads can end with this status. The status does not stand for a failed write, wrong words, a failed
+-- A run that only reads can end with this status. The status does not report a failed write, wrong words, a failed
 -- device or a refused input of `talk`.
 abbrev pub is_of_reading : Status → Bool
 is_of_reading status.Words = false

@@ -1,4 +1,4 @@
--- Kept for proofs alone. No clause of a public call uses these definitions. The outcome of a run of any command.
+-- Only private functions and proofs use these definitions. The outcome of a run of any command.
 use Rattle.std.specs.Prelude.{◌≡◌, ◌≢◌, ◌⊎◌, ℕ, ◌^◌, ◌≤◌, List, Option, Some, IfOk, IsSome, Result, Ok, Err, Bool, true, false}
 use Rattle.avtp_base.specs.declared.failed.Failed.{Failed}
 use Rattle.avtp_base.specs.Faults.{Rose}

@@ -1,4 +1,4 @@
--- Kept for proofs alone. No clause of a public call uses these definitions. A capture that is scanned for records that
+-- Only private functions and proofs use these definitions. A capture that is scanned for records that
 -- cannot be converted.
 use Rattle.std.specs.Prelude.{◌≡◌, ◌≢◌, ℕ, List, [], ◌∷◌, take, Option, Some, None, Result, Ok, Err, IfErr, IfOk, IfSome, IsErrOf}
 use Rattle.avtp_base.specs.declared.failed.OpenFault.{OpenFault}
@@ -49,7 +49,7 @@ pub record ScansRecords (to : To) (stream : ℕ) (shelf shelf' : ShelfState) (ol
   pub cut : (how : End) → result ≡ scanned.Cut how → how ≢ end.Whole
   pub sound : (shape : Option Shape) → result ≡ scanned.Clean shape → IfSome shape IsShape
 
--- With `Ok`, the capture to convert was opened, scanned and closed. With `Err`, the capture was not opened.
+-- With `Ok`, the capture to convert was opened, scanned and closed. If the result is `Err`, the capture was not opened.
 pub record ScansFile (asked : Turning) (shelf shelf' : ShelfState) (result : Result Scanned OpenFault) : Type 0 where
   pub told : IfOk result (λ found. (all : Files) → shelf.files ≡ Some all
       → (bytes : List ℕ) × (all asked.input ≡ Some bytes) × ScansTo (format_of asked.to) asked.listener.stream asked.listener.limit bytes (Rose shelf.reading_faults shelf'.reading_faults) found)

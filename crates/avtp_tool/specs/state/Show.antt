@@ -1,4 +1,4 @@
--- Kept for proofs alone. No clause of a public call uses these definitions. What `show` prints and how it ends.
+-- Only private functions and proofs use these definitions. What `show` prints and how it ends.
 use Rattle.std.specs.Prelude.{◌≡◌, ℕ, List, length, take, Option, Result, Ok, Err}
 use Rattle.pcap_frames.specs.Capture.{Record}
 use Rattle.capture_io.specs.Formats.{records_in}
@@ -20,7 +20,8 @@ pub record HasPrinted (limit : ℕ) (bytes : List ℕ) (fault : Type 0) (printed
   pub counted : printed.frames ≡ length records
   pub lines : Appends before now (of_each show_line records)
 
--- With `Ok`, the records were printed. With `Err`, the sink failed, and only a prefix of their lines was printed.
+-- With `Ok`, the records were printed. With `Err`, the sink failed, and only a prefix of the records' lines was
+-- printed.
 abbrev pub PrintsRecords : ℕ → List ℕ → Type 0 → Option (List ℕ) → Option (List ℕ) → Result Printed Failed → Type 0
 PrintsRecords limit bytes fault before now (Ok printed) = HasPrinted limit bytes fault printed before now
 PrintsRecords limit bytes fault before now (Err e) = AppendsPrefix before now (of_each show_line (records_in (take limit bytes)))

@@ -1,4 +1,4 @@
--- Kept for proofs alone. No clause of a public call uses these definitions. What `soak` prints and how it ends.
+-- Only private functions and proofs use these definitions. What `soak` prints and how it ends.
 use Rattle.std.specs.Prelude.{◌≡◌, ◌⊎◌, ℕ, List, Result, IfOk}
 use Rattle.avtp_base.specs.declared.failed.Failed.{Failed}
 use Rattle.avtp_text.specs.Written.{written}

@@ -1,4 +1,4 @@
--- Kept for proofs alone. No clause of a public call uses these definitions. What `talk` prints and how it ends.
+-- Only private functions and proofs use these definitions. What `talk` prints and how it ends.
 use Rattle.std.specs.Prelude.{◌≡◌, ◌≢◌, ℕ, List, [], ◌∷◌, Option, Some, Result, Ok, IfOk, if◌then◌else◌, slice_get}
 use Rattle.avtp_base.specs.declared.failed.Failed.{Failed}
 use Rattle.avtp_base.specs.Files.{Files, KeepsFiles}
@@ -72,8 +72,8 @@ pub record TalksContents (plan : TalkPlan) (contents : Contents) (name : List �
   pub counts : FaultStops contents.stop result
   pub sink : KeepsSink out out' result
 
--- A run ends because the input makes no stream. If memory ran out, the status says so, and nothing is printed.
--- Otherwise the line that gives the reason is printed.
+-- A run ends because the input makes no stream. If memory ran out, the status says so, and nothing is printed. If
+-- another fault ended the run, the line that gives the reason is printed.
 pub record EndsRefused (why : TalkFault) (out out' : SinkState) (waits waits' : List ℕ) (result : Result Status Failed) : Type 0 where
   pub memory : why ≡ fault.Memory → (result ≡ Ok status.Memory) × Keeps (written out.held waits) (written out'.held waits')
   pub other : why ≢ fault.Memory → EndsWith status.TalkInput out out' waits waits' result (talk_input_line why)

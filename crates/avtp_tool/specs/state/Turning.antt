@@ -1,4 +1,4 @@
--- Kept for proofs alone. No clause of a public call uses these definitions. A capture that is converted: what a
+-- Only private functions and proofs use these definitions. A capture that is converted: what a
 -- listener presents from the capture is written as packets of the other format.
 use Rattle.std.specs.Prelude.{◌≡◌, ◌≢◌, ℕ, ◌+◌, ◌≤◌, List, [], ◌∷◌, ◌++◌, flat_map, length, map, slice_get, take, Option, Some, None, IfOk, IsSome, OnErr, OnOk, Result, Ok, Err, option_map, false}
 use Rattle.avtp_base.specs.declared.failed.Failed.{Failed}

@@ -1,4 +1,4 @@
--- Kept for proofs alone. No clause of a public call uses these definitions. What a run yields: the text that it prints,
+-- Only private functions and proofs use these definitions. What a run yields: the text that it prints,
 -- and the items that it gives to devices.
 use Rattle.std.specs.Prelude.{◌≡◌, ℕ, List, [], Option}
 use mathlib.Core.List.{IsPrefix}

@@ -1,4 +1,4 @@
--- Kept for proofs alone. No clause of a public call uses these definitions.
+-- Only private functions and proofs use these definitions.
 use Rattle.std.specs.Prelude.{◌≡◌, ℕ, ◌<◌, ◌≤◌, List, length, slice_index}
 
 -- the first byte is a digit, and if the digit is 0, there is no other byte

@@ -1,4 +1,4 @@
--- Kept for proofs alone. No clause of a public call uses these definitions. The operands of a command: the words after
+-- Only private functions and proofs use these definitions. The operands of a command: the words after
 -- its options.
 use Rattle.std.specs.Prelude.{◌≡◌, ℕ, List, [], ◌∷◌, Bool, true, false}
 use Rattle.avtp_words.specs.declared.operand.Operand.{Operand}

@@ -1,4 +1,4 @@
--- Kept for proofs alone. No clause of a public call uses these definitions. What the steps of reading the words return,
+-- Only private functions and proofs use these definitions. What the steps of reading the words return,
 -- for the options of any command.
 use Rattle.std.specs.Prelude.{◌≡◌, ◌≢◌, ℕ, ℤ, ◌+◌, ◌*◌, ◌^◌, ◌<◌, ◌≤◌, List, [], ◌∷◌, ◌++◌, map, flat_map, length, decimal, Bool, true, false, nat_le, nat_lt, ◌&&◌, Option, None, Some, option_to_list, if◌then◌else◌, IfSome, IfNone, ⊤, slice_get, get_or, take, All, IsSomeAnd, pos, codes, nat_eq, unsigned_abs}
 use Rattle.std.specs.List.{list_all}
@@ -139,8 +139,8 @@ pub record AreHeard (options : List (List ℕ)) (asked : Listening) : Type 0 whe
   pub raw : IsReadRaw options asked.raw
   pub annexb : IsReadFile (codes "--annexb") options asked.annexb
 
--- The options ask for an AAF stream. The sample format that is read from them is `format`, and `sparse` is `tells`.
--- `tells` says whether `--sparse` is among the words after the command.
+-- The options ask for an AAF stream. The sample format that is read from the options is `format`, and `sparse` is
+-- `tells`. `tells` says whether `--sparse` is among the words after the command.
 pub record IsReadAaf (options : List (List ℕ)) (tells : Bool) (format : AafFormat) (sparse : Bool) : Type 0 where
   pub no_blocks : IfSome (value_after (codes "--kind") options) (λ word. word ≢ codes "am824")
   pub no_video : IfSome (value_after (codes "--kind") options) (λ word. word ≢ codes "h264")
@@ -245,9 +245,9 @@ pub record EndsOptions (rows : List Row) (words : List (List ℕ)) (place : ℕ)
   pub options : AreOptionsTo rows words place
   pub ends : IfSome (slice_get words place) (λ word. BeginsWithDash word → ⊥)
 
--- The first wrong word among the options is at index `place`. The words before it begin a list of options. The words up
--- to and including it do not begin a list of options followed by names. If there are only `place` words, the words are
--- not a list of options followed by names.
+-- The first wrong word among the options is at index `place`. The words before the wrong word begin a list of options.
+-- The words up to and including the wrong word do not begin a list of options followed by names. If there are only
+-- `place` words, the words are not a list of options followed by names.
 pub record StopsOptions (rows : List Row) (words : List (List ℕ)) (place : ℕ) : Type 0 where
   pub before : List (List ℕ)
   pub rest : List (List ℕ)

@@ -1,4 +1,4 @@
--- Kept for proofs alone. No clause of a public call uses these definitions. A file that is read whole.
+-- Only private functions and proofs use these definitions. A file that is read whole.
 use Rattle.std.specs.Prelude.{Option, Some, None, Result, Ok, Err}
 use Rattle.avtp_base.specs.declared.failed.NoMemory.{NoMemory}
 use Rattle.capture_io.specs.declared.contents.Contents.{Contents}

@@ -1,4 +1,4 @@
--- Kept for proofs alone. No clause of a public call uses these definitions. A file that is read in pieces, up to a
+-- Only private functions and proofs use these definitions. A file that is read in pieces, up to a
 -- limit.
 use Rattle.std.specs.Prelude.{◌≡◌, ◌+◌, ◌<◌, ◌≤◌, ℕ, List, [], length, Option, Some, None, IfOk, IfSome, IsSome, Result}
 use Rattle.avtp_base.specs.declared.failed.NoMemory.{NoMemory}
@@ -21,16 +21,16 @@ HasTakenOf limit bytes shelf pieces prefix = HasTaken limit bytes (left_in shelf
 abbrev pub IsDrained : Slots → Piecing → Type 0
 IsDrained slots pieces = IsSome (slots pieces.slot) × (pieces.waiting ≡ [])
 
--- At `Ok` the file `name` was opened, at most `limit` of its bytes may be read, and none was read yet. At `Err` the
--- file was not opened.
+-- At `Ok` the file `name` was opened, at most `limit` of its bytes may be read, and none was read yet. If the result is
+-- `Err`, the file was not opened.
 pub record OpensPieces (before after : ShelfState) (limit : ℕ) (name : List ℕ) (result : Result Piecing OpenFault) : Type 0 where
   pub begun : IfOk result (λ pieces. (files : Files) → before.files ≡ Some files → (bytes : List ℕ) × (files name ≡ Some bytes) × HasTakenOf limit bytes after pieces [])
   pub nothing : IfOk result (λ pieces. (pieces.waiting ≡ []) × (pieces.left ≡ limit))
   pub tries : TriesOpen (λ (pieces : Piecing). pieces.slot) before after name result
 
--- A read that began with an empty buffer. At `None` some bytes are buffered now, at most `old.left` of them. Otherwise
--- the reading stopped, and the bytes taken are all bytes that were read. If a fault stopped the reading, the count of
--- reading faults rose; otherwise the count is unchanged.
+-- A read that began with an empty buffer. At `None` some bytes are buffered now, at most `old.left` of them. If the
+-- result is `Some`, the reading stopped, and the bytes taken are all bytes that were read. If a fault stopped the
+-- reading, the count of reading faults rose; otherwise the count is unchanged.
 pub record ReadsPiece (before after : ShelfState) (old new : Piecing) (result : Option Stop) : Type 0 where
   pub more : result ≡ None → (limit : ℕ) (bytes prefix : List ℕ) → HasTakenOf limit bytes before old prefix → HasTakenOf limit bytes after new prefix
   pub stopped : IfSome result (λ stop. (limit : ℕ) (bytes prefix : List ℕ) → HasTakenOf limit bytes before old prefix → IsContents limit bytes stop prefix)

@@ -1,4 +1,4 @@
--- Kept for proofs alone. No clause of a public call uses these definitions. What the state of a reader of captures in
+-- Only private functions and proofs use these definitions. What the state of a reader of captures in
 -- either layout means.
 use Rattle.std.specs.Prelude.{◌≡◌, ℕ, ◌+◌, ◌<◌, ◌≤◌, List, [], ◌++◌, length, take, Result, IfOk, IfErr, IfSome, OnOk, Option, None, Some, option_to_list}
 use Rattle.avtp_base.specs.declared.refusal.Refusal.{Refusal}
@@ -47,8 +47,9 @@ GoesOn old more new = readers.GoesOn (progress old) more (progress new)
 abbrev pub RefusedAfter : List ℕ → List Record → Refusal → Type 0
 RefusedAfter bytes records refusal = IsRefusedAfter meaning bytes records refusal
 
--- What feeding a piece does. At `Ok(n)` the reader took n bytes from the front of the piece: at least one, unless the
--- piece is empty or a record is held. At `Err` the bytes so far, including the whole piece, are refused.
+-- What feeding a piece does. If the result is `Ok(n)`, the reader took n bytes from the front of the piece: at least
+-- one, unless the piece is empty or a record is held. At `Err` the bytes so far, including the whole piece, are
+-- refused.
 pub record Feeds (old : CaptureReading) (piece : List ℕ) (result : Result ℕ Refusal) (new : CaptureReading) : Type 0 where
   pub within : IfOk result (λ n. n ≤ length piece)
   pub some : IfOk result (λ n. 0 < length piece → held old ≡ None → 0 < n)
@@ -70,7 +71,8 @@ pub record EndsHere (r : CaptureReading) (bytes : List ℕ) (records : List Reco
 
 -- ---- a record that is lent
 
--- The state of the reader after it has taken these bytes, which are the next record. The reader now holds that record.
+-- The state of the reader after it has taken these bytes, which are the next record. The reader now holds the record
+-- that it took.
 abbrev pub with_by : Option Format → CaptureReading → List ℕ → CaptureReading
 with_by None r bytes = r
 with_by (Some Classic) r bytes = record r { classic = classic.with_part r.classic bytes }
@@ -79,8 +81,8 @@ with_by (Some Pcapng) r bytes = record r { ng = ng.with_block r.ng bytes }
 abbrev pub with_record : CaptureReading → List ℕ → CaptureReading
 with_record r bytes = with_by r.format r bytes
 
--- In a classic capture, these bytes are the next record. In a pcapng capture, they are the block of the next packet.
--- None of the bytes was taken yet.
+-- In a classic capture, these bytes are the next record. In a pcapng capture, the bytes are the block of the next
+-- packet. None of the bytes was taken yet.
 abbrev pub IsNextBy : Option Format → CaptureReading → List ℕ → Type 0
 IsNextBy None r bytes = ⊥
 IsNextBy (Some Classic) r bytes = classic.IsNext r.classic bytes

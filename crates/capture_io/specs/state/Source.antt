@@ -1,4 +1,4 @@
--- Kept for proofs alone. No clause of a public call uses these definitions. The records of a capture, one after the
+-- Only private functions and proofs use these definitions. The records of a capture, one after the
 -- other.
 use Rattle.std.specs.Prelude.{◌≡◌, ◌<◌, ◌≤◌, ⊤, ℕ, List, length, take, drop, IfSome, IsSome, Option, Some, None}
 use Rattle.avtp_base.specs.Faults.{Rose}
@@ -52,8 +52,8 @@ pub record FindsAhead (source : Sourcing) (result : Option ℕ) : Type 0 where
   pub ahead : IfSome result (λ size. LiesAhead source size)
   pub none : result ≡ None → (size : ℕ) → LiesAhead source size → ⊥
 
--- The source, as contracts see it while the record in the first `size` buffered bytes is lent. At `None` the source
--- lends no record.
+-- The source, as contracts see it while the record in the first `size` buffered bytes is lent. If the argument is
+-- `None`, the source lends no record.
 abbrev pub lending : Option ℕ → Sourcing → Sourcing
 lending None source = source
 lending (Some size) source = holding source size

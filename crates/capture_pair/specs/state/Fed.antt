@@ -1,4 +1,4 @@
--- Kept for proofs alone. No clause of a public call uses these definitions. A listener of bytes that is fed a piece, or
+-- Only private functions and proofs use these definitions. A listener of bytes that is fed a piece, or
 -- ended.
 use Rattle.std.specs.Prelude.{◌≡◌, ◌↔◌, ℕ, ◌+◌, ◌^◌, ◌≤◌, true, false, List, [], ◌++◌, length, take, Option, Some, None, option_map, Result, Err, IfOk}
 use Rattle.avtp_base.specs.declared.refusal.Refusal.{Refusal}

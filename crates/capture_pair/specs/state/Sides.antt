@@ -1,4 +1,4 @@
--- Kept for proofs alone. No clause of a public call uses these definitions. Two listeners, of records or of bytes, and
+-- Only private functions and proofs use these definitions. Two listeners, of records or of bytes, and
 -- the matching of what they show.
 use Rattle.std.specs.Prelude.{◌≡◌, ℕ, ◌+◌, ◌≤◌, ◌^◌, Bool, true, false, if◌then◌else◌, List, length, Option, None, Some}
 use Rattle.sample_schedule.specs.declared.shown.Shown.{Shown}
@@ -15,13 +15,13 @@ pub use Rattle.capture_pair.specs.Sources.{Kept, OfBytes, OfRecords, Taken}
 
 -- ---- a listener
 
--- a listener of records took these records, of which it shows this list, and has shown the first n items of the list so
--- far
+-- a listener of records took these records, shows this list of items from them, and has shown the first n items of the
+-- list so far
 abbrev pub ShowsRecords : ListenState → Taken → List Shown → ℕ → Type 0
 ShowsRecords listener (OfRecords records) list n = IsGiven records n listener × (list ≡ out listener records)
 ShowsRecords listener (OfBytes bytes) list n = ⊥
 
--- a listener of bytes took these bytes, of which it shows this list, and has shown the first n items of the list so far
+-- a listener of bytes took these bytes, shows this list of them, and has shown the first n items of the list so far
 abbrev pub ShowsBytes : Feeding → Taken → List Shown → ℕ → Type 0
 ShowsBytes fed (OfRecords records) list n = ⊥
 ShowsBytes fed (OfBytes bytes) list n = IsFed bytes n fed × (list ≡ out_fed fed bytes)
@@ -54,8 +54,8 @@ is_passed (Some (Present batch)) = false
 is_passed (Some (Flag frame seq reason)) = true
 is_passed None = false
 
--- A matching was given batches of both sides: of side `which`, those among the first n items of the side's list; of the
--- other side, those among the first k items of that side's list.
+-- A matching was given the batches among the first n items of the list of side `which`, and the batches among the first
+-- k items of the other side's list.
 abbrev pub MatchesOn : Which → List Shown → List Shown → ℕ → ℕ → ℕ → MatchingState → Type 0
 MatchesOn A list other n k given m = Matches list other n k given m
 MatchesOn B list other n k given m = Matches other list k n given m
@@ -126,7 +126,8 @@ wants_side which None = false
 
 -- How a matching changes when side `which` is filled. If the matching does not want this side, nothing changes. If the
 -- matching still wants this side afterwards, the matching is unchanged, and the side's listener has not ended and has
--- shown all items that are known so far. The other side is unchanged. Side `which` ends only if its listener has ended.
+-- shown all items that are known so far. The side other than `which` is unchanged. Side `which` ends only if its
+-- listener has ended.
 pub record Fills (which : Which) (ended : Bool) (Quiet : Type 0) (old new : MatchingState) : Type 0 where
   pub idle : wants_side which (wanted old) ≡ false → new ≡ old
   pub same : wanted new ≡ Some which → new ≡ old

@@ -1,4 +1,4 @@
--- Kept for proofs alone. No clause of a public call uses these definitions. A listener of records that is given a
+-- Only private functions and proofs use these definitions. A listener of records that is given a
 -- record, or closed.
 use Rattle.std.specs.Prelude.{◌≡◌, ℕ, ◌+◌, ◌^◌, ◌<◌, false, true, List, [], ◌∷◌, ◌++◌}
 use Rattle.pcap_frames.specs.Capture.{Record}

@@ -1,4 +1,4 @@
--- Kept for proofs alone. No clause of a public call uses these definitions. Bounds of the instants that a packet's
+-- Only private functions and proofs use these definitions. Bounds of the instants that a packet's
 -- pairs can cover.
 use Rattle.std.specs.Prelude.{◌≡◌, ◌⊎◌, List, Some, slice_get, ℕ, ◌+◌, ◌-◌, ◌*◌, ◌<◌, ◌≤◌, ℤ, pos, ◌+ℤ◌, ◌≤ℤ◌, ◌<ℤ◌, IfSome}
 use Rattle.clock_track.specs.declared.bounds.Bounds.{Bounds}

@@ -1,4 +1,4 @@
--- Kept for proofs alone. No clause of a public call uses these definitions. What a search for a clock's line looks for,
+-- Only private functions and proofs use these definitions. What a search for a clock's line looks for,
 -- and what it finds.
 use Rattle.std.specs.Prelude.{Bool, if◌then◌else◌, Option, Some, None}
 use Rattle.clock_track.specs.declared.pair.Pair.{Pair}

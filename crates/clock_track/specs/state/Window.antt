@@ -1,4 +1,4 @@
--- Kept for proofs alone. No clause of a public call uses these definitions. A clock that keeps its last packets.
+-- Only private functions and proofs use these definitions. A clock that keeps its last packets.
 use Rattle.std.specs.Prelude.{◌≡◌, ◌≤◌, ◌+◌, ℤ, All, length, map, vec_capacity, vec_len}
 use Rattle.std.specs.Global.{Vec}
 use Rattle.circular_buffer.specs.Buffer.{Buffer}

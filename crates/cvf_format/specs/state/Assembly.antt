@@ -1,4 +1,4 @@
--- Kept for proofs alone. No clause of a public call uses these definitions. How the state of an assembler changes with
+-- Only private functions and proofs use these definitions. How the state of an assembler changes with
 -- a packet.
 use Rattle.std.specs.Prelude.{◌≡◌, ℕ, ◌+◌, ◌%◌, ◌==◌, nat_le, nat_lt, Bool, true, false, not, ◌&&◌, if◌then◌else◌, ℤ, List, [], ◌∷◌, ◌++◌, length, Option, None, Some}
 use Rattle.std.specs.Ordering.{int_eq}

@@ -1,4 +1,4 @@
--- Kept for proofs alone. No clause of a public call uses these definitions. The items that a `MemoryDevice` has taken.
+-- Only private functions and proofs use these definitions. The items that a `MemoryDevice` has taken.
 use Rattle.std.specs.Prelude.{◌≡◌, List, MatchBool}
 use mathlib.Core.List.{IsPrefix}
 use Rattle.device_rack.specs.declared.memory_device.MemoryDevice.{MemoryDevice}

@@ -1,4 +1,4 @@
--- Kept for proofs alone. No clause of a public call uses these definitions. A listener that is fed a capture's bytes,
+-- Only private functions and proofs use these definitions. A listener that is fed a capture's bytes,
 -- in pieces of any length.
 use Rattle.std.specs.Prelude.{◌≡◌, ◌≤◌, ℕ, true, List, length, None}
 use mathlib.Core.List.{IsPrefix}

@@ -1,4 +1,4 @@
--- Kept for proofs alone. No clause of a public call uses these definitions. The units of a stream between two
+-- Only private functions and proofs use these definitions. The units of a stream between two
 -- deliveries, and the items that wait to be judged.
 use Rattle.std.specs.Prelude.{◌≡◌, ℕ, ℤ, ⊤, List, [], ◌∷◌, ◌++◌, All, map, Option, Some, None, IfSome}
 use Rattle.std.specs.Option.{option_to_list}

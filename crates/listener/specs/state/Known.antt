@@ -1,4 +1,4 @@
--- Kept for proofs alone. No clause of a public call uses these definitions. What a listener's own search finds for an
+-- Only private functions and proofs use these definitions. What a listener's own search finds for an
 -- item.
 use Rattle.std.specs.Prelude.{Bool, true, false, List, Option, is_some, option_and_then}
 use Rattle.clock_track.specs.Pairs.{Spot}

@@ -1,4 +1,4 @@
--- Kept for proofs alone. No clause of a public call uses these definitions. A listener that was given a capture's
+-- Only private functions and proofs use these definitions. A listener that was given a capture's
 -- records one at a time, and what it has shown of them.
 use Rattle.std.specs.Prelude.{◌≡◌, ◌<◌, ◌≤◌, ℕ, ◌+◌, ◌-◌, ◌^◌, Bool, true, false, cond, if◌then◌else◌, List, [], length}
 use Rattle.clock_track.specs.Rows.{clock_spot}
@@ -35,7 +35,8 @@ pub record Rests (listener : ListenState) : Type 0 where
 abbrev pub shown_by : Bool → SchedulePlan → List Entry → List Shown
 shown_by ended plan entries = if ended then shown clock_spot plan entries else due clock_spot plan entries
 
--- If no more records follow and the judge was open, the judge is now closed. Otherwise the judge is unchanged.
+-- If no more records follow and the judge was open, the judge is now closed. If more records can follow, or if the
+-- judge was closed before, the judge is unchanged.
 pub record Closes (ended did : Bool) (old new : JudgeState) : Type 0 where
   pub stands : (entries : List Entry) (given : ℕ) → JudgeStandsFor clock_spot entries given old → JudgeStandsFor clock_spot entries given new
   pub plan : new.plan ≡ old.plan

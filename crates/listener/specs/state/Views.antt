@@ -1,4 +1,4 @@
--- Kept for proofs alone. No clause of a public call uses these definitions. A delivery as the code holds it.
+-- Only private functions and proofs use these definitions. A delivery as the code holds it.
 use Rattle.std.specs.Prelude.{ℕ, Bool, false, List, Option, Some, None}
 use Rattle.avtp_header.specs.declared.header.Peeked.{Peeked}
 use Rattle.packet_journal.specs.Deliveries.{Delivery, clock_kinds, is_wanted}
@@ -17,7 +17,7 @@ avtp_shape p = record { peeked = p.peeked; bytes = p.bytes.now }
 abbrev pub delivery_shape : DeliveryView → Delivery
 delivery_shape d = record { frame = d.frame; arrival = d.arrival; subtype = d.subtype; seq = d.seq; packet = d.packet.now }
 
--- The packet with these first fields belongs to the clock. If there is no clock, this is false.
+-- A packet that begins with these fields belongs to the clock. If there is no clock, this is false.
 abbrev pub is_of_clock : Option ℕ → Peeked → Bool
 is_of_clock None peeked = false
 is_of_clock (Some id) peeked = is_wanted clock_kinds id peeked

@@ -1,4 +1,4 @@
--- Kept for proofs alone. No clause of a public call uses these definitions. The batches that wait for a partner, and
+-- Only private functions and proofs use these definitions. The batches that wait for a partner, and
 -- what the next batch changes.
 use Rattle.std.specs.Prelude.{◌≡◌, ℕ, ◌+◌, ◌-◌, ◌^◌, ◌<◌, nat_le, min, Bool, true, false, if◌then◌else◌, List, [], ◌∷◌, ◌++◌, length, Option, None, Some, option_map, is_some, int_lt}
 use Rattle.std.specs.List.{find}
@@ -34,7 +34,7 @@ without_passed place (y ∷ ys) = if nat_le place (y.place + 512) then y ∷ ys 
 abbrev pub paired_with : Placed → Placed → Paired
 paired_with later earlier = record { earlier = earlier; later = later }
 
--- The pair that x makes with a batch of `other`; none if it makes no pair. `other` are the batches that wait on the
+-- The pair that x makes with a batch of `other`, or none if x makes no pair. `other` are the batches that wait on the
 -- other side.
 abbrev pub made : Placed → List Placed → Option Paired
 made x other = option_map (paired_with x) (find (takes x) other)
@@ -50,8 +50,8 @@ kept x None = x ∷ []
 kept x (Some pair) = []
 
 -- Batch x was added; `pair` is the pair that x made, if any. Before x was added, `own` were the waiting batches of the
--- side of x, and `other` those of the other side. After x was added, the waiting batches of these two sides are
--- `own_then` and `other_then`. `next` is the position of the batch after x.
+-- side of x, and `other` those of the other side. After x was added, `own_then` are the waiting batches of the side of
+-- x, and `other_then` are those of the other side. `next` is the position of the batch after x.
 pub record Enters (x : Placed) (next : ℕ) (own other own_then other_then : List Placed) (pair : Option Paired) : Type 0 where
   pub made : pair ≡ made x other
   pub others : other_then ≡ without_passed next (without_first (takes x) other)

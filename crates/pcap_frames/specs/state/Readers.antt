@@ -1,4 +1,4 @@
--- Kept for proofs alone. No clause of a public call uses these definitions. What the steps of feeding have in common,
+-- Only private functions and proofs use these definitions. What the steps of feeding have in common,
 -- whatever the layout of the capture.
 use Rattle.std.specs.Prelude.{◌≡◌, ◌↔◌, ◌⊎◌, ℕ, ◌+◌, ◌<◌, ◌≤◌, ◌^◌, List, ◌++◌, length, take, Result, IfOk, IfErr, OnOk, OnErr, IsSome, Some, None}
 use Rattle.avtp_base.specs.declared.refusal.Refusal.{Refusal}

@@ -1,4 +1,4 @@
--- Kept for proofs alone. No clause of a public call uses these definitions. What a reader of a classic capture holds,
+-- Only private functions and proofs use these definitions. What a reader of a classic capture holds,
 -- and what is added to it.
 use Rattle.std.specs.Prelude.{◌≡◌, ℕ, ◌+◌, ◌<◌, ◌≤◌, ◌^◌, false, List, [], ◌∷◌, ◌++◌, length, take, Result, IfOk, IfErr, OnOk, Option, Some, None}
 use Rattle.avtp_base.specs.declared.refusal.Refusal.{Refusal}
@@ -19,8 +19,8 @@ pub record IsBefore (style : Option Style) (r : Reading) (piece : List ℕ) : Ty
   pub styled : r.style ≡ style
   pub bounded : taken r + length piece ≤ 2 ^ 62
 
--- At `Ok(n)` the first n bytes of a piece were added to the part of a record, up to the end of the record. At `Err` the
--- bytes showed a refusal.
+-- If the result is `Ok(n)`, the first n bytes of a piece were added to the part of a record, up to the end of the
+-- record. At `Err` the bytes showed a refusal.
 pub record Fills (order : Order) (start : ℕ) (old piece : List ℕ) (result : Result ℕ Refusal) (new : List ℕ) : Type 0 where
   pub within : IfOk result (λ n. n ≤ length piece)
   pub moved : IfOk result (λ n. new ≡ old ++ take n piece)
@@ -35,6 +35,6 @@ ending_by None None start part = file_refusal part
 ending_by None (Some style) start [] = None
 ending_by None (Some style) start (b ∷ part) = record_refusal style.order start (b ∷ part)
 
--- the first refusal if the capture ends with the bytes taken
+-- the first refusal, if the capture ends after the bytes taken so far
 abbrev pub ending : Reading → Option Refusal
 ending r = ending_by r.refusal r.style r.start r.part

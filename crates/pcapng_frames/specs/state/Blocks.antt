@@ -1,4 +1,4 @@
--- Kept for proofs alone. No clause of a public call uses these definitions. What a pcapng capture holds: blocks one
+-- Only private functions and proofs use these definitions. What a pcapng capture holds: blocks one
 -- after the other. Each block has a type, a total length, a body and the total length again (draft-ietf-opsawg-pcapng,
 -- section 3).
 use Rattle.std.specs.Prelude.{List, []}

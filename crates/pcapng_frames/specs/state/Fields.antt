@@ -1,4 +1,4 @@
--- Kept for proofs alone. No clause of a public call uses these definitions. The fields of a pcapng capture's blocks,
+-- Only private functions and proofs use these definitions. The fields of a pcapng capture's blocks,
 -- their offsets, and which values are refused (draft-ietf-opsawg-pcapng, sections 3 and 4).
 use Rattle.std.specs.Prelude.{◌≡◌, ℕ, true, List}
 use Rattle.std.specs.List.{All}

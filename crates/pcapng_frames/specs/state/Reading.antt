@@ -1,4 +1,4 @@
--- Kept for proofs alone. No clause of a public call uses these definitions. The state of a reader.
+-- Only private functions and proofs use these definitions. The state of a reader.
 use Rattle.std.specs.Prelude.{◌≡◌, ℕ, ◌+◌, ◌-◌, ◌<◌, ◌≤◌, ◌^◌, ◌%◌, pos, ⊤, Bool, true, false, is_some, IfSome, nat_lt, nat_eq, if◌then◌else◌, List, ◌++◌, length, drop, Option, Some, None}
 use Rattle.avtp_base.specs.declared.refusal.Refusal.{Refusal}
 use Rattle.pcap_frames.specs.Capture.{Record}
@@ -51,7 +51,8 @@ IsAhead stage.Block skip left total = skip ≡ 0
 IsAhead stage.Option skip left total = (0 < left) × (left % 4 ≡ 0) × (skip + left + 4 ≤ total)
 IsAhead stage.Trailer skip left total = skip + 4 ≤ total
 
--- Before a block there is no packet, and no interface that is being described. Before an option there is no packet.
+-- Before a block there is no packet, and no interface that is being described. Before an option, the reader holds no
+-- packet.
 abbrev pub IsFree : Stage → Option Record → Option Interface → Type 0
 IsFree stage.Block packet interface = (packet ≡ None) × (interface ≡ None)
 IsFree stage.Option packet interface = packet ≡ None
@@ -80,7 +81,7 @@ IsReading (Some refusal) whole p skip part = ⊤
 IsReading None true p skip part = IsWhole p skip part
 IsReading None false p skip part = IsPart p skip part
 
--- the bytes taken at a place: `part` of a block, `tail` of an option or a trailer
+-- the bytes taken at a place: `part` at a block, `tail` at an option or a trailer
 abbrev pub part_at : Stage → List ℕ → List ℕ → List ℕ
 part_at stage.Block part tail = part
 part_at stage.Option part tail = tail
@@ -146,8 +147,8 @@ pub record IsGoing (r : Reading) (piece : List ℕ) : Type 0 where
   pub more : 0 < length piece
   pub bounded : taken r + length piece ≤ 2 ^ 62
 
--- The reader is at a place where a block, an option or a trailer begins, as `next` says. It has nothing to skip and can
--- take bytes of the piece.
+-- The reader is at a place where a block, an option or a trailer begins, as `next` says. The reader has nothing to skip
+-- and can take bytes of the piece.
 pub record IsAt (next : Stage) (r : Reading) (piece : List ℕ) : Type 0 where
   pub going : IsGoing r piece
   pub stage : r.place.stage ≡ next

@@ -1,4 +1,4 @@
--- Kept for proofs alone. No clause of a public call uses these definitions. The presenter's side of a ring.
+-- Only private functions and proofs use these definitions. The presenter's side of a ring.
 use Rattle.std.specs.Prelude.{◌≡◌, ℕ, ◌+◌, ◌<◌, ◌++◌, List, [], length, OnErr, Result}
 use Rattle.avtp_base.specs.declared.failed.Failed.{Failed}
 use Rattle.avtp_base.specs.Faults.{IsCounted}

@@ -1,4 +1,4 @@
--- Kept for proofs alone. No clause of a public call uses these definitions. The receiver's side of a ring.
+-- Only private functions and proofs use these definitions. The receiver's side of a ring.
 use Rattle.std.specs.Prelude.{◌≡◌, ℕ, ◌+◌, ◌≤◌, ◌++◌, Bool, cond, false, List, [], ◌∷◌, length, Option, None, IsSome, MatchOption}
 use Rattle.std.specs.Option.{option_to_list}
 use Rattle.rtrb.specs.Ring.{sent, known_free, SameProducer}

@@ -1,4 +1,4 @@
--- Kept for proofs alone. No clause of a public call uses these definitions. A ring between two threads, the item in
+-- Only private functions and proofs use these definitions. A ring between two threads, the item in
 -- `hand` that waits for a slot of the ring, and what a round does.
 use Rattle.std.specs.Prelude.{◌≡◌, ◌+◌, ◌<◌, [], length}
 use Rattle.presenter_ring.specs.declared.pipe.Pipe.{Pipe}

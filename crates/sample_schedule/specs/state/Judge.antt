@@ -1,4 +1,4 @@
--- Kept for proofs alone. No clause of a public call uses these definitions. A judge, which takes a stream of entries
+-- Only private functions and proofs use these definitions. A judge, which takes a stream of entries
 -- one at a time and shows items as soon as they are certain.
 use Rattle.std.specs.Prelude.{◌≡◌, ℕ, ◌+◌, ◌^◌, ◌≤◌, ℤ, ◌<◌, List, [], ◌∷◌, ◌++◌, All, length, Option, None, Some, IfSome}
 use mathlib.Core.List.{IsPrefix}
@@ -33,8 +33,8 @@ abbrev pub now_with : ℤ → Option Pending → ℤ
 now_with now None = now
 now_with now (Some pending) = int_max now (pending_arrival pending)
 
--- An entry was put at the end of the delay line. If the line then exceeds the look-ahead, its first entry becomes
--- current.
+-- An entry was put at the end of the delay line. If the delay line is then longer than the look-ahead, its first entry
+-- becomes current.
 pub record Puts (pending : Pending) (old new : JudgeState) : Type 0 where
   pub same : new ≡ record old { time = now_with old.time new.current; current = new.current; ahead = new.ahead }
   pub line : option_to_list new.current ++ new.ahead ≡ old.ahead ++ pending ∷ []

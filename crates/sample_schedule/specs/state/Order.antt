@@ -1,4 +1,4 @@
--- Kept for proofs alone. No clause of a public call uses these definitions. Accepted items, sorted by their first
+-- Only private functions and proofs use these definitions. Accepted items, sorted by their first
 -- instants.
 use Rattle.std.specs.Prelude.{Bool, false, ℤ, int_lt, List, [], ◌∷◌}
 use Rattle.sample_schedule.specs.declared.accepted.Accepted.{Accepted}

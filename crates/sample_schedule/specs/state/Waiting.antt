@@ -1,4 +1,4 @@
--- Kept for proofs alone. No clause of a public call uses these definitions. The batches that wait for their instant,
+-- Only private functions and proofs use these definitions. The batches that wait for their instant,
 -- and their keys.
 use Rattle.std.specs.Prelude.{◌≡◌, ◌≢◌, ⊤, ℕ, List, [], ◌∷◌, length, Option, Some}
 use Rattle.std.specs.List.{AllByRecursion, filter_map}

@@ -1,4 +1,4 @@
--- Kept for proofs alone. No clause of a public call uses these definitions. How the outcomes are counted, one shown
+-- Only private functions and proofs use these definitions. How the outcomes are counted, one shown
 -- item after another.
 use Rattle.std.specs.Prelude.{ℕ, ◌+◌, ◌-◌, ◌^◌, min, List, [], ◌∷◌}
 use Rattle.sample_schedule.specs.declared.shown.Reason.{Reason}

@@ -1,4 +1,4 @@
--- Kept for proofs alone. No clause of a public call uses these definitions. A listener that hears deliveries one by
+-- Only private functions and proofs use these definitions. A listener that hears deliveries one by
 -- one, and how far it has come.
 use Rattle.std.specs.Prelude.{◌≡◌, ◌<◌, ℕ, ◌+◌, ◌-◌, ◌^◌, ℤ, Bool, true, false, List, [], ◌∷◌, ◌++◌, length, map, take, Option, Some, None, Result, OnOk, OnErr}
 use Rattle.avtp_base.specs.declared.failed.NoMemory.{NoMemory as WantOfMemory}

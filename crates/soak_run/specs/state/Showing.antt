@@ -1,4 +1,4 @@
--- Kept for proofs alone. No clause of a public call uses these definitions. What was shown of deliveries since their
+-- Only private functions and proofs use these definitions. What was shown of deliveries since their
 -- hearing began.
 use Rattle.std.specs.Prelude.{◌≡◌, ◌≤◌, List, length, true}
 use Rattle.sample_schedule.specs.declared.shown.Shown.{Shown}

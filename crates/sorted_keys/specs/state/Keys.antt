@@ -1,4 +1,4 @@
--- Kept for proofs alone. No clause of a public call uses these definitions. Sorted keys, and the blocks in which they
+-- Only private functions and proofs use these definitions. Sorted keys, and the blocks in which they
 -- are kept.
 use Rattle.std.specs.Prelude.{◌≡◌, ⊤, ℕ, ◌+◌, ◌*◌, ◌-◌, ◌==◌, ◌≤◌, zero, suc, Bool, true, false, if◌then◌else◌, ℤ, int_le, int_lt, ◌≤ℤ◌, ◌<ℤ◌, ◌<◌, List, [], ◌∷◌, length, take, drop, slice_index_or, slice_set}
 use Rattle.std.specs.List.{AllByRecursion, flat_map}
@@ -76,7 +76,8 @@ IsBlockFor instant (block ∷ rest) (suc place) = AllByRecursion (λ key. key.in
 abbrev pub room_of : ℕ → ℕ
 room_of blocks = 256 * (blocks - 1)
 
--- `blocks` holds sorted keys, and the blocks in `spare` have no keys. Together these are at most `places` blocks.
+-- `blocks` holds sorted keys, and the blocks in `spare` have no keys. `blocks` and `spare` together have at most
+-- `places` blocks.
 pub record HaveRoom (blocks spare : List (List Key)) (places : ℕ) : Type 0 where
   pub kept : AreBlocks blocks
   pub empty : AllByRecursion (λ block. block ≡ []) spare

@@ -1,4 +1,4 @@
--- Kept for proofs alone. No clause of a public call uses these definitions. The bits of a window: bit `i` says whether
+-- Only private functions and proofs use these definitions. The bits of a window: bit `i` says whether
 -- the newest number minus `i` has arrived.
 use Rattle.std.specs.Prelude.{◌≡◌, ◌≢◌, ℕ, ◌+◌, ◌<◌}
 use Rattle.std.specs.Int.{bit_at}

@@ -1,4 +1,4 @@
--- Kept for proofs alone. No clause of a public call uses these definitions. How a packet that is ahead of all others is
+-- Only private functions and proofs use these definitions. How a packet that is ahead of all others is
 -- counted.
 use Rattle.std.specs.Prelude.{◌≡◌, ℕ, ◌+◌, ◌-◌, ◌^◌, max, min}
 use Rattle.stream_report.specs.declared.order.Order.{Order}

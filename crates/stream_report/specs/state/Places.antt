@@ -1,4 +1,4 @@
--- Kept for proofs alone. No clause of a public call uses these definitions. The buckets of a spread, and the bucket in
+-- Only private functions and proofs use these definitions. The buckets of a spread, and the bucket in
 -- which a rank is reached.
 use Rattle.std.specs.Prelude.{◌≡◌, ℕ, ◌+◌, ◌-◌, ◌*◌, ◌<◌, ◌≤◌, ℤ, ◌≤ℤ◌, ◌<ℤ◌, List, length, sum, take}
 use Rattle.stream_report.specs.Spreads.{edge, first_in, number_below, side}

@@ -1,4 +1,4 @@
--- Kept for proofs alone. No clause of a public call uses these definitions. The packets of a plan, each with its
+-- Only private functions and proofs use these definitions. The packets of a plan, each with its
 -- samples.
 use Rattle.std.specs.Prelude.{◌≡◌, ◌-◌, length, ℕ, ℤ, ◌+◌, ◌*◌, List, [], ◌∷◌, ◌++◌, take, drop}
 use Rattle.avtp_base.specs.Octets.{flag}
@@ -29,7 +29,7 @@ pub record IsPcmPacket (pcm : PcmFormat) (plan : TalkPlan) (n : ℕ) (arrival : 
   pub sent : IsSentAt plan n arrival
   pub whole : length samples ≡ plan.count * frame_size plan.channels pcm.format
 
--- `blocks` has the length of the data blocks of packet n of a plan of AM824
+-- `blocks` is as long as the data blocks of packet n of an AM824 plan
 pub record IsBlockPacket (am824 : Am824Format) (plan : TalkPlan) (n : ℕ) (blocks : List ℕ) : Type 0 where
   pub format : IsAm824 am824 plan
   pub packet : IsPacketOf plan n

@@ -1,4 +1,4 @@
--- Kept for proofs alone. No clause of a public call uses these definitions. A walk over the NAL units of a byte stream.
+-- Only private functions and proofs use these definitions. A walk over the NAL units of a byte stream.
 use Rattle.std.specs.Prelude.{◌≡◌, ℕ, zero, suc, ◌+◌, ◌-◌, ◌<◌, ◌≤◌, Bool, false, not, ◌&&◌, ◌||◌, nat_lt, if◌then◌else◌, List, length, drop}
 use Rattle.cvf_format.specs.AnnexB.{nal_units, units_from}
 use Rattle.talk_video.specs.declared.units.NalUnit.{NalUnit}

@@ -1,4 +1,4 @@
--- Kept for proofs alone. No clause of a public call uses these definitions. The frames of a plan, and the capture that
+-- Only private functions and proofs use these definitions. The frames of a plan, and the capture that
 -- they make.
 use Rattle.std.specs.Prelude.{ℕ, ◌-◌, List, ◌++◌, map}
 use Rattle.std.specs.List.{range_with_len}

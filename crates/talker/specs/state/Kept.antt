@@ -1,4 +1,4 @@
--- Kept for proofs alone. No clause of a public call uses these definitions. The invariant of a talker.
+-- Only private functions and proofs use these definitions. The invariant of a talker.
 use Rattle.std.specs.Prelude.{◌≡◌, ◌+◌, ◌≤◌, drop, length}
 use Rattle.talker.specs.declared.talker.Talker.TheInside.{Inside}
 use Rattle.talker.specs.Frames.{frames}

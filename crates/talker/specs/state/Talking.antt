@@ -1,4 +1,4 @@
--- Kept for proofs alone. No clause of a public call uses these definitions. The source and the clock of a talker.
+-- Only private functions and proofs use these definitions. The source and the clock of a talker.
 use Rattle.std.specs.Prelude.{◌≡◌, ◌⊎◌, ℕ, ◌<◌, ◌≤◌, List, length, Option, Some, None, IfSome, Result, Err, IfErr, IfOk, OnOk}
 use Rattle.talk_clock.specs.declared.clock.ClockStream.{ClockStream}
 use Rattle.talk_plan.specs.declared.fault.TalkFault.{TalkFault}

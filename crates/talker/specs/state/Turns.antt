@@ -1,4 +1,4 @@
--- Kept for proofs alone. No clause of a public call uses these definitions. What a talker sends next, before its frame
+-- Only private functions and proofs use these definitions. What a talker sends next, before its frame
 -- is built.
 use Rattle.std.specs.Prelude.{◌≡◌, ℕ, ◌<◌, Bool, true, false, Option, length}
 use Rattle.talker.specs.declared.turn.Turn.{Turn}

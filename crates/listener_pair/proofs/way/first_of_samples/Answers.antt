@@ -1,4 +1,4 @@
--- No sample before `j` differs. So if sample `j` differs, it is the first one that does.
+-- No sample before `j` differs. So if sample `j` differs, it is the first sample that differs.
 use Rattle.std.proofs.Common.{◌≡◌, ◌+◌, ◌≤◌, ℕ, suc, true, false, Option, Some, None, sym, ap, ◌∙◌, subst, arith}
 use Rattle.std.specs.Prelude.{is_some}
 use Rattle.sample_schedule.specs.Batches.{Presented}

@@ -62,7 +62,7 @@ returns-in-Showing-clause-left c =
     let less = ∥∥₁_elim self.stands le_prop (left_on 0 (c.in_default.ensures.stands _) self.deliveries.now (records_few self.talker self.deliveries.now self.given)) in
     omega (arith, less, c.loop-shown.invariant.left)
 
--- ---- none was due, and the hearing went on
+-- ---- no item was due, and the hearing went on
 
 pub invariant_of-self-in_default-stage : goal.invariant_of-self-in_default-stage
 invariant_of-self-in_default-stage c =

@@ -1,5 +1,5 @@
--- The search goes backwards from the last key that is at or before the instant. The search covers all keys with that
--- instant.
+-- The search goes backwards from the last key that is at or before the instant. The search covers all keys with the
+-- wanted instant.
 use Rattle.std.proofs.Common.{◌≡◌, ◌≢◌, ◌≤ℤ◌, ◌<ℤ◌, List, ap, sym, ◌∙◌, arith, w64, to_z, of_z}
 use Rattle.std.specs.List.{list_any}
 use Rattle.std.proofs.lemmas.Int.{ints}

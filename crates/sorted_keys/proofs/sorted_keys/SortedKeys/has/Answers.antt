@@ -1,5 +1,5 @@
--- The search goes backwards from the block for the instant. The search covers all blocks that can hold keys with that
--- instant.
+-- The search goes backwards from the block for the instant. The search covers all blocks that can hold keys with the
+-- wanted instant.
 use Rattle.std.proofs.Common.{◌≡◌, ◌+◌, suc, false, true, ap, sym, ◌∙◌, arith, rules, w64, to_z, of_z}
 use Rattle.std.specs.List.{list_any}
 use Rattle.std.proofs.lemmas.Int.{ints}
