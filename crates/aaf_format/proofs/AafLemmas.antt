@@ -332,7 +332,7 @@ fits_whole v samples flags whole (subtype, (second, (seq, (tu, (id, (timestamp, 
       ),
     )
 
--- ---- bytes that spell a packet, set no reserved bit and end where the packet ends are exactly what a writer writes
+-- ---- if a packet has no trailing bytes and no reserved bit set, its bytes are exactly what a writer writes for it
 
 pub aaf_only : (bytes : List ℕ) (v : Aaf) → AreBytes bytes → SpellsAaf bytes v → v.reserved ≡ false → length bytes ≡ 24 + v.header.data_length
     → bytes ≡ aaf_spelling v

@@ -63,8 +63,9 @@ impl Buffer {
         self.len = end;
     }
 
-    /// Adds the first `len` of these bytes at the end. All of `bytes` are copied, because a copy whose length the
-    /// compiler knows needs no function call. Therefore there must be room for all of `bytes`.
+    /// Adds the first `len` of these bytes at the end. Copies all of `bytes`, not only the first `len`: callers pass an
+    /// array, whose length the compiler knows, and copying a known number of bytes needs no function call. Therefore
+    /// there must be room for all of `bytes`.
     #[inline(always)]
     pub fn push_first(&mut self, bytes: &[u8], len: usize)
         requires some { len ≤ length bytes.now }

@@ -45,8 +45,8 @@ pub record MakesInSlot (before after : ShelfState) (name : List ℕ) (result : R
   pub reading : after.reading_faults ≡ before.reading_faults
   pub asked : Asks (name ∷ []) before after
 
--- At `Ok(n)` the first n bytes left to read in slot k were moved to the front of the buffer. If the result is `Err`, no
--- byte was moved, and a reading fault was counted. The slot keeps its file, and nothing else changed.
+-- If the result is `Ok(n)`, the next n unread bytes of slot k were moved to the front of the buffer. If the result is
+-- `Err`, no byte was moved, and a reading fault was counted. The slot keeps its file, and nothing else changed.
 pub record ReadsBytes (before after : ShelfState) (k : ℕ) (result : Result ℕ Failed) (buffer : List ℕ) : Type 0 where
   pub within : IfOk result (λ n. n ≤ length buffer)
   pub moved : ReadConsumes (left_in before.slots k) (left_in after.slots k) result buffer

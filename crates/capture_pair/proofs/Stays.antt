@@ -94,8 +94,8 @@ presents-on records more old new plan closed = at (is_closed old) (is_closed new
 -- ---- the known part begins with what the matching has done
 
 -- Side A presents `xs`, which begins with the batches of `list`. Side B presents `ys`, which begins with the batches of
--- `other`. If a side has ended in the matching, that side's listener has ended, and the side presents only the batches
--- of its list.
+-- `other`. If the matching has marked a side as ended, two things hold: that side's listener has ended, and the side
+-- presents nothing beyond the batches of its list.
 pub record Further (list other : List Shown) (xs ys : List Presented) (ended_a ended_b : Bool) (m : MatchingState) : Type 0 where
   pub more_a : List Presented
   pub more_b : List Presented

@@ -7,8 +7,8 @@ ghost use Rattle.clock_track.specs.Pairs.{Covers, IsJoined, spot_by};
 ghost use Rattle.clock_track.specs.Adjacent.{AreAcross, AreInside, followed_rows, pair_across, pair_inside};
 ghost use Rattle.clock_track.specs.Rows.{IsLatest, clock_spot, joined_pairs, latest, window};
 
-/// The pair that gives a sample its line is joined and covers the sample's instant. No later pair in the list of joined
-/// pairs covers the sample's instant. If no pair gives a line, no joined pair covers the instant.
+/// A sample's line comes from a joined pair that covers the sample's instant. No later pair in the list of joined pairs
+/// covers the sample's instant. If no pair gives a line, no joined pair covers the instant.
 pub fn last_covering_pair_counts()
     ensures joined { (shift : ℤ) (rows : List ClockRow) → All IsJoined (joined_pairs shift rows) }
     ensures latest { (shift instant : ℤ) (rate : ℕ) (rows : List ClockRow) → IsLatest rate instant (joined_pairs shift rows) (latest shift instant rate rows) }

@@ -141,8 +141,8 @@ sources made = made.earlier ++ made.last ∷ []
 abbrev pub made_of_one : Delivery → MadeItem
 made_of_one d = record { entry = entry_of d; earlier = []; last = d }
 
--- The item of a delivery that is flagged by itself: a fragment that is in no unit, or a packet that cannot be in a
--- unit.
+-- The item of one delivery that is flagged alone, not as part of a unit. The delivery is a fragment that is in no unit,
+-- or a packet that cannot be in a unit.
 abbrev pub flagged : Reason → Delivery → MadeItem
 flagged reason d = record {
   entry = OfItem (OfBad (record { frame = d.frame; arrival = d.arrival; seq = d.seq; reason = reason }));

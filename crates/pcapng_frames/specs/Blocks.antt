@@ -314,7 +314,7 @@ refusal_of (Some ending) = Some ending.refusal
 unfoldable pub first_refusal : List ℕ → Option Refusal
 first_refusal bytes = refusal_of (contents bytes).ending
 
--- the refusal of an ending, if no later bytes can change it
+-- the refusal in which the bytes end; `None` if there is no such refusal, or if later bytes can change it
 abbrev pub settled : Option Ending → Option Refusal
 settled None = None
 settled (Some ending) = if ending.cut then None else Some ending.refusal

@@ -1,4 +1,5 @@
--- Samples are counted on the lines of the clock whose packets were noted.
+-- If clock packets are noted, samples are counted on the lines of that clock; otherwise they are counted on nominal
+-- lines.
 use Rattle.std.proofs.Common.{◌≡◌, ℕ, ℤ, true, false, List, Option, Some, None, Ok, sym, ap, subst, ◌∙◌, refl}
 use Rattle.std.specs.Prelude.{option_map}
 use Rattle.std.specs.List.{filter_map}

@@ -220,7 +220,7 @@ steps-next : (clock : Clock) (plan : SchedulePlan) (entries : List Entry) (n : �
 unfolding steps
 steps-next clock plan entries n e at = ap (λ (l : List Given). steps clock plan entries n ++ l) (step-is clock plan entries n e at)
 
--- ---- a batch that is due because of the current entry is returned
+-- ---- returning a batch that the current entry makes due
 
 pub record Gives (clock : Clock) (entries : List Entry) (given : ℕ) (shown : Shown) (old new : JudgeState) : Type 0 where
   pub next : slice_get (out clock old entries) given ≡ Some shown

@@ -69,8 +69,8 @@ none_left (Some p) ahead = false
 abbrev pub is_over : JudgeState → Bool
 is_over judge = if judge.closed then none_left judge.current judge.ahead else false
 
--- The judge has taken `entries`. Of the items that the judge shows for these entries, it has returned the first
--- `given`. Samples are timed by the clock of the judge's plan.
+-- The judge has taken `entries`. For these entries, the judge shows the items of a list (`out`). It has returned the
+-- first items of that list so far; their number is `given`. Samples are timed by the clock of the judge's plan.
 pub record StandsFor (clock : Clock) (entries : List Entry) (given : ℕ) (judge : JudgeState) : Type 0 where
   pub asks : IsClockOf judge.plan clock
   -- the judge holds the entries that are not judged, and has noted the stamps and clock packets of all entries

@@ -318,7 +318,8 @@ impl Stream {
         self.counted().lost
     }
 
-    /// The greatest number of packets that a single packet skipped when it arrived.
+    /// The greatest number of packets that were missing immediately before a packet when it arrived. Packets that
+    /// arrive later do not lower it.
     pub fn most_lost(&self) -> u64 {
         self.counted().most_lost
     }

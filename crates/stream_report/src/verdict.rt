@@ -40,7 +40,8 @@ pub enum Verdict {
     Senders {
         packets: Tally,
     },
-    /// Packets that are missing, and the greatest number of packets that a single packet skipped when it arrived.
+    /// Packets that are missing, and the greatest number of packets that were missing immediately before a packet when
+    /// it arrived.
     Lost {
         packets: Tally,
         most: u64,

@@ -23,8 +23,8 @@ use talk_clock::ClockStream;
 use talk_plan::{TalkFault, TalkPlan};
 
 /// Makes the frames of a plan from its input, by number or one after another. The memory for one frame, and for the
-/// list of an H.264 stream's NAL units, is allocated at the beginning. Nothing is allocated later: each frame is lent
-/// until the next frame is made, or is written into the caller's slice.
+/// list of an H.264 stream's NAL units, is allocated at the beginning. Nothing is allocated later. Each frame is either
+/// written into the caller's slice, or lent from the talker's own memory until the next frame is made.
 #[derive(Debug, Drop)]
 pub struct Talker<'a> {
     source: Source<'a>,

@@ -10,8 +10,8 @@ const SPARSE: u32 = 8;
 /// The stamped sample is at most this many packets back.
 const FARTHEST: u32 = 7;
 
-/// Says to which sample of a packet its timestamp belongs, and from which earlier stamped sample a packet without a
-/// timestamp is counted.
+/// Says which sample of a packet the packet's timestamp belongs to. If a packet has no timestamp, says which earlier
+/// stamped sample the packet's first sample is counted from.
 #[derive(Clone, Copy, Debug, PartialEq, Eq)]
 pub enum HeadRule {
     /// AAF: each packet has a timestamp, which belongs to its first sample (IEEE 1722-2016, 7).
