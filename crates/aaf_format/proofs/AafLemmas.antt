@@ -242,8 +242,8 @@ accepted_again bytes v whole j long =
     ) in
     or_else-accepted _ _ (or_else-accepted _ _ start shared) (or_else-accepted _ _ samples lengths)
 
--- If bytes hold the header as the writer writes it, followed by the payload, they spell the packet, with its reserved
--- bits changed to 0.
+-- If bytes hold the header as the writer writes it, and then the payload, the bytes spell the packet. The reserved bits
+-- of the spelled packet are 0.
 held : (bytes : List ℕ) (v : Aaf) → IsWritableAaf v → Holds aaf_layout v bytes → 24 + v.header.data_length ≤ length bytes
     → v.payload ≡ take v.header.data_length (drop 24 bytes) → SpellsAaf bytes (plain_aaf v)
 held bytes v whole f long payload =

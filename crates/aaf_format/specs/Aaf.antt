@@ -117,9 +117,9 @@ length_rows bytes =
     row StreamDataLength 20
     (not (bits 20 0 16 bytes % frame_size (bits 17 6 10 bytes) (format_of bytes) == 0)) ∷ []
 
--- Why the bytes are refused as a PCM packet; `None` if they are accepted. A packet that is cut off in bytes 16 to 19 is
--- refused for `format_data`. A packet that is cut off in bytes 22 and 23 is refused for `format_flags`. `format_data`
--- and `format_flags` are names of fields of the stream header.
+-- Why the bytes are refused as a PCM packet; `None` if they are accepted. If a packet is cut off within bytes 16 to 19,
+-- the packet is refused for `format_data`. If a packet is cut off within bytes 22 and 23, the packet is refused for
+-- `format_flags`. `format_data` and `format_flags` are names of fields of the stream header.
 abbrev pub aaf_refusal : List ℕ → Option Refusal
 aaf_refusal bytes =
     or_else (kind_refusal aaf_subtype bytes)

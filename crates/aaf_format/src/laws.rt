@@ -11,7 +11,8 @@ pub fn one_packet()
     ensures { (bytes : List ℕ) → IsSpelledOnce (aaf_refusal bytes) (λ (v : Aaf). SpellsAaf bytes v) }
 {}
 
-/// Whatever bytes follow, the bytes written for a packet spell that packet, with its reserved bits changed to 0.
+/// Whatever bytes follow, the bytes that are written for a packet spell that packet, but with its reserved bits changed
+/// to 0.
 pub fn packet_again()
     ensures { (v : Aaf) (trail : List ℕ) → IsWritableAaf v → Fits aaf_layout v → SpellsAaf (aaf_spelling v ++ trail) (plain_aaf v) }
 {}

@@ -127,10 +127,10 @@ fn read_packet(pdu: &[u8]) -> Result<AafView<'_>, Refusal>
 
 /// Reads a PCM packet.
 ///
-/// Checks the fields in the order given here, and refuses the packet at the first one that fails. The slice must hold
-/// the whole stream header. The subtype must be AAF, the version 0, and the format PCM. The sample rate code must not
-/// be a reserved one. There must be at least one channel, and the bit depth must be at most the width of a sample. The
-/// stated length must be at most the number of bytes after the stream header, and must be a whole number of sample
+/// Checks the fields in the order below, and refuses the packet at the first field that is not accepted. The slice must
+/// hold the whole stream header. The subtype must be AAF, the version 0, and the format PCM. The sample rate code must
+/// not be a reserved one. There must be at least one channel, and the bit depth must be at most the width of a sample.
+/// The stated length must be at most the number of bytes after the stream header, and must be a whole number of sample
 /// frames.
 ///
 /// Reserved bits may be set, and bytes after the stated length are ignored.

@@ -1,4 +1,4 @@
--- If a stream has no fault, each batch of it that a listener presents has the stream's shape.
+-- If a stream has no fault, each presented batch of the stream has the stream's shape.
 use Rattle.std.proofs.Common.{◌≡◌, ◌⊎◌, inl, inr, ℕ, zero, suc, ◌+◌, ◌*◌, ◌≤◌, Bool, true, false, List, [], ◌∷◌, All, length, drop, filter, map, Option, Some, None, Ok, refl, sym, ap, subst, ◌∙◌, eq-eqb, arith}
 use Rattle.std.specs.Prelude.{⊤, ◌==◌, ◌&&◌, ◌||◌, ◌≢◌, if◌then◌else◌, cond, nat_lt, not, slice_get, unwrap_or}
 use Rattle.std.specs.List.{AllByRecursion, enumerate_from, list_any}

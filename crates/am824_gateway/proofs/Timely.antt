@@ -1,4 +1,4 @@
--- Each batch that a listener presents begins at 0 or later, and its instants rise.
+-- Each presented batch begins at 0 or later, and the instants of the batch rise.
 use Rattle.std.proofs.Common.{◌≡◌, ℕ, zero, suc, ◌*◌, ◌≤◌, Bool, true, false, ℤ, pos, ◌+ℤ◌, ◌*ℤ◌, ◌≤ℤ◌, ◌<ℤ◌, List, [], ◌∷◌, All, ap, inl, inr, map, take, Option, Some, None, Ok, Err, refl, sym, subst, ◌∙◌, arith}
 use Rattle.std.specs.Prelude.{⊤, ◌==◌, if◌then◌else◌, fold, option_map, slice_get, unwrap_or}
 use Rattle.std.specs.Int.{int_max}

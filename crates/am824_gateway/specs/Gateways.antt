@@ -10,8 +10,8 @@ use Rattle.am824_gateway.specs.declared.scan.To.{To}
 use Rattle.am824_gateway.specs.Packets.{frames_with}
 use Rattle.am824_gateway.specs.Pieces.{Given, captures_end, given_with}
 
--- A gateway: the format to which it converts a stream; the shape of that stream; the stream ID under which it sends;
--- its history (`given`); and the frames of the last batch that was not skipped.
+-- A gateway has five things: the format that it converts a stream to; the shape of that stream; the stream ID that it
+-- sends under; its history (`given`); and the frames of the last batch that was not skipped.
 pub record Gating : Type 0 where
   pub to : To
   pub shape : Option Shape

@@ -126,8 +126,8 @@ frames_after to shape id given (batch ∷ batches) =
     (frames_with to shape id given batch ++ frames_after to shape id (given_with to shape given batch) batches)
     (frames_after to shape id given batches)
 
--- All frames of a gateway that converts to this format and sends under the stream ID `id`. The batches are in the order
--- in which they are presented. If the stream has no shape, there are no frames.
+-- All frames of a gateway that converts to this format and sends under the stream ID `id`. The batches are in order of
+-- presentation. If the stream has no shape, there are no frames.
 abbrev pub gateway_frames : To → Option Shape → ℕ → List Presented → List SentFrame
 gateway_frames to None id batches = []
 gateway_frames to (Some shape) id batches = frames_after to shape id nothing_given batches

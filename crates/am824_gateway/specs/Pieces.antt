@@ -81,7 +81,7 @@ pieces_of to shape batch block = pieces_from to shape batch batch.count 0 block
 
 -- ---- arrivals
 
--- how long before its presentation time a packet arrives, in nanoseconds: the max transit time of stream reservation
+-- a packet arrives this long before its presentation time, in nanoseconds: the max transit time of stream reservation
 -- class A (IEEE 802.1BA)
 abbrev pub transit : ℕ
 transit = 2000000

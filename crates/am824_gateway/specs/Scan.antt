@@ -89,9 +89,9 @@ fault_rows to first s =
     row Channels (nat_lt 256 s.channels || not (s.channels == first.channels)) ∷
     row Label (not s.linear) ∷ []
 
--- The fault of a record's content. `first` is the shape of the stream's first packet of samples, if that packet comes
--- before this record, and otherwise `None`. A record without anything that can be presented (`Silent`) has no fault. A
--- packet of H.264 always has the fault `Kind`.
+-- The fault of a record's content. If the stream's first packet of samples comes before this record, `first` is the
+-- shape of that packet; otherwise `first` is `None`. A record without anything that can be presented (`Silent`) has no
+-- fault. A packet of H.264 always has the fault `Kind`.
 abbrev pub content_fault : To → Option Shape → Content → Option ScanFault
 content_fault to first Silent = None
 content_fault to first Video = Some Kind
@@ -108,8 +108,8 @@ abbrev pub fault_or : ℕ → Option ScanFault → Option FaultAt → Option Fau
 fault_or frame None later = later
 fault_or frame (Some fault) later = Some (record { frame = frame; fault = fault })
 
--- The first fault in these records, which are numbered from `frame` on. `first` is the shape of the stream's first
--- packet of samples, if that packet comes before these records, and otherwise `None`.
+-- The first fault in these records, which are numbered from `frame` on. If the stream's first packet of samples comes
+-- before these records, `first` is the shape of that packet; otherwise `first` is `None`.
 abbrev pub fault_from : To → ℕ → Option Shape → ℕ → List Record → Option FaultAt
 fault_from to stream first frame [] = None
 fault_from to stream first frame (r ∷ records) =
@@ -122,8 +122,7 @@ first_fault to stream records = fault_from to stream None 1 records
 
 -- ---- a scan
 
--- a scan: the format to which the stream is to be converted, the stream's ID, and the shape of the stream's first
--- packet of samples
+-- a scan: the wanted format, the stream's ID, and the shape of the stream's first packet of samples
 pub record Scanning : Type 0 where
   pub to : To
   pub stream : ℕ

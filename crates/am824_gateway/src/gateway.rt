@@ -111,7 +111,7 @@ impl Current {
     }
 }
 
-/// Whether each value that has a label has the label of linear audio of 24 bits.
+/// Whether the values have no labels, or each label is that of linear audio of 24 bits.
 fn has_labels(to: To, bytes: &[u8]) -> bool
     ensures { result ≡ has_labels_by to bytes.now }
 {
@@ -184,10 +184,10 @@ impl Gateway {
     /// Takes the next batch that is presented, cuts it into pieces, and returns the number of pieces. Call `put` only
     /// while `batches` is below 2^44. A skipped batch changes nothing. The call allocates nothing.
     ///
-    /// A batch is skipped for the first of these reasons that holds. `ShapeOff`: there is no shape, the batch is a unit
-    /// of H.264, it does not have one value of 24 bits for each channel of each sample, or a value has a label other
-    /// than 0x40. `Overlap`: the batch begins at or before the last sample of the batches that were not skipped.
-    /// `Range`: a packet would arrive at 2^32 seconds or later.
+    /// A batch is skipped for the first of these reasons that holds. `ShapeOff` has four cases: there is no shape, the
+    /// batch is a unit of H.264, the batch does not have one value of 24 bits for each channel of each sample, or a
+    /// value has a label other than 0x40. `Overlap`: the batch begins at or before the last sample of the batches that
+    /// were not skipped. `Range`: a packet would arrive at 2^32 seconds or later.
     pub fn put(&mut self, batch: Batch) -> Result<u32, Skip>
         requires few { self.old.given.batches < 2 ^ 44 }
         ensures given { OnOk result (self.new ≡ given_out self.old.shape self.old batch) }

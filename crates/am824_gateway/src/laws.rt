@@ -45,9 +45,9 @@ pub fn frames_are_short_enough()
         AllByRecursion IsFrame (frames_after to shape id given batches) }
 {}
 
-/// No value and no instant changes. If the instants of each packet's samples are counted from the packet's timestamp at
-/// the nominal rate, the samples of all packets are those of the batches that are not skipped: in order, with the same
-/// values at the same instants.
+/// No value and no instant changes. Suppose that the instants of each packet's samples are counted from the packet's
+/// timestamp at the nominal rate. Then the samples of all packets are those of the batches that are not skipped: in
+/// order, with the same values at the same instants.
 pub fn samples_are_kept()
     ensures { (to : ToValue) (shape : ShapeValue) (given : Given) (batches : List Presented) → IsShape shape →
         flat_map (samples_sent to shape) (cuts_after to shape given batches) ≡ flat_map (samples_presented to shape) (given_batches to shape given batches) }

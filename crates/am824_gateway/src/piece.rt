@@ -30,7 +30,7 @@ pub(crate) const MOST_PIECES: usize = 65_535;
 
 const NANOSECONDS: u64 = 1_000_000_000;
 
-/// How long before its presentation time a packet arrives, in nanoseconds: the max transit time of stream reservation
+/// A packet arrives this many nanoseconds before its presentation time: the max transit time of stream reservation
 /// class A (IEEE 802.1BA).
 const TRANSIT: i64 = 2_000_000;
 
@@ -45,7 +45,7 @@ fn nominal_offset(rate: u32, k: u32) -> u64
     u64::from(k) * NANOSECONDS / u64::from(rate)
 }
 
-/// The arrival of a packet whose first sample is presented at `instant`, in nanoseconds of gPTP.
+/// The arrival of a packet in nanoseconds of gPTP. The packet's first sample is presented at `instant`.
 pub(crate) fn arrival_of(instant: i64) -> i64
     requires { IsInstant instant }
     ensures value { result ≡ arrival_at instant }
@@ -53,8 +53,8 @@ pub(crate) fn arrival_of(instant: i64) -> i64
     (instant - TRANSIT).max(0)
 }
 
-/// Whether `late` is true, or the packet whose first sample is presented at `instant` would arrive at a time that a
-/// capture cannot state.
+/// The result is true in two cases: `late` is true, or a packet would arrive at a time that a capture cannot state.
+/// That packet's first sample is presented at `instant`.
 fn is_late_with(late: bool, instant: i64) -> bool
     requires { IsInstant instant }
     ensures { result ≡ (late || int_le (pos captures_end) (arrival_at instant)) }
@@ -109,8 +109,8 @@ fn count_piece(instant: &mut Instant, batch: &Batch, rate: u32, most: u32) -> u3
     count
 }
 
-/// Whether the line and the size of the batch show that the batch is one piece: the line has the nominal rate and
-/// begins at the first sample, and one packet can carry all samples.
+/// Whether the line and the size of the batch show that the batch is one piece. Two things must hold: the line has the
+/// nominal rate and begins at the first sample, and one packet can carry all samples.
 fn is_one_piece(to: To, shape: Shape, batch: &Batch) -> bool
     requires { IsShape shape }
     ensures { result ≡ true → IsOnePiece to shape batch.now }
@@ -121,8 +121,8 @@ fn is_one_piece(to: To, shape: Shape, batch: &Batch) -> bool
         && batch.count <= most_frames(to, shape.channels)
 }
 
-/// Cuts a batch into pieces; the first piece has the block count `block`. Returns the block count of the next packet,
-/// and whether the packet of any of the pieces would arrive at a time that a capture cannot state.
+/// Cuts a batch into pieces; the first piece has the block count `block`. Returns two values: the block count of the
+/// next packet, and whether the packet of some piece would arrive at a time that a capture cannot state.
 pub(crate) fn cut(
     pieces: &mut Vec<Piece>,
     to: To,

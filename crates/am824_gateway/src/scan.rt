@@ -8,7 +8,7 @@ use crate::content::{Content, Samples, content_of};
 use crate::rates::fdf_of;
 use std::marker::Model;
 
-/// The format to which a stream is converted.
+/// A stream is converted to this format.
 #[derive(Clone, Copy, Debug, PartialEq, Eq)]
 pub enum To {
     /// AM824 (IEC 61883-6).
@@ -114,9 +114,9 @@ impl Scan {
     }
 
     /// Looks at the next record of a capture, given its bytes. Only packets of the stream are tested. A packet of audio
-    /// is tested only if the reader of its format accepts it, it has samples, and its rate is known, because other
-    /// packets of audio are never presented. Each packet of H.264 is a fault, even a malformed one. After a fault the
-    /// scan promises nothing.
+    /// is tested only if three things hold: the reader of its format accepts it, it has samples, and its rate is known.
+    /// Other packets of audio are never presented. Each packet of H.264 is a fault, even a malformed one. After a fault
+    /// the scan promises nothing.
     ///
     /// The fault is the first of these that holds: `Kind`, `Format`, `Rate`, `Channels`, `Label`.
     pub fn note(&mut self, bytes: &[u8]) -> Result<(), ScanFault>

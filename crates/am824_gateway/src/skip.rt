@@ -8,6 +8,6 @@ pub enum Skip {
     ShapeOff,
     /// The batch begins at or before the last sample of the batches that were not skipped.
     Overlap,
-    /// A packet of the batch would arrive at 2^32 seconds or later, which a capture cannot state.
+    /// A packet of the batch would arrive at 2^32 seconds or later. A capture cannot state such an arrival.
     Range,
 }

@@ -1,5 +1,5 @@
--- If no reserved bit of a header is set, its bytes spell a view if and only if each field holds the value that a writer
--- writes for the view.
+-- Suppose that no reserved bit of a header is set. Then the header's bytes spell a view if and only if each field holds
+-- the value that a writer writes for this view.
 use Rattle.std.proofs.Common.{◌≡◌, ℕ, ◌+◌, Bool, true, false, cond, eqb, List, [], ◌∷◌, ◌++◌, Option, Some, None, sym, ◌∙◌, refl}
 use Rattle.std.specs.Prelude.{is_some, ◌&&◌}
 use Rattle.std.proofs.lemmas.Bool.{eqb-true, and_parts}

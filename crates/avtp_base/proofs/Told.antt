@@ -41,7 +41,8 @@ Keeps-none a b p = Keeps-appends a b b [] p (Appends-nil b)
 
 -- ---- a buffer of bytes to be written
 
--- if `front` moves from the buffer to the writer, the written bytes and the buffered bytes, joined, stay the same
+-- if `front` moves from the buffer to the writer, the written bytes followed by the buffered bytes are the same as
+-- before
 pub append_known-moved : (a b : Option (List ℕ)) (front rest all : List ℕ) → Appends a b front → all ≡ front ++ rest → Keeps (append_known a all) (append_known b rest)
 append_known-moved None None front rest all p e = tt
 append_known-moved None (Some y) front rest all p e = absurd p

@@ -18,7 +18,8 @@ pub record Open : Type 0 where
 abbrev pub Slots : Type 0
 Slots = ℕ → Option Open
 
--- the part of an open file that does not change while its slot is live: whether it was made for writing, and its name
+-- Two facts of an open file: whether the file was made for writing, and the file's name. Neither fact changes while the
+-- file's slot is live.
 abbrev pub file_of : Open → Bool × Option (List ℕ)
 file_of o = (o.made, o.name)
 
@@ -59,7 +60,7 @@ abbrev pub KeepsSlots : Slots → Slots → Type 0
 KeepsSlots old new = (j : ℕ) → new j ≡ old j
 
 -- The slot was opened for reading. If the shelf shows its files, the slot holds the file with this name, and all bytes
--- of that file are left to read.
+-- of this file are still to be read.
 abbrev pub IsOpened : Option Files → Option Open → List ℕ → Type 0
 IsOpened None slot name = IsSomeAnd slot (λ o. o.made ≡ false)
 IsOpened (Some files) slot name =
@@ -69,14 +70,14 @@ IsOpened (Some files) slot name =
 abbrev pub IsMade : Option Files → Option Open → List ℕ → Type 0
 IsMade files slot name = IsSomeAnd slot (λ o. (o.made ≡ true) × (IsSome files → o.name ≡ Some name))
 
--- In every slot, the same file stays open, or the slot stays free. What is left to read changes only in slots of the
--- file `name`.
+-- In every slot, the same file stays open, or the slot stays free. The unread bytes change only in slots of the file
+-- `name`.
 pub record KeepsOtherFiles (old new : Slots) (name : Option (List ℕ)) : Type 0 where
   pub same : (j : ℕ) → option_map file_of (new j) ≡ option_map file_of (old j)
   pub left : (j : ℕ) → name_in old j ≢ name → left_in new j ≡ left_in old j
 
--- In every slot except slot k, the same file stays open, or the slot stays free. What is left to read changes only in
--- slot k and in slots of the file `name`.
+-- In every slot except slot k, the same file stays open, or the slot stays free. The bytes that are still to be read
+-- change only in slot k and in slots of the file `name`.
 pub record KeepsOthersFiles (old new : Slots) (k : ℕ) (name : List ℕ) : Type 0 where
   pub same : (j : ℕ) → j ≢ k → option_map file_of (new j) ≡ option_map file_of (old j)
   pub left : (j : ℕ) → j ≢ k → name_in old j ≢ Some name → left_in new j ≡ left_in old j

@@ -50,13 +50,13 @@ abbrev pub Shows : {V : Type 0} → Option (V → ℕ) → V → ℕ → Type 0
 Shows None v n = ⊤
 Shows (Some value) v n = n ≡ value v
 
--- these bits, which begin at bit `first` of byte `at`, hold what the view shows for them
+-- these bits hold what the view shows for them; the first of these bits is bit `first` of byte `at`
 abbrev pub SpellsBits : {V : Type 0} → ℕ → ℕ → List (Bits V) → V → List ℕ → Type 0
 SpellsBits at first [] v bytes = ⊤
 SpellsBits at first (b ∷ bs) v bytes =
     Shows b.shown v (bits at first b.width bytes) × SpellsBits at (first + b.width) bs v bytes
 
--- each value that the view shows is in the bits to which the table assigns it
+-- the table assigns bits to each value that the view shows, and the value is in these bits
 abbrev pub Spells : {V : Type 0} → Layout V → V → List ℕ → Type 0
 Spells [] v bytes = ⊤
 Spells (p ∷ parts) v bytes = SpellsBits p.at 0 p.bits v bytes × Spells parts v bytes
@@ -87,8 +87,7 @@ abbrev pub short_row : {V : Type 0} → ℕ → Part V → Row
 short_row n p =
     record { refusal = record { field = p.field; at = p.at; short = true }; holds = nat_lt n (p.at + size_of p) }
 
--- the refusal of a packet of n bytes at the first part of the header that the packet cuts off; `None` if it cuts off no
--- part
+-- The refusal of a packet of n bytes, at the first part of the header that is cut off. `None` if no part is cut off.
 abbrev pub first_short : {V : Type 0} → Layout V → ℕ → Option Refusal
 first_short layout n = first_row (map (short_row n) layout)
 
@@ -113,7 +112,7 @@ abbrev pub Fits : {V : Type 0} → Layout V → V → Type 0
 Fits [] v = ⊤
 Fits (p ∷ parts) v = FitsBits p.bits v × Fits parts v
 
--- the number made of n and of the values that a writer puts into these bits, with n highest
+-- the number made of n, followed by the values that a writer puts into these bits; n is the highest part
 abbrev pub packed_behind : {V : Type 0} → ℕ → List (Bits V) → V → ℕ
 packed_behind n [] v = n
 packed_behind n (b ∷ bs) v = packed_behind (n * 2 ^ b.width + written b v) bs v

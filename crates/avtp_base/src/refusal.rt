@@ -2,7 +2,7 @@
 
 use crate::field::Field;
 
-/// The first field that cannot be accepted, in the order in which the format checks its fields.
+/// The first field that cannot be accepted, in the order of the format's checks.
 #[derive(Clone, Copy, Debug, PartialEq, Eq)]
 pub struct Refusal {
     pub field: Field,

@@ -2,9 +2,9 @@
 
 ghost use Rattle.std.specs.Prelude.{◌≡◌, length};
 
-/// A value whose encoded length is known, and which writes itself into a slice of that length. Writing in place is
-/// faster than building a frame elsewhere and then copying the frame to the place after the record header: the copy
-/// would stall on the bytes just written.
+/// A value that knows its encoded length, and writes itself into a slice of that length. Writing in place is faster
+/// than building a frame elsewhere and then copying the frame to the place after the record header: the copy would
+/// stall on the bytes just written.
 pub trait Spelled {
     ghost use Rattle.std.specs.Prelude.{List, ℕ};
 

@@ -30,7 +30,7 @@ pub record OpensInSlot (before after : ShelfState) (name : List ℕ) (result : R
   pub asked : Asks (name ∷ []) before after
 
 -- At `Ok` the file with this name is now empty, and open for writing in a slot that was free. Every other slot keeps
--- its file, and what is left to read changes only in slots of this file. At `Err` every file and slot is unchanged. At
+-- its file, and the unread bytes change only in slots of this file. At `Err` every file and slot is unchanged. At
 -- `Failed` a writing fault was counted. `Missing` is never returned. Whatever the result, the shelf was asked for
 -- exactly this name.
 pub record MakesInSlot (before after : ShelfState) (name : List ℕ) (result : Result Slot OpenFault) : Type 0 where
@@ -57,7 +57,7 @@ pub record ReadsBytes (before after : ShelfState) (k : ℕ) (result : Result ℕ
   pub writing : after.writing_faults ≡ before.writing_faults
   pub asked : AsksNothing before after
 
--- At `Ok(n)` the first n bytes of the piece, at least one, were appended to the file in slot k, which was made for
+-- At `Ok(n)` the first n bytes of the piece, at least one, were appended to the file in slot k. That file was made for
 -- writing. The slot stays open, and every slot keeps its file. What is left to read changes only in slots of this file.
 -- If the result is `Err`, nothing changed, except that a writing fault was counted.
 pub record WritesBytes (before after : ShelfState) (k : ℕ) (piece : List ℕ) (result : Result ℕ Failed) : Type 0 where

@@ -5,8 +5,8 @@ use Rattle.avtp_base.specs.Faults.{IsCounted}
 use Rattle.avtp_base.specs.States.{SinkState}
 use Rattle.avtp_base.specs.Told.{WriteAppends}
 
--- If the result is `Ok(n)`, n is at least 1, and the first n bytes of the piece were appended to the bytes that the
--- sink holds, if the sink shows its bytes. At `Err` nothing was appended, and a fault was counted.
+-- If the result is `Ok(n)`, n is at least 1. If the sink also shows its bytes, the first n bytes of the piece were
+-- appended to the bytes that the sink holds. At `Err` nothing was appended, and a fault was counted.
 pub record WritesPiece (before after : SinkState) (piece : List ℕ) (result : Result ℕ Failed) : Type 0 where
   pub some : IfOk result (λ n. 0 < n)
   pub within : IfOk result (λ n. n ≤ length piece)

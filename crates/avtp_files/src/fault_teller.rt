@@ -3,8 +3,8 @@
 use std::alloc::Alloc;
 use std::io::{self, Eprint};
 
-/// Writes to standard error the name of the program, the file on which a system call failed, and the reason. Without a
-/// program name, a fault teller writes nothing.
+/// Writes three things to standard error: the name of the program, the file, and the reason why a system call on the
+/// file failed. Without a program name, a fault teller writes nothing.
 #[derive(Clone, Copy, Drop)]
 pub struct FaultTeller<R> {
     rt: R,

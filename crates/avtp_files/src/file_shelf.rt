@@ -29,9 +29,9 @@ pub struct RealFile<F> {
 /// Real files, named by their paths. The shelf does not show the contents of its files. If the system shows what its
 /// files hold, a read or a write moves exactly the bytes that the call reports. A missing file counts as a fault.
 ///
-/// A file that was opened for reading is never made or emptied, under any of its paths. If standard output is a file,
-/// the shelf neither makes nor empties that file. If `create_file` is called for a file that was read, or for standard
-/// output, it returns `Failed`, and the file is unchanged.
+/// If a file was opened for reading, the file is never made or emptied, under any of its paths. If standard output is a
+/// file, the shelf neither makes nor empties that file. If `create_file` is called for a file that was read, or for
+/// standard output, it returns `Failed`, and the file is unchanged.
 #[derive(Drop)]
 pub struct FileShelf<'a, R: Files> {
     rt: &'a R,

@@ -16,9 +16,9 @@ use std::rt::Files;
 /// A real file. Contracts do not see what the sink holds. If the system shows what the file holds, a write adds exactly
 /// the bytes that the call reports.
 ///
-/// A file at one of the paths in `apart` is never made or emptied, under any of its paths. If standard output is a
-/// file, that file is not made or emptied, either. If the path of the sink leads to a file that must not be written,
-/// `write` returns `Failed`, and the file is unchanged.
+/// Take a file at one of the paths in `apart`. The sink never makes or empties this file, under any of the file's
+/// paths. If standard output is a file, that file is not made or emptied, either. If the path of the sink leads to a
+/// file that must not be written, `write` returns `Failed`, and the file is unchanged.
 #[derive(Drop)]
 pub struct FileSink<R: Files> {
     rt: R,

@@ -15,7 +15,7 @@ pub trait Sink {
     /// number. If a sink stops showing its bytes, it never shows them again.
     ghost state: { Self → SinkState };
 
-    /// What `write` does on a sink of the implementing type, beyond what `write` does on every sink.
+    /// The effects of `write` on a sink of the implementing type, beyond the effects of `write` on every sink.
     ghost writes: { Self → Self → List ℕ → Result ℕ Failed → Type 0 } = { λ _ _ _ _. Unit {0} };
 
     /// Appends a prefix of the piece, at least one byte, and returns the length of the prefix.

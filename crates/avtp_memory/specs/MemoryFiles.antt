@@ -21,7 +21,7 @@ open_in entries file =
 abbrev pub slots_in : MemoryFiles → Slots
 slots_in held k = option_map (open_in held.files.entries.items) (entry_at held.live.entries.items k)
 
--- the number of bytes for which each file has room when it is made
+-- each file has room for this number of bytes when the file is made
 abbrev pub room_in : MemoryFiles → ℕ
 room_in held = held.room
 

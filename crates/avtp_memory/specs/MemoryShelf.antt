@@ -18,8 +18,8 @@ files_of shelf = files_in shelf.held
 abbrev pub slots_of : MemoryShelf → Slots
 slots_of shelf = slots_in shelf.held
 
--- The shelf can have been asked for exactly the given names, in this order: the given names begin with the kept names,
--- and are the kept names if all names were kept.
+-- The shelf can have been asked for exactly the given names, in this order. The given names begin with the kept names.
+-- If all names were kept, the given names are the kept names.
 abbrev pub asked_of : MemoryShelf → List (List ℕ) → Type 0
 asked_of shelf = StandsForNames shelf.asked
 
@@ -53,7 +53,7 @@ pub record CountsCall (old new : MemoryShelf) : Type 0 where
   pub fails : failing_calls new ≡ failing_calls old
   pub most : most new ≡ most old
 
--- ---- what a call does in addition to what it does on every shelf
+-- ---- the effects of a call beyond its effects on every shelf
 
 -- A call to open or make a file. The call returned `Failed` if and only if its number is one of `failing_calls`. The
 -- call was counted.
@@ -62,8 +62,8 @@ pub record OpensByNumber (old new : MemoryShelf) (result : Result Slot OpenFault
   pub call : CountsCall old new
 
 -- A read of slot k into a buffer of `room` bytes. The read failed if and only if its number is one of `failing_calls`.
--- If the read did not fail, the number of bytes moved is the least of three: the number of bytes left to read, `room`,
--- and the greatest number of bytes that a call moves. The call was counted.
+-- If the read did not fail, the number of moved bytes is the least of three numbers: the number of bytes that remained
+-- to be read, `room`, and the greatest number of bytes that a call moves. The call was counted.
 pub record ReadsByNumber (old new : MemoryShelf) (k room : ℕ) (result : Result ℕ Failed) : Type 0 where
   pub whole : IfOk result (λ n. IfSome (left_in (slots_of old) k) (λ left. n ≡ min (length left) (min room (most old))))
   pub failed : IsErr result ↔ IsToFail old

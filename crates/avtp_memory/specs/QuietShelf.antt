@@ -29,8 +29,8 @@ files_of shelf = told_while (keeps_all shelf) (kept_files shelf)
 abbrev pub slots_of : QuietShelf → Slots
 slots_of shelf = slots_in shelf.held
 
--- The shelf was possibly asked for these names, in this order: they begin with the kept names, and no others follow if
--- all names were kept.
+-- The shelf was possibly asked for these names, in this order. The list begins with the kept names. If all names were
+-- kept, no other names follow.
 abbrev pub asked_of : QuietShelf → List (List ℕ) → Type 0
 asked_of shelf = StandsForNames shelf.asked
 
@@ -62,8 +62,8 @@ pub record MakesQuietly (old new : QuietShelf) (name : List ℕ) (result : Resul
   pub all : keeps_all new ≡ keeps_all old
   pub room : room_of new ≡ room_of old
 
--- A read of slot k into a buffer of `room` bytes moved all bytes that were left to read, or `room` bytes if more were
--- left.
+-- Slot k was read into a buffer of `room` bytes. All unread bytes were moved, or `room` bytes if more than `room` bytes
+-- were unread.
 pub record ReadsQuietly (old new : QuietShelf) (k room : ℕ) (result : Result ℕ Failed) : Type 0 where
   pub whole : IfSome (left_in (slots_of old) k) (λ left. result ≡ Ok (min (length left) room))
   pub keeps : KeepsKept old new

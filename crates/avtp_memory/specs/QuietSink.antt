@@ -20,9 +20,9 @@ keeps_all sink = sink.all
 abbrev pub told : QuietSink → Option (List ℕ)
 told sink = told_while (keeps_all sink) (kept sink)
 
--- What a write to a quiet sink does in addition to what a write does on every sink. The write took the whole piece. The
--- sink keeps as much of the piece as fits its room. If the whole piece does not fit, `keeps_all` becomes false;
--- otherwise `keeps_all` is unchanged.
+-- The additional effects of a write to a quiet sink, beyond the effects of a write to any sink. The write took the
+-- whole piece. The sink keeps as much of the piece as fits its room. If the whole piece does not fit, `keeps_all`
+-- becomes false; otherwise `keeps_all` is unchanged.
 pub record TakesQuietly (old new : QuietSink) (piece : List ℕ) (result : Result ℕ Failed) : Type 0 where
   pub whole : result ≡ Ok (length piece)
   pub all : IsTrue (keeps_all new) ↔ IsTrue (keeps_all old) × FitsRoom (room_of old) (kept old) piece

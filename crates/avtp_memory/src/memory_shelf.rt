@@ -86,8 +86,8 @@ impl MemoryShelf {
         self.held.file(name)
     }
 
-    /// The names that `open_file` and `create_file` were called with, in order, up to the first name for which there
-    /// was no memory.
+    /// The names that `open_file` and `create_file` were called with, in order. If there was no memory for a name, this
+    /// name and all later names are missing.
     pub fn asked(&self) -> &[String]
         ensures { result.now ≡ self.now.asked.names.items }
     {
@@ -138,8 +138,8 @@ impl Shelf for MemoryShelf {
         Ok(slot)
     }
 
-    /// Fails if and only if this call was chosen to fail. If the call does not fail, it moves all bytes that are left
-    /// to read, or fewer if the buffer or the limit of a call is smaller.
+    /// Fails if and only if this call was chosen to fail. If the call does not fail, the number of moved bytes is the
+    /// least of three: the number of unread bytes, the length of the buffer, and the limit of a call.
     fn read(&mut self, slot: Slot, buf: &mut [u8]) -> Result<usize, Failed> {
         if self.calls.next_fails() {
             self.reading_faults = self.reading_faults.saturating_add(1);

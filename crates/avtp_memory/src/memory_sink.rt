@@ -1,4 +1,4 @@
-//! A sink in memory whose calls fail at chosen numbers.
+//! A sink in memory; the calls with the chosen numbers fail.
 
 ghost use Rattle.std.specs.Prelude.{◌<◌};
 
@@ -7,8 +7,8 @@ use avtp_base::Failed;
 use avtp_files::Sink;
 use std::alloc::Global;
 
-/// A sink that keeps all written bytes. The calls of the sink are numbered from 1, and the calls whose numbers were
-/// chosen in `over` fail.
+/// A sink that keeps all written bytes. The calls of the sink are numbered from 1. A call fails if its number was
+/// chosen in `over`.
 #[derive(Debug, Drop)]
 pub struct MemorySink {
     bytes: Vec<u8>,
@@ -22,7 +22,7 @@ impl MemorySink {
     ghost use Rattle.std.specs.Prelude.{◌≡◌, ◌^◌, ◌-◌, []};
     ghost use Rattle.avtp_memory.specs.MemorySink.{kept, calls, failing_calls, most, fault_count};
 
-    /// An empty sink. The calls whose numbers are in `fails` fail.
+    /// An empty sink. A call fails if its number is in `fails`.
     pub fn over(alloc: Global, fails: Vec<u64>) -> Self
         ensures empty { kept result ≡ [] }
         ensures fails { failing_calls result ≡ fails.items }

@@ -51,8 +51,8 @@ impl NamedFiles {
         Ok(())
     }
 
-    /// Appends to the file with the name as much of a piece as fits the room, and returns whether it appended all of
-    /// the piece.
+    /// Appends to the file `name` as many bytes of a piece as fit the room. Returns whether all of the piece was
+    /// appended.
     pub fn keep(&mut self, name: &str, room: usize, piece: &[u8]) -> bool
         requires named { IsSome (bytes_under self.old.entries.items name.now) }
         requires roomy { room ≤ capacity_under self.old.entries.items name.now }

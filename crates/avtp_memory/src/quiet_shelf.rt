@@ -7,7 +7,8 @@ use avtp_files::{Shelf, Slot};
 use std::alloc::Global;
 
 /// A shelf that keeps as much of each written file as fits its room, and takes all further bytes without keeping them.
-/// The shelf shows its files as long as it has kept all written bytes, and never again once it has dropped some.
+/// The shelf shows its files as long as it has kept all written bytes. Once the shelf has dropped some bytes, it never
+/// shows its files again.
 #[derive(Debug, Drop)]
 pub struct QuietShelf {
     held: MemoryFiles,

@@ -8,7 +8,7 @@ use avtp_files::Sink;
 use std::alloc::Global;
 
 /// A sink that keeps as many bytes as fit its room, and takes all further bytes without keeping them. The sink shows
-/// its bytes as long as it has kept all written bytes, and never again once it has dropped some.
+/// its bytes as long as it has kept all written bytes. Once it has dropped some bytes, it never shows bytes again.
 #[derive(Debug, Drop)]
 pub struct QuietSink {
     bytes: Vec<u8>,
@@ -21,7 +21,7 @@ impl QuietSink {
     ghost use Rattle.std.specs.Prelude.{◌≡◌, [], IfOk, IsTrue};
     ghost use Rattle.avtp_memory.specs.QuietSink.{kept, keeps_all, room_of};
 
-    /// An empty sink that keeps at most `room` bytes, for which memory is reserved.
+    /// An empty sink that keeps at most `room` bytes. Memory for these bytes is reserved.
     pub fn over(alloc: Global, room: usize) -> Result<Self, NoMemory>
         ensures empty { IfOk result (λ sink. kept sink ≡ []) }
         ensures all { IfOk result (λ sink. IsTrue (keeps_all sink)) }

@@ -34,7 +34,7 @@ pub fn empty_with_room(bytes: &mut Vec<u8>, room: usize) -> Result<(), NoMemory>
     Ok(())
 }
 
-// Appends a piece for which there is memory.
+// Appends a piece. The memory for the piece is already reserved.
 fn append(bytes: &mut Vec<u8>, piece: &[u8])
     requires { vec_len bytes.old + length piece.now ≤ vec_capacity bytes.old }
     ensures appended { bytes.new.items ≡ bytes.old.items ++ piece.now }

@@ -11,7 +11,7 @@ use Rattle.crf_format.specs.Crf.{Crf, crf_subtype, crf_refusal, crf_of, crf_shap
 use Rattle.avtp_packet.specs.declared.packet.Packet.{Packet as PacketView}
 use Rattle.avtp_packet.specs.declared.packet.Packet.TheVariants as view
 
--- a packet of a supported format, or a packet of another format, of which only the subtype is known
+-- a packet of a supported format, or only the subtype of a packet of another format
 pub data AnyPacket : Type 0 where
   OfIec : Iec → AnyPacket
   OfAaf : Aaf → AnyPacket

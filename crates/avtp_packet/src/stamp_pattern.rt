@@ -39,11 +39,11 @@ fn h264_is_off(view: &CvfView<'_>) -> bool
 
 /// Whether the packet has a timestamp that it must not have, or lacks one that it must have.
 ///
-/// In a stream that is not sparse, each PCM packet must have a timestamp. In a sparse stream, a PCM packet whose
-/// sequence number is a multiple of 8 must have a timestamp, and any other PCM packet must have none. An AM824 packet
-/// must have a timestamp if the block count of one of its data blocks is a multiple of SYT_INTERVAL; otherwise it must
-/// have none. The rules for PCM and AM824 do not apply to packets without samples. An H.264 packet that ends a NAL unit
-/// must have a timestamp. For other packets there is no rule.
+/// In a stream that is not sparse, each PCM packet must have a timestamp. In a sparse stream, a PCM packet must have a
+/// timestamp if its sequence number is a multiple of 8, and must have none otherwise. An AM824 packet must have a
+/// timestamp if the block count of one of its data blocks is a multiple of SYT_INTERVAL; otherwise it must have none.
+/// The rules for PCM and AM824 do not apply to packets without samples. An H.264 packet that ends a NAL unit must have
+/// a timestamp. For other packets there is no rule.
 pub fn stamp_is_wrong(packet: &Packet<'_>) -> bool
     ensures { result ≡ stamp_is_off (packet_shape packet.now) }
 {

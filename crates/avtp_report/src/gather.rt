@@ -23,8 +23,9 @@ pub struct Report {
     places: HashMap<StreamKey, usize>,
     /// The index of the stream of the most recent packet.
     last: usize,
-    /// For each stream, the index of its follower: the other stream whose packet most recently followed a packet of
-    /// this stream directly. Streams mostly take turns, so the follower is likely to have the next packet.
+    /// For each stream, the index of its follower. The follower is another stream: the one whose packet most recently
+    /// came directly after a packet of this stream. Streams mostly take turns, so the follower is likely to have the
+    /// next packet.
     followers: Vec<usize>,
     /// The streams, in the order in which they were first seen.
     pub streams: Vec<Stream>,
@@ -131,8 +132,8 @@ impl Report {
         }
     }
 
-    /// The stream with this key. If there is no stream with this key yet, one is added; if 1,024 streams are tracked
-    /// already, none is added, and the result is `None`.
+    /// The stream with this key. If there is no stream with this key yet and fewer than 1,024 streams are tracked, a
+    /// stream is added. If there is none and 1,024 streams are tracked already, the result is `None`.
     fn stream(
         &mut self,
         key: StreamKey,
@@ -147,8 +148,8 @@ impl Report {
         Ok(self.streams.get_mut(place))
     }
 
-    /// The index of the stream with this key, if the most recent packet belongs to this stream, or if this stream is
-    /// the follower of the most recent packet's stream.
+    /// Returns the index of the stream with this key, if this stream is one of two: the stream of the most recent
+    /// packet, or the follower of that stream.
     fn expected(&self, key: StreamKey) -> Option<usize> {
         if self.is_at(self.last, key) {
             return Some(self.last);

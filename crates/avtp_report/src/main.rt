@@ -191,8 +191,8 @@ fn all_verdicts(alloc: Global, reading: &Reading) -> Result<Vec<Vec<Verdict>>, N
     Ok(all)
 }
 
-/// The indices of the streams in the order of their worst verdicts. Streams without a verdict are last. Streams whose
-/// worst verdicts have equal ranks keep their order.
+/// The indices of the streams in the order of their worst verdicts. Streams without a verdict are last. If the worst
+/// verdicts of several streams have equal ranks, these streams keep their order.
 fn worst_first(alloc: Global, verdicts: &[Vec<Verdict>]) -> Result<Vec<usize>, NoMemory> {
     let mut order = Vec::new(alloc);
     for (place, of) in verdicts.iter().enumerate() {

@@ -64,8 +64,8 @@ fn is_also_read(words: &[String], html: Option<usize>) -> bool {
     false
 }
 
-/// Whether the word at index `place` names a capture. Neither the word `--html` nor the word directly after it, the
-/// page's name, names a capture.
+/// Whether the word at index `place` names a capture. Two words name no capture: `--html`, and the word directly after
+/// it, which is the page's name.
 pub fn is_capture(html: Option<usize>, place: usize) -> bool {
     match html {
         Some(page) => place != page && place.saturating_add(1) != page,

@@ -8,7 +8,7 @@ use avtp_tool::Status;
 use std::env;
 use std::io::ErrorKind;
 
-/// The system that the program was started on. Contracts do not know the arguments with which the program was started.
+/// The system that the program was started on. Contracts do not know the arguments of the program.
 #[derive(Drop)]
 pub struct Host {
     pub rt: HostRuntime,

@@ -25,8 +25,9 @@ pub use system::System;
 const PROGRAM: &str = "avtp";
 
 /// Does what the arguments ask for, over real files and standard output, and returns the exit status. If a file or
-/// standard output fails, standard error names it and the reason, unless the reader of standard output has ended. If
-/// standard error is a terminal, it shows after one second how much has been read so far, and keeps that up to date.
+/// standard output fails, standard error names what failed and the reason. There is one exception: if standard output
+/// fails because its reader has ended, nothing is reported. If standard error is a terminal, it shows how much has been
+/// read so far. The text appears after one second and is kept up to date.
 pub fn run_program<T: Threads + Sync>(rt: &HostRuntime, threads: &T) -> ExitCode
     ensures { (ended : Status) × (exit_status result ≡ code_of ended) }
 {

@@ -51,7 +51,7 @@ struct Progress<'a> {
     /// When the run began; `None` if no progress is shown.
     start: Option<Instant>,
     bytes: u64,
-    /// The time after `start` at which the progress is next shown.
+    /// The progress is next shown at this time after `start`.
     due: Duration,
 }
 

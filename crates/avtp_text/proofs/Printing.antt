@@ -16,7 +16,7 @@ use Rattle.avtp_text.proofs.Growth.{grows_further, grows_none}
 pub prefix_none : (before now : Option (List ℕ)) (text : List ℕ) → Keeps before now → AppendsPrefix before now text
 prefix_none before now text keeps = record { prefix = []; rest = text; split = refl; appends = Appends-kept before before now [] (Appends-nil before) keeps }
 
--- if `a` was written whole and then a prefix of `b`, a prefix of `a ++ b` was written
+-- if `a` was written whole and a prefix of `b` was written after `a`, a prefix of `a ++ b` was written
 pub prefix_after : (before mid now : Option (List ℕ)) (a b : List ℕ) → Appends before mid a → AppendsPrefix mid now b → AppendsPrefix before now (a ++ b)
 prefix_after before mid now a b first second = record {
   prefix = a ++ second.prefix;
@@ -53,7 +53,7 @@ line_as a b same prints = subst (Prints _ _ _ _ _) same prints
 pub part_none : (s : SinkState) (w : List ℕ) (ok : Unit) → PrintsPart s s w w (Ok ok) []
 part_none s w ok = record { written = Appends-nil (written s.held w); grows = grows_none s.held; counted = record { never_falls = omega arith; ok = refl; failed = tt } }
 
--- if `a` is printed whole, and then `b` whole or in part, `a ++ b` is printed whole or in part
+-- if `a` is printed whole, and `b` is then printed whole or in part, `a ++ b` is printed whole or in part
 pub part_then : {s t u : SinkState} {w w' w'' : List ℕ} {result : Result Unit Failed} {ok : Unit} (a b : List ℕ)
     → PrintsPart s t w w' (Ok ok) a → PrintsPart t u w' w'' result b → PrintsPart s u w w'' result (a ++ b)
 part_then {s} {t} {u} {w} {w'} {w''} {result = Ok o} a b first second = record {

@@ -16,16 +16,17 @@ use avtp_files::Sink;
 use std::alloc::Global;
 use std::marker::Model;
 
-/// The maximum number of bytes in a [`Text`]. A piece of text that is printed as a whole has at most this many bytes.
+/// The maximum number of bytes in a [`Text`]. If a piece of text is printed as a whole, the piece has at most this many
+/// bytes.
 pub const ROOM: usize = Buffer::ROOM;
 
 /// Text that is buffered until it is written to a sink. Contracts see a `Text` as the list of its bytes, which has at
 /// most 65,536 bytes. Memory for this many bytes is reserved once.
 ///
-/// Each call that can write to the sink takes the sink as an argument. All text that was written so far is what the
-/// sink holds, followed by what is buffered. A call that prints a text of bounded length appends all of it, or nothing
-/// if the sink fails. After a failure of the sink, the call can be repeated, and no text is lost or written twice. A
-/// call that prints a text of any length appends all of it, or a prefix if the sink fails.
+/// Each call that can write to the sink takes the sink as an argument. All text that was written so far has two parts:
+/// first what the sink holds, then what is buffered. If a call prints a text of bounded length, the call appends all of
+/// the text, or nothing if the sink fails. After a failure of the sink, the call can be repeated, and no text is lost
+/// or written twice. A call that prints a text of any length appends all of it, or a prefix if the sink fails.
 #[derive(Drop)]
 pub struct Text {
     pub(crate) buffer: Buffer,

@@ -98,8 +98,7 @@ impl Text {
         Ok(())
     }
 
-    /// Prints the field at which a frame or its packet is malformed, and the field's offset from the start of the
-    /// frame.
+    /// Prints which field makes a frame or its packet malformed, and the field's offset from the start of the frame.
     #[tactic(auto, unfolding(crate::specs::Check::malformed_line))]
     pub fn finding_malformed<S: Sink>(
         &mut self,

@@ -17,7 +17,7 @@ use avtp_files::Sink;
 use listener::Counts;
 use sample_schedule::{Batch, Instant, Reason, Shown};
 
-/// The bytes of a sample that is too long for a [`Line`] are printed in pieces of this many bytes.
+/// If a sample is too long for a [`Line`], the bytes of the sample are printed in pieces of this many bytes.
 const PIECE: usize = 2_048;
 
 /// Prepends the presentation time of a sample and the number of its packet's frame to the line.

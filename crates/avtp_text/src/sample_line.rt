@@ -61,7 +61,7 @@ impl Numbers {
     }
 }
 
-/// The instant that has the digits of `instant`, except that the last eight are 0. `None` if `instant` is below 10^8.
+/// The number `instant` with its last eight digits replaced by 0. `None` if `instant` is below 10^8.
 fn start_of(instant: i64) -> Option<i64>
     ensures { IfSome result (StartsAt instant) }
 {
@@ -160,11 +160,11 @@ impl KeptLine {
     }
 }
 
-/// The line of a sample, which is kept for the next sample. Contracts see the line as the packet whose samples it
-/// shows. Usually the next line differs only in the last eight digits of the instant, the sample's number, and the
-/// sample's bytes. In the usual case, only the changed digits, the sample's number and the sample's bytes are written,
-/// over a copy of the kept line. The line is built anew when the sample's number gains a digit or other digits of the
-/// instant change.
+/// The line of a sample, which is kept for the next sample. Contracts see the line as a packet: the line shows samples
+/// of this packet. Usually the next line differs only in the last eight digits of the instant, the sample's number, and
+/// the sample's bytes. In the usual case, only the changed digits, the sample's number and the sample's bytes are
+/// written, over a copy of the kept line. The line is built anew in two cases: the sample's number gains a digit, or
+/// other digits of the instant change.
 #[derive(Drop)]
 pub struct SampleLine {
     line: KeptLine,
@@ -221,8 +221,8 @@ impl SampleLine {
         self.size = size;
     }
 
-    /// Appends the line of a sample to a buffer, which has room for a line. Keeps the line for later samples if the
-    /// line is short enough.
+    /// Appends the line of a sample to a buffer. The buffer must have room for a line. Keeps the line for later samples
+    /// if the line is short enough.
     #[inline(never)]
     fn add_anew(&mut self, buffer: &mut Buffer, instant: i64, j: u32, bytes: &[u8])
         requires short { length bytes.now ≤ SHORT }
@@ -246,7 +246,7 @@ impl SampleLine {
         }
     }
 
-    /// Appends the line of a sample to a buffer, which has room for a line.
+    /// Appends the line of a sample to a buffer. The buffer must have room for a line.
     #[inline(always)]
     pub fn add_to(&mut self, buffer: &mut Buffer, instant: i64, j: u32, bytes: &[u8])
         requires short { length bytes.now ≤ SHORT }

@@ -146,7 +146,7 @@ fn prepend_crf(line: &mut Line, view: &CrfView<'_>)
 }
 
 impl Text {
-    /// Prints the field at which a frame or its packet was refused, and the field's offset from the start of the frame.
+    /// Prints which field of a frame or of its packet was refused, and the field's offset from the start of the frame.
     #[tactic(auto, unfolding(crate::specs::Show::refused_content))]
     pub fn frame_refused<S: Sink>(
         &mut self,

@@ -31,7 +31,7 @@ use Rattle.avtp_tool.proofs.Yields.{gives_then, Joins, more_none, part_before, p
 joins_text : (handed : List Shown → Type 0) → Joins handed HandsNothing handed
 joins_text handed xs ys first none = subst handed (sym (append-nil xs) ∙ ap (λ (l : List Shown). xs ++ l) (sym none)) first
 
--- ---- runs in which no device failed, or not everything was done
+-- ---- runs where no device failed, or where not everything was done
 
 -- if the run ended with `Done`, no device failed
 abbrev pub IsPlain : Bool → Result Status Failed → Type 0

@@ -101,8 +101,8 @@ module _ {s t u : ShelfState} {k now w : ℕ} {how : Option End} {old new : Writ
     asked = λ names was. writes.asked names (beside.asked names was);
   }
 
-  -- a write to slot `w` does not change what is left to read in slot `k`, if the files of these slots have different
-  -- names
+  -- if the files of slots `w` and `k` have different names, a write to slot `w` does not change what is left to read in
+  -- slot `k`
   pub left_written : ReadsAndWrites s t k now w how (Ok tt) → old.slot ≡ w → WritesSlot t u old new done → name_in s.slots k ≢ name_in s.slots w → left_in u.slots now ≡ left_in t.slots now
   left_written beside slot writes apart =
       subst (λ (n : ℕ). left_in u.slots n ≡ left_in t.slots n) (sym beside.slot) (writes.slots.left k (still_apart beside old.slot slot k apart))

@@ -60,7 +60,8 @@ due_within plan items records all how first given =
     let longer = subst (λ (rs : List Record). IsPrefix (due_of plan records) (due_of plan rs)) first.1 (due_stays plan records first.0) in
     prefix_twice items (due_of plan records) (shown_by plan all how) given (prefix_twice (due_of plan records) (due_of plan all) (shown_by plan all how) longer (shown_first plan all how))
 
--- what is shown of the records up to the end of the reading is a prefix of what is shown of the whole file
+-- the items that are shown of the whole file begin with the items that are shown of the records up to the end of the
+-- reading
 ended_within : (plan : ListenPlan) (limit : ℕ) (bytes : List ℕ) (fault : Type 0) (items : List Shown) (records : List Record) (how : End) → IsPrefix records (records_in (take limit bytes)) → EndsAfter limit bytes fault how records
     → IsPrefix items (shown_by plan records how) → IsPrefix items (shown_by plan (records_in (take limit bytes)) (end_of limit bytes))
 ended_within plan limit bytes fault items records end.ReadFault first ends given = due_within plan items records (records_in (take limit bytes)) (end_of limit bytes) first given

@@ -103,8 +103,8 @@ capture_first records n =
           ∙ ap (λ (b : List ℕ). header ++ b) (sym (flat_map-append one (take n records) (drop n records)) ∙ ap (flat_map one) (take-append-drop n records))),
     )
 
--- A file was created, written and closed. Each slot is then as before, except that what is left to read of this file
--- may have changed.
+-- A file was created, written and closed. Each slot is then as before, but the bytes of this file that are still to be
+-- read may have changed.
 pub slots_closed : {s t u v : ShelfState} {w w' : Writing} {name : List ℕ} {result : Result Unit Failed} (records : List Record) → BeginsCapture s t name (Ok w) → KeepsOtherFiles t.slots u.slots (name_in t.slots w.slot) → w'.slot ≡ w.slot
     → HoldsCapture s.files u w' name records → ClosesCapture u v w' result → KeepsSlotsBut s.files s.slots v.slots name
 slots_closed {s} {t} {u} {v} {w} {w'} {name} records begins others slot holds closes = record { same = same; left = left } where

@@ -74,7 +74,7 @@ tells_cut {result = Err e} ended yields outcome cut part = record { ended = ende
 
 -- `Whole y` says that all of the yield `y` was given out. `Part y` says that a part of `y` was given out. If the known
 -- bytes grew by `line`, all of the yield `one` was given out. If the known bytes are unchanged, an empty part was given
--- out, and an empty part is a part of any yield. A yield that was given out completely was also given out in part.
+-- out. An empty part is a part of any yield. A yield that was given out completely was also given out in part.
 pub record Telling {Y : Type 0} (Whole Part : Y → Type 0) (before now : Option (List ℕ)) (line : List ℕ) (one : Y) : Type 0 where
   pub says : Appends before now line → Whole one
   pub none : (y : Y) → Keeps before now → Part y

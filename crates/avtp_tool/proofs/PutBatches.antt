@@ -19,7 +19,7 @@ use Rattle.avtp_words.specs.Grammar.{Turning}
 use Rattle.avtp_tool.specs.Gateway.{Skipped, format_of, given_next, skipped_at, skipped_line, skips_after, skips_in}
 use Rattle.avtp_tool.specs.state.Turning.{given_over, records_for}
 
--- ---- lists to which each batch adds at the end
+-- ---- lists that grow at the end with each batch
 
 grows : {A B : Type 0} (f : List A → List B) (step : List A → A → List B) → ((xs : List A) (x : A) → f (xs ++ x ∷ []) ≡ f xs ++ step xs x) → (xs ys : List A) → (rest : List B) × (f (xs ++ ys) ≡ f xs ++ rest)
 grows f step one xs [] = ([], ap f (append-nil xs) ∙ sym (append-nil (f xs)))
@@ -27,8 +27,8 @@ grows {B = B} f step one xs (y ∷ ys) =
     let on = grows f step one (xs ++ y ∷ []) ys in
     (step xs y ++ on.0, ap f (sym (append_assoc xs (y ∷ []) ys)) ∙ (on.1 ∙ (ap (λ (l : List B). l ++ on.0) (one xs y) ∙ append_assoc (f xs) (step xs y) on.0)))
 
--- If an element added at the end of a list only appends to the value of `f`, then `f` of a prefix is a prefix of `f` of
--- the whole list.
+-- Suppose that adding an element at the end of a list only appends to the value of `f`. Then `f` of a prefix is a
+-- prefix of `f` of the whole list.
 grows_first : {A B : Type 0} (f : List A → List B) (step : List A → A → List B) → ((xs : List A) (x : A) → f (xs ++ x ∷ []) ≡ f xs ++ step xs x) → (xs all : List A) → IsPrefix xs all → (rest : List B) × (f all ≡ f xs ++ rest)
 grows_first f step one xs all first = let on = grows f step one xs first.0 in (on.0, sym (ap f first.1) ∙ on.1)
 

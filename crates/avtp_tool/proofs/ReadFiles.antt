@@ -216,7 +216,7 @@ pub never_done : (result : Result Status Failed) → IsErr result → IsDone res
 never_done (Ok s) err done = absurd cc
 never_done (Err e) err done = done
 
--- a run that ends with a status other than `Done` or `Findings` is not done
+-- if a run ends with a status other than `Done` or `Findings`, the run is not done
 pub other_ends : (s : Status) → s ≢ status.Done → s ≢ status.Findings → IsDone (Ok s) → ⊥
 other_ends status.Done done findings is = done refl
 other_ends status.Findings done findings is = findings refl

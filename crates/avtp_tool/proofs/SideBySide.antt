@@ -249,14 +249,14 @@ amid_b {t = t} {u} {a = a} {b} {b'} {pair} {pair'} to amid unended fault memory 
       plan_b = on.plan_b ∙ amid.plan_b;
     }
 
--- a side whose listener is not closed has not ended
+-- if a side's listener is not closed, the side has not ended
 pub open_by : (side : Side) (listener : ListenState) → IsSideAt side listener → is_closed listener ≡ false → side.end ≡ None
 open_by side listener at unended = by side.end refl where
   by : (e : Option End) → side.end ≡ e → e ≡ None
   by None is = refl
   by (Some how) is = absurd (let t : false ≡ true = sym unended ∙ at.closed ∙ ap is_some is in cc)
 
--- a side whose listener is closed has ended
+-- if a side's listener is closed, the side has ended
 pub ended_by : (side : Side) (listener : ListenState) → IsSideAt side listener → is_closed listener ≡ true → IsSome side.end
 ended_by side listener at closed = sym at.closed ∙ closed
 
@@ -517,7 +517,7 @@ abbrev pub side_of : Which → Comparing → Side
 side_of A c = c.a
 side_of B c = c.b
 
--- both files are still open, each in the slot in which it was opened
+-- both files are still open, each in the slot where it was opened
 pub record IsReadOn (s u : ShelfState) (first c' : Comparing) : Type 0 where
   pub reads : ReadsTwo s u (slot_of first.a.source) (slot_of first.b.source)
   pub slot_a : slot_of c'.a.source ≡ slot_of first.a.source

@@ -59,7 +59,7 @@ made_by P plan (Some bytes) status.Limit never none some = none (λ e. cc)
 made_by P plan (Some bytes) status.DeviceFault never none some = none (λ e. cc)
 made_by P plan (Some bytes) status.TalkInput never none some = none (λ e. cc)
 
--- a run whose input is missing does not end with `Done`
+-- if the input of a run is missing, the run does not end with `Done`
 missing_undone : (plan : TalkPlan) (told : Option (List ℕ)) (fault : Type 0) (ended : Status) (text : List ℕ) → TalkOutcome plan told fault ended text → told ≡ None → ended ≢ status.Done
 missing_undone plan None fault ended text o is e = let t : status.ReadFault ≡ status.Done = sym o.0 ∙ e in cc
 missing_undone plan (Some bytes) fault ended text o is e = absurd cc

@@ -118,8 +118,8 @@ whole_outcome : (asked : Turning) (shape : Option Shape) (bytes : List ℕ) (fau
     → TurnedOutcome asked shape bytes fault (turned_status (length (skips_in asked shape (all_batches asked bytes))) end.Whole) (turned_text asked shape (all_batches asked bytes) end.Whole) (Some (turned_capture asked shape (all_batches asked bytes)))
 whole_outcome asked shape bytes fault whole = record { how = end.Whole; prefix = take asked.listener.limit bytes; ends = (sym whole, refl); status = refl; printed = refl; written = refl }
 
--- `Produces` holds for a run that was cut short, if the run printed a prefix of the lines and wrote a prefix of the
--- capture.
+-- If a run was cut short, printed a prefix of the lines and wrote a prefix of the capture, `Produces` holds for the
+-- run.
 produces_cut : {before now : Option (List ℕ)} {f g : Option Files} {result : Result Status Failed} (asked : Turning) (shape : Option Shape) (bytes : List ℕ) (fault : Type 0) → end_of asked.listener.limit bytes ≡ end.Whole → IsCut result
     → AppendsPrefix before now (flat_map skipped_line (skips_in asked shape (all_batches asked bytes))) → MakesPrefix f g asked.output (turned_capture asked shape (all_batches asked bytes))
     → Produces (TurnedOutcome asked shape bytes fault) (Some asked.output) before now f g result

@@ -95,7 +95,7 @@ module _ (asked : Turning) (shape : Option Shape) (files : Option Files) (s : Sh
     counted = sym (ap (λ (l : List Presented). length l) (none_presented asked));
   }
 
--- a file whose bytes the shelf shows is not missing
+-- if the shelf shows the bytes of a file, the file is not missing
 missing_not : (files : Option Files) (all : Files) (name bytes : List ℕ) → files ≡ Some all → all name ≡ Some bytes → IsMissing files name → ⊥
 missing_not None all name bytes told has missing = missing
 missing_not (Some f) all name bytes told has missing = (let same : f ≡ all = cc in let none : all name ≡ None = ap (λ (g : Files). g name) (sym same) ∙ missing in let t : None ≡ Some bytes = sym none ∙ has in cc)
@@ -150,7 +150,7 @@ quiet_end (end.Refused refusal) before after other counted = counted
 quiet_end end.ReadFault before after other counted = absurd (other refl)
 quiet_end end.Limit before after other counted = counted
 
--- the slot in which a capture is opened differs from the slot of the file that is written
+-- a capture is opened in one slot, and that slot differs from the slot of the file that is written
 opened_apart : {s t : ShelfState} {source : Sourcing} (asked : Turning) (w : ℕ) → IsMadeIn s.slots w → OpensSource s t asked.listener.limit asked.input (Ok source) → slot_of source ≢ w
 opened_apart {s} asked w made opens same =
     let none : s.slots w ≡ None = subst (λ (n : ℕ). s.slots n ≡ None) same opens.tries.opened.free in

@@ -414,7 +414,7 @@ still_made {t = t} so_far = subst (IsMadeIn t.slots) (sym so_far.slot) so_far.be
 
 -- ---- one more item
 
--- the result of putting a batch is `Done` unless it is `Unwritten`
+-- if the result of putting a batch is not `Unwritten`, the result is `Done`
 pub done_left : (so : Put) → so ≢ did.Unwritten → so ≡ did.Done
 done_left did.Done other = refl
 done_left did.Unwritten other = absurd (other refl)

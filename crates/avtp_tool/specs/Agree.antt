@@ -54,7 +54,8 @@ side_line limit end.ReadFault = read_fault_line
 side_line limit end.Limit = limit_line limit
 
 -- The last lines, given how the readings of A and B ended. If both captures were read to their ends, the last lines are
--- the counts. For each capture that was not read to its end, there is a line, first for A and then for B.
+-- the counts. If a capture was not read to its end, there is a line for this capture. The line for A comes before the
+-- line for B.
 abbrev pub last_lines : ℕ → PairCounts → End → End → List ℕ
 last_lines limit counts end.Whole end.Whole = counts_line counts
 last_lines limit counts a b = side_line limit a ++ side_line limit b
@@ -95,7 +96,7 @@ abbrev pub due_in : Agreeing → List ℕ → List Presented
 due_in asked prefix = presented_of (due_of (plan_of asked.listener) (records_in prefix))
 
 -- The text of `agree` if a read fault occurs in A after `prefix`, given the bytes `y` of B. The text has the
--- differences that are known by then, and the line of the fault.
+-- differences that are known from `prefix` and `y`, and the line of the fault.
 abbrev pub text_without_a : Agreeing → List ℕ → List ℕ → List ℕ
 text_without_a asked prefix y = difference_lines (differences (known false true (merged (due_in asked prefix) (presented_in asked y)))) ++ read_fault_line
 
@@ -138,7 +139,8 @@ agree_ended asked None told = status.ReadFault
 agree_ended asked (Some x) None = status.ReadFault
 agree_ended asked (Some x) (Some y) = compared_status asked x y
 
--- the whole text of `agree` if no read fault occurs, given the bytes of A and of B, or `None` for a missing file
+-- The whole text of `agree` if no read fault occurs. The two options hold the bytes of A and of B; an option is `None`
+-- for a missing file.
 abbrev pub agree_report : Agreeing → Option (List ℕ) → Option (List ℕ) → List ℕ
 agree_report asked None told = read_fault_line
 agree_report asked (Some x) None = read_fault_line

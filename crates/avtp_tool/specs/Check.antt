@@ -45,8 +45,9 @@ seen_of stream packet = record {
   stamp_wrong = stamp_is_off packet;
 }
 
--- What `check` makes of a packet. A packet whose format is not read is passed over. A packet whose format is read is
--- noted if its stream ID is valid, and checked only for reserved bits if its stream ID is not valid.
+-- What `check` makes of a packet. If the format of a packet is not read, the packet is passed over. If a packet's
+-- format is read and its stream ID is valid, the packet is noted. If the format is read but the stream ID is not valid,
+-- the packet is checked only for reserved bits.
 abbrev pub checked_stream : Option PacketStream → AnyPacket → Checked
 checked_stream None packet = Passed
 checked_stream (Some stream) packet =

@@ -171,9 +171,10 @@ pub data GatewayOutcome (asked : Turning) (files : Files) (fault : Type 0) (came
       → ended ≡ turned_status (length (skips_in asked shape batches)) how → text ≡ turned_text asked shape batches how → made ≡ Some (turned_capture asked shape batches)
       → GatewayOutcome asked files fault came ended text made
 
--- What the capture OUT keeps of IN. OUT is a whole capture. A listener that has no clock, and whose buffer is never
--- full, presents from OUT exactly the samples of the batches of IN that are not skipped. The presented samples have the
--- same order, values and instants as in IN. `check` prints no finding for OUT. If the status is 0, no batch is skipped.
+-- What the capture OUT keeps of IN. OUT is a whole capture. If a listener has no clock and its buffer is never full,
+-- the listener presents from OUT exactly the samples of the batches of IN that are not skipped. The presented samples
+-- have the same order, values and instants as in IN. `check` prints no finding for OUT. If the status is 0, no batch is
+-- skipped.
 pub record KeepsInput (asked : Turning) (files : Files) (fault : Type 0) (ended : Status) (capture : List ℕ) : Type 0 where
   pub shape : Option Shape
   pub batches : List Presented
@@ -211,7 +212,8 @@ made_by asked records (Some at) how = None
 made_by asked records None end.Whole = Some (turned_capture asked (shape_asked asked records) (batches_by asked records end.Whole))
 made_by asked records None how = None
 
--- the names that `gateway` asks for if no read fault occurs, given the bytes of IN, or `None` if IN is missing
+-- the names that `gateway` asks for if no read fault occurs; the option holds the bytes of IN, or is `None` if IN is
+-- missing
 abbrev pub gateway_came : Turning → Option (List ℕ) → List (List ℕ)
 gateway_came asked None = asked.input ∷ []
 gateway_came asked (Some bytes) = came_by asked (fault_in asked (records_of asked bytes)) (end_of asked.listener.limit bytes)
@@ -221,7 +223,7 @@ abbrev pub gateway_ended : Turning → Option (List ℕ) → Status
 gateway_ended asked None = status.ReadFault
 gateway_ended asked (Some bytes) = ended_by asked (records_of asked bytes) (fault_in asked (records_of asked bytes)) (end_of asked.listener.limit bytes)
 
--- the whole text of `gateway` if no read fault occurs, given the bytes of IN, or `None` if IN is missing
+-- the whole text of `gateway` if no read fault occurs; the option holds the bytes of IN, or is `None` if IN is missing
 abbrev pub gateway_report : Turning → Option (List ℕ) → List ℕ
 gateway_report asked None = read_fault_line
 gateway_report asked (Some bytes) = text_by asked (records_of asked bytes) (fault_in asked (records_of asked bytes)) (end_of asked.listener.limit bytes)

@@ -59,12 +59,12 @@ pub record Reports (request : Request) (files : Files) (failed : Bool) (handed :
   pub first : IsPrefix items yields.items
   pub given : handed items
   pub begun : MakesPart (output_of request) made shelf.files shelf'.files
-  -- The request, the files and `failed` alone determine `came`, `reached`, `yields` and `made` if no read fault
-  -- occurred.
+  -- If no read fault occurred, the request, the files and `failed` alone determine `came`, `reached`, `yields` and
+  -- `made`.
   pub complete : ReadsAll shelf shelf' →
       (came ≡ came_for request files) × (reached ≡ status_for request files failed) × (yields ≡ yield_for request files failed) × (made ≡ made_for request files)
-  -- For each file that `listen` reached: if a talker that keeps the rules sent the records that were read, the file
-  -- yields what the headline says of them. Different files can have different talkers.
+  -- Take a file that `listen` reached. If a talker that keeps the rules sent the records that were read, the file
+  -- yields what the headline says of these records. Different files can have different talkers.
   pub headline : (asked : Listening) (earlier later : List (List ℕ)) (name bytes : List ℕ) → request ≡ listen asked → came ≡ earlier ++ name ∷ later →
       files name ≡ Some bytes → HasHeadline asked files (Rose shelf.reading_faults shelf'.reading_faults) earlier name bytes yields
   -- what `agree` prints of two captures of one talker that keeps the rules, if no read fault occurred
@@ -76,8 +76,8 @@ pub record Reports (request : Request) (files : Files) (failed : Bool) (handed :
 
 -- ---- why a run ended with a fault
 
--- A run ends with the status `DeviceFault` only if the command is `listen` and a device failed. A run of `listen` in
--- which a device failed does not end with `Done`.
+-- A run ends with the status `DeviceFault` only if the command is `listen` and a device failed. If a device failed in a
+-- run of `listen`, the run does not end with `Done`.
 pub record TellsFailed (request : Request) (failed : Bool) (ended : Status) : Type 0 where
   pub fault : ended ≡ status.DeviceFault → (is_listening request ≡ true) × (failed ≡ true)
   pub quiet : is_listening request ≡ true → ended ≡ status.Done → failed ≡ false

@@ -73,20 +73,20 @@ is_cut_short (end.Refused refusal) = false
 is_cut_short end.ReadFault = true
 is_cut_short end.Limit = true
 
--- What an opened capture yields: the text and the items of the records that were read. If a talker that keeps the rules
--- sent a prefix of these records, what is shown of the prefix is as the headline says.
+-- What an opened capture yields: the text and the items of the records that were read. Suppose that a talker that keeps
+-- the rules sent a prefix of these records. Then the items that are shown of this prefix are as the headline says.
 pub record YieldsHeadline (asked : Listening) (name bytes : List ℕ) (fault : Type 0) (yields : Yield) : Type 0 where
   -- how the reading ended, and the bytes that were read before it ended
   pub how : End
   pub read : List ℕ
   pub ends : EndsAt asked.listener.limit (Some bytes) fault how read
   pub same : yields ≡ heard_yield asked name (records_in read) how
-  -- If a talker that keeps the rules sent the records `first`, the shown items begin with the items of `first` that are
-  -- due. The due items of `first` keep the headline, whatever records follow.
+  -- Let a talker that keeps the rules have sent the records `first`. The shown items then begin with the due items of
+  -- `first`. The due items of `first` keep the headline, whatever records follow.
   pub front : (shift : ℤ) (p : PacketJournal) (first others : List Record) → records_in read ≡ first ++ others → HearsTalker shift p (plan_of asked.listener) first →
       IsPrefix (due_of (plan_of asked.listener) first) yields.items × IsTrueFront p (plan_of asked.listener) first others
-  -- If a talker that keeps the rules sent all records and the reading was not cut short, all shown items are as the
-  -- headline says.
+  -- Suppose that one talker sent all records and keeps the rules, and that the reading was not cut short. Then all
+  -- shown items are as the headline says.
   pub whole : (shift : ℤ) (p : PacketJournal) → is_cut_short how ≡ false → HearsTalker shift p (plan_of asked.listener) (records_in read) →
       KeepsHeadline shift p (plan_of asked.listener) (records_in read) yields.items
 

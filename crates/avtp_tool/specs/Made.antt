@@ -25,8 +25,9 @@ KeepsFilesBut (Some name) None (Some new) = ⊥
 KeepsFilesBut (Some name) (Some old) None = ⊤
 KeepsFilesBut (Some name) (Some old) (Some new) = (other : List ℕ) → other ≢ name → new other ≡ old other
 
--- Each slot that had a file still has this file, and each slot that was free is still free. If the files are known, the
--- bytes that are left to read are also unchanged in each slot whose file is not the written file.
+-- If a slot had a file, the slot still has this file. If a slot was free, the slot is still free. Let the files be
+-- known. If the file of a slot is not the written file, the bytes that are left to read in this slot are also
+-- unchanged.
 abbrev pub KeepsSlotsFor : Option (List ℕ) → Option Files → Slots → Slots → Type 0
 KeepsSlotsFor None files old new = KeepsSlots old new
 KeepsSlotsFor (Some name) files old new = KeepsSlotsBut files old new name

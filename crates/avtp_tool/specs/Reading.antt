@@ -35,12 +35,12 @@ FileOutcome report limit None fault ended yields = (ended ≡ status.ReadFault) 
 FileOutcome report limit (Some bytes) fault ended yields =
     ReadOutcome report limit bytes fault ended yields ⊎ (fault × (ended ≡ status.ReadFault) × (yields ≡ says read_fault_line))
 
--- a file's status if no read fault occurs, given its bytes, or `None` if it is missing
+-- a file's status if no read fault occurs; the option holds the file's bytes, or is `None` if the file is missing
 abbrev pub file_status : Report → ℕ → Option (List ℕ) → Status
 file_status report limit None = status.ReadFault
 file_status report limit (Some bytes) = report.status (records_in (take limit bytes)) (end_of limit bytes)
 
--- what a file yields if no read fault occurs, given its bytes, or `None` if it is missing
+-- What a file yields if no read fault occurs. The option holds the file's bytes, or is `None` if the file is missing.
 abbrev pub file_yield : Report → ℕ → Option (List ℕ) → Yield
 file_yield report limit None = says read_fault_line
 file_yield report limit (Some bytes) = report.yields (records_in (take limit bytes)) (end_of limit bytes)
@@ -108,7 +108,7 @@ one_yield plan files name = file_yield (plan.report name) plan.limit (files name
 abbrev pub plan_read : ReadPlan → Files → List (List ℕ)
 plan_read plan files = in_order_read (one_status plan files) plan.names
 
--- the status with which a command with this plan ends, if no read fault occurs
+-- if no read fault occurs, a command with this plan ends with this status
 abbrev pub plan_status : ReadPlan → Files → Status
 plan_status plan files = in_order_status (one_status plan files) plan.names
 

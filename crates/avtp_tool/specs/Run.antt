@@ -26,8 +26,8 @@ abbrev pub device_status : Bool → Status → Status
 device_status true status.Done = status.DeviceFault
 device_status failed ended = ended
 
--- The last line of a run of `listen`, given whether a device failed and the status of reading the files. The line is
--- empty unless a device failed and reading the files ended with `Done`.
+-- The last line of a run of `listen`, given whether a device failed and the status of reading the files. If a device
+-- failed and reading the files ended with `Done`, the line says that a device failed; otherwise the line is empty.
 abbrev pub device_notice : Bool → Status → List ℕ
 device_notice true status.Done = device_fault_line
 device_notice failed ended = []
@@ -102,8 +102,8 @@ abbrev pub again_of : Request → List (List ℕ)
 again_of (gateway asked) = asked.input ∷ []
 again_of request = []
 
--- The names that a request asks a shelf for, in order. First come the files that are read, then the file that is
--- written, then the files that are read again.
+-- The names that a request asks a shelf for, in order. The order is this: the files that are read, the file that is
+-- written, and the files that are read again.
 abbrev pub names_of : Request → List (List ℕ)
 names_of request = files_of request ++ (option_to_list (output_of request) ++ again_of request)
 

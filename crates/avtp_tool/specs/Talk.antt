@@ -56,8 +56,8 @@ TalkedOutcome plan bytes fault status.Limit text = (most_input < length bytes) �
 TalkedOutcome plan bytes fault status.ReadFault text = fault × (text ≡ read_fault_line)
 TalkedOutcome plan bytes fault ended text = ⊥
 
--- The possible outcomes of `talk`, given the bytes of its input, or `None` if the input is missing. A missing input
--- results in a read fault.
+-- The possible outcomes of `talk`. The option holds the bytes of the input, or is `None` if the input is missing. A
+-- missing input results in a read fault.
 abbrev pub TalkOutcome : TalkPlan → Option (List ℕ) → Type 0 → Status → List ℕ → Type 0
 TalkOutcome plan None fault ended text = (ended ≡ status.ReadFault) × (text ≡ read_fault_line)
 TalkOutcome plan (Some bytes) fault ended text = TalkedOutcome plan bytes fault ended text

@@ -91,8 +91,8 @@ fn print_end<S: Sink>(
     Ok(status_of(counts.differ, a, b))
 }
 
-/// If both captures were read to their ends, prints the counts. If not both captures were read to their ends, prints a
-/// line for each capture that was not.
+/// If both captures were read to their ends, prints the counts. If a capture was not read to its end, prints a line for
+/// this capture instead.
 fn print_last<S: Sink>(
     text: &mut Text,
     out: &mut S,

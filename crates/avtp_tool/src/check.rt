@@ -116,7 +116,7 @@ fn print_checked<S: Sink>(
     }
 }
 
-/// In a packet whose stream ID is not valid, the only possible finding is a set reserved bit.
+/// If a packet's stream ID is not valid, the only possible finding is a set reserved bit.
 fn of_unmarked(reserved: bool) -> Findings
     ensures { result ≡ unmarked_findings reserved }
 {

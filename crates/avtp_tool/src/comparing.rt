@@ -25,7 +25,7 @@ pub enum Compared {
     Ended { a: End, b: End, counts: PairCounts },
     /// The comparison stopped at a read fault.
     Fault,
-    /// The comparison stopped at a record for which there was no memory.
+    /// The comparison stopped at a record, because there was no memory for that record.
     NoMemory,
 }
 

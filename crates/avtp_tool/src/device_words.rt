@@ -21,7 +21,8 @@ pub enum DeviceWord {
 /// Device `n`, counted from 0, of the devices that the words ask for. The device for raw audio precedes the device for
 /// a byte stream.
 ///
-/// The result is `None` if and only if the words are not a command line of `listen` or ask for at most `n` devices.
+/// The result is `None` if and only if one of two things holds: the words are not a command line of `listen`, or the
+/// words ask for at most `n` devices.
 pub fn device_word(words: &[String], n: u32) -> Option<DeviceWord>
     ensures found { (asked : Listening) → IsCommandLine (texts words.now) (listen_request asked) → result ≡ slice_get (devices_of asked) n }
     ensures only { IfSome result (λ device. (asked : Listening) × IsCommandLine (texts words.now) (listen_request asked)) }

@@ -1,4 +1,4 @@
-//! A capture that is read record by record into a listener, which shows the items one by one.
+//! A capture is read record by record into a listener. The listener shows the items one by one.
 
 ghost use Rattle.std.specs.Prelude.{◌≡◌, ◌<◌, [], MatchResult, None, false};
 ghost use Rattle.listener.specs.Listening.{IsIdle, is_closed};
@@ -29,7 +29,7 @@ pub enum Stage {
 pub enum Heard {
     /// The capture was heard as far as it could be read. `end` says how the reading ended.
     Ended { end: End, counts: Counts },
-    /// The hearing stopped at a record for which there was no memory.
+    /// The hearing stopped at a record because there was no memory for the record.
     NoMemory,
 }
 

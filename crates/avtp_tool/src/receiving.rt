@@ -5,7 +5,7 @@ use avtp_base::Bytes;
 use avtp_files::Shelf;
 use presenter_ring::{Pull, Receiver};
 
-/// A capture that is heard, and the shelf that it is open on.
+/// A capture that is heard, and the shelf where the capture is open.
 #[derive(Drop)]
 pub struct Receiving<'a, F: Shelf + Send> {
     pub hearing: &'a mut Hearing,

@@ -59,7 +59,7 @@ fn scan_records<F: Shelf>(to: To, stream: u64, source: &mut Source, shelf: &mut 
     }
 }
 
-/// The result of a scan in which no record has a fault, given how the reading ended and the shape of the stream.
+/// The result of a scan that finds no fault in any record, given how the reading ended and the shape of the stream.
 fn scanned_by(end: End, shape: Option<Shape>) -> Scanned
     ensures { result ≡ scanned_as end shape }
 {

@@ -186,7 +186,7 @@ same_line form words gs hs ns ms p q =
 
 -- ---- what options give
 
--- the number `n` that the code reads for `option` is the number that the option gives
+-- if the code reads the number `n` for `option`, the option gives the number `n`
 pub number_given : (option : NumberOption) (default bound n : ℕ) (v : Option (List ℕ)) → option.default ≡ Some default → option.high < bound → IfSome v (IsValue (Number option.low option.high)) → IsRead bound default v n → MatchOption v (IsSomeAnd option.default (λ default. n ≡ default)) (λ word. IsNumber option.low option.high word n)
 number_given option default bound n None has small is reads = subst (λ d. IsSomeAnd d (λ default. n ≡ default)) (sym has) reads.absent
 number_given option default bound n (Some word) has small (m, is) reads =
@@ -213,7 +213,7 @@ pub format_given : (default format : AafFormat) (v : Option (List ℕ)) → IfSo
 format_given default format None is reads = reads.absent
 format_given default format (Some word) (named, is) reads = is ∙ ap format_name (sym (reads.read named is))
 
--- if `default` is in the range of `option`, so is the number `n` that is read for the option
+-- if `default` is in the range of `option`, the number `n` that is read for the option is also in that range
 pub within : (option : NumberOption) (default n : ℕ) (gs : List Setting) → option.default ≡ Some default → option.low ≤ default → default ≤ option.high → IsGiven option gs n → (option.low ≤ n) × (n ≤ option.high)
 within option default n gs has least most given = go (value_in option.name gs) given where
   go : (v : Option (List ℕ)) → MatchOption v (IsSomeAnd option.default (λ default. n ≡ default)) (λ word. IsNumber option.low option.high word n) → (option.low ≤ n) × (n ≤ option.high)

@@ -124,7 +124,8 @@ where_none (Some x) holds = tt
 pub spells_one : (word : List ℕ) (m n : ℕ) → m < 2 ^ 64 → n < 2 ^ 64 → word ≡ decimal n → word ≡ decimal m → m ≡ n
 spells_one word m n small smaller e f = decimal_injective m n small smaller (sym f ∙ e)
 
--- if `word` spells `n`, and `n` is at least `low`, the word is a valid value if and only if `n` is at most `high`
+-- Let `word` spell `n`, let `n` be at least `low`, and let `n` and `high` be below 2^64. Then the word is a valid value
+-- if and only if `n` is at most `high`.
 pub is_number-then : (low high n : ℕ) (word : List ℕ) (least : low ≤ n) (spells : word ≡ decimal n) → n < 2 ^ 64 → high < 2 ^ 64 → IsTrue (nat_le n high) ↔ ((m : ℕ) × IsNumber low high word m)
 is_number-then low high n word least spells small fits = (
   (λ t. (n, record { least = least; most = leb-true n high t; spelled = spells })),

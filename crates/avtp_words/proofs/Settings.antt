@@ -148,8 +148,8 @@ same_first rows g h xs ys g_is h_is e = go (row_named rows h.name) g.value h.val
           let values : value ≡ other = cc in
           (same_setting g h names (v_is ∙ ap Some values ∙ sym w_is), cc)
 
--- `hs` is `gs`, then an option that `word` names, then `more`. `rest` is the value of the option that `word` names, if
--- it has one, then the words of `more`, then `names`.
+-- `hs` is `gs`, then an option that `word` names, then `more`. `rest` has three parts in this order: the value of the
+-- option that `word` names, if the option has a value; the words of `more`; and `names`.
 pub record Next (rows : List Row) (gs hs : List Setting) (word : List ℕ) (rest names : List (List ℕ)) : Type 0 where
   pub setting : Setting
   pub more : List Setting

@@ -101,7 +101,8 @@ follows rows gs word after options dash t =
       left = n.left;
     }
 
--- a word that begins with a dash is not accepted if no option with this name can follow the options before it
+-- if a word begins with a dash, and no option with this name can follow the options before the word, the word is not
+-- accepted
 pub stops_here : (rows : List Row) (words : List (List ℕ)) (place : ℕ) (o : AreOptionsTo rows words place) (word : List ℕ) → slice_get words place ≡ Some word → BeginsWithDash word → ((s : Setting) → IsSetting rows s → All (λ t. t.name ≢ s.name) o.settings → word ≡ s.name → ⊥) → StopsOptions rows words place
 stops_here rows words place o word e dash none =
     let h = here rows words place o word e in
@@ -212,7 +213,7 @@ repeated rows words place o name sound e dash given = stops_here (rows_of rows) 
     let within' : Contains (flat_map words_of o.settings) s.name = subst (Contains (flat_map words_of o.settings)) same within in
     taken (rows_of rows) o.settings s.name sound o.options.each new (setting-dashes (rows_of rows) s sound is) within')
 
--- an option that is not among the words before index `place` differs from each option before that index
+-- if a name is not among the words before index `place`, no option before that index has this name
 pub first : (rows : List OptionRow) (words : List (String Global)) (place : ℕ) (o : AreOptionsTo (rows_of rows) (texts words) place) (name : List ℕ) → list_any (λ word. bytes_eq (string_bytes word) name) (take place words) ≡ false → All (λ s. s.name ≢ name) o.settings
 first rows words place o name not_given = fresh o.settings name (λ within. absent (take place words) name not_given (subst (λ ws. Contains ws name) (sym (words_before (rows_of rows) words place o)) within))
 

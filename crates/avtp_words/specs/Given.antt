@@ -13,8 +13,8 @@ use Rattle.avtp_words.specs.Options.{Setting, value_in, format_name}
 abbrev pub IsGiven : NumberOption → List Setting → ℕ → Type 0
 IsGiven option settings n = MatchOption (value_in option.name settings) (IsSomeAnd option.default (λ default. n ≡ default)) (λ word. IsNumber option.low option.high word n)
 
--- If the option is given, its value spells the number `given`, which is in the option's range. If the option is not
--- given, `given` is the option's default, or `None` if the option has no default.
+-- If the option is on the command line, `given` is the number that the option's value spells, and this number is in the
+-- option's range. If the option is not given, `given` is the option's default, or `None` if the option has no default.
 abbrev pub IsGivenIf : NumberOption → List Setting → Option ℕ → Type 0
 IsGivenIf option settings given = MatchOption (value_in option.name settings) (given ≡ option.default) (λ word. (n : ℕ) × (given ≡ Some n) × IsNumber option.low option.high word n)
 

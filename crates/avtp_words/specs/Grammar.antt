@@ -431,9 +431,9 @@ FitsKind (Aaf format sparse) asked = FitsSamples format asked
 FitsKind Am824 asked = FitsBlocks asked
 FitsKind (H264 last_stamp) asked = asked.rate ≤ limits.access_units
 
--- The number of sample frames from one CRF timestamp to the next, in a stream of `rate` sample frames a second. These
--- sample frames take as long as `interval` events at the clock's frequency, which is the base frequency times the pull
--- factor (IEEE 1722-2016, 10).
+-- The number of sample frames from one CRF timestamp to the next, in a stream of `rate` sample frames a second. The
+-- sample frames take as long as `interval` events at the clock's frequency. The clock's frequency is the base frequency
+-- times the pull factor (IEEE 1722-2016, 10).
 abbrev pub spacing_of : Crf → ℕ → ℕ
 spacing_of crf rate = crf.interval * rate * pull_down crf.pull / (crf.rate * pull_up crf.pull)
 
@@ -567,6 +567,6 @@ pub data IsOffence (words : List (List ℕ)) (position : ℕ) : Type 0 where
   -- words before the wrong word, followed by the wrong word, begin no line. If a word is missing, the position is one
   -- past the last word.
   of_a_word : (place : ℕ) → position ≡ place + 1 → StopsAt IsLine words place → IsOffence words position
-  -- The position of the command, because the words fit the form of their command but are not a command line: a rule
-  -- over several words fails, or `gateway` lacks `--to`.
+  -- The words fit the form of their command but are not a command line: a rule over several words fails, or `gateway`
+  -- lacks `--to`. The position is that of the command.
   of_a_rule : position ≡ 1 → IsLine words → ((request : Request) → IsCommandLine words request → ⊥) → IsOffence words position

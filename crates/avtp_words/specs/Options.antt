@@ -75,8 +75,8 @@ pub record IsSetting (rows : List Row) (s : Setting) : Type 0 where
   pub dash : BeginsWithDash s.name
   pub value : IsSomeAnd (row_named rows s.name) (λ row. IsTaken row.takes s.value)
 
--- The options are in any order, and each option is given at most once. Each option is in the table, with a value that
--- it takes, or without a value if it takes none.
+-- The options are in any order, and each option is given at most once. Each option is in the table. An option that
+-- takes a value has a valid value, and an option that takes none has none.
 pub record AreSettings (rows : List Row) (settings : List Setting) : Type 0 where
   pub each : All (IsSetting rows) settings
   pub once : AllPairs (λ s t. s.name ≢ t.name) settings

@@ -71,8 +71,9 @@ pub fn parse(words: &[String]) -> Result<Command<'_>, Offence>
     ensures only { (request : Request) → IsCommandLine (texts words.now) request →
         IsOkAnd result (λ command. request_of command ≡ request) }
 
-    // If the words are not a command line, the result is the position of the first wrong word or, if no word by itself
-    // is wrong or missing, the position of the command. The words determine this position uniquely.
+    // If the words are not a command line, the result is the position of the first word that is wrong by itself or
+    // missing. If there is no such word, the result is the position of the command. The words determine this position
+    // uniquely.
     ensures offence { IfErr result (λ offence. IsOffence (texts words.now) offence.position) }
     ensures only_offence { (position : ℕ) → IsOffence (texts words.now) position →
         IsErrAnd result (λ offence. offence.position ≡ position) }

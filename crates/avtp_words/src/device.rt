@@ -67,8 +67,8 @@ pub fn raw_after<'a>(options: &'a [String]) -> Option<RawFile<'a>>
     Some(RawFile { file, silence })
 }
 
-/// Whether the name of `file`, which is written, differs from each of `files`, which are read. True if there is no
-/// `file`.
+/// Whether the name of `file` differs from each name in `files`. The command writes `file` and reads `files`. True if
+/// there is no `file`.
 pub fn is_new(file: Option<DeviceFile<'_>>, files: &[String]) -> bool
     ensures { IsTrue result ↔ IfSome (option_map named_file file.entry) (λ file. Contains (texts files.now) file.name → ⊥) }
 {

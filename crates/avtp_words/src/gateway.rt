@@ -37,8 +37,8 @@ pub struct Gateway<'a> {
     pub output: &'a str,
 }
 
-/// Reads the words after `gateway`. The offence is at the command if each word is valid, but `--to` is not given or the
-/// output has the input's name.
+/// Reads the words after `gateway`. If each word is valid, but `--to` is not given or the output has the input's name,
+/// the offence is at the command.
 pub fn read_gateway(words: &[String]) -> Result<Command<'_>, Offence>
     ensures ok { IfOk result (λ command. IsCommandLine (codes "gateway" ∷ texts words.now) (request_of command)) }
     ensures err { IfErr result (λ offence. IsOffence (codes "gateway" ∷ texts words.now) offence.position) }

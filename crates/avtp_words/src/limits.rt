@@ -117,13 +117,13 @@ pub const RING: OptionRow = OptionRow {
 
 pub const RING_DEFAULT: u32 = 64;
 
-/// The file to which presented samples are written as raw audio. Without this option, no file of raw audio is written.
+/// The file that gets the presented samples as raw audio. Without this option, no file of raw audio is written.
 pub const RAW: OptionRow = OptionRow {
     name: "--raw",
     takes: Takes::Name,
 };
 
-/// What silence in the raw audio is made of, by default bytes of 0.
+/// The bytes that are written as silence in the raw audio; by default, bytes of 0.
 pub const SILENCE: OptionRow = OptionRow {
     name: "--silence",
     takes: Takes::Silence,
@@ -132,8 +132,8 @@ pub const SILENCE: OptionRow = OptionRow {
 /// The options that need `--raw`.
 pub const RAW_OPTIONS: [OptionRow; 1] = [SILENCE];
 
-/// The file to which presented H.264 units are written as a byte stream. Without `--annexb`, no byte stream of H.264
-/// units is written.
+/// Presented H.264 units are written to this file as a byte stream. Without `--annexb`, no byte stream of H.264 units
+/// is written.
 pub const ANNEXB: OptionRow = OptionRow {
     name: "--annexb",
     takes: Takes::Name,
@@ -340,7 +340,7 @@ pub const CRF_RATE: OptionRow = OptionRow {
     },
 };
 
-/// The code of the factor by which the clock's base frequency is multiplied.
+/// The code of the pull factor. The clock's base frequency is multiplied by this factor.
 pub const CRF_PULL: OptionRow = OptionRow {
     name: "--crf-pull",
     takes: Takes::Number { low: 0, high: 5 },

@@ -20,9 +20,9 @@ pub struct Listen<'a> {
     pub listener: ListenerOptions,
     /// How many items fit into the queue between the thread that judges and the thread that presents, 1 to 256.
     pub ring: u32,
-    /// The file to which presented samples are written as raw audio, if one is asked for.
+    /// The file that gets the presented samples as raw audio, if one is asked for.
     pub raw: Option<RawFile<'a>>,
-    /// The file to which presented H.264 units are written as a byte stream, if one is asked for.
+    /// The file for the byte stream of presented H.264 units, if such a file is asked for.
     pub annexb: Option<DeviceFile<'a>>,
     /// The names of the captures, in order. There is at least one capture.
     pub files: &'a [String],

@@ -26,7 +26,7 @@ pub struct ListenerOptions {
     /// The max transit time in nanoseconds, 0 to 1,000,000,000. A packet is expected this long before its presentation
     /// time.
     pub lead: u32,
-    /// The stream ID of the media clock whose timestamps determine the presentation times, if `--clock` is given.
+    /// If `--clock` is given, the stream ID of the media clock whose timestamps determine the presentation times.
     pub clock: Option<u64>,
     /// What is added to each timestamp of the clock, in nanoseconds, from -1,000,000,000 to 1,000,000,000.
     pub shift: i64,

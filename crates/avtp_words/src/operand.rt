@@ -120,8 +120,8 @@ fn first_unnamed(words: &[String]) -> Option<usize>
     None
 }
 
-/// The index of the first wrong word. A word is wrong if it is not valid as the operand that takes it, or if no operand
-/// takes it. A missing word is wrong, too.
+/// The index of the first wrong word. A word is wrong in two cases: no operand takes the word, or the word is not valid
+/// as the operand that takes it. A missing word is wrong, too.
 fn first_wrong(operands: &[Operand], words: &[String]) -> Option<usize>
     ensures wrong { IfSome result (StopsAt (AreOperands operands.now) (texts words.now)) }
     ensures within { IfSome result (λ place. place ≤ length words.now) }

@@ -45,8 +45,8 @@ pub enum Kind {
 pub struct Talk<'a> {
     /// The kind of the stream.
     pub kind: Kind,
-    /// The sample rate in Hz, for which the format must have a code. For H.264, the number of access units per second,
-    /// 1 to 240.
+    /// The sample rate in Hz. The format must have a code for this rate. For H.264, the number of access units per
+    /// second, 1 to 240.
     pub rate: u32,
     /// The number of channels of each sample frame: 1 to 1023, for AM824 at most 256. H.264 does not use `channels` and
     /// `count`.

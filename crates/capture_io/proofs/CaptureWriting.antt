@@ -90,7 +90,7 @@ holds_beside files s t w name bytes h keeps same = record {
 
 -- ---- a capture
 
--- a new file for which only the file header is buffered is a capture without records
+-- if only the file header of a new file is buffered, the file is a capture without records
 pub none_written : (files : Option Files) (s : ShelfState) (v w : Writing) (name : List ℕ) → HoldsFile files s v name [] → w ≡ record v { waiting = v.waiting ++ header_spelling written_style } → HoldsCapture files s w name []
 none_written files s v w name h e = subst (HoldsFile files s w name) (sym (append-nil (header_spelling written_style))) (holds_more files s v w name [] (header_spelling written_style) h e)
 

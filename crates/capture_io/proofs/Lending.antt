@@ -171,7 +171,8 @@ pub read_by : (before after : ShelfState) (old mid next : Sourcing) (o : Option 
 read_by before after old mid next None result gone none gives = gives_after before after old mid next result gone gives
 read_by before after old mid next (Some size) result gone none gives = absurd cc
 
--- A source advances if it releases the held record and then lends the next record, if there is one.
+-- A source advances if two things hold: it releases the held record, and it then lends the next record, if there is
+-- one.
 pub advances : (old mid : Sourcing) (o : Option ℕ) → GivesUp old mid → IfSome o (λ size. LiesAhead mid size) → Advances old (lending o mid) (is_some o)
 advances old mid None gone ahead = record {
   given = λ some. absurd cc;

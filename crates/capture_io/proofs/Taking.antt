@@ -22,7 +22,7 @@ pub opened_named : (files : Option Files) (slot : Option Open) (name : List ℕ)
 opened_named None slot name is told = absurd cc
 opened_named (Some files) slot name is told = rw is.0 refl
 
--- if the shelf shows its files, all bytes of a file that was just opened are left to read in its slot
+-- if a file was just opened and the shelf shows its files, all bytes of the file are left to read in its slot
 opened_left : (files : Option Files) (slot : Option Open) (name : List ℕ) (told : Files) → IsOpened files slot name → files ≡ Some told
     → (bytes : List ℕ) × (told name ≡ Some bytes) × (option_and_then (λ (o : Open). o.left) slot ≡ Some bytes)
 opened_left None slot name told is e = absurd cc
@@ -52,7 +52,7 @@ consumed None b bs xs e h = absurd cc
 consumed (Some zs) None bs xs e h = absurd h
 consumed (Some zs) (Some ys) bs xs e h = let same : xs ≡ zs = cc in (ys, refl, same ∙ h)
 
--- until a read shows that the file exceeds the limit, `rest` is what the slot has left to read
+-- until a read shows that the file exceeds the limit, `rest` is the bytes of the slot that are still to be read
 ahead_left : (over : Bool) (remains : Option (List ℕ)) (left : ℕ) (rest : List ℕ) → over ≡ false → IsAhead over remains left rest → remains ≡ Some rest
 ahead_left true remains left rest none ahead = absurd cc
 ahead_left false remains left rest none ahead = ahead
@@ -65,7 +65,7 @@ no_bytes : (xs : List ℕ) → length xs ≡ 0 → xs ≡ []
 no_bytes [] e = refl
 no_bytes (x ∷ xs) e = absurd cc
 
--- `HasTaken` still holds after a read moved `count` bytes to `buf` and the first `within` bytes of `buf` were buffered.
+-- If a read moved `count` bytes to `buf` and the first `within` bytes of `buf` were buffered, `HasTaken` still holds.
 pub read_more : (limit : ℕ) (bytes : List ℕ) (old new : Option (List ℕ)) (p q : Piecing) (prefix buf : List ℕ) (count within : ℕ) → HasTaken limit bytes old p prefix → p.over ≡ false → p.waiting ≡ []
     → Consumes old new (take count buf) → count ≤ length buf → within ≤ count → within ≤ p.left → (within < count → within ≡ p.left) → q.waiting ≡ take within buf → q.left ≡ p.left - within
     → (q.over ≡ true → within < count) → (q.over ≡ false → count ≤ within) → HasTaken limit bytes new q prefix

@@ -36,14 +36,14 @@ pub record HoldsFile (files : Option Files) (shelf : ShelfState) (writer : Writi
   pub made : IsMadeIn shelf.slots writer.slot
   pub named : IsSome files → name_in shelf.slots writer.slot ≡ Some name
 
--- the bytes of the file, followed by the buffered bytes, are a capture of these records
+-- the bytes of the file and then the buffered bytes make up a capture of these records
 abbrev pub HoldsCapture : Option Files → ShelfState → Writing → List ℕ → List Record → Type 0
 HoldsCapture files shelf writer name records = HoldsFile files shelf writer name (capture_bytes records)
 
 -- ---- all other slots
 
 -- In every slot except slot k, the same file stays open, or the slot stays free. If the shelf shows its files, the
--- bytes left to read change only in slots where the file `name` is open.
+-- bytes that are still to be read change only in slots where the file `name` is open.
 pub record KeepsBeside (files : Option Files) (old new : Slots) (k : ℕ) (name : List ℕ) : Type 0 where
   pub same : (j : ℕ) → j ≢ k → option_map file_of (new j) ≡ option_map file_of (old j)
   pub left : IsSome files → (j : ℕ) → j ≢ k → name_in old j ≢ Some name → left_in new j ≡ left_in old j

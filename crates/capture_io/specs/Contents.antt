@@ -28,8 +28,9 @@ pub record IsReadCounted (before after : ℕ) (result : Result Contents OpenFaul
   pub memory : IsErrOf result open_fault.Memory → after ≡ before
   pub failed : IsErrOf result open_fault.Failed → Rose before after
 
--- With `Ok` the file `name` was opened, read up to its end, a fault or the limit, and closed again. With `Err` the file
--- could not be opened, or memory ran out. In either case the call only reads, and asks for exactly this name.
+-- With `Ok` the file `name` was opened, read and closed again. The reading went to the end of the file, to a fault or
+-- to the limit. With `Err` the file could not be opened, or memory ran out. In either case the call only reads, and
+-- asks for exactly this name.
 pub record ReadsContents (before after : ShelfState) (limit : ℕ) (name : List ℕ) (result : Result Contents OpenFault) : Type 0 where
   -- if the shelf shows its files, the bytes that were read are the prefix of the file that `IsContents` describes
   pub read : IfOk result (λ contents. (files : Files) → before.files ≡ Some files → (bytes : List ℕ) × (files name ≡ Some bytes) × IsContents limit bytes contents.stop contents.bytes.items)

@@ -19,7 +19,7 @@ at_limit None = end.Limit
 at_limit (Some refusal) = end.Refused refusal
 
 -- How the reading of a file with these bytes ends, if at most `limit` bytes may be read and no read fails. If the file
--- is longer than `limit`, the reading ends at the limit, unless a field that is complete before the limit is refused.
+-- is longer than `limit`, and no field that is complete before the limit is refused, the reading ends at the limit.
 unfoldable pub end_of : ℕ → List ℕ → End
 end_of limit bytes =
     if nat_le (length bytes) limit
@@ -27,9 +27,10 @@ end_of limit bytes =
     else at_limit (certain_in (take limit bytes))
 
 -- How the reading of a file ends if at most `limit` of its bytes may be read, and which prefix of the file precedes
--- that end. The `Option` is the file's contents. `None` means that no file has the name, which counts as a fault of
--- reading before the first byte. If the file exists, the reading ends at a fault only if `fault` holds. If the reading
--- of an existing file ends at a fault, the prefix is within the limit, and `certain_in` is `None` for the prefix.
+-- that end. The `Option` is the file's contents. `None` means that no file has the name. A missing file counts as a
+-- fault of reading before the first byte. If the file exists, the reading ends at a fault only if `fault` holds. If the
+-- reading of an existing file ends at a fault, the prefix is within the limit, and `certain_in` is `None` for the
+-- prefix.
 abbrev pub EndsAt : ℕ → Option (List ℕ) → Type 0 → End → List ℕ → Type 0
 EndsAt limit None fault how prefix = (how ≡ end.ReadFault) × (prefix ≡ [])
 EndsAt limit (Some bytes) fault end.ReadFault prefix =
@@ -37,7 +38,7 @@ EndsAt limit (Some bytes) fault end.ReadFault prefix =
 EndsAt limit (Some bytes) fault how prefix = (how ≡ end_of limit bytes) × (prefix ≡ take limit bytes)
 
 -- How a capture ends if nothing in it was refused and the reading stopped at this `Stop`. If the file ended, `lack` is
--- the first field that is missing, if any.
+-- the first missing field, or `None` if no field is missing.
 abbrev pub end_at : Stop → Option Refusal → End
 end_at stop.End lack = at_end lack
 end_at stop.Fault lack = end.ReadFault

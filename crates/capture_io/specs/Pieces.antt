@@ -10,8 +10,8 @@ pub record Piecing : Type 0 where
   pub over : Bool
 
 -- The bytes of the file after the buffered bytes. Until a read has shown that the file exceeds the limit, these bytes
--- are what the slot has left to read. Once a read has shown that the file exceeds the limit, at least one byte of the
--- file follows the buffered bytes, and no further byte may be read.
+-- are the bytes of the slot that are still to be read. Once a read has shown that the file exceeds the limit, at least
+-- one byte of the file follows the buffered bytes, and no further byte may be read.
 abbrev pub IsAhead : Bool → Option (List ℕ) → ℕ → List ℕ → Type 0
 IsAhead false remains left rest = remains ≡ Some rest
 IsAhead true remains left rest = (left ≡ 0) × (0 < length rest)

@@ -33,7 +33,7 @@ refusal_by (Some format) r = (progress_by format r.classic r.ng).refusal
 abbrev pub refusal_of : CaptureReading → Option Refusal
 refusal_of r = refusal_by r.format r
 
--- the record that is held by a reader that has found this layout
+-- the record that a reader holds if the reader has found this layout
 abbrev pub held_by : Option Format → CaptureReading → Option Record
 held_by None r = None
 held_by (Some format) r = (progress_by format r.classic r.ng).held

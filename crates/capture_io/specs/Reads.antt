@@ -29,7 +29,7 @@ pub record ReadsSlot (before after : ShelfState) (k now : ℕ) : Type 0 where
   pub writing : after.writing_faults ≡ before.writing_faults
   pub asked : AsksNothing before after
 
--- The name was asked for, its file was opened in slot k, which was free, and possibly some of the file was read. All
+-- Slot k was free. The name was asked for, its file was opened in slot k, and possibly some of the file was read. All
 -- files, all other slots and the count of writing faults are unchanged. If the shelf shows its files, the slot has the
 -- name.
 pub record OpensSlot (before after : ShelfState) (name : List ℕ) (k : ℕ) : Type 0 where

@@ -23,7 +23,7 @@ pub record Sourcing : Type 0 where
 abbrev pub slot_of : Sourcing → ℕ
 slot_of source = source.pieces.slot
 
--- what is left to read of a source's file, if the shelf shows it
+-- the bytes of a source's file that are still to be read, if the shelf shows these bytes
 abbrev pub remains_of : ShelfState → Sourcing → Option (List ℕ)
 remains_of shelf source = left_in shelf.slots (slot_of source)
 
@@ -49,7 +49,7 @@ pub record HasGiven (limit : ℕ) (bytes : List ℕ) (remains : Option (List ℕ
   pub given : records ≡ before ++ option_to_list (held_in source)
 
 -- The source has delivered these records from a file with these bytes. At most `limit` bytes of the file may be read.
--- The bytes left to read are those that the shelf shows for the source's slot. The reading has not ended.
+-- For the source's slot, the shelf shows the bytes that are still to be read. The reading has not ended.
 abbrev pub HasGivenOf : ℕ → List ℕ → ShelfState → Sourcing → List Record → Type 0
 HasGivenOf limit bytes shelf source records = HasGiven limit bytes (remains_of shelf source) source records
 
@@ -59,7 +59,7 @@ pub record EndsAfter (limit : ℕ) (bytes : List ℕ) (fault : Type 0) (how : En
   pub ends : EndsAt limit (Some bytes) fault how prefix
   pub whole : records_in prefix ≡ records
 
--- a measure of the work left, which falls with each piece that is read and each byte that is taken
+-- a measure of the remaining work; the measure falls with each piece that is read and with each byte that is taken
 abbrev pub to_do : Sourcing → ℕ
 to_do source = 2 * source.pieces.left + length source.pieces.waiting
 

@@ -15,7 +15,8 @@ pub record Writing : Type 0 where
 
 -- Between the states `before` and `after`, the file `name` was made and opened in the writer's slot, which was free.
 -- `bytes` are the bytes of the file followed by the buffered bytes. All other files are unchanged, if the shelf shows
--- them. All other slots are unchanged, except for the bytes left to read in slots where this file is open.
+-- them. All other slots are unchanged, with one exception: if this file is open in a slot, the bytes that remain to be
+-- read in the slot can change.
 pub record IsWriting (before after : ShelfState) (writer : Writing) (name bytes : List ℕ) : Type 0 where
   pub held : List ℕ
   pub split : bytes ≡ held ++ writer.waiting
@@ -73,16 +74,16 @@ pub record PutsPrefix (old new : Option Files) (name bytes : List ℕ) : Type 0 
 abbrev pub MakesPrefix : Option Files → Option Files → List ℕ → List ℕ → Type 0
 MakesPrefix old new name bytes = KeepsFiles old new ⊎ PutsPrefix old new name bytes
 
--- In every slot, the same file stays open, or the slot stays free. If the shelf shows its files, the bytes left to read
--- change only in slots where the file `name` is open.
+-- In every slot, the same file stays open, or the slot stays free. If the shelf shows its files, the bytes that are
+-- still to be read change only in slots where the file `name` is open.
 pub record KeepsSlotsBut (files : Option Files) (old new : Slots) (name : List ℕ) : Type 0 where
   pub same : (j : ℕ) → option_map file_of (new j) ≡ option_map file_of (old j)
   pub left : IsSome files → (j : ℕ) → name_in old j ≢ Some name → left_in new j ≡ left_in old j
 
 -- The writer's file was closed, and contains a prefix of all bytes that were added. No other file has changed since
--- this file was made. The writer's slot is free again. The other slots have changed at most in the bytes of this file
--- that are left to read. If the shelf failed, the count of writing faults rose. No reading fault was counted, and no
--- name was asked for.
+-- this file was made. The writer's slot is free again. The other slots are unchanged, with one exception: if this file
+-- is open in a slot, the bytes that remain to be read in the slot can have changed. If the shelf failed, the count of
+-- writing faults rose. No reading fault was counted, and no name was asked for.
 pub record ClosesFile (before after : ShelfState) (writer : Writing) (result : Result Unit Failed) : Type 0 where
   pub prefix : (begun : ShelfState) (name all : List ℕ) → IsWriting begun before writer name all → PutsPrefix begun.files after.files name all
   pub slots : (begun : ShelfState) (name all : List ℕ) → IsWriting begun before writer name all → KeepsSlotsBut begun.files begun.slots after.slots name

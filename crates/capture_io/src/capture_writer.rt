@@ -25,9 +25,9 @@ const RECORD_HEADER: usize = 16;
 
 /// A classic capture, little-endian with nanoseconds (draft-ietf-opsawg-pcap), that is written to a file of a shelf.
 ///
-/// The bytes of the file, followed by the buffered bytes, are the file header and one record for each added frame. If
-/// the shelf fails, the file contains a prefix of that file header and those records. Nothing is lost or written twice.
-/// A call that failed can be repeated. Between the calls, other files of the shelf may be read.
+/// The file's bytes and then the buffered bytes make up the file header and one record for each added frame. If the
+/// shelf fails, the file contains a prefix of that file header and those records. Nothing is lost or written twice. A
+/// call that failed can be repeated. Between the calls, other files of the shelf may be read.
 #[derive(Drop)]
 pub struct CaptureWriter {
     file: FileWriter,

@@ -18,7 +18,8 @@ pub struct Contents {
     pub stop: Stop,
 }
 
-/// Opens a file, reads it up to its end, a fault or the limit of `limit` bytes, and closes it.
+/// Opens a file, reads it, and closes it. The reading stops at the end of the file, at a fault, or at the limit of
+/// `limit` bytes.
 ///
 /// `Missing` is returned only if the shelf shows its files and none of them has the name. `Failed` means that the file
 /// could not be opened, and that the reading count rose. `Memory` means that memory ran out.

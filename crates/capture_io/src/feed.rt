@@ -106,8 +106,8 @@ impl Feed {
     }
 
     /// The size of the next record, if the buffered bytes begin with the whole record and no byte of the record was
-    /// taken yet. The result is `None` only if the buffered bytes do not begin with a whole record that is still
-    /// untaken, or if the reading has ended.
+    /// taken yet. If the result is `None`, one of two things holds: the buffered bytes do not begin with a whole
+    /// untaken record, or the reading has ended.
     #[inline(always)]
     pub fn whole_ahead(&self) -> Option<usize>
         ensures { FindsAhead self.now result }

@@ -67,7 +67,7 @@ impl FileWriter {
         Ok(())
     }
 
-    /// Adds the encoding of a value, for which there must be room.
+    /// Adds the encoding of a value. There must be room for the encoding.
     #[inline(always)]
     pub(crate) fn put<W: Spelled>(&mut self, added: &W)
         requires { length self.old.waiting + length (W.spelling added.now) ≤ 65536 }
@@ -76,7 +76,7 @@ impl FileWriter {
         self.buffer.add(added);
     }
 
-    /// Adds bytes, for which there must be room.
+    /// Adds bytes. There must be room for these bytes.
     #[inline(always)]
     pub(crate) fn push(&mut self, bytes: &[u8])
         requires { length self.old.waiting + length bytes.now ≤ 65536 }

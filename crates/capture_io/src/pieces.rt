@@ -40,8 +40,8 @@ impl Model for Pieces {
 }
 
 impl Pieces {
-    /// Opens a file of which at most `limit` bytes may be read. The name is asked for first; then the memory of a piece
-    /// is reserved. If there is no memory, the file is closed again.
+    /// Opens a file for reading at most `limit` bytes. The name is asked for first; then the memory of a piece is
+    /// reserved. If there is no memory, the file is closed again.
     pub fn open<F: Shelf>(
         alloc: Global,
         limit: u64,

@@ -17,7 +17,7 @@ use std::alloc::Global;
 use std::marker::Model;
 
 /// A capture that is read from a shelf, and delivers its records one after the other. Each call of the shelf reads at
-/// most 65,536 bytes. The memory of a source is reserved when it is opened, and does not grow with the capture.
+/// most 65,536 bytes. When a source is opened, its memory is reserved. The memory does not grow with the capture.
 ///
 /// If a record is complete in the piece that was read, the record is lent from there. A record that is cut between
 /// pieces is copied. Contracts see a lent record as held, and its bytes as taken, until the next record is asked for.
@@ -40,7 +40,7 @@ impl Model for Source {
 }
 
 impl Source {
-    /// Opens a capture of which at most `limit` bytes may be read; `limit` is at most 2^62. No record is held yet.
+    /// Opens a capture for reading at most `limit` bytes; `limit` is at most 2^62. No record is held yet.
     ///
     /// `Missing` is returned only if the shelf shows its files and none of them has the name. If the result is
     /// `Failed`, the count of reading faults rose. `Memory` means that memory ran out. If the call fails, the file is
@@ -97,8 +97,8 @@ impl Source {
     }
 
     /// Whether `next` will read from the file, judging by the bytes that were read. If the file must be read, `next`
-    /// possibly has to wait for the program that writes the file, so a caller should first print what is known so far.
-    /// The answer is a hint: no clause states anything about it.
+    /// possibly has to wait for the program that writes the file. A caller should therefore first print what is known
+    /// so far. The answer is a hint: no clause states anything about it.
     #[inline(always)]
     pub fn must_read(&self) -> bool {
         self.feed.must_read(self.lent.unwrap_or(0))

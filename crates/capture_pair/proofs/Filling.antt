@@ -1,5 +1,5 @@
--- Once both sides of a matching are filled, the matching returns the next difference of a comparison of all batches
--- that the sides present.
+-- If both sides of a matching are filled, the matching returns the next difference. The differences are those of a
+-- comparison of all batches that the sides present.
 use Rattle.std.proofs.Common.{◌≡◌, ℕ, ◌+◌, ◌<◌, ◌≤◌, Bool, true, false, cond, ◌⊎◌, inl, inr, List, [], ◌∷◌, ◌++◌, length, take, drop, Option, Some, None, refl, sym, ap, ◌∙◌, subst, arith}
 use Rattle.std.specs.Prelude.{IfNone, IsSome, is_some, slice_get}
 use Rattle.std.specs.Option.{option_to_list}

@@ -1,4 +1,4 @@
--- What a listener shows is given to the matching.
+-- The matching is given the items that a listener shows.
 use Rattle.std.proofs.Common.{◌≡◌, ℕ, zero, suc, ◌+◌, ◌<◌, ◌≤◌, Bool, true, false, ◌⊎◌, inl, inr, List, [], ◌∷◌, ◌++◌, length, take, drop, Option, Some, None, refl, sym, ap, ◌∙◌, subst, append-nil, arith}
 use Rattle.std.specs.Prelude.{IfNone, slice_get}
 use Rattle.std.specs.Option.{option_to_list}
@@ -69,7 +69,7 @@ next-flag n xs x e f =
     let one : n + 1 ≡ suc n = omega arith in
     ap (λ k. presented_of (take k xs)) one ∙ ap presented_of (take-one n xs x e) ∙ presented-append (take n xs) (x ∷ []) ∙ ap (λ (l : List Presented). presented_of (take n xs) ++ l) f ∙ append-nil (presented_of (take n xs))
 
--- if item n is a batch, the batches among the first n items, followed by this batch, are in order
+-- if item n is a batch, the batches among the first n items and then this batch are in order
 next-order : (n : ℕ) (xs : List Shown) (batch : Presented) → IsHeard xs → slice_get xs n ≡ Some (Present batch) → IsInOrder (presented_of (take n xs) ++ batch ∷ [])
 next-order n xs batch h e =
     subst IsInOrder (next-batch n xs batch e) (order-front (presented_of (take (n + 1) xs)) (presented_of (drop (n + 1) xs)) (subst IsInOrder (sym (presented-split (n + 1) xs)) h.order))

@@ -1,5 +1,4 @@
--- The number of items that a listener shows is at most the number of records that it was given. The batches that a
--- listener presents are in order.
+-- A listener shows at most as many items as it was given records. The batches that a listener presents are in order.
 use Rattle.std.proofs.Common.{◌≡◌, ℕ, zero, suc, ◌^◌, ◌≤◌, Bool, true, false, inl, inr, ℤ, ◌≤ℤ◌, ◌<ℤ◌, List, [], ◌∷◌, ◌++◌, length, map, fold, Some, None, Result, Ok, Err, refl, sym, ap, ◌∙◌, subst, arith}
 use Rattle.std.specs.Prelude.{if◌then◌else◌, int_lt, slice_get, option_and_then}
 use Rattle.std.specs.List.{AllByRecursion, list_any}
@@ -137,6 +136,6 @@ heard records n l s le =
     let most = few (is_closed l) clock_spot (schedule_plan l.plan) l.plan records in
     record { few = omega arith; order = out-in-order (is_closed l) l.plan records }
 
--- from at most 2^61 records, a listener shows at most 2^61 items, and the batches that it presents are in order
+-- if a listener is given at most 2^61 records, it shows at most 2^61 items and presents its batches in order
 pub heard-of : (records : List Record) (l : ListenState) → length records ≤ 2 ^ 61 → IsHeard (out l records)
 heard-of records l le = let most = few (is_closed l) clock_spot (schedule_plan l.plan) l.plan records in record { few = omega arith; order = out-in-order (is_closed l) l.plan records }

@@ -1,5 +1,5 @@
--- If a matching was given the first batches of each side and is idle, the known part of the merged list is the part
--- that the matching has worked through.
+-- Suppose that a matching was given the first batches of each side and is idle. Then the known part of the merged list
+-- is the part that the matching has worked through.
 use Rattle.std.proofs.Common.{◌≡◌, ℕ, zero, suc, ℤ, ◌+◌, ◌<◌, Bool, true, false, cond, ◌&&◌, ◌||◌, ◌⊎◌, inl, inr, ◌≤ℤ◌, ◌<ℤ◌, List, [], ◌∷◌, ◌++◌, length, Option, Some, None, refl, sym, ap, ◌∙◌, subst, append_assoc, append-nil, arith}
 use Rattle.std.specs.Prelude.{int_lt, slice_get}
 use Rattle.std.specs.List.{AllByRecursion, list_any}
@@ -250,7 +250,8 @@ any-end s (x ∷ front) z rest = at (is_side s x.side) (any-end s front z rest)
     at true h = refl
     at false h = h
 
--- `is_settled` is true for side `s` and the list `rest`, or the list `done` is empty or ends with a batch of side `s`
+-- one of three things holds: `is_settled` is true for side `s` and the list `rest`; the list `done` is empty; or `done`
+-- ends with a batch of side `s`
 abbrev pub Covered : Bool → Which → List Sided → List Sided → Type 0
 Covered e s done rest = (is_settled e s rest ≡ true) ⊎ EndsOn s done
 
@@ -401,7 +402,8 @@ known-all xs ys more_a more_b given over_a over_b m s g =
     (covers-at A s.done (merged ra rb) m.ended_a over_a m.next_a more_a (lacks m.ended_a m.next_a) refl g.is_over_a s.last_a r.a)
     (covers-at B s.done (merged ra rb) m.ended_b over_b m.next_b more_b (lacks m.ended_b m.next_b) refl g.is_over_b s.last_b r.b)
 
--- The side that the matching wants has not ended, and the matching was given all batches of that side.
+-- If the matching wants a side, two things hold: this side has not ended, and the matching was given all batches of the
+-- side.
 pub record IsAsked (more_a more_b : List Presented) (over_a over_b : Bool) (m : MatchingState) : Type 0 where
   pub all_a : wanted m ≡ Some A → more_a ≡ []
   pub all_b : wanted m ≡ Some B → more_b ≡ []

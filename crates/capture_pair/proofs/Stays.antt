@@ -1,4 +1,5 @@
--- The differences that a pair has returned stay the first known differences, whatever the pair's sides present later.
+-- Whatever a pair's sides present later, the differences that the pair has already returned are still the first known
+-- differences.
 use Rattle.std.proofs.Common.{◌≡◌, ℕ, zero, suc, ◌+◌, ◌≤◌, Bool, true, false, List, [], ◌∷◌, ◌++◌, length, take, drop}
 use Rattle.std.proofs.Common.{◌||◌, Option, Some, None, refl, sym, ap, ◌∙◌, subst, append_assoc, append-nil, length-append, arith}
 use Rattle.std.specs.Prelude.{slice_get}
@@ -73,8 +74,8 @@ shows-on plan records more l is none = at (is_closed l) refl
         (subst (λ (s : List Shown). IsPrefix s (shown_of plan (records ++ more)))
         (ap (λ (p : ListenPlan). due_of p records) (sym is) ∙ sym (out_open l records e)) (due-shown plan records more))
 
--- What a listener presents of `records` is a prefix of what the listener presents after it takes further records or is
--- closed.
+-- If a listener takes further records or is closed, the list that it then presents begins with the list that it
+-- presented of `records`.
 pub presents-on : (records more : List Record) (old new : ListenState) → new.plan ≡ old.plan → (is_closed old ≡ true → (is_closed new ≡ true) × (more ≡ []))
     → Longer (presented_by old records) (presented_by new (records ++ more)) (is_closed old)
 presents-on records more old new plan closed = at (is_closed old) (is_closed new) refl refl
@@ -266,7 +267,7 @@ pub continues-close : (which : Which) (old new : PairState) → Changes which 0 
 continues-close A old new c = record { plan_a = c.plan_a; plan_b = c.plan_b; closed_a = λ t. (c.closed, refl); closed_b = λ t. (c.other_closed ∙ t, refl) }
 continues-close B old new c = record { plan_a = c.plan_a; plan_b = c.plan_b; closed_a = λ t. (c.other_closed ∙ t, refl); closed_b = λ t. (c.closed, refl) }
 
--- the differences that the pair has returned stay the first known differences when a record of A is taken
+-- if a record of A is taken, the differences that the pair has returned are still the first known differences
 pub taken-stays-a : (r : Record) (records others : List Record) (given : ℕ) (old new : PairState)
     → StandsFor records others given old → EndsAreClosed old → is_closed old.a ≡ false → Changes A 1 false old new
     → take given (differences (known_by new (records ++ r ∷ []) others)) ≡ take given (differences (known_by old records others))
@@ -274,7 +275,7 @@ taken-stays-a r records others given old new s ends opened c =
     ap (λ (l : List Record). take given (differences (known_by new (records ++ r ∷ []) l))) (sym (append-nil others))
     ∙ given-stays records others (r ∷ []) [] given old new s ends (continues-record-a r old new opened c)
 
--- the differences that the pair has returned stay the first known differences when a record of B is taken
+-- the pair has returned some differences; after a record of B is taken, these are still the first known differences
 pub taken-stays-b : (r : Record) (records others : List Record) (given : ℕ) (old new : PairState)
     → StandsFor records others given old → EndsAreClosed old → is_closed old.b ≡ false → Changes B 1 false old new
     → take given (differences (known_by new records (others ++ r ∷ []))) ≡ take given (differences (known_by old records others))
@@ -282,7 +283,7 @@ taken-stays-b r records others given old new s ends opened c =
     ap (λ (l : List Record). take given (differences (known_by new l (others ++ r ∷ [])))) (sym (append-nil records))
     ∙ given-stays records others [] (r ∷ []) given old new s ends (continues-record-b r old new opened c)
 
--- the differences that the pair has returned stay the first known differences when a side is closed
+-- if a side is closed, the differences that the pair has returned are still the first known differences
 pub closed-stays : (which : Which) (records others : List Record) (given : ℕ) (old new : PairState) → StandsFor records others given old → EndsAreClosed old
     → Changes which 0 true old new → take given (differences (known_by new records others)) ≡ take given (differences (known_by old records others))
 closed-stays which records others given old new s ends c =

@@ -1,5 +1,5 @@
--- Two listeners with the same plan, each of which is fed the bytes of a capture, and the differences between what they
--- present.
+-- Two listeners that have the same plan, and the differences between what they present. Each listener is fed the bytes
+-- of one capture.
 use Rattle.std.specs.Prelude.{◌≡◌, ℕ, ◌+◌, ◌^◌, ◌≤◌, List, length, Option}
 use Rattle.listener.specs.declared.plan.ListenPlan.{ListenPlan}
 use Rattle.listener.specs.Feeding.{Feeding, Keeps as KeepsFed, StandsFor as IsFed, is_ended, out, work}
@@ -42,7 +42,7 @@ pub record AreShort (bytes others : List ℕ) : Type 0 where
   pub b : length others ≤ 2 ^ 62
 
 -- The known part of the merged list of both listeners' batches, after A was fed `bytes` and B was fed `others`. The
--- known part is a prefix of the merged list that no later bytes can change.
+-- known part is a prefix of the merged list, and no later bytes can change this prefix.
 abbrev pub known_by : FedPair → List ℕ → List ℕ → List Sided
 known_by pair bytes others = known (is_ended pair.a) (is_ended pair.b) (merged (presented_of (out pair.a bytes)) (presented_of (out pair.b others)))
 
@@ -61,8 +61,8 @@ IsThrough pair = IsIdle pair.matching
 abbrev pub most_left : FedPair → ℕ
 most_left pair = (work pair.a + work pair.b) + nexts_left pair.matching
 
--- Each listener keeps its plan and its reader. Whether a listener has ended, and whether it has run out of memory, does
--- not change.
+-- Each listener keeps its plan and its reader. Two more things do not change: whether a listener has ended, and whether
+-- a listener has run out of memory.
 pub record Keeps (old new : FedPair) : Type 0 where
   pub a : KeepsFed old.a new.a
   pub b : KeepsFed old.b new.b

@@ -1,5 +1,5 @@
--- Two listeners with the same plan, each of which is given the records of a capture, and the differences between what
--- they present.
+-- Two listeners that have the same plan, and the differences between what they present. Each listener is given the
+-- records of one capture.
 use Rattle.std.specs.Prelude.{◌≡◌, ℕ, ◌+◌, ◌≤◌, Bool, true, List, [], length, take, Option, Some}
 use Rattle.pcap_frames.specs.Capture.{Record}
 use Rattle.sample_schedule.specs.Batches.{Presented}
@@ -38,9 +38,9 @@ pub record HavePlan (plan : ListenPlan) (pair : PairState) : Type 0 where
   pub a : pair.a.plan ≡ plan
   pub b : pair.b.plan ≡ plan
 
--- The batches that a listener presents of `records`. While the listener is open, the list has the batches that are due,
--- which means that they are certain to be presented whatever records follow. After the listener is closed, the list has
--- all batches of `records`.
+-- The batches that a listener presents of `records`. While the listener is open, the list has the batches that are due:
+-- those that are certain to be presented, whatever records follow. After the listener is closed, the list has all
+-- batches of `records`.
 abbrev pub presented_by : ListenState → List Record → List Presented
 presented_by listener records = presented_of (out listener records)
 

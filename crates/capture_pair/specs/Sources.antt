@@ -10,8 +10,8 @@ pub data Taken : Type 0 where
   OfBytes : List ℕ → Taken
 
 -- What does not change while a listener is asked for items: its plan and whether it has ended. For a listener of
--- records, also the number of records that it took. For a listener of bytes, the reader and whether memory ran out do
--- not change, either.
+-- records, also the number of records that it took. For a listener of bytes, two more things do not change: the reader,
+-- and whether memory ran out.
 pub record Kept : Type 0 where
   pub plan : ListenPlan
   pub frames : ℕ

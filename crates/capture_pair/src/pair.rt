@@ -23,8 +23,9 @@ use listener_pair::{Difference, Matching, PairCounts, Which};
 use std::alloc::Global;
 use std::marker::Model;
 
-/// Two listeners with the same plan, which are fed the bytes of two captures of a stream, and the differences between
-/// what the listeners present. The bytes of each capture are fed in their order, and only when `wants` asks for them.
+/// Two listeners with the same plan, and the differences between what the listeners present. Each listener is fed the
+/// bytes of one of two captures of a stream. The bytes of each capture are fed in their order, and only when `wants`
+/// asks for them.
 ///
 /// A `RecordPair` returns the same differences for the records of both captures. Items that a listener flags are
 /// dropped, and do not end a side. Each capture must have at most 2^62 bytes.
@@ -131,8 +132,9 @@ impl Pair {
         next_difference(&mut self.a, &mut self.b, &mut self.matching)
     }
 
-    /// The counts of the known part, if `next_difference` has returned `None` and neither `feed` nor `end` was called
-    /// after that. A batch that is not paired yet counts as presented by one side only.
+    /// Suppose that `next_difference` has returned `None`, and that neither `feed` nor `end` was called since then.
+    /// Then the result is the counts of the known part. A batch that is not paired yet counts as presented by one side
+    /// only.
     pub fn counts(&self) -> PairCounts
         ensures { IsThrough self.now → (bytes others : List ℕ) (given : ℕ) → AreShort bytes others → StandsFor bytes others given self.now → result ≡ counts_of (known_by self.now bytes others) }
     {

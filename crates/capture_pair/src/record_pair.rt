@@ -21,9 +21,9 @@ use pcap_frames::RecordView;
 use std::alloc::Global;
 use std::marker::Model;
 
-/// Two listeners with the same plan, which are given the records of two captures of a stream, and the differences
-/// between what the listeners present. The records of each capture are given in their order, and only when `wants` asks
-/// for them.
+/// Two listeners that have the same plan, and the differences between what they present. The listeners are given the
+/// records of two captures of a stream. The records of each capture are given in their order, and only when `wants`
+/// asks for them.
 ///
 /// A difference is returned as soon as both batches of its pair are in the known part of the merged list. Items that a
 /// listener flags are dropped, and do not end a side. Memory is reserved when the pair is made. The samples of each
@@ -111,8 +111,8 @@ impl RecordPair {
 
     /// Returns the next difference in the known part of the merged list; `None` if and only if that part has no further
     /// difference. The merged list has the batches that both listeners present. The known part is a prefix of the
-    /// merged list that no later records can change. Only finitely many differences are returned before another record
-    /// is taken. Allocates nothing.
+    /// merged list, and no later records can change this prefix. Only finitely many differences are returned before
+    /// another record is taken. Allocates nothing.
     pub fn next_difference(&mut self) -> Option<Difference>
         ensures given { (records others : List Record) (given : ℕ) → StandsFor records others given self.old → result ≡ slice_get (differences (known_by self.old records others)) given }
         ensures stands { (records others : List Record) (given : ℕ) → StandsFor records others given self.old → StandsFor records others (given + length (option_to_list result)) self.new }
@@ -124,8 +124,9 @@ impl RecordPair {
         next_difference(&mut self.a, &mut self.b, &mut self.matching)
     }
 
-    /// The counts of the known part, if `next_difference` has returned `None` and neither `take_record` nor `close` was
-    /// called after that. A batch that is not paired yet counts as presented by one side only.
+    /// Suppose that `next_difference` has returned `None`, and that neither `take_record` nor `close` was called since
+    /// then. Then the result is the counts of the known part. A batch that is not paired yet counts as presented by one
+    /// side only.
     pub fn counts(&self) -> PairCounts
         ensures { IsThrough self.now → (records others : List Record) (given : ℕ) → StandsFor records others given self.now → result ≡ counts_of (known_by self.now records others) }
     {

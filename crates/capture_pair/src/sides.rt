@@ -89,7 +89,7 @@ pub fn fill_both<S: Source>(a: &mut S, b: &mut S, matching: &mut Matching)
 
 /// Returns the next difference in the known part of the merged list; `None` if and only if that part has no further
 /// difference. The merged list has the batches that both listeners present. The known part is a prefix of the merged
-/// list that no later input can change.
+/// list, and no later input can change this prefix.
 pub fn next_difference<S: Source>(
     a: &mut S,
     b: &mut S,

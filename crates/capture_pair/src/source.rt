@@ -28,8 +28,8 @@ pub trait Source {
     /// The maximum number of items that the listener can still show.
     ghost work: { Self → ℕ };
 
-    /// Returns the next item that the listener shows of what it has taken so far; `None` exactly if the listener has
-    /// shown all items of what it has taken. The listener reuses the memory of `spent`.
+    /// The listener shows a list of items from what it has taken so far. The call returns the next item of this list,
+    /// or `None` if and only if all items of the list were shown. The listener reuses the memory of `spent`.
     fn next_out(&mut self, spent: Option<Bytes>) -> Option<Shown>
         ensures given { (taken : Taken) (list : List ShownValue) (n : ℕ) → shows self.old taken list n → result ≡ slice_get list n }
         ensures shows { (taken : Taken) (list : List ShownValue) (n : ℕ) → shows self.old taken list n → shows self.new taken list (n + length (option_to_list result)) }
@@ -74,7 +74,8 @@ impl Source for RecordSource {
     }
 }
 
-/// A listener of bytes, whether its capture has ended, and whether it ran out of memory.
+/// A listener of bytes, with two facts: whether the listener's capture has ended, and whether the listener ran out of
+/// memory.
 #[derive(Drop)]
 pub struct ByteSource {
     pub listener: Listener,

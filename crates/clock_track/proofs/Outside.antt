@@ -23,7 +23,7 @@ use Rattle.clock_track.proofs.TooLate.{none-found, none-more}
 
 -- ---- one pair
 
--- half the spacing of samples that a joined pair gives is at most the lead
+-- a joined pair gives a spacing of samples; half this spacing is at most the lead
 led : (i down rate lead s : ℕ) → IsLead rate lead → 8 * s ≤ 9 * (i * 1000000000 * down) → 1 ≤ i * down → s < 2 * ((lead + 1) * (i * rate * down))
 led i down rate lead s is most some =
     elim (cases_lt 562500000 (rate * (lead + 1))) [
@@ -191,8 +191,9 @@ widened-inside shift row old new later end first last has wider i from to =
     if-some (λ pair. IsWithin old pair) (λ pair. IsWithin new pair) (inside shift row i)
     (λ p is. let low = is.from in let high = is.to in record { from = omega (arith, ints); to = omega (arith, ints) }) (has i from to)
 
--- `old` are bounds of the pairs inside a packet, and are widened to `new` by the longest possible period of a pair
--- whose later point is the packet's first timestamp. The widened bounds hold all pairs of the packet.
+-- `old` are bounds of the pairs inside a packet, and `new` are wider. `new` also hold the pair whose later point is the
+-- packet's first timestamp, even if that pair's period is the longest possible one. The widened bounds hold all pairs
+-- of the packet.
 pub pairs-wide : (shift : ℤ) (row : ClockRow) (old new : Bounds) (pair : Pair) (longest : ℕ) → HasInside shift row old 0 (timestamps row - 1) → Widens old new pair.later (pair.later +ℤ pos longest)
     → pair ≡ pair_of shift row (timestamp row 0) (timestamp row 0) → IsLongest pair longest → HasPairs shift row new
 pairs-wide shift row old new pair longest has wider same is =

@@ -41,7 +41,7 @@ pub record AreAcross (shift : ℤ) (row before : ClockRow) : Type 0 where
 abbrev pub lone_row : ClockRow
 lone_row = worked_row 100 false 48000 1006000000
 
--- The two packets of the worked example, whose points are 2 ms apart, followed by `others` packets that are joined with
--- no packet.
+-- The two packets of the worked example, and then `others` packets. The points of the two packets are 2 ms apart, and
+-- the other packets are joined with no packet.
 abbrev pub followed_rows : ℕ → List ClockRow
 followed_rows others = worked_rows 48000 false ++ replicate others lone_row

@@ -21,7 +21,7 @@ worked_row seq mr base timestamp = record {
   payload = big_bytes 8 timestamp;
 }
 
--- Two successive clock packets with this base frequency in Hz, whose points are 2 ms apart. If `restarts` is true, the
--- clock restarts between the two packets.
+-- Two successive clock packets with this base frequency in Hz. The points of the two packets are 2 ms apart. If
+-- `restarts` is true, the clock restarts between the two packets.
 abbrev pub worked_rows : ℕ → Bool → List ClockRow
 worked_rows base restarts = worked_row 255 false base 1002000000 ∷ worked_row 0 restarts base 1004000000 ∷ []

@@ -27,9 +27,8 @@ pub record IsSmall (p : Pair) : Type 0 where
   pub some_down : 1 ≤ p.down
   pub down : p.down ≤ 1001
 
--- The fields of a packet that gives points are within the limits of the format. The pull is at most 5, the base
--- frequency has 29 bits, and the interval has 16 bits. The packet has at most 8,191 timestamps, and none of them is cut
--- off.
+-- If a packet gives points, its fields are within the limits of the format. The pull is at most 5, the base frequency
+-- has 29 bits, and the interval has 16 bits. The packet has at most 8,191 timestamps, and none of them is cut off.
 pub record IsRow (row : ClockRow) : Type 0 where
   pub pull : row.pull ≤ 5
   pub some_frequency : 1 ≤ row.base_frequency

@@ -32,7 +32,7 @@ abbrev pub at_least_0 : ℤ → ℕ
 at_least_0 (pos n) = n
 at_least_0 (negsuc n) = 0
 
--- the time from the earlier point to the later in nanoseconds, or 0 if it is negative
+-- the time in nanoseconds from the earlier point to the later point, or 0 if this time is negative
 abbrev pub period : Pair → ℕ
 period p = at_least_0 (p.later -ℤ p.earlier)
 
@@ -65,8 +65,8 @@ step_den p rate = p.interval * rate * p.down
 abbrev pub reach : Pair → ℕ → ℤ → ℤ
 reach p rate instant = (instant -ℤ p.later) *ℤ pos (2 * step_den p rate) +ℤ pos (step_num p)
 
--- The pair covers the instant. A pair covers the instants of one period, which begins half a sample before its later
--- point.
+-- The pair covers the instant. A pair covers the instants of one period. The period begins half a sample before the
+-- pair's later point.
 pub record Covers (p : Pair) (rate : ℕ) (instant : ℤ) : Type 0 where
   pub from : pos 0 ≤ℤ reach p rate instant
   pub to : reach p rate instant <ℤ pos (2 * (period p * step_den p rate))
@@ -88,9 +88,10 @@ event_line p = record { base = p.later; num = period p; den = p.interval }
 abbrev pub nearest_event : Pair → ℤ → ℤ
 nearest_event p instant = floor_of ((instant -ℤ p.later) *ℤ pos (2 * p.interval) +ℤ pos (period p)) (2 * period p)
 
--- The line on which a pair places a sample with this presentation time, and the sample's number on that line. If the
--- clock's frequency is the stream's rate, the sample is at the nearest event. If the clock's frequency differs from the
--- stream's rate, the sample is sample 0 of a line that begins at the presentation time and has the pair's spacing.
+-- A pair places a sample with this presentation time on a line. The result is that line, and the sample's number on it.
+-- If the clock's frequency is the stream's rate, the sample is at the nearest event. If the clock's frequency differs
+-- from the stream's rate, the sample is sample 0 of a line that begins at the presentation time and has the pair's
+-- spacing.
 abbrev pub spot_by : Pair → ℕ → ℤ → Spot
 spot_by p rate instant =
     if p.up == rate * p.down
@@ -104,8 +105,8 @@ abbrev pub is_joined : Pair → Bool
 is_joined p =
     if nat_le (7 * nominal p) (8 * step_num p) then nat_le (8 * step_num p) (9 * nominal p) else false
 
--- Whether a pair covers an instant. A pair covers the instants of one period, which begins half a sample before its
--- later point.
+-- Whether a pair covers an instant. A pair covers the instants of one period. The period begins half a sample before
+-- the pair's later point.
 abbrev pub covers : Pair → ℕ → ℤ → Bool
 covers p rate instant =
     if int_le (pos 0) (reach p rate instant) then int_lt (reach p rate instant) (pos (2 * (period p * step_den p rate))) else false

@@ -36,7 +36,7 @@ joined_by shift row first second =
     if nat_lt second (2 ^ 62) then
     if is_joined (pair_of shift row first second) then Some (pair_of shift row first second) else None else None else None
 
--- the pair of timestamps i and i + 1 of one packet, if it is joined
+-- the pair of timestamps i and i + 1 of one packet, if the pair is joined
 abbrev pub inside : ℤ → ClockRow → ℕ → Option Pair
 inside shift row i = joined_by shift row (timestamp row i) (timestamp row (i + 1))
 
@@ -49,8 +49,8 @@ seems_next row before =
     if row.base_frequency == before.base_frequency then
     if row.pull == before.pull then row.interval == before.interval else false else false else false else false
 
--- the pair of the last timestamp of `before` and the first of `row`, if `row` seems to be the next packet and the pair
--- is joined
+-- the pair of the last timestamp of `before` and the first timestamp of `row`, if `row` seems to be the next packet and
+-- the pair is joined
 abbrev pub across : ℤ → ClockRow → ClockRow → Option Pair
 across shift row before =
     if seems_next row before then

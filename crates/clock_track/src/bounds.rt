@@ -6,8 +6,8 @@ ghost use Rattle.clock_track.specs.state.Bounds.{IsOutside, IsPair, IsWithin, Wi
 
 use crate::pair::Pair;
 
-/// Bounds of some pairs. The later point of each pair is at or after `earliest`. The end of each pair, which is one
-/// period after its later point, is at or before `latest`.
+/// Bounds of some pairs. The later point of each pair is at or after `earliest`. The end of each pair is at or before
+/// `latest`. A pair ends one period after its later point.
 #[derive(Clone, Copy, Debug)]
 pub struct Bounds {
     pub earliest: i64,
@@ -52,8 +52,8 @@ pub fn widened_by(bounds: &Bounds, pair: Option<Pair>) -> Bounds
     }
 }
 
-/// Whether `instant` is at or after the end of the bounds, or before their start by more than `lead` nanoseconds. If
-/// the result is true and `lead` is what `lead_of` returns for the stream's rate, no joined pair within the bounds
+/// Whether `instant` is at or after the end of the bounds, or before their start by more than `lead` nanoseconds. Let
+/// `lead` be what `lead_of` returns for the stream's rate. If the result is true, no joined pair within the bounds
 /// covers `instant`.
 pub fn excludes(bounds: &Bounds, instant: i64, lead: u64) -> bool
     ensures { IsTrue result → IsOutside bounds.now instant lead }

@@ -132,7 +132,7 @@ impl Rows for Ring<'_> {
     }
 }
 
-/// Room for one more packet. If no room is spare, the oldest packet is dropped and its room is returned.
+/// Room for one more packet. If there is no spare room, the oldest packet is dropped and its room is returned.
 fn take_room(rows: &mut HeapCircularBuffer<Kept>, spare: &mut Vec<Room>) -> Room
     requires room { All HasRoom rows.old.items }
     requires spare { All IsRoom spare.old.items }
@@ -165,7 +165,7 @@ fn put_behind(rows: &mut HeapCircularBuffer<Kept>, kept: Kept)
     };
 }
 
-/// A media clock (IEEE 1722-2016, 10), which keeps the last 64 of its packets that give points.
+/// A media clock (IEEE 1722-2016, 10). The clock keeps packets that give points, and of these only the last 64.
 #[derive(Drop)]
 pub struct Clock {
     shift: i64,
@@ -206,8 +206,8 @@ impl Clock {
     }
 
     /// Notes a packet of the clock. If 64 packets are kept already, the oldest is dropped. A packet that gives no
-    /// points is ignored. A packet that gives points must be within these limits: at most 8,191 timestamps, none of
-    /// which is cut off; a pull of at most 5; a base frequency from 1 to 2^29 - 1; and an interval of at least 1.
+    /// points is ignored. A packet that gives points must be within these limits: at most 8,191 timestamps, each of
+    /// them complete; a pull of at most 5; a base frequency from 1 to 2^29 - 1; and an interval of at least 1.
     /// Allocates nothing.
     pub fn note(&mut self, points: &Points<'_>)
         requires { IsNotable (row_of points.now) }
@@ -220,9 +220,10 @@ impl Clock {
         }
     }
 
-    /// The line of the sample whose presentation time is `instant`, in nanoseconds of gPTP, and the sample's number on
-    /// that line. The stream has `rate` samples a second, at least 1. The answer is that of `line_over` for all packets
-    /// that were noted. The answer is `NoClock` if and only if no pair covers the instant. Allocates nothing.
+    /// The line of the sample with the presentation time `instant` (in nanoseconds of gPTP), and the number of the
+    /// sample on that line. The stream has `rate` samples a second, at least 1. The answer is that of `line_over` for
+    /// all packets that were noted. The answer is `NoClock` if and only if no pair covers the instant. Allocates
+    /// nothing.
     pub fn line_for(&self, instant: i64, rate: u32) -> ClockAnswer
         requires { 1 ≤ rate }
         ensures value { (rows : List ClockRowValue) → StandsFor self.now rows → answered result ≡ clock_spot rows self.now.shift instant rate }

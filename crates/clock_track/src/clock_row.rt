@@ -13,7 +13,7 @@ pub struct Points<'a> {
     pub mr: bool,
     /// The base frequency in Hz, before it is pulled.
     pub base_frequency: u32,
-    /// The code, from 0 to 5, of the factor by which the base frequency is multiplied.
+    /// The code, from 0 to 5, of the pull factor. The base frequency is multiplied by this factor.
     pub pull: u8,
     /// The number of events from one timestamp to the next.
     pub interval: u16,

@@ -76,15 +76,15 @@ pub fn line_among<R: Rows>(rows: &R, query: &Query) -> ClockAnswer
     }
 }
 
-/// The line of the sample whose presentation time is `instant`, in nanoseconds of gPTP, and the sample's number on that
-/// line, according to a media clock (IEEE 1722-2016, 10). The stream has `rate` samples a second, at least 1. The
-/// clock's packets are the last 64 of `rows` that give points. `shift` is added to each timestamp of the clock. The
-/// shift is in nanoseconds, and is at most a second, forward or back.
+/// A media clock (IEEE 1722-2016, 10) gives a line to the sample whose presentation time is `instant`, in nanoseconds
+/// of gPTP. The answer is this line and the sample's number on the line. The stream has `rate` samples a second, at
+/// least 1. The clock's packets are the last 64 of `rows` that give points. `shift` is added to each timestamp of the
+/// clock. The shift is in nanoseconds, and is at most a second, forward or back.
 ///
-/// Two adjacent timestamps are a pair if both are below 2^62 and the time between them differs from the nominal time of
-/// the interval by at most 1/8 of that nominal time. Successive timestamps of one packet are adjacent. The last
-/// timestamp of a packet and the first timestamp of the next packet are adjacent, too. A packet is the next one if it
-/// has the next sequence number, and the same restart bit, frequency and interval.
+/// Two adjacent timestamps are a pair if two things hold: both are below 2^62, and the time between them differs from
+/// the nominal time of the interval by at most 1/8 of that nominal time. Successive timestamps of one packet are
+/// adjacent. The last timestamp of a packet and the first timestamp of the next packet are adjacent, too. A packet is
+/// the next one if it has the next sequence number, and the same restart bit, frequency and interval.
 ///
 /// A pair covers the instants of one period. The period that a pair covers begins half a sample before the pair's later
 /// point. If several pairs cover the instant, the last of these pairs gives the line. Pairs are ordered by the

@@ -110,8 +110,8 @@ impl Pair {
         u64::from(self.interval) * u64::from(rate) * self.down
     }
 
-    /// Whether the pair covers an instant, for a stream of this rate. A pair covers the instants of one period, which
-    /// begins half a sample before its later point.
+    /// Whether the pair covers an instant, for a stream of this rate. A pair covers the instants of one period. The
+    /// period begins half a sample before the pair's later point.
     #[tactic(auto, using(crate::proofs::Pairs::covers_so))]
     pub fn covers(&self, rate: u32, instant: i64) -> bool
         requires small { IsSmall self.now }
@@ -148,10 +148,10 @@ impl Pair {
         behind.div_euclid(i128::from(2 * period)) as u64
     }
 
-    /// The line of a sample whose presentation time is `instant`, and the sample's number on that line, in a stream of
-    /// `rate` samples a second. The pair must cover the instant. If the clock's frequency is `rate`, the sample is at
-    /// the nearest event. If the clock's frequency is not `rate`, the sample is sample 0 of a line that begins at the
-    /// instant and has the pair's spacing.
+    /// A sample has the presentation time `instant`, in a stream of `rate` samples a second. The result is the sample's
+    /// line, and the sample's number on that line. The pair must cover the instant. If the clock's frequency is `rate`,
+    /// the sample is at the nearest event. If the clock's frequency is not `rate`, the sample is sample 0 of a line
+    /// that begins at the instant and has the pair's spacing.
     pub fn answer(&self, rate: u32, instant: i64) -> ClockAnswer
         requires rate { 1 ≤ rate }
         requires covering { IsCovering rate instant self.now }

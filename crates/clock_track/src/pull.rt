@@ -1,4 +1,4 @@
-//! The factor by which a clock's base frequency is pulled.
+//! The pull of a clock: the clock's base frequency is multiplied by this factor.
 
 ghost use Rattle.std.specs.Prelude.{◌≡◌, ◌≤◌};
 ghost use Rattle.clock_track.specs.Pairs.{pull_down as pull_down_of, pull_up as pull_up_of};

@@ -31,7 +31,8 @@ pub struct Query {
     pub shift: i64,
     pub instant: i64,
     pub rate: u32,
-    /// A pair covers no instant that is more than this many nanoseconds before the pair's later point.
+    /// If an instant is more than this many nanoseconds before a pair's later point, the pair does not cover the
+    /// instant.
     pub lead: u64,
 }
 
@@ -133,8 +134,8 @@ fn covering(row: &Points<'_>, query: &Query, first: u64, second: u64) -> Option<
     }
 }
 
-/// The bounds of the pairs inside a packet, for the pairs whose earlier timestamp has an index of at least `first` and
-/// less than `end`.
+/// The bounds of some of the pairs inside a packet: those whose earlier timestamp has an index from `first` to below
+/// `end`.
 fn bounds_inside(row: &Points<'_>, shift: i64, first: usize, end: usize) -> Bounds
     requires row { IsRow (row_of row.now) }
     requires shift { IsShift shift }
@@ -183,7 +184,7 @@ pub fn bound_groups(groups: &mut Vec<Bounds>, row: &Points<'_>, shift: i64)
     }
 }
 
-/// Bounds of the pairs whose later point is in a packet, whatever packets precede it.
+/// Bounds of the pairs that have their later point in a packet, whatever packets precede this packet.
 pub fn bounds_of(row: &Points<'_>, shift: i64) -> Bounds
     requires row { IsRow (row_of row.now) }
     requires shift { IsShift shift }
@@ -206,8 +207,8 @@ pub fn bounds_of(row: &Points<'_>, shift: i64) -> Bounds
     )
 }
 
-/// The last pair inside a packet that covers the instant, among the pairs whose earlier timestamp has an index of at
-/// least `first` and less than `end`.
+/// Looks at pairs inside a packet: those whose earlier timestamp has an index of at least `first` and less than `end`.
+/// Returns the last of these pairs that covers the instant.
 fn latest_between(row: &Points<'_>, first: usize, end: usize, query: &Query) -> Option<Pair>
     requires row { IsRow (row_of row.now) }
     requires shift { IsShift query.now.shift }
@@ -236,7 +237,7 @@ fn is_past_group(groups: &[Bounds], group: usize, query: &Query) -> bool
     }
 }
 
-/// The last pair of a group that covers the instant, among the pairs up to index `end` - 1.
+/// The last pair that covers the instant, among a group's pairs up to index `end` - 1.
 fn latest_of_group(
     row: &Points<'_>,
     groups: &[Bounds],
@@ -290,7 +291,8 @@ fn seems_next(row: &Points<'_>, before: &Points<'_>) -> bool
         && row.interval == before.interval
 }
 
-/// The pair of the last timestamp of `before` and the first of `row`, if it is joined and covers the instant.
+/// The pair of the last timestamp of `before` and the first timestamp of `row`. The result is `None` if there is no
+/// such pair, or if the pair is not joined or does not cover the instant.
 fn covering_across(row: &Points<'_>, before: &Points<'_>, query: &Query) -> Option<Pair>
     requires row { IsRow (row_of row.now) }
     requires shift { IsShift query.now.shift }
@@ -307,8 +309,8 @@ fn covering_across(row: &Points<'_>, before: &Points<'_>, query: &Query) -> Opti
     covering(row, query, timestamp(before, count - 1), timestamp(row, 0))
 }
 
-/// The pair of the last timestamp of the packet at index `place` and the first of `row`. `None` if that packet gives no
-/// points, or if the pair is not joined or does not cover the instant.
+/// The pair of the last timestamp of the packet at index `place` and the first timestamp of `row`. `None` if that
+/// packet gives no points, or if the pair is not joined or does not cover the instant.
 fn covering_from<R: Rows>(rows: &R, place: usize, row: &Points<'_>, query: &Query) -> Option<Pair>
     requires place { place < length (R.rows rows.now) }
     requires row { IsRow (row_of row.now) }
@@ -325,7 +327,7 @@ fn covering_from<R: Rows>(rows: &R, place: usize, row: &Points<'_>, query: &Quer
 }
 
 /// Whether the first timestamp of a packet is missing, is not a point, or is more than one nominal sample after the
-/// instant. If the result is true, no pair whose later point is the first timestamp covers the instant.
+/// instant. If the result is true, the instant is covered by no pair whose later point is the first timestamp.
 fn is_too_late(row: &Points<'_>, query: &Query) -> bool
     requires row { IsRow (row_of row.now) }
     requires shift { IsShift query.now.shift }
@@ -339,7 +341,7 @@ fn is_too_late(row: &Points<'_>, query: &Query) -> bool
         || pair_of(row, query.shift, first, first).is_after(query.rate, query.instant)
 }
 
-/// Of the pairs whose later point is the first timestamp of `row`, the last that covers the instant.
+/// The last pair that covers the instant and has the first timestamp of `row` as its later point.
 fn latest_across<R: Rows>(rows: &R, row: &Points<'_>, query: &Query) -> Option<Pair>
     requires row { IsRow (row_of row.now) }
     requires shift { IsShift query.now.shift }
@@ -374,8 +376,8 @@ fn is_outside<R: Rows>(rows: &R, place: usize, query: &Query) -> bool
     }
 }
 
-/// Of the pairs whose later point is in the packet at index `place`, the last that covers the instant. `None` if the
-/// packet gives no points.
+/// The last pair that covers the instant and has its later point in the packet at index `place`. `None` if the packet
+/// gives no points.
 fn latest_at<R: Rows>(rows: &R, place: usize, query: &Query) -> Option<Pair>
     requires rows { All IsNotable (R.rows rows.now) }
     requires bounded { R.bounded rows.now query.now.shift }

@@ -217,8 +217,8 @@ accepted_again bytes v whole j long =
     ) in
     or_else-accepted _ _ start (or_else-accepted _ _ shared clock)
 
--- if bytes hold the header as the writer writes it, followed by the payload, they spell the packet with the reserved
--- bit 0
+-- If bytes hold the header as the writer writes it, and then the payload, the bytes spell the packet. The reserved bit
+-- of the spelled packet is 0.
 held : (bytes : List ℕ) (v : Crf) → IsWritableCrf v → Holds crf_layout v bytes → 20 + length v.payload ≤ length bytes
     → v.payload ≡ take (length v.payload) (drop 20 bytes) → SpellsCrf bytes (plain_crf v)
 held bytes v whole f long payload =
@@ -239,7 +239,8 @@ crf_again v rest whole fits =
     omega (arith, length-append (spelling crf_layout v) (v.payload ++ rest), length-append v.payload rest) in
     rw regrouped (held (spelling crf_layout v ++ (v.payload ++ rest)) v whole f long (sym (take_at v.payload rest (length v.payload) refl)))
 
--- ---- bytes that set no reserved bit and end with their packet are exactly the bytes that are written for the packet
+-- ---- if bytes spell a packet, set no reserved bit and end with the packet, they are exactly the bytes that are
+-- written for the packet
 
 pub crf_only : (bytes : List ℕ) (v : Crf) → AreBytes bytes → SpellsCrf bytes v → v.reserved ≡ false → length bytes ≡ 20 + length v.payload
     → bytes ≡ crf_spelling v

@@ -74,8 +74,8 @@ point_at i payload = bits (8 * i) 0 64 payload
 abbrev pub last_pull : ℕ
 last_pull = 5
 
--- in a packet of n bytes, the stated length is 0, is not a multiple of a timestamp's 8 bytes, or exceeds what follows
--- the 20-byte header
+-- in a packet of n bytes, the stated length is 0, or is not a multiple of a timestamp's 8 bytes, or exceeds the number
+-- of bytes after the 20-byte header
 abbrev pub misses_timestamps : ℕ → ℕ → Bool
 misses_timestamps stated n = stated == 0 || not (stated % 8 == 0) || exceeds 20 stated n
 

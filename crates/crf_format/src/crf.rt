@@ -17,8 +17,8 @@ pub struct CrfView<'a> {
     /// cycles.
     pub kind: u8,
     pub stream_id: u64,
-    /// The code of the factor by which `base_frequency` is multiplied. The codes 0 to 5 mean 1, 1000/1001, 1001/1000,
-    /// 24/25, 25/24 and 1/8.
+    /// The code of a factor; `base_frequency` is multiplied by this factor. The codes 0 to 5 mean 1, 1000/1001,
+    /// 1001/1000, 24/25, 25/24 and 1/8.
     pub pull: u8,
     /// The nominal frequency of the events in Hz, before it is multiplied by the factor: 1 to 2^29 - 1.
     pub base_frequency: u32,

@@ -53,8 +53,8 @@ fn base_frequency(pdu: &[u8]) -> u32
     u32_at(pdu, 12) % (1 << 29)
 }
 
-/// Whether a stated length is 0, is not a multiple of 8 bytes, or exceeds the number of bytes after the header of a
-/// packet of `len` bytes.
+/// Whether one of three things holds: the stated length is 0, the stated length is not a multiple of 8 bytes, or a
+/// packet of `len` bytes has fewer bytes after its header than the stated length.
 fn misses_timestamps(stated: u16, len: usize) -> bool
     requires { 20 ≤ len }
     ensures { result ≡ is_missed stated len }

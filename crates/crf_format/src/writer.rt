@@ -52,8 +52,8 @@ fn header_bytes(view: &CrfView<'_>) -> [u8; 20]
 /// shorter than the packet, the function returns `Room` and leaves the slice unchanged.
 ///
 /// The view must be one that `read_crf` could return. In a view that `read_crf` can return, the pull is at most 5, the
-/// base frequency 1 to 2^29 - 1, and the interval at least 1. The payload is one or more whole timestamps, at most
-/// 65,535 bytes in total. `reserved` is not read.
+/// base frequency is 1 to 2^29 - 1, and the interval is at least 1. The payload is one or more whole timestamps, at
+/// most 65,535 bytes in total. `reserved` is not read.
 pub fn write_crf(out: &mut [u8], view: &CrfView<'_>) -> Result<usize, Room>
     requires { IsWritableCrf (crf_shape view.now) }
     ensures written { Writes (crf_spelling (crf_shape view.now)) out.old out.new result }

@@ -87,7 +87,7 @@ two_of_three bytes at c o = record {
     two_read bytes at p q (suc zero) lt = q
     two_read bytes at p q (suc (suc j)) lt = absurd (omega arith)
 
--- a unit ends before two zero bytes if the byte after them is at most 1
+-- if two zero bytes are followed by a byte that is at most 1, a unit ends before the two zero bytes
 third_ends : (bytes : List ℕ) (at : ℕ) → OccursAt bytes (0 ∷ 0 ∷ []) at → at + 2 < length bytes → get_or bytes (at + 2) 0 ≤ 1 → is_end bytes at ≡ true
 third_ends bytes at two more few = ends_by (get_or bytes (at + 2) 0) refl few
   where
@@ -213,7 +213,7 @@ unit_passed bytes code k there behind before =
     let ends = end_first bytes (code + 3) (omega (arith, there.fits)) in
     units_skipped bytes (code + 1) k behind (omega (arith, ends.within)) (λ i low high. code_apart bytes code there i low (omega arith))
 
--- `s`, which the function returns, is the NAL unit after the start code at index `code`
+-- the function returns `s`, the NAL unit after the start code at index `code`
 pub unit_is : (bytes : List ℕ) (code end : ℕ) (r s : Option (ℕ × ℕ)) → end ≡ end_behind bytes (code + 3)
     → r ≡ option_map (λ (last : ℕ). (code + 3, last + 1)) (last_or None (places (is_other_byte bytes) (code + 3) end)) → r ≡ s → unit_behind bytes code ≡ s
 unit_is bytes code end r s ends value is =

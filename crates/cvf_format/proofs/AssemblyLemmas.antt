@@ -140,7 +140,7 @@ just_long g gs f e long =
       piece = rw (long, front, e) refl;
     }
 
--- if the last packet did not join the packets that waited, it gave up all of them
+-- if the last packet did not join the waiting packets, the last packet gave up all of them
 gives_all : (a : Assembly) (before after : List Fragment) → KeepsAll a (waiting before) → is_joined after ≡ false → a.held ≡ map mark_of (lost_of before after)
 gives_all a before after k e = rw e (keeps_marks a (waiting before) k)
 

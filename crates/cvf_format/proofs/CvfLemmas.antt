@@ -129,7 +129,7 @@ accepted_so bytes e =
 
 -- ---- the part and the first byte of a NAL unit
 
--- the part of a NAL unit that a packet carries determines the bits S and E, and whether the packet's type is FU-A
+-- the packet's part of a NAL unit determines two things: the bits S and E, and whether the packet's type is FU-A
 single_bits : (fragment start end : Bool) → cond fragment (fragment_of start end) Single ≡ Single → fragment ≡ false
 single_bits false start end e = refl
 single_bits true true end e = absurd cc
@@ -422,7 +422,7 @@ cvf_again v rest whole fits =
     let body : v.body ≡ body_of v.part v.header.data_length bytes = rw behind (sym (take_at v.body rest (24 + v.header.data_length - header_size v.part) (omega (arith, whole.data_length)))) in
     rw regrouped (held bytes v whole f long body)
 
--- ---- bytes that set no reserved bit and end with their packet are the packet's `cvf_spelling`
+-- ---- if bytes set no reserved bit and end with their packet, they are the packet's `cvf_spelling`
 
 all_told : (part : NalPart) → is_told (layout_of part) ≡ true
 all_told Single = refl

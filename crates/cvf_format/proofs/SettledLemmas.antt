@@ -10,7 +10,8 @@ use Rattle.cvf_format.proofs.AssemblyLemmas.{begins_not_goes, joined_none, lost_
 
 -- ---- one event
 
--- Each packet that waited, and the new packet itself, is either settled by the new packet or waits after it.
+-- The packets that waited, followed by the new packet, are of two kinds: first the packets that the new packet settles,
+-- and then the packets that wait after it.
 abbrev AddsUp : List Fragment → Fragment → List Fragment → Type 0
 AddsUp before f after = waiting before ++ f ∷ [] ≡ (lost_of before after ++ settled_as (piece_of after) f after) ++ waiting after
 
@@ -36,8 +37,8 @@ adds_one before f = by (is_within (f ∷ [])) (is_complete (f ∷ [])) refl refl
     by true true p q = adds_lost before f (f ∷ []) refl (rw (p, q) refl) (rw (p, q) refl)
     by true false p q = rw (p, q) (ap (λ (xs : List Fragment). xs ++ f ∷ []) (sym (append_none (waiting before))))
 
--- if a packet continues a stretch, and the longer stretch is within the limits, all packets of the shorter one were
--- waiting
+-- assume that a packet continues a stretch, and that the longer stretch is within the limits; then all packets of the
+-- shorter stretch were waiting
 was_waiting : (g : Fragment) (gs : List Fragment) (f : Fragment) → continues g gs f ≡ true → is_within (g ∷ (gs ++ f ∷ [])) ≡ true → waiting (g ∷ gs) ≡ g ∷ gs
 was_waiting g gs f goes within = by (is_within (g ∷ gs)) (is_complete (g ∷ gs)) refl refl
   where

@@ -9,7 +9,7 @@ use Rattle.memchr.specs.Find.{OccursAt, occurs_at}
 abbrev pub start_code : List ℕ
 start_code = 0 ∷ 0 ∷ 1 ∷ []
 
--- three zero bytes, before which a NAL unit ends (ITU-T H.264, annex B)
+-- three zero bytes; a NAL unit ends before them (ITU-T H.264, annex B)
 abbrev pub three_zeros : List ℕ
 three_zeros = 0 ∷ 0 ∷ 0 ∷ []
 
@@ -18,7 +18,7 @@ abbrev pub IsEnd : List ℕ → ℕ → Type 0
 IsEnd bytes at = OccursAt bytes start_code at ⊎ OccursAt bytes three_zeros at ⊎ (at ≡ length bytes)
 
 -- The bytes from `from` to before `to` are a NAL unit. The unit begins after a start code. `end` is the first later
--- index at which a unit can end. The unit has at least one byte, and excludes the zero bytes just before `end`.
+-- index where a unit can end. The unit has at least one byte, and excludes the zero bytes just before `end`.
 pub record IsUnit (bytes : List ℕ) (from to end : ℕ) : Type 0 where
   pub behind : 3 ≤ from
   pub code : OccursAt bytes start_code (from - 3)
@@ -48,8 +48,8 @@ is_start_code bytes at = occurs_at bytes start_code at
 abbrev pub is_end : List ℕ → ℕ → Bool
 is_end bytes at = occurs_at bytes start_code at || occurs_at bytes three_zeros at
 
--- the first index from `from` on at which a NAL unit can end; this is `end` in `IsUnit`, so the unit excludes any zero
--- bytes just before it
+-- the first index, from `from` on, where a NAL unit can end; this is `end` in `IsUnit`, so any zero bytes just before
+-- this index are not part of the unit
 abbrev pub end_behind : List ℕ → ℕ → ℕ
 end_behind bytes from = unwrap_or (find (is_end bytes) (range_with_len from (length bytes - from))) (length bytes)
 
@@ -57,9 +57,9 @@ end_behind bytes from = unwrap_or (find (is_end bytes) (range_with_len from (len
 abbrev pub is_other_byte : List ℕ → ℕ → Bool
 is_other_byte bytes at = not (slice_index bytes at == 0)
 
--- The NAL unit after the start code at this index. Of the bytes after the start code and before the index `end_behind`,
--- the last nonzero one is the unit's last byte. If all bytes between the start code and `end_behind` are 0, or if there
--- are none, there is no unit.
+-- The NAL unit after the start code at this index. The unit's last byte is the last nonzero byte after the start code
+-- and before the index `end_behind`. If all bytes between the start code and `end_behind` are 0, or if there are none,
+-- there is no unit.
 abbrev pub unit_behind : List ℕ → ℕ → Option (ℕ × ℕ)
 unit_behind bytes code =
     option_map (λ last. (code + 3, last + 1))

@@ -51,7 +51,7 @@ pub record Keeps (a : Assembly) (first : Fragment) (rest : List Fragment) : Type
   pub next_seq : a.next_seq ≡ ((last_of first rest).mark.seq + 1) % sequence_numbers
   pub instant : a.instant ≡ first_stamp (stamps (first ∷ rest))
 
--- the assembler keeps these packets, possibly none, which wait for the next fragment of their unit
+-- The assembler keeps these packets, possibly none. The packets wait for the next fragment of their unit.
 abbrev pub KeepsAll : Assembly → List Fragment → Type 0
 KeepsAll a [] = a.held ≡ []
 KeepsAll a (first ∷ rest) = Keeps a first rest

@@ -83,8 +83,8 @@ ends Middle = false
 
 -- The table of an H.264 packet: 28 bytes with the same layout for whole NAL units and fragments, and then
 -- `nal_headers`. The two format bits of the stream header are reserved, and a view shows them. The stated length
--- includes the H.264 timestamp. A packet that ends within the H.264 timestamp is therefore refused for its stated
--- length.
+-- includes the H.264 timestamp. If a packet ends within the H.264 timestamp, the packet is therefore refused for its
+-- stated length.
 abbrev pub cvf_layout : Layout Cvf → Layout Cvf
 cvf_layout nal_headers = stream_layout (λ v. v.header)
     (reserved_shown 2 (λ v. v.header.format_bits) ∷ [])
@@ -174,7 +174,8 @@ sets_reserved part bytes = any_set (reserved_ranges (layout_of part)) bytes
 abbrev pub body_of : NalPart → ℕ → List ℕ → List ℕ
 body_of part stated bytes = take (24 + stated - header_size part) (drop (header_size part) bytes)
 
--- The bytes spell this H.264 packet, whose NAL unit has a type from 1 to 23. Any bytes may follow the stated length.
+-- The bytes spell this H.264 packet. The packet's NAL unit has a type from 1 to 23. Any bytes may follow the stated
+-- length.
 pub record SpellsCvf (bytes : List ℕ) (v : Cvf) : Type 0 where
   pub accepted : cvf_refusal bytes ≡ None
   pub fields : Spells (layout_of v.part) v bytes

@@ -1,5 +1,6 @@
--- Packets are settled in the order of their arrival, none twice, and packets that are not settled yet wait. A packet is
--- settled when a later event gives it up, when it is lost as it arrives, or when its unit is complete.
+-- Packets are settled in the order of their arrival. No packet is settled twice, and packets that are not settled yet
+-- wait. A packet is settled when a later event gives it up, when it is lost as it arrives, or when its unit is
+-- complete.
 use Rattle.std.specs.Prelude.{List, [], ◌∷◌, ◌++◌}
 use Rattle.cvf_format.specs.declared.piece.Piece.{Piece}
 use Rattle.cvf_format.specs.declared.piece.Piece.TheVariants.{Whole, Held, Lost}
@@ -26,8 +27,8 @@ settled_by before (packet fragment) =
     given_up (before ++ packet fragment ∷ [])
     ++ settled_as (piece (before ++ packet fragment ∷ [])) fragment (last_stretch (before ++ packet fragment ∷ []))
 
--- the packets, in order, that the events of the second list settle; these events come after the events of the first
--- list
+-- The packets that the events of the second list settle, in order. The events of the second list come after the events
+-- of the first list.
 abbrev pub settled : List Event → List Event → List Fragment
 settled before [] = []
 settled before (event ∷ events) = settled_by before event ++ settled (before ++ event ∷ []) events

@@ -21,7 +21,8 @@ pub record IsStretch (packets : List Fragment) : Type 0 where
   pub others : (front : List Fragment) (before after : Fragment) (rest : List Fragment) → packets ≡ front ++ before ∷ (after ∷ rest) → GoesOn before after
   pub one_instant : (instant : ℤ) × All (λ (f : Fragment). IfSome f.instant (λ stamp. stamp ≡ instant)) packets
 
--- the packets `stretch` are the last events of the list, with no cut among or after them, and are a stretch
+-- The last events of the list are the packets `stretch`, and no cut is among or after these packets. The packets are a
+-- stretch.
 pub record EndsWith (events : List Event) (stretch : List Fragment) : Type 0 where
   pub front : List Event
   pub is : events ≡ front ++ map packet stretch

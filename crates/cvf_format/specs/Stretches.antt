@@ -14,7 +14,7 @@ use Rattle.cvf_format.specs.declared.piece.Piece.TheVariants as variant
 abbrev pub longest_unit : ℕ
 longest_unit = 4194304
 
--- the greatest number of packets from which one NAL unit is put together
+-- one NAL unit is put together from at most this many packets
 abbrev pub most_fragments : ℕ
 most_fragments = 4096
 
@@ -66,7 +66,7 @@ goes_on First = false
 goes_on Middle = true
 goes_on Last = true
 
--- a packet that carries this part completes a NAL unit: the part is a whole unit or a last fragment
+-- if a packet carries this part, the packet completes a NAL unit: the part is a whole unit or a last fragment
 abbrev pub completes : NalPart → Bool
 completes Single = true
 completes First = false

@@ -13,7 +13,7 @@ use std::alloc::Global;
 /// The start code, which comes before each unit.
 const START_CODE: [u8; 3] = [0, 0, 1];
 
-/// The first index from `from` on at which `needle` is found.
+/// The first index, at `from` or later, where `needle` is found.
 fn find_from(bytes: &[u8], needle: &[u8], from: usize) -> Option<usize>
     requires { from ≤ length bytes.now }
     ensures { IsFirst (OccursAt bytes.now needle.now) from (length bytes.now + 1) result }
@@ -33,8 +33,8 @@ fn ends_at(bytes: &[u8], zeros: usize) -> bool
     zeros + 2 < bytes.len() && bytes[zeros + 2] <= 1
 }
 
-/// The index at which a unit that begins at `from` ends: before a start code or three zero bytes, or at the end of the
-/// bytes.
+/// A unit begins at `from`. The result is the index where the unit ends: before a start code or three zero bytes, or at
+/// the end of the bytes.
 fn end_of_unit(bytes: &[u8], from: usize) -> usize
     requires { from ≤ length bytes.now }
     ensures value { result ≡ end_behind bytes.now from }

@@ -17,15 +17,15 @@ const LONGEST_UNIT: usize = 4_194_304;
 /// The greatest number of fragments of a unit.
 const MOST_FRAGMENTS: usize = 4_096;
 
-/// Puts NAL units together from the packets of a stream, which are pushed in the order of their arrival.
+/// Puts NAL units together from the packets of a stream. The packets are pushed in the order of their arrival.
 ///
 /// A unit is in one packet, or is split into a first fragment, any number of middle fragments, and a last fragment. All
 /// fragments carry the same first byte of the unit, and their sequence numbers are consecutive modulo 256. All
 /// fragments with a timestamp must have the same presentation time.
 ///
-/// A stretch is a packet that begins a unit, followed by packets that each continue this unit. What becomes of a packet
-/// depends on the longest stretch that ends with it. The assembler keeps only the longest stretch that ends with the
-/// most recent packet.
+/// A stretch is a packet that begins a unit, followed by packets that each continue this unit. The longest stretch that
+/// ends with a packet decides what becomes of the packet. The assembler keeps only the longest stretch that ends with
+/// the most recent packet.
 #[derive(Drop)]
 pub struct Assembler {
     /// The bytes of the unit so far; if `whole` is true, the unit is complete.
@@ -132,9 +132,9 @@ impl Assembler {
     /// no presentation time.
     ///
     /// A unit is complete when its last packet is pushed. If a packet does not continue the waiting unit, the assembler
-    /// gives that unit up. A packet that would make the unit longer than 4,194,304 bytes or 4,096 fragments is lost,
-    /// and gives up the waiting unit, too. A packet that completes a unit must have a timestamp. A body must have at
-    /// most 65,530 bytes. Allocates nothing.
+    /// gives that unit up. If a packet would make the unit longer than 4,194,304 bytes or 4,096 fragments, the packet
+    /// is lost. The waiting unit is then given up, too. A packet that completes a unit must have a timestamp. A body
+    /// must have at most 65,530 bytes. Allocates nothing.
     pub fn push(&mut self, mark: Mark, instant: Option<i64>, view: &CvfView<'_>) -> Pushed
         requires body { length view.now.body.now ≤ longest_body }
         requires stamped { IsTrue (completes view.now.part) → IsSome instant }
@@ -170,7 +170,8 @@ impl Assembler {
         self.give_up()
     }
 
-    /// The bytes of the unit that the most recent packet completed; empty if it completed none, and after a cut.
+    /// The bytes of the unit that the most recent packet completed. The result is empty after a cut, or if that packet
+    /// completed no unit.
     pub fn unit(&self) -> &[u8]
         ensures { (events : List Event) → StandsFor self.now events → result.now ≡ whole_unit events }
     {
@@ -212,7 +213,7 @@ impl Assembler {
         &[]
     }
 
-    /// Takes a packet, which begins a unit, continues the waiting unit, or is lost and gives up the waiting unit.
+    /// Takes a packet. The packet begins a unit, continues the waiting unit, or is lost and gives up the waiting unit.
     fn push_packet(&mut self, mark: Mark, instant: Option<i64>, view: &CvfView<'_>) -> Pushed
         requires { length view.now.body.now ≤ longest_body }
         ensures pushed { (events : List Event) → StandsFor self.old events

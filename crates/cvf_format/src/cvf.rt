@@ -37,7 +37,7 @@ pub struct CvfView<'a> {
     /// unit carries this byte, split between the fragment's two headers.
     pub nal: u8,
     pub part: NalPart,
-    /// The bytes that this packet carries of the NAL unit, without the unit's first byte.
+    /// The part of the NAL unit that this packet carries, without the unit's first byte.
     pub body: &'a [u8],
     /// A reserved bit is set.
     pub reserved: bool,

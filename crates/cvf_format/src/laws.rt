@@ -16,7 +16,8 @@ pub fn packet_again()
     ensures { (v : Cvf) (trail : List ℕ) → IsWritableCvf v → Fits (layout_of v.part) v → SpellsCvf (cvf_spelling v ++ trail) (plain_cvf v) }
 {}
 
-/// If bytes spell a packet, set no reserved bit, and end with the packet, they are the bytes written for the packet.
+/// Suppose that bytes spell a packet, that no reserved bit is set, and that the bytes end where the packet ends. Then
+/// the bytes are exactly those that are written for the packet.
 pub fn one_spelling()
     ensures { (bytes : List ℕ) (v : Cvf) → AreBytes bytes → SpellsCvf bytes v → v.reserved ≡ false
         → length bytes ≡ 24 + v.header.data_length → bytes ≡ cvf_spelling v }

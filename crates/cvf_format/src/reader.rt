@@ -145,8 +145,8 @@ fn read_packet(pdu: &[u8]) -> Result<CvfView<'_>, Refusal>
 
 /// Reads a packet.
 ///
-/// Checks the fields in the order given here, and refuses the packet at the first one that fails. The slice must hold
-/// the whole stream header. The subtype must be CVF, and the version must be 0. The format must be that of RFC
+/// Checks the fields in the order below, and refuses the packet at the first field that is not accepted. The slice must
+/// hold the whole stream header. The subtype must be CVF, and the version must be 0. The format must be that of RFC
 /// payloads, and the format subtype must be that of H.264. The stated length must be at least 5, and at most the number
 /// of bytes after the stream header. The NAL type must be FU-A or that of a single unit, 1 to 23. A fragment must have
 /// an FU header, must not be both first and last, and must be of a unit with a type from 1 to 23.

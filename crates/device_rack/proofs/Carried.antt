@@ -164,7 +164,7 @@ module _ (bytes unit : List ℕ) (us : List Presented) (at : ℕ) (carried : IsC
           let here : is_end bytes next ≡ true = or_right (occurs_at bytes start_code next) (occurs_at bytes three_zeros next) zeros in
           rw here refl
 
-  -- what is found after the start code is the unit
+  -- the unit is found after the start code
   found : (m : ℕ) → m + 1 ≡ length unit → unit_behind bytes (at + 1) ≡ Some (at + 4, at + 4 + m + 1)
   found m is =
       let place : at + 1 + 3 ≡ at + 4 = omega arith in

@@ -23,7 +23,7 @@ up_to a b c bs adds more is first taken =
 
 -- ---- samples
 
--- a device that has taken `items` has also taken `more`, if `more` has the same samples
+-- if `items` and `more` have the same samples, a device that has taken `items` has also taken `more`
 pub raw_same : {S : Type 0} (state : S → SinkState) (start : SinkState) (device : RawDevice S) (items more : List Shown)
     → sample_batches more ≡ sample_batches items → HasTakenRaw state start device items → HasTakenRaw state start device more
 raw_same state start device items more same taken = record {

@@ -43,8 +43,8 @@ abbrev pub at_least_0 : ℤ → ℕ
 at_least_0 (pos n) = n
 at_least_0 (negsuc n) = 0
 
--- How many samples of a line fit a span of nanoseconds, to the nearest whole number, with half a sample rounded up. The
--- number is span * den / num + 1 / 2, rounded down, or 0 if this is negative.
+-- How many samples of a line fit a span of nanoseconds. The number is rounded to the nearest whole number, and half a
+-- sample is rounded up. The number is span * den / num + 1 / 2, rounded down, or 0 if this is negative.
 abbrev pub samples_in : Line → ℤ → ℕ
 samples_in line span = at_least_0 (floor_of (pos 2 *ℤ span *ℤ pos line.den +ℤ pos line.num) (2 * line.num))
 

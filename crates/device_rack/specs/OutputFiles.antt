@@ -25,13 +25,13 @@ module _ {S : Type 0} where
   abbrev pub units_outlet : OutputFiles S → Option (Outlet (AnnexBDevice S))
   units_outlet outputs = outputs.units
 
-  -- a device of raw samples was given the items of a list up to the first item that it did not take, whatever the
-  -- device's sink held before
+  -- a device of raw samples was given the items of a list, up to the first item that the device did not take; the
+  -- device's sink can hold any bytes before
   abbrev pub RawHanded : (S → SinkState) → List Shown → Outlet (RawDevice S) → Outlet (RawDevice S) → Type 0
   RawHanded state = AreHandedTo (λ device items. (start : SinkState) × HasTakenRaw state start device items) (λ device. (state (raw_sink device)).faults) (λ device. None)
 
-  -- a device of units was given the items of a list up to the first item that it did not take, whatever the device's
-  -- sink held before
+  -- a device of units was given the items of a list up to the first item that the device did not take; this holds
+  -- whatever the device's sink held before
   abbrev pub UnitsHanded : (S → SinkState) → List Shown → Outlet (AnnexBDevice S) → Outlet (AnnexBDevice S) → Type 0
   UnitsHanded state = AreHandedTo (λ device items. (start : SinkState) × HasTakenUnits state start device items) (λ device. (state (annexb_sink device)).faults) (λ device. None)
 

@@ -1,4 +1,4 @@
--- Several devices, and what giving an item to them does.
+-- Several devices, and what happens when an item is given to them.
 use Rattle.std.specs.Prelude.{◌≡◌, ℕ, ◌++◌, [], ◌∷◌, ◌↔◌, Bool, true, false, not, List, count_by, Contains, MatchBool, Option, Some, IfSome}
 use Rattle.std.specs.Global.{Global}
 use Rattle.std.specs.declared.dyn_box.DynBox.{DynBox}
@@ -17,8 +17,8 @@ pub record WasHanded {Device : Type 0} (took : Device → List Shown → Type 0)
   pub counts : live ≡ false → Rose (faults before) (faults after)
   pub told : IfSome (failing before) (λ numbers. (live ≡ false ↔ Contains numbers 1) × (failing after ≡ Some (later 1 numbers)))
 
--- The places of a rack, what giving an item to a place does, and how many places are live or failed. The device of each
--- place has a type of its own.
+-- The places of a rack, the effect of giving an item to a place, and the numbers of live and of failed places. The
+-- device of each place has a type of its own.
 module _ {Kind : Type 0} {Value : Kind → Type 0} where
   -- the places of a rack, in their order
   abbrev pub places_of : Rack Kind Value → List (Place Kind Value)

@@ -7,7 +7,7 @@ ghost use Rattle.device_rack.specs.Devices.{FailsAsTold};
 use avtp_base::Failed;
 use sample_schedule::Shown;
 
-/// A device, which takes what a listener shows, one item after another, and counts its faults.
+/// A device takes the items that a listener shows, one after another. The device counts its own faults.
 pub trait Device: Drop {
     ghost use Rattle.std.specs.Prelude.{List, ℕ, Option};
     ghost use Rattle.sample_schedule.specs.declared.shown.Shown.{Shown as ShownValue};

@@ -129,7 +129,7 @@ impl Device for MemoryDevice {
 
     ghost failing = { λ device. Some (failing_calls device) };
 
-    /// Fails if the number of this call is in the list with which the device was made.
+    /// The device was made with a list of call numbers. The call fails if its number is in this list.
     fn take(&mut self, shown: &Shown) -> Result<(), Failed> {
         if self.next_fails() {
             self.faults = self.faults.saturating_add(1);

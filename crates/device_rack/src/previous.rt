@@ -1,4 +1,4 @@
-//! The batch from whose end silence is measured.
+//! What is kept of a batch, to measure silence from the end of the batch.
 
 ghost use Rattle.std.specs.Prelude.{◌≤◌, ◌^◌};
 

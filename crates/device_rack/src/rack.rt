@@ -47,7 +47,7 @@ impl Rack {
     }
 
     /// Gives an item to each live device, in the order of the places. Returns how many places failed in this call. A
-    /// place fails if its device returns `Failed`, and is given nothing from then on.
+    /// place fails if its device returns `Failed`. From then on, the place is given nothing.
     pub fn hand(&mut self, shown: &Shown) -> u32
         ensures places { AllZip (IsHanded (λ device. took device) (λ device. faults device) (λ device. failing device) shown.now) (places_of self.old) (places_of self.new) }
         ensures failures { failed_count (places_of self.new) ≡ failed_count (places_of self.old) + result }

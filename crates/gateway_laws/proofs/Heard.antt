@@ -75,8 +75,8 @@ first_stamped Am824 shape p is e = rw e (whole (interval_of shape.rate) is)
 
 -- ---- pieces
 
--- A listener can time the piece: it has samples, its block count is a multiple of SYT_INTERVAL, and it begins at 0 or
--- later.
+-- A listener can time the piece: the piece has samples, its block count is a multiple of SYT_INTERVAL, and the piece
+-- begins at 0 or later.
 pub record IsSound (interval : ℕ) (c : Cut) : Type 0 where
   pub some : 1 ≤ c.piece.count
   pub block : c.piece.block % interval ≡ 0

@@ -1,4 +1,4 @@
--- Items that arrive in the order of their instants are presented in that order.
+-- If items arrive in the order of their instants, the items are presented in that order.
 use Rattle.std.proofs.Common.{◌≡◌, ℕ, zero, suc, ◌+◌, ◌<◌, ◌≤◌, Bool, true, false, ℤ, ◌<ℤ◌, List, [], ◌∷◌, ◌++◌, length, map, take, Option, Some, None, inl, inr, refl, sym, ap, subst, ◌∙◌, arith}
 use Rattle.std.specs.Prelude.{◌==◌, if◌then◌else◌, fold, int_le, int_lt, slice_get, Ok, Err}
 use Rattle.std.specs.List.{AllByRecursion, list_any}

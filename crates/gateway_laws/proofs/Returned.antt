@@ -1,4 +1,4 @@
--- If AM824 frames that a gateway made are converted to PCM and back, the resulting frames are the same.
+-- A gateway made AM824 frames. If these frames are converted to PCM and back, the resulting frames are the same.
 use Rattle.std.proofs.Common.{◌≡◌, ℕ, zero, suc, ◌+◌, ◌-◌, ◌*◌, ◌/◌, ◌^◌, ◌<◌, ◌≤◌, Bool, true, false, inl, inr, ℤ, pos, ◌<ℤ◌, List, [], ◌∷◌, ◌++◌, length, drop, map, take, Option, Some, None, refl, sym, ap, subst, ◌∙◌, eq-eqb, arith}
 use Rattle.std.specs.Prelude.{◌==◌, IfSome, if◌then◌else◌, int_le, nat_lt, not, ⊤}
 use Rattle.std.specs.List.{AllByRecursion, list_any}
@@ -139,7 +139,7 @@ turn_body on shape b = record { instant = b.instant; count = b.count; bytes = tu
 abbrev heard_of : To → Shape → ℕ → Cut → Presented
 heard_of to shape i c = counted_from_first (packet_heard to shape i c) (cut_instant c)
 
--- the piece that consists of all samples of the batch `heard_of`, which are the samples of piece c
+-- the piece of all samples of the batch `heard_of`; these samples are those of piece c
 abbrev piece_of : Cut → ℕ → Piece
 piece_of c block = record { first = 0; count = c.piece.count; block = block }
 
@@ -357,7 +357,7 @@ instants_turned : (on : To) (shape : Shape) (bs : List Body) → instants (map (
 instants_turned on shape [] = refl
 instants_turned on shape (b ∷ bs) = ap (λ (xs : List ℤ). b.instant ∷ xs) (instants_turned on shape bs)
 
--- the packets of PCM are presented at the same instants as the packets of AM824 from which they are converted
+-- packets of AM824 are converted to packets of PCM, and both are presented at the same instants
 same_instants : (shape : Shape) (id : ℕ) (batches : List Presented) (there : ListenPlan) → IsShape shape → id < 2 ^ 64 → AllByRecursion BeginsInTime batches → Hears id there (gateway_records Am824 (Some shape) id batches)
     → map cut_instant (cuts_after Am824 shape nothing_given batches) ≡ map cut_instant (cuts_after Aaf shape nothing_given (presented_again there Am824 shape id batches))
 same_instants shape id batches there is small begins hears =

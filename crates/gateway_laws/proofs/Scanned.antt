@@ -68,7 +68,7 @@ heard_labels Am824 shape c fine =
 
 -- ---- one frame
 
--- A frame holds samples of this shape, and a scan for the other format finds no fault in it.
+-- A frame holds samples of this shape. A scan for the other format finds no fault in the frame.
 record IsTurnable (to : To) (shape : Shape) (id : ℕ) (bytes : List ℕ) : Type 0 where
   first : content_fault (other to) None (content id bytes) ≡ None
   more : content_fault (other to) (Some shape) (content id bytes) ≡ None

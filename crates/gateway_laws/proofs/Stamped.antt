@@ -1,5 +1,5 @@
--- If the timestamps of packets belong to the packets' first samples and mean rising instants, the packets arrive in the
--- order in which they are presented.
+-- Let the timestamps of packets belong to the packets' first samples, and let the instants of the timestamps rise. The
+-- packets then arrive in the order in which they are presented.
 use Rattle.std.proofs.Common.{◌≡◌, ℕ, zero, suc, ◌<◌, ◌≤◌, true, false, ℤ, pos, ◌≤ℤ◌, ◌<ℤ◌, List, [], ◌∷◌, length, map, take, Some, refl, sym, ap, subst, ◌∙◌, inl, inr, arith}
 use Rattle.std.specs.Prelude.{◌==◌, ◌⊎◌, ◌*ℤ◌, ◌+ℤ◌, fold, nat_lt, neg_ℤ, slice_get, Ok}
 use Rattle.std.specs.Int.{int_max}

@@ -13,9 +13,9 @@ use Rattle.am824_gateway.specs.Laws.{Cut, HasRisingInstants, cut_instant}
 use Rattle.am824_gateway.specs.Packets.{samples_of, timestamp_at}
 use Rattle.am824_gateway.specs.Pieces.{arrival_at}
 
--- The sample to which the timestamp of a piece's packet belongs. In PCM, the timestamp belongs to the first sample
--- (IEEE 1722-2016, 7). In AM824, the timestamp belongs to the sample in the first data block whose block count is a
--- multiple of SYT_INTERVAL (IEC 61883-6).
+-- The timestamp of a piece's packet belongs to the sample that this rule names. In PCM, the timestamp belongs to the
+-- first sample (IEEE 1722-2016, 7). In AM824, the timestamp belongs to the sample in the first data block whose block
+-- count is a multiple of SYT_INTERVAL (IEC 61883-6).
 abbrev pub rule_of : To → Shape → Piece → HeadRule
 rule_of Am824 shape p = Blocks p.block (interval_of shape.rate)
 rule_of Aaf shape p = Own

@@ -32,8 +32,8 @@ pub record Hears (id : ℕ) (plan : ListenPlan) (records : List Record) : Type 0
   pub clock : plan.clock ≡ None
   pub room : AllByRecursion IsNotFull (shown_of plan records)
 
--- The samples that are presented from a gateway's capture are exactly those of the batches that the gateway did not
--- skip: in order, each once, with the same values at the same instants. If the stream has no shape, nothing is
+-- A listener presents from a gateway's capture exactly the samples of the batches that the gateway did not skip. Each
+-- sample is presented once, in order, with the same value at the same instant. If the stream has no shape, nothing is
 -- presented.
 abbrev pub Presents : To → Option Shape → List Presented → List Presented → Type 0
 Presents to None batches heard = heard ≡ []
@@ -65,8 +65,8 @@ FindsNothingAfter notes (r ∷ records) =
 -- ---- a capture as a whole
 
 -- The bytes are a whole capture. The capture's records are the frames that a gateway sends for these batches, in this
--- format and under this stream ID. A listener that has no clock, and whose buffer is never full, presents exactly the
--- samples of the batches that were not skipped. `check` finds nothing in the capture.
+-- format and under this stream ID. If a listener has no clock and its buffer is never full, the listener presents
+-- exactly the samples of the batches that were not skipped. `check` finds nothing in the capture.
 pub record Keeps (to : To) (shape : Option Shape) (id : ℕ) (batches : List Presented) (bytes : List ℕ) : Type 0 where
   pub records : whole_records bytes ≡ map record_of (gateway_frames to shape id batches)
   pub whole : first_refusal bytes ≡ None

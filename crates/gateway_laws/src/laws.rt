@@ -36,23 +36,25 @@ ghost use Rattle.listener.specs.Laws.{presented_of};
 ghost use Rattle.pcap_frames.specs.Capture.{Record};
 ghost use Rattle.gateway_laws.specs.Stamped.{AreStamped, all_counted, packet_entries};
 
-/// Let the items of a schedule arrive in the order of their first instants, each at or before its own first instant. If
-/// the buffer is never full, all items are presented, in the order of their first instants.
+/// Assume two things: the items of a schedule arrive in the order of their first instants, and each item arrives at or
+/// before its own first instant. If the buffer is never full, all items are presented, in the order of their first
+/// instants.
 pub fn items_in_order_are_presented()
     ensures { (clock : Clock) (plan : SchedulePlan) (entries : List Entry) (batches : List Presented) → AreInOrder clock plan entries batches → map (λ (a : Accepted). a.batch) (presented (given clock plan entries)) ≡ batches }
 {}
 
 /// Let each packet's timestamp belong to the packet's first sample. Let the packets arrive in time and in the order of
-/// their timestamps. A listener that has no clock, and whose buffer is never full, presents each packet once, in order.
-/// The instant of each sample is counted at the nominal rate from the timestamp of its own packet.
+/// their timestamps. Suppose that a listener has no clock and that its buffer is never full. Then the listener presents
+/// each packet once, in order. The instant of each sample is counted at the nominal rate from the timestamp of its own
+/// packet.
 pub fn stamped_packets_in_order_are_presented()
     ensures { (clock : Clock) (plan : SchedulePlan) (packets : List Packet) (instants : List ℤ) → plan.clock ≡ false → AreStamped packets instants → Rise instants
         → AllByRecursion IsNotFull (shown clock plan (packet_entries packets)) → map (λ (a : Accepted). a.batch) (presented (given clock plan (packet_entries packets))) ≡ all_counted packets instants }
 {}
 
-/// Let packets carry the pieces of batches whose instants rise. A listener that has no clock, and whose buffer is never
-/// full, presents exactly the samples of the batches that were not skipped: in order, each once, with the same values
-/// at the same instants.
+/// Let packets carry the pieces of batches whose instants rise. If a listener has no clock and its buffer is never
+/// full, the listener presents exactly the samples of the batches that were not skipped. Each sample is presented once,
+/// in order, with the same value at the same instant.
 pub fn packets_of_pieces_are_heard()
     ensures { (clock : Clock) (plan : SchedulePlan) (to : ToValue) (shape : ShapeValue) (given_before : GivenOut) (batches : List Presented) (packets : List Packet) → plan.clock ≡ false → IsShape shape → AllByRecursion HasRisingInstants batches
         → CarryCuts to shape packets (cuts_after to shape given_before batches) → AllByRecursion IsNotFull (shown clock plan (packet_entries packets))
@@ -75,10 +77,11 @@ pub fn nothing_is_found_in_frames()
         → findings (map (cut_seen to id) earlier) (cut_seen to id c) ≡ nothing_found }
 {}
 
-/// Let the batches begin at 0 or later and have rising instants, as all batches that a listener presents do. The
-/// capture that a gateway makes of the batches is read without a refusal, and its records are the gateway's frames. A
-/// listener that has no clock, and whose buffer is never full, presents exactly the samples of the batches that were
-/// not skipped: in order, each once, with the same values at the same instants. `check` finds nothing in the capture.
+/// Let the batches begin at 0 or later and have rising instants, as all batches that a listener presents do. A gateway
+/// makes a capture of the batches. The capture is read without a refusal, and the records of the capture are the
+/// gateway's frames. Suppose that a listener has no clock and that its buffer is never full. Then the listener presents
+/// exactly the samples of the batches that were not skipped: in order, each once, with the same values at the same
+/// instants. `check` finds nothing in the capture.
 pub fn captures_of_pieces_are_kept()
     ensures { (to : ToValue) (shape : Option ShapeValue) (id : ℕ) (batches : List Presented) → IfSome shape IsShape → id < 2 ^ 64 → AllByRecursion BeginsInTime batches
         → Keeps to shape id batches (capture_of (gateway_frames to shape id batches)) }
@@ -92,9 +95,9 @@ pub fn default_buffers_are_never_full()
         → Hears id plan (gateway_records to shape id batches) }
 {}
 
-/// Each batch that a listener presents begins at 0 or later, and its instants rise. The law holds for any records, with
-/// or without a clock. The law also holds for the batches that are already certain to be presented, whatever records
-/// follow.
+/// If a listener presents a batch, the batch begins at 0 or later, and the instants of the batch rise. The law holds
+/// for any records, with or without a clock. The law also holds for the batches that are already certain to be
+/// presented, whatever records follow.
 pub fn presented_batches_begin_in_time()
     ensures shown { (plan : ListenPlan) (records : List Record) → AllByRecursion BeginsInTime (presented_of (shown_of plan records)) }
     ensures due { (plan : ListenPlan) (records : List Record) → AllByRecursion BeginsInTime (presented_of (due_of plan records)) }

@@ -30,7 +30,7 @@ pub enum Wrong {
     Text,
     /// A second run over the same files gives a different result.
     SecondRun,
-    /// A run that reads the file in pieces of one byte gives a different result.
+    /// If a run reads the file in pieces of one byte, the result is different.
     Pieces,
 }
 

@@ -4,7 +4,7 @@ use avtp_base::NoMemory;
 use std::alloc::Global;
 
 /// The rules. A rule is a word in capital letters and the pattern of this word. A pattern can contain the words of
-/// later rules, which stand for the patterns of those rules.
+/// later rules. Each such word stands for the pattern of its rule.
 const RULES: [(&str, &str); 27] = [
     ("TEXT", "^(?:SHOW|CHECK|LISTEN|TALK|AGREE|GATEWAY)\n$"),
     (

@@ -1,9 +1,9 @@
 //! `hostile SEED COUNT` damages COUNT captures and runs every command over each of them, in this process. The text must
-//! follow the grammar and fit the status. A second run must give the same result, and so must a run that reads its file
-//! in pieces of one byte. The program prints a line for each command that is wrong, and at the end the number of these
-//! commands. If no command is wrong, the program ends with status 0. `hostile SEED COUNT FIRST` makes the captures from
-//! number FIRST on, not from number 1. So a single capture can be made again: it depends only on the seed and its own
-//! number.
+//! follow the grammar and fit the status. Two more runs must give the same result: a second run of the same kind, and a
+//! run that reads its file in pieces of one byte. The program prints a line for each command that is wrong, and at the
+//! end the number of these commands. If no command is wrong, the program ends with status 0. `hostile SEED COUNT FIRST`
+//! makes the captures from number FIRST on, not from number 1. So a single capture can be made again: it depends only
+//! on the seed and its own number.
 #![tactic(auto)]
 
 mod bases;

@@ -12,7 +12,7 @@ use std::thread::Threads;
 /// The usual value of `--limit`, which exceeds the size of any capture that is made.
 const LIMIT: usize = 1 << 40;
 
-/// The options and stream IDs with which `listen` is run.
+/// `listen` is run with these options and stream IDs.
 const LISTENS: [&str; 12] = [
     "0200000000010001",
     "--ring 256 0200000000010001",

@@ -438,7 +438,8 @@ fits_whole v gv info flags whole e (subtype, ((sv, (version, (mr, (_, tv)))), (s
   ),
 )
 
--- ---- bytes that set no reserved bit and end with their packet are the bytes that are written for it
+-- ---- if no reserved bit is set and the bytes end where their packet ends, the bytes are those that are written for
+-- the packet
 
 pub iec_only : (bytes : List ℕ) (v : Iec) → AreBytes bytes → SpellsIec bytes v → v.reserved ≡ false → length bytes ≡ 24 + v.header.data_length
     → bytes ≡ iec_spelling v

@@ -95,8 +95,8 @@ syt_interval fdf =
 abbrev pub IsSytInterval : ℕ → Type 0
 IsSytInterval interval = (interval ≡ 8) ⊎ (interval ≡ 16) ⊎ (interval ≡ 32)
 
--- The data block to which the packet's timestamp belongs, counted from 0. The timestamp belongs to the first block
--- whose block count is a multiple of the interval. The packet's first data block has the count `dbc`.
+-- The index of the data block that the packet's timestamp belongs to, counted from 0. The timestamp belongs to the
+-- first block whose block count is a multiple of the interval. The packet's first data block has the count `dbc`.
 abbrev pub anchor_index : ℕ → ℕ → ℕ
 anchor_index dbc interval = stamped_index (Blocks dbc interval)
 
@@ -140,17 +140,17 @@ sets_reserved bytes = any_set (reserved_ranges iec_layout) bytes
 
 -- ---- the rows
 
--- The rows of the encapsulation, which follow those that all formats share. The first row refuses a tag that is not
--- that of a CIP header. The second row refuses a stated length that is less than the length of a CIP header, or exceeds
--- the number of bytes after the stream header.
+-- The rows of the encapsulation, which follow those that all formats share. The first row refuses each tag other than
+-- the tag of a CIP header. The second row refuses a stated length that is less than the length of a CIP header, or
+-- exceeds the number of bytes after the stream header.
 abbrev pub carrier_rows : List ℕ → List Row
 carrier_rows bytes =
     row Tag 22 (not (bits 22 0 2 bytes == cip_tag)) ∷
     row StreamDataLength 20
     (nat_lt (bits 20 0 16 bytes) 8 || exceeds 24 (bits 20 0 16 bytes) (length bytes)) ∷ []
 
--- The rows of the first quadlet of the CIP header, which follow those of the encapsulation. The rows refuse a QI_1, FN,
--- QPC or SPH other than 0.
+-- The rows of the first quadlet of the CIP header, after the rows of the encapsulation. The rows refuse a QI_1, FN, QPC
+-- or SPH other than 0.
 abbrev pub first_quadlet_rows : List ℕ → List Row
 first_quadlet_rows bytes =
     row Qi1 24 (not (bits 24 0 2 bytes == 0)) ∷
@@ -158,9 +158,9 @@ first_quadlet_rows bytes =
     row Qpc 26 (not (bits 26 2 3 bytes == 0)) ∷
     row Sph 26 (not (bits 26 5 1 bytes == 0)) ∷ []
 
--- The rows of the second quadlet of the CIP header, which follow the rows of the first quadlet. The rows refuse a QI_2
--- other than 2, and an FMT other than audio. The rows also refuse an FDF that is neither the code of a rate nor that of
--- a no-data packet.
+-- The rows of the second quadlet of the CIP header, after the rows of the first quadlet. The rows refuse a QI_2 other
+-- than 2, and an FMT other than audio. The rows also refuse an FDF that is neither the code of a rate nor that of a
+-- no-data packet.
 abbrev pub second_quadlet_rows : List ℕ → List Row
 second_quadlet_rows bytes =
     row Qi2 28 (not (bits 28 0 2 bytes == second_mark)) ∷

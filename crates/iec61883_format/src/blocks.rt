@@ -1,4 +1,4 @@
-//! The rates of data blocks, and the block to which a packet's timestamp belongs.
+//! The rates of data blocks, and which block a packet's timestamp belongs to.
 
 ghost use Rattle.std.specs.Prelude.{◌≡◌, ◌+◌, ◌%◌, ◌<◌, ◌↔◌, IfSome, IsNone};
 ghost use Rattle.iec61883_format.specs.Iec.{IsSytInterval, anchor_index as index_of_anchor, rate_of_fdf as rate_of, syt_interval as interval_of};
@@ -36,9 +36,9 @@ pub fn syt_interval(fdf: u8) -> Option<u32>
     })
 }
 
-/// The data block, counted from 0, to which the timestamp of a packet belongs. The packet's first block has the count
-/// `dbc`. The timestamp belongs to the first block whose count is a multiple of the interval. The packet can end before
-/// the block to which the timestamp belongs. The interval is 8, 16 or 32.
+/// The index of the data block that the timestamp of a packet belongs to, counted from 0. The packet's first block has
+/// the count `dbc`. The timestamp belongs to the first block whose count is a multiple of the interval. The timestamp
+/// can belong to a block that is past the end of the packet. The interval is 8, 16 or 32.
 pub fn anchor_index(dbc: u8, interval: u32) -> u32
     requires { IsSytInterval interval }
     ensures exact { result ≡ index_of_anchor dbc interval }

@@ -34,8 +34,8 @@ pub struct IecView<'a> {
     pub cip: Cip,
     /// The number of data blocks; 0 in a no-data packet, whatever follows the CIP header.
     pub count: u32,
-    /// The bytes after the CIP header. Except in a no-data packet, the payload consists of the data blocks, each of
-    /// `cip.dbs` quadlets. A quadlet is a label byte and 24 bits.
+    /// The bytes after the CIP header. If the packet is not a no-data packet, the payload consists of the data blocks,
+    /// and each block has `cip.dbs` quadlets. A quadlet is a label byte and 24 bits.
     pub payload: &'a [u8],
     /// A reserved bit is set.
     pub reserved: bool,

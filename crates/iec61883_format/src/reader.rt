@@ -31,8 +31,8 @@ fn data_size(fdf: u8, size: u32) -> u32
     if fdf == NO_DATA { 0 } else { size }
 }
 
-/// The refusal of the tag, or of a stated length that is less than the length of a CIP header or exceeds the number of
-/// bytes after the stream header.
+/// The refusal of the tag or of the stated length. A stated length is refused if it is less than the length of a CIP
+/// header, or if it exceeds the number of bytes after the stream header.
 fn refused_by_carrier(pdu: &[u8], stated: u16) -> Option<Refusal>
     requires whole { 24 ≤ length pdu.now }
     requires stated { stated ≡ bits 20 0 16 pdu.now }

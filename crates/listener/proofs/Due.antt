@@ -1,4 +1,5 @@
--- The due items of a capture's records stay due if more records follow, and are shown first if no record follows.
+-- The due items of a capture's records stay due if more records follow. If no record follows, these items are shown
+-- first.
 use Rattle.std.proofs.Common.{◌≡◌, ℕ, Bool, ◌+◌, ◌-◌, List, [], ◌∷◌, ◌++◌, map, filter, refl, sym, ap, subst, ◌∙◌, append_assoc, arith}
 use Rattle.std.specs.List.{enumerate_from}
 use mathlib.Core.List.{IsPrefix}

@@ -199,7 +199,7 @@ pub first_alone : (marks : List Mark) (item : Item) → length marks ≡ 0
 first_alone [] item none = refl
 first_alone (mark ∷ marks) item none = absurd cc
 
--- a delivery that ends the current unit yields the fragments of that unit, and then the delivery's own item
+-- if a delivery ends the current unit, the delivery yields the fragments of that unit, and then its own item
 pub cut_gives_all : (ds : List Delivery) (d : Delivery) (item : Item) (old new : Gathered) → (d.subtype == crf_subtype) ≡ false → event_of d ≡ cut → item_entry item ∷ [] ≡ map made_entry (own_by ds d)
     → HasUnits ds old → Cuts item old new → Gives ds d new
 cut_gives_all ds d item old new streamed event own has c =

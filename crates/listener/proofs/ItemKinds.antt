@@ -15,7 +15,7 @@ use Rattle.listener.specs.Items.{MadeItem, events_to, flagged, given_after, give
 use Rattle.listener.specs.Units.{flaw_of, in_stream, last_ones, waiting}
 use Rattle.listener.proofs.Made.{IsOther}
 
--- The item is made of one delivery in `ds`, which is not a packet of H.264.
+-- The item is made of one delivery in `ds`. The delivery is not a packet of H.264.
 pub record IsOneOf (ds : List Delivery) (made : MadeItem) : Type 0 where
   pub before : List Delivery
   pub delivery : Delivery

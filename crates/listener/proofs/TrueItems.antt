@@ -1,4 +1,4 @@
--- The item that is made of a copy of a packet has that packet's content.
+-- If an item is made of a copy of a packet, the item has the content of that packet.
 use Rattle.std.proofs.Common.{◌≡◌, ℕ, ◌%◌, ◌^◌, ◌<◌, Bool, true, false, ℤ, pos, List, [], ◌∷◌, All, Option, Some, None, refl, sym, ap, ◌∙◌, subst, inl, inr}
 use Rattle.std.specs.Prelude.{◌==◌, ◌⊎◌, is_some, if◌then◌else◌, unwrap_or, option_map, IfSome, map, filter}
 use Rattle.std.specs.List.{enumerate_from}

@@ -57,7 +57,7 @@ pub record IsStreamEntry (items : List MadeItem) (p : PacketJournal) (lead : ℕ
   pub listed : Contains items (made_of_one delivery)
   pub same : e ≡ OfItem (OfPacket (sent p.times number delivery.frame copy.arrival (carried (p.packet number))))
 
--- The entry is a whole unit, which was made of one copy of each packet of a unit of the journal.
+-- The entry is a whole unit. The unit was made of one copy of each packet of a unit of the journal.
 pub record IsUnitEntry (items : List MadeItem) (p : PacketJournal) (lead : ℕ) (e : Entry) : Type 0 where
   pub part : ℕ → Part
   pub kind : p.times.kind ≡ H264 part
@@ -255,12 +255,13 @@ prefix_true items shift p lead es is all = record {
 
 -- ---- verdicts
 
--- The accepted batch is the packet that one of the items was made of, and its instant is the batch's first instant.
+-- One of the items was made of a packet, and the accepted batch is that packet. The accepted instant is the batch's
+-- first instant.
 record IsHeardAccepted (by : Bool) (items : List MadeItem) (p : PacketJournal) (lead : ℕ) (a : Accepted) : Type 0 where
   is : IsHeardFrom by items p lead a.batch
   instant : a.instant ≡ first_instant a.batch
 
--- The accepted batch is a packet of the journal, and its instant is the batch's first instant.
+-- The accepted batch is a packet of the journal, and the instant of the accepted item is the batch's first instant.
 pub record IsTrueAccepted (by : Bool) (p : PacketJournal) (a : Accepted) : Type 0 where
   pub is : IsOfJournal by p a.batch
   pub instant : a.instant ≡ first_instant a.batch

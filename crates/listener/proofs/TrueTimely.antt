@@ -1,4 +1,4 @@
--- A copy that must be presented is presented, and a further copy is flagged as a repeat.
+-- If a copy must be presented, the copy is presented. A further copy is flagged as a repeat.
 use Rattle.std.proofs.Common.{◌≡◌, inl, inr, ℕ, zero, suc, ◌+◌, ◌%◌, Bool, true, false, ℤ, ◌≤ℤ◌, List, [], ◌∷◌, All, length, Some, Ok, refl, sym, ap, ◌∙◌, subst, eq-eqb, arith}
 use Rattle.std.specs.Prelude.{◌==◌, if◌then◌else◌, IfOk, Result, Err, Any, map, slice_get}
 use Rattle.std.specs.List.{list_any}

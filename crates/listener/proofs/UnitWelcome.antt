@@ -513,7 +513,8 @@ whole_after p part lead from n before front earlier last split b begin =
     unit_last (inl e) = inl e.1
     unit_last (inr are) = inr are.last
 
--- a delivery that completes a unit yields the fragments that are given up because of it, and then the unit
+-- if a delivery completes a unit, the delivery yields first the fragments that are given up because of the delivery,
+-- and then the unit
 given_after_all : (before : List Delivery) (last : Delivery) → IsGood last → piece (events_to before last) ≡ Whole → given_by before last ≡ given_up_by before last ++ unit_by before last ∷ []
 given_after_all before last good whole =
     ap (λ (t : Bool). if t then made_of_one last ∷ [] else given_up_by before last ++ own_by before last) good.streamed
@@ -548,7 +549,7 @@ shows_after ds before front earlier last rest same split all =
     let run : All Shows earlier = All-back Shows front earlier (subst (λ (l : List Delivery). All Shows l) split streamed) in
     All-append Shows earlier (last ∷ []) run (All-cons Shows last [] (All-head Shows last rest (All-back Shows before (last ∷ rest) there)) (All-nil Shows))
 
--- The deliveries `earlier`, and then the delivery `last`, make a whole unit, which is one of the items.
+-- The deliveries `earlier` and then the delivery `last` make a whole unit. That unit is one of the items.
 pub record IsMadeUnit (items : List MadeItem) (before earlier : List Delivery) (last : Delivery) : Type 0 where
   pub listed : Contains items (unit_by before last)
   pub of : (unit_by before last).earlier ≡ earlier

@@ -1,4 +1,4 @@
--- The instant at which the first entry of a capture is judged, and how much room the buffer has for the entry.
+-- When the first entry of a capture is judged, and how much room the buffer has for the entry.
 use Rattle.std.proofs.Common.{◌≡◌, ℕ, ◌+◌, ◌≤◌, Bool, true, false, ℤ, pos, ◌≤ℤ◌, List, [], ◌∷◌, Option, Some, None, refl, ap, arith}
 use Rattle.std.specs.Prelude.{◌==◌, nat_le, nat_lt, if◌then◌else◌, slice_get}
 use Rattle.std.specs.Int.{int_max}

@@ -34,8 +34,8 @@ is_ended fed = is_closed fed.listener
 abbrev pub out : Feeding → List ℕ → List Shown
 out fed bytes = out_of fed.listener (whole_records bytes)
 
--- The listener was fed `bytes`. Of the items that are shown of these bytes, the listener has returned the first
--- `given`. If memory ran out in a call of `feed`, `bytes` are the bytes before that call.
+-- The listener was fed `bytes`. The listener has returned the first `given` of the items that are shown of these bytes.
+-- If memory ran out in a call of `feed`, `bytes` are the bytes before that call.
 pub record StandsFor (bytes : List ℕ) (given : ℕ) (fed : Feeding) : Type 0 where
   pub read : fed.out_of_memory ≡ false → HasRead fed.reader bytes (whole_records bytes)
   pub stands : RecordsStandFor (whole_records bytes) (given + length (option_to_list fed.next)) fed.listener
@@ -60,7 +60,8 @@ is_memory (Err Memory) = true
 abbrev pub work : Feeding → ℕ
 work fed = listener_work fed.listener + length (option_to_list fed.next)
 
--- the records that were read, the plan, whether the capture has ended, and whether memory has run out are unchanged
+-- four things are unchanged: the records that were read, the plan, whether the capture has ended, and whether memory
+-- has run out
 pub record Keeps (old new : Feeding) : Type 0 where
   pub reader : new.reader ≡ old.reader
   pub plan : new.listener.plan ≡ old.listener.plan

@@ -17,8 +17,8 @@ use Rattle.listener.specs.Laws.{Agree, AreOther, HearsTalker, IsFurther, IsHeard
 
 -- The headline holds for what is shown of the records of a capture.
 pub record KeepsHeadline (shift : ℤ) (p : PacketJournal) (plan : ListenPlan) (records : List Record) (shown : List Shown) : Type 0 where
-  -- Each batch that is presented is the packet that its item was made of, and has that packet's bytes. Each sample of
-  -- the batch is at the talker's own nanosecond.
+  -- Each presented batch is the packet that the batch's item was made of. The batch has that packet's bytes. Each
+  -- sample of the batch is at the talker's own nanosecond.
   pub genuine : All (IsHeardFrom (by_clock plan) (items_in plan records) p plan.lead) (presented_of shown)
   -- no packet is presented twice
   pub once : AllPairs (AreOther (by_clock plan) p) (presented_of shown)

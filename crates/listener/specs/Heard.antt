@@ -44,7 +44,7 @@ entries_so_far_in plan records = entries_so_far (deliveries_of plan records)
 abbrev pub shown_of : ListenPlan → List Record → List Shown
 shown_of plan records = shown clock_spot (schedule_plan plan) (entries_in plan records)
 
--- what is certain to be shown of a list of records while more records may follow
+-- what is certain to be shown of a list of records, even if more records follow
 abbrev pub due_of : ListenPlan → List Record → List Shown
 due_of plan records = due clock_spot (schedule_plan plan) (entries_so_far_in plan records)
 

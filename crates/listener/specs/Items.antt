@@ -137,7 +137,7 @@ pub record MadeItem : Type 0 where
 abbrev pub sources : MadeItem → List Delivery
 sources made = made.earlier ++ made.last ∷ []
 
--- an item that was made of one delivery, which is of audio or of the clock
+-- an item that was made of one delivery; the delivery is of audio or of the clock
 abbrev pub made_of_one : Delivery → MadeItem
 made_of_one d = record { entry = entry_of d; earlier = []; last = d }
 

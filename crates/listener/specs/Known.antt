@@ -25,10 +25,10 @@ clock_numbers (OfClock m ∷ os) = m ∷ clock_numbers os
 abbrev pub came_by : ListenPlan → ℕ → List Origin → List Origin
 came_by plan place origins = take (place + plan.look + 1) origins
 
--- The delivery at index `place` is a copy of an audio packet whose samples can be timed when the delivery is judged.
--- Either the packet has a timestamp, or its samples are counted from one of the last 16 + `look` timestamps that came.
--- If the listener has the clock, two adjacent CRF timestamps cover the timestamp from which the samples are counted.
--- The packets of the two covering CRF timestamps are among the last 64 clock packets that came.
+-- The delivery at index `place` is a copy of an audio packet. When the delivery is judged, the packet's samples can be
+-- timed. Either the packet has a timestamp, or its samples are counted from one of the last 16 + `look` timestamps that
+-- came. If the listener has the clock, the samples are counted from a timestamp that two adjacent CRF timestamps cover.
+-- The two CRF timestamps are in packets that are among the last 64 clock packets that came.
 pub record IsKnownCopy (p : PacketJournal) (plan : ListenPlan) (records : List Record) (place : ℕ) (c : Copy) : Type 0 where
   pub origins : List Origin
   pub from : AreFrom p plan.lead origins (deliveries_of plan records)
@@ -39,8 +39,8 @@ pub record IsKnownUnit (made : MadeItem) : Type 0 where
   pub unit : WholeUnit
   pub is : made.entry ≡ OfItem (OfUnit unit)
 
--- The item at index `place` is a whole unit of H.264, or a copy of an audio packet whose samples can be timed from the
--- packets that came.
+-- Either the item at index `place` is a whole unit of H.264, or it is a copy of an audio packet, and the packet's
+-- samples can be timed from the packets that came.
 abbrev pub IsKnownItem : Kind → PacketJournal → ListenPlan → List Record → ℕ → Copy → MadeItem → Type 0
 IsKnownItem DenseAaf p plan records place c made = IsKnownCopy p plan records place c
 IsKnownItem SparseAaf p plan records place c made = IsKnownCopy p plan records place c

@@ -58,10 +58,10 @@ sample_count SparseAaf count = count
 sample_count (Am824 interval dbc) count = count
 sample_count (H264 part) count = 1
 
--- The batch is packet n of the journal: it has the packet's sequence number, number of samples and bytes. Each sample
--- is at its instant in the journal or, if `by` is true, at the instant that the talker's clock gives. For H.264, the
--- batch is the unit that ends with packet n: it has the bytes of all packets of the unit, and presents them at one
--- instant.
+-- The batch is packet n of the journal: it has the packet's sequence number, number of samples and bytes. An audio
+-- sample is at its instant in the journal if `by` is false, and at the instant that the talker's clock gives if `by` is
+-- true. For H.264, the batch is the unit that ends with packet n: it has the bytes of all packets of the unit, and
+-- presents them at one instant.
 pub record IsOfPacket (by : Bool) (p : PacketJournal) (n : ℕ) (batch : Presented) : Type 0 where
   pub known : n < p.times.packets
   pub seq : batch.seq ≡ n % 256
@@ -145,8 +145,7 @@ pub record AreOfUnit (p : PacketJournal) (part : ℕ → Part) (lead from n : �
 abbrev pub accepted_before : ListenPlan → List Record → ℕ → List Accepted
 accepted_before plan records i = accepted clock_spot (schedule_plan plan) (entries_in plan records) i
 
--- the time at which the item at index `place` is judged: the greatest arrival of the items up to and including that
--- item
+-- the item at index `place` is judged at this time: the greatest arrival of the items up to and including that item
 abbrev pub time_of : ListenPlan → List Record → ℕ → ℤ
 time_of plan records i = now_at (entries_in plan records) i
 

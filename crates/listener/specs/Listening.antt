@@ -38,15 +38,15 @@ pub record IsIdle (listener : ListenState) : Type 0 where
   pub judge : IsIdleJudge listener.judge
   pub none : left listener.units ≡ []
 
--- The judge has taken a prefix of `entries`, and the other entries are queued. Of the items that the judge shows, the
--- first `given` were returned.
+-- The judge has taken a prefix of `entries`, and the other entries are queued. The first `given` of the items that the
+-- judge shows were returned.
 pub record Judges (entries : List Entry) (given : ℕ) (judge : JudgeState) (units : Gathered) : Type 0 where
   pub judged : List Entry
   pub stands : JudgeStandsFor clock_spot judged given judge
   pub all : judged ++ map item_entry (left units) ≡ entries
 
--- The listener has taken `records`, and has counted the records and the items. The first `given` of the items that the
--- listener shows of these records were returned.
+-- The listener has taken `records`, and has counted the records and the items. The listener shows a list of items for
+-- these records; the first `given` items of this list were returned.
 pub record StandsFor (records : List Record) (given : ℕ) (listener : ListenState) : Type 0 where
   pub plan : listener.judge.plan ≡ schedule_plan listener.plan
   pub units : is_closed listener ≡ false → HasUnits (deliveries_of listener.plan records) listener.units

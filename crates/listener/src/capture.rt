@@ -98,24 +98,26 @@ fn hear(alloc: Global, listener: &mut Listener, bytes: &[u8]) -> Result<Heard, N
 }
 
 /// What a listener shows of a whole capture: the schedule of the stream's packets, the counts, and the first refusal.
-/// Only the whole records before the first refusal are heard. A `Listener` shows the same if it is fed the bytes and is
-/// then ended.
+/// Only the whole records before the first refusal are heard. If a `Listener` is fed the bytes and then ended, the
+/// listener shows the same.
 ///
 /// A record belongs to the stream if it is a readable Ethernet frame of AVTP whose packet has the subtype of AAF (IEEE
 /// 1722-2016, 7), CVF (8) or IEC 61883. The packet's stream ID must be valid and equal to the plan's ID of the stream.
 /// A record belongs to the media clock if it is a readable Ethernet frame of AVTP with a packet of CRF (IEEE 1722-2016,
 /// 10). The packet's stream ID must be valid and equal to the plan's ID of the clock.
 ///
-/// A packet of the stream is flagged as malformed if its reader refuses it; of CVF only H.264 is read, and of IEC 61883
-/// only IEC 61883-6. Adjacent fragments of H.264 are put together into one unit, which has the frame number and the
-/// presentation time of its last packet. If a fragment is in no whole unit, it is flagged as broken or too long. Record
-/// times are read as nanoseconds of gPTP. The plan must be within the limits that `ListenPlan` names.
+/// A packet of the stream is flagged as malformed if its reader refuses it. The CVF reader accepts only H.264, and the
+/// IEC 61883 reader accepts only IEC 61883-6. Adjacent fragments of H.264 are put together into one unit, which has the
+/// frame number and the presentation time of its last packet. If a fragment is in no whole unit, it is flagged as
+/// broken or too long. Record times are read as nanoseconds of gPTP. The plan must be within the limits that
+/// `ListenPlan` names.
 ///
 /// If the talker keeps the rules, `KeepsHeadline` holds for what is shown, whatever packets of the talker and of its
-/// clock a capture loses, repeats or reorders. Each packet that came in time, found room and has a known timestamp or
-/// clock reference is presented once and in order, with each sample at the talker's own nanosecond. Hence any two
-/// listeners agree if both have the talker's clock, or neither has. Each packet of the stream that came and is not
-/// presented is flagged with one reason. If a unit of H.264 is presented, it is one whole unit of the talker.
+/// clock a capture loses, repeats or reorders. Suppose that a packet came in time, found room, and has a known
+/// timestamp or clock reference. Then the packet is presented once and in order, with each sample at the talker's own
+/// nanosecond. Hence any two listeners agree if both have the talker's clock, or neither has. If a packet of the stream
+/// came and is not presented, the packet is flagged with one reason. If a unit of H.264 is presented, it is one whole
+/// unit of the talker.
 ///
 /// The capture must have at most 2^62 bytes. If memory runs out, returns `NoMemory` and shows nothing.
 pub fn whole(alloc: Global, plan: &ListenPlan, bytes: &[u8]) -> Result<Heard, NoMemory>

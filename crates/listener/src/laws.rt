@@ -32,10 +32,10 @@ pub fn each_packet_is_shown_once()
     ensures { (plan : ListenPlan) (records : List Record) → (counts_of plan records (shown_of plan records)).presented + (counts_of plan records (shown_of plan records)).flagged + fragments_in (items_in plan records) ≡ (counts_of plan records (shown_of plan records)).packets }
 {}
 
-/// Each packet of the stream, and each packet of its clock, is in exactly one item: it is an item by itself, or a
-/// fragment of one whole unit. A whole unit has the frame number of its last fragment. Each item of the stream is shown
-/// once, as its verdict says: it is presented, or flagged with the first reason that applies. Nothing else is shown.
-/// Hence, if a frame of the stream is not presented, the list says why.
+/// Each packet of the stream, and each packet of its clock, is in exactly one item. The packet is the only packet of
+/// the item, or is a fragment of one whole unit. A whole unit has the frame number of its last fragment. Each item of
+/// the stream is shown once, as its verdict says: it is presented, or flagged with the first reason that applies.
+/// Nothing else is shown. Hence, if a frame of the stream is not presented, the list says why.
 pub fn each_delivery_is_shown()
     ensures in_one_item { (plan : ListenPlan) (records : List Record) → All (IsInOneItem (items_in plan records)) (deliveries_of plan records) }
     ensures shown { (plan : ListenPlan) (records : List Record) (place : ℕ) (made : MadeItem) (item : Item) → slice_get (items_in plan records) place ≡ Some made → made.entry ≡ Entry.Item item
@@ -44,7 +44,7 @@ pub fn each_delivery_is_shown()
 {}
 
 /// Due items stay due: whatever records follow, the due items of all records begin with the items that were due before.
-/// If no record follows, what is shown begins with what was due.
+/// If no record follows, the shown items begin with the items that were due.
 pub fn what_is_due_stays()
     ensures longer { (plan : ListenPlan) (records others : List Record) → IsPrefix (due_of plan records) (due_of plan (records ++ others)) }
     ensures first { (plan : ListenPlan) (records : List Record) → IsPrefix (due_of plan records) (shown_of plan records) }
@@ -52,8 +52,8 @@ pub fn what_is_due_stays()
 
 /// Records may carry any packets of a talker that keeps the rules, and any packets of the talker's clock, in any order.
 /// Records of these packets meet all premises of the laws below, for listeners with the clock and without it. H.264 has
-/// one condition: if two fragments of the stream arrive one right after the other, and at least one has no timestamp,
-/// their packet numbers differ by at most 254.
+/// one condition. Suppose that two fragments of the stream arrive one right after the other, and that at least one of
+/// the two has no timestamp. Then their packet numbers must differ by at most 254.
 pub fn carried_packets_are_heard()
     ensures audio { (shift : ℤ) (p : PacketJournal) (plan : ListenPlan) (origins : List Origin) (records : List Record) → IsConforming shift p → IsAudioKind p.times.kind → plan.stream ≡ p.stream → FollowsClock shift p plan.shift plan.clock → AllCarryFrom p plan.lead origins records → HearsTalker shift p plan records }
     ensures h264 { (shift : ℤ) (p : PacketJournal) (plan : ListenPlan) (origins : List Origin) (records : List Record) → IsConforming shift p → plan.stream ≡ p.stream → FollowsClock shift p plan.shift plan.clock → AllCarryFrom p plan.lead origins records → AreNear p.times (stream_numbers origins) → HearsTalker shift p plan records }
@@ -61,8 +61,8 @@ pub fn carried_packets_are_heard()
     records_of_both_are_delivered();
 }
 
-/// A listener without a clock always follows the talker. A listener with the talker's clock follows the talker if
-/// adding the listener's shift to the clock's timestamps gives those of the journal.
+/// A listener without a clock always follows the talker. If a listener with the talker's clock adds its shift to the
+/// clock's timestamps and gets the timestamps of the journal, the listener follows the talker.
 pub fn clocks_are_followed()
     ensures without { (shift added : ℤ) (p : PacketJournal) → FollowsClock shift p added None }
     ensures with_it { (shift : ℤ) (p : PacketJournal) → FollowsClock shift p shift (Some p.clock) }
@@ -89,12 +89,12 @@ pub fn units_are_whole()
 {}
 
 /// What is presented is true. The talker must keep the rules. A capture may lose, repeat or reorder the packets of the
-/// talker and of its clock, and the media clock may restart anywhere. Each presented batch is the talker's packet or
-/// unit from which the batch's item was made, and has the bytes of that packet or unit. Each sample is at the
-/// nanosecond of gPTP that follows from one timestamp of the talker. Without a clock, audio samples are counted from
-/// the talker's timestamp at the nominal rate. With the clock, audio samples are on the line through the two CRF
-/// timestamps that cover the talker's timestamp. A unit of H.264 is presented at its own timestamp, with the clock or
-/// without it.
+/// talker and of its clock, and the media clock may restart anywhere. Each presented batch comes from an item that was
+/// made from a packet or unit of the talker. The batch presents this packet or unit, and has the bytes of this packet
+/// or unit. Each sample is at the nanosecond of gPTP that follows from one timestamp of the talker. Without a clock,
+/// audio samples are counted from the talker's timestamp at the nominal rate. With the clock, audio samples are on the
+/// line through the two CRF timestamps that cover the talker's timestamp. A unit of H.264 is presented at its own
+/// timestamp, with the clock or without it.
 pub fn presented_are_true()
     ensures origin { (shift : ℤ) (p : PacketJournal) (plan : ListenPlan) (records : List Record) → HearsTalker shift p plan records → All (IsHeardFrom (by_clock plan) (items_in plan records) p plan.lead) (presented_of (shown_of plan records)) }
     ensures packet { (shift : ℤ) (p : PacketJournal) (plan : ListenPlan) (records : List Record) → HearsTalker shift p plan records → All (IsOfJournal (by_clock plan) p) (presented_of (shown_of plan records)) }
@@ -118,16 +118,16 @@ pub fn first_instants_never_fall()
 {}
 
 /// Any two listeners agree if both have the talker's clock, or neither has. Each capture may lose, repeat and reorder a
-/// talker's packets in its own way. The two plans may differ in buffer, look-ahead and max transit time. For each
-/// packet that both listeners present, they present the same bytes, and each sample at the same nanosecond.
+/// talker's packets in its own way. The two plans may differ in buffer, look-ahead and max transit time. If both
+/// listeners present a packet, they present the same bytes, and they present each sample at the same nanosecond.
 pub fn listeners_agree()
     ensures { (shift : ℤ) (p : PacketJournal) (plan other : ListenPlan) (records others : List Record) → HearsTalker shift p plan records → HearsTalker shift p other others → by_clock other ≡ by_clock plan → All (λ a. All (Agree (by_clock plan) p a) (presented_of (shown_of other others))) (presented_of (shown_of plan records)) }
 {}
 
 /// A copy of a packet is presented if it came in time, it found room, and no copy of the packet was accepted before.
-/// The timestamp from which the packet's samples are counted must be known. For audio with a clock, two CRF timestamps
-/// that cover this AVTP timestamp must also be known. It does not matter how many other packets are late, lost or
-/// untimed. The presented batch has the copy's frame number.
+/// The packet's samples are counted from a timestamp, and this timestamp must be known. For audio with a clock, two CRF
+/// timestamps that cover this AVTP timestamp must also be known. It does not matter how many other packets are late,
+/// lost or untimed. The presented batch has the copy's frame number.
 pub fn known_and_in_time_is_presented()
     ensures { (shift : ℤ) (p : PacketJournal) (plan : ListenPlan) (records : List Record) (place n : ℕ) (made : MadeItem) → HearsTalker shift p plan records → IsWelcome p plan records place n made → Any (IsPresentedOf (by_clock plan) p n made) (presented_of (shown_of plan records)) }
 {}
@@ -149,10 +149,10 @@ pub fn further_copies_are_repeats()
 {}
 
 /// All that is promised for a talker that keeps the rules, whatever packets a capture loses, repeats or reorders, and
-/// wherever the talker's clock restarts. Each sample is presented at the talker's own nanosecond if its packet came in
-/// time, found room and has a known timestamp or clock reference. Hence any two listeners agree if both have the
-/// talker's clock, or neither has. All remaining packets of the stream that came are flagged, each with one reason.
-/// Samples are presented once and in order, and the buffers have fixed sizes.
+/// wherever the talker's clock restarts. If a packet came in time, found room, and has a known timestamp or clock
+/// reference, each of its samples is presented at the talker's own nanosecond. Hence any two listeners agree if both
+/// have the talker's clock, or neither has. All remaining packets of the stream that came are flagged, each with one
+/// reason. Samples are presented once and in order, and the buffers have fixed sizes.
 pub fn headline_holds()
     ensures { (shift : ℤ) (p : PacketJournal) (plan : ListenPlan) (records : List Record) → HearsTalker shift p plan records → KeepsHeadline shift p plan records (shown_of plan records) }
 {}

@@ -1,5 +1,5 @@
-//! A listener of one stream. From the bytes of a capture, the listener finds which packets of the stream are presented,
-//! at which nanosecond, and why the others are not.
+//! A listener of one stream. From the bytes of a capture, the listener finds three things: which packets of the stream
+//! are presented, at which nanosecond, and why the other packets are not presented.
 #![tactic(auto)]
 
 mod blocks;

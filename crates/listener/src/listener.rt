@@ -90,7 +90,8 @@ impl Listener {
     /// Without a fault, returns `Ok(0)` if and only if the piece is empty or an item is due. `Refused` is the capture's
     /// first refusal, and is returned as soon as the bytes so far show it. The records before the refusal are kept, and
     /// the listener can still be ended. `Memory` is returned if there is no memory for the samples of the record that
-    /// was read. A record for which memory ran out makes no item, and every later `feed` and `end` returns `Memory`.
+    /// was read. If memory ran out for a record, the record makes no item, and every later `feed` and `end` returns
+    /// `Memory`.
     pub fn feed(&mut self, alloc: Global, piece: &[u8]) -> Result<usize, ListenFault>
         requires open { is_ended self.old ≡ false }
         requires bounded { taken self.old.reader + length piece.now ≤ 2 ^ 62 }

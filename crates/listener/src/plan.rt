@@ -18,8 +18,8 @@ pub struct ListenPlan {
     pub room: u32,
     /// How many later items are read before an item is judged, from 0 to 64.
     pub look: u32,
-    /// The max transit time: how many nanoseconds before its presentation time a packet is expected, at most
-    /// 1,000,000,000.
+    /// The max transit time in nanoseconds, at most 1,000,000,000. A packet is expected this long before its
+    /// presentation time.
     pub lead: u32,
     /// The shift that is added to each timestamp of the clock, from -1,000,000,000 to 1,000,000,000 ns.
     pub shift: i64,

@@ -99,8 +99,8 @@ impl RecordListener {
     /// than 2^62 records must have been taken. The listener must not be closed. The record's time must be from 0 to
     /// 2^62 ns.
     ///
-    /// A record that belongs neither to the stream nor to its clock is counted and skipped. Returns `NoMemory` if there
-    /// is no memory for the packet's samples or the unit; the listener is then unchanged.
+    /// If a record belongs neither to the stream nor to its clock, the record is counted and skipped. Returns
+    /// `NoMemory` if there is no memory for the packet's samples or the unit; the listener is then unchanged.
     pub fn take_record(&mut self, alloc: Global, held: &RecordView<'_>) -> Result<(), NoMemory>
         requires open { is_closed self.old ≡ false }
         requires idle { IsIdle self.old }
@@ -280,7 +280,7 @@ fn next_shown(units: &mut Units, judge: &mut Judge, ended: bool, closed: &mut bo
 }
 
 /// Gives the next queued item to the judge. If no item is queued and no more records follow, closes the judge. Returns
-/// whether an item was given or the judge was closed.
+/// whether one of two things was done: an item was given to the judge, or the judge was closed.
 #[inline(always)]
 fn judge_next(units: &mut Units, judge: &mut Judge, ended: bool, closed: &mut bool) -> bool
     requires idle { IsIdleJudge judge.old }

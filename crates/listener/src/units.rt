@@ -304,7 +304,7 @@ impl Units {
         Ok(())
     }
 
-    /// Ends the stream: the fragments of a unit that is not whole are given up.
+    /// Ends the stream. If a unit is not whole, the fragments of the unit are given up.
     pub fn end(&mut self)
         ensures gives { (ds : List Delivery) → HasUnits ds self.old → map item_entry (left self.new) ≡ map made_entry (left_at_end ds) }
     {

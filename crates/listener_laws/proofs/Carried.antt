@@ -8,8 +8,8 @@ use Rattle.packet_journal.specs.Deliveries.{Delivery, belongs, clock_kinds, deli
 use Rattle.packet_journal.specs.Delivered.{AreFrom, IsClockCopyOf, IsCopyOf, Origin, OfClock, OfStream}
 use Rattle.packet_journal.specs.Packets.{PacketJournal}
 
--- A record that carries a packet of the stream or of its clock belongs to that stream or clock, and its delivery is a
--- copy of the packet.
+-- If a record carries a packet of the stream or of its clock, the record belongs to that stream or clock, and the
+-- record's delivery is a copy of the packet.
 pub record AreRead (p : PacketJournal) (lead : ℕ) : Type 0 where
   pub stream : (n : ℕ) (r : Record) → Carries p lead n r → belongs stream_kinds p.stream r.bytes ≡ true
   pub copy : (n frame : ℕ) (r : Record) → Carries p lead n r → IsCopyOf p lead n (delivery frame r)

@@ -186,15 +186,15 @@ abbrev pub HoldsOf : (ℕ → Type 0) → Origin → Type 0
 HoldsOf Q (OfStream k) = Q k
 HoldsOf Q (OfClock m) = Unit {0}
 
--- Delivery `j` has an origin, and adds nothing to the accepted items except the packet that the origin names. If the
--- origin is a packet of the stream, that packet has property `Q`.
+-- Delivery `j` has an origin. The delivery adds at most one packet to the accepted items: the packet that the origin
+-- names. If the origin is a packet of the stream, that packet has property `Q`.
 pub record IsAtPlace (p : PacketJournal) (plan : ListenPlan) (records : List Record) (Q : ℕ → Type 0) (os : List Origin) (j : ℕ) : Type 0 where
   pub o : Origin
   pub at : slice_get os j ≡ Some o
   pub holds : HoldsOf Q o
   pub taken : IsTakenAt p plan records j o
 
--- among the first `j` origins, the number of stream packets for which the test `waits` is true
+-- how many of the first `j` origins are stream packets that pass the test `waits`
 abbrev pub passing : (ℕ → Bool) → List Origin → ℕ → ℕ
 passing waits os j = length (filter waits (stream_numbers (take j os)))
 

@@ -24,14 +24,13 @@ pub record ComesInTime (p : PacketJournal) (plan : ListenPlan) (records : List R
   pub at : IsAt (by_clock plan) p.times n 0 (pos instant)
   pub in_time : (k : ℕ) (e : Delivery) → k ≤ place → slice_get (deliveries_of plan records) k ≡ Some e → e.arrival ≤ℤ pos instant
 
--- `waits` is true for each packet whose first instant is at or after the time at which the item at index `place` is
--- judged
+-- `waits` is true for a packet if the item at index `place` is judged no later than the packet's first instant
 abbrev pub FindsWaiting : PacketJournal → ListenPlan → List Record → ℕ → (ℕ → Bool) → Type 0
 FindsWaiting p plan records place waits = (k : ℕ) (x : ℤ) → k < p.times.packets → IsAt (by_clock plan) p.times k 0 x → time_of plan records place ≤ℤ x → waits k ≡ true
 
 -- The copy must be presented: it comes in time, it is the first copy of its packet, and the buffer has room for it. No
--- packet of the stream carries more than `most` bytes. The buffer must have room for the copy and for all earlier
--- packets for which `waits` is true, even if each of these packets carries `most` bytes.
+-- packet of the stream carries more than `most` bytes. Take the earlier packets for which `waits` is true. The buffer
+-- must have room for the copy and for all these packets, even if each of them carries `most` bytes.
 pub record MustBePresented (p : PacketJournal) (plan : ListenPlan) (records : List Record) (place n : ℕ) (d : Delivery) : Type 0 where
   pub comes : ComesInTime p plan records place n d
   pub first : All (λ (k : ℕ). k ≢ n) (stream_numbers (take place comes.known.origins))
@@ -51,7 +50,7 @@ unit_place before last = length (items_so_far before ++ given_up_by before last)
 
 -- Delivery `last` completes the unit of packets `from` to n. One copy of each packet of the unit came, in order and
 -- with no other packet of the stream between the copies. All deliveries up to and including `last` were captured no
--- later than the instant at which the unit is due.
+-- later than the unit's due instant.
 pub record UnitComesInTime (p : PacketJournal) (plan : ListenPlan) (records : List Record) (part : ℕ → Part) (from n : ℕ) (before : List Delivery) (last : Delivery) : Type 0 where
   pub rest : List Delivery
   pub there : deliveries_of plan records ≡ before ++ last ∷ rest
@@ -61,14 +60,14 @@ pub record UnitComesInTime (p : PacketJournal) (plan : ListenPlan) (records : Li
   pub unit : AreOfUnit p part plan.lead from n earlier last
   pub in_time : All (λ (d : Delivery). d.arrival ≤ℤ pos (p.times.due n)) (before ++ last ∷ [])
 
--- `waits` is true for each delivery in `before` that ends a unit, if that unit is due at or after the time at which the
--- item at index `place` is judged.
+-- Let a delivery in `before` end a unit. If the unit is due at or after the time at which the item at index `place` is
+-- judged, `waits` is true for this delivery.
 abbrev pub FindsWaitingUnits : PacketJournal → ListenPlan → List Record → (ℕ → Part) → List Delivery → ℕ → (Delivery → Bool) → Type 0
 FindsWaitingUnits p plan records part before place waits = (j k : ℕ) (d : Delivery) → slice_get before j ≡ Some d → IsCopyOf p plan.lead k d → Ends (part k) → time_of plan records place ≤ℤ pos (p.times.due k) → waits d ≡ true
 
 -- The unit must be presented: it comes in time, no copy of its last packet came before, and the buffer has room for it.
--- No unit of the stream has more than `most` bytes. The buffer must have room for the unit and for all earlier units
--- for which `waits` is true, even if each of these units has `most` bytes.
+-- No unit of the stream has more than `most` bytes. Take the earlier units for which `waits` is true. The buffer must
+-- have room for the unit and for all these earlier units, even if each of them has `most` bytes.
 pub record UnitMustBePresented (p : PacketJournal) (plan : ListenPlan) (records : List Record) (part : ℕ → Part) (from n : ℕ) (before : List Delivery) (last : Delivery) : Type 0 where
   pub comes : UnitComesInTime p plan records part from n before last
   pub first : All (λ (d : Delivery). ¬ IsCopyOf p plan.lead n d) before

@@ -1,4 +1,4 @@
-//! A small capture for which the premises of the laws hold. Each call only states its contract, and does nothing.
+//! A small capture that meets the premises of the laws. Each call only states its contract, and does nothing.
 
 ghost use Rattle.std.specs.Prelude.{pos};
 ghost use Rattle.packet_journal.specs.Deliveries.{Delivery};

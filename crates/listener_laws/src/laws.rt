@@ -33,8 +33,8 @@ pub fn fronts_are_true()
     ensures { (shift : ℤ) (p : PacketJournal) (plan : ListenPlan) (records others : List Record) → HearsTalker shift p plan records → IsTrueFront p plan records others }
 {}
 
-/// If a listener hears a talker in a whole capture, it hears the talker in the first records of the capture, too.
-/// Hence, if reading stops at a fault or a limit, `fronts_are_true` applies to the records before that stop.
+/// If a listener hears a talker in a whole capture, the listener also hears the talker in the first records of the
+/// capture. Hence, if reading stops at a fault or a limit, `fronts_are_true` applies to the records before that stop.
 pub fn shorter_captures_are_heard()
     ensures { (shift : ℤ) (p : PacketJournal) (plan : ListenPlan) (records others : List Record) → HearsTalker shift p plan (records ++ others) → HearsTalker shift p plan records }
 {}
@@ -64,14 +64,15 @@ pub fn bytes_are_given_truly()
 /// A copy of an audio packet must be presented if four conditions hold. The copy can be timed from the packets that
 /// came. No copy of the packet came before. The buffer has room for the copy. All deliveries up to and including the
 /// copy were captured no later than the packet's first instant. The law holds anywhere in a capture, whatever the
-/// capture loses, repeats or reorders, and for listeners with the talker's clock or without it.
+/// capture loses, repeats or reorders. The law holds for listeners with the talker's clock and for listeners without
+/// it.
 pub fn copies_anywhere_are_welcome()
     ensures { (shift : ℤ) (p : PacketJournal) (plan : ListenPlan) (records : List Record) (place n : ℕ) (d : Delivery) → HearsTalker shift p plan records → IsAudioKind p.times.kind → MustBePresented p plan records place n d → IsWelcome p plan records place n (made_of_one d) }
 {}
 
-/// If one copy of an audio packet must be presented, a later copy must be flagged as a repeat if two conditions hold.
-/// The later copy can be timed from the packets that came. All deliveries up to and including the later copy were
-/// captured no later than the packet's first instant.
+/// Assume that one copy of an audio packet must be presented. A later copy must then be flagged as a repeat if two
+/// conditions hold. The later copy can be timed from the packets that came. All deliveries up to and including the
+/// later copy were captured no later than the packet's first instant.
 pub fn copies_anywhere_are_further()
     ensures { (shift : ℤ) (p : PacketJournal) (plan : ListenPlan) (records : List Record) (earlier place n : ℕ) (made : MadeItem) (d : Delivery) → HearsTalker shift p plan records → IsAudioKind p.times.kind → IsWelcome p plan records earlier n made → earlier < place
         → ComesInTime p plan records place n d → IsFurther p plan records place n (made_of_one d) }
@@ -89,7 +90,7 @@ pub fn units_anywhere_are_welcome()
 
 /// Suppose that a unit must be presented, and that the whole unit arrives again later. If the later copy of the unit is
 /// in time, the copy must be flagged as a repeat. The later copy is in time if all deliveries up to and including its
-/// last packet were captured no later than the instant at which the unit is due.
+/// last packet were captured no later than the unit's due instant.
 pub fn units_anywhere_are_further()
     ensures { (shift : ℤ) (p : PacketJournal) (plan : ListenPlan) (records : List Record) (part : ℕ → Part) (earlier from n : ℕ) (made : MadeItem) (before : List Delivery) (last : Delivery) → HearsTalker shift p plan records → p.times.kind ≡ H264 part → IsWelcome p plan records earlier n made
         → earlier < unit_place before last → UnitComesInTime p plan records part from n before last → IsFurther p plan records (unit_place before last) n (unit_by before last) }

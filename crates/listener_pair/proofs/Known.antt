@@ -85,8 +85,8 @@ ends-b : (ea eb : Bool) (done ys : List Sided) → EndsOn B done → is_settled 
 ends-b ea eb done ys (inl none) a = none-done ea eb done ys none
 ends-b ea eb done ys (inr (front, z, e)) a = known-ends ea eb done front ys (of_side B z) e (settled-more ea A (of_side B z ∷ []) ys a) (own-here eb (list_any (λ y. is_side B y.side) ys))
 
--- All batches of the list `done` are known if each side that lacks its next batch has presented the last batch of
--- `done`. If both sides lack their next batch, `done` is required to be empty.
+-- If each side that lacks its next batch has presented the last batch of the list `done`, all batches of `done` are
+-- known. If both sides lack their next batch, `done` is required to be empty.
 pub known-done : (ea eb : Bool) (na nb : Option Presented) (done : List Sided) (la lb : Bool) → lacks ea na ≡ la → lacks eb nb ≡ lb → (lacks ea na ≡ true → EndsOn A done) → (lacks eb nb ≡ true → EndsOn B done)
     → (lacks ea na ≡ true → lacks eb nb ≡ true → done ≡ []) → known ea eb (done ++ nexts na nb) ≡ done ++ known ea eb (nexts na nb)
 known-done ea eb na nb done true true e f a b none = none-done ea eb done (nexts na nb) (none e f)

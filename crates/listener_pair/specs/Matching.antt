@@ -67,7 +67,7 @@ abbrev pub IsIdle : MatchingState → Type 0
 IsIdle m = known m.ended_a m.ended_b (nexts m.next_a m.next_b) ≡ []
 
 -- The known part of the merged list of the batches that the matching was given. The known part is a prefix of the
--- merged list that no later batch can change.
+-- merged list, and no later batch can change this prefix.
 abbrev pub known_of : MatchingState → List Presented → List Presented → List Sided
 known_of m xs ys = known m.ended_a m.ended_b (merged xs ys)
 

@@ -30,7 +30,7 @@ by_instant (x ∷ rest) = put_before x (by_instant rest)
 unfoldable pub merged : List Presented → List Presented → List Sided
 merged xs ys = by_instant (all_of A xs ++ all_of B ys)
 
--- the list is ordered by first instant, like every list of what a listener presents
+-- the list is ordered by first instant, as the presented batches of every listener are
 abbrev pub IsInOrder : List Presented → Type 0
 IsInOrder [] = ⊤
 IsInOrder (x ∷ rest) = AllByRecursion (λ y. first_instant x ≤ℤ first_instant y) rest × IsInOrder rest
@@ -44,14 +44,14 @@ is_side A B = false
 is_side B A = false
 is_side B B = true
 
--- No batch that the side presents later can precede the first batch of `list`: the side has ended, or has presented a
--- batch of `list`.
+-- The side has ended, or has presented a batch of `list`. In both cases, no batch that the side presents later can
+-- precede the first batch of `list`.
 abbrev pub is_settled : Bool → Which → List Sided → Bool
 is_settled ended side list = ended || list_any (λ x. is_side side x.side) list
 
 -- The known part of a merged list. The two conditions say whether A has ended and whether B has ended. A batch is known
--- if each side that has not ended has presented this batch or a later batch of the list. Whatever the two sides present
--- later, the known part stays a prefix of the merged list.
+-- if one of two things holds for each side: the side has ended, or the side has presented this batch or a later batch
+-- of the list. Whatever the two sides present later, the known part stays a prefix of the merged list.
 unfoldable pub known : Bool → Bool → List Sided → List Sided
 known ended_a ended_b [] = []
 known ended_a ended_b (x ∷ rest) =

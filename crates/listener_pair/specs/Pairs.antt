@@ -45,7 +45,7 @@ pub record Paired : Type 0 where
   pub earlier : Placed
   pub later : Placed
 
--- a list from which the first element that passes a test is removed
+-- removes the first element that passes a test from a list
 abbrev pub without_first : {T : Type 0} → (T → Bool) → List T → List T
 without_first {T} test [] = []
 without_first {T} test (y ∷ ys) = if test y then ys else y ∷ without_first test ys
@@ -54,7 +54,7 @@ without_first {T} test (y ∷ ys) = if test y then ys else y ∷ without_first t
 abbrev pub at_place : ℕ → Sided → Placed
 at_place place x = record { place = place; side = x.side; batch = x.batch }
 
--- the partner of x: the first earlier unpaired batch with which x may be paired
+-- the partner of x: the first earlier unpaired batch that may be paired with x
 abbrev pub partner_of : Placed → List Placed → Option Placed
 partner_of x unpaired = find (may_pair x) unpaired
 
@@ -82,13 +82,13 @@ pairs_from place unpaired (x ∷ rest) =
     ++ pairs_from (suc place) (unpaired_with (at_place place x) unpaired) rest
 
 -- The unpaired batches after successive batches are added. `place` is the position of the first of these batches, and
--- `unpaired` are the unpaired batches before it.
+-- `unpaired` are the unpaired batches before this first batch.
 unfoldable pub unpaired_from : ℕ → List Placed → List Sided → List Placed
 unpaired_from place unpaired [] = unpaired
 unpaired_from place unpaired (x ∷ rest) = unpaired_from (suc place) (unpaired_with (at_place place x) unpaired) rest
 
--- The pairs of a merged list, in the order of their later batches. Batches are taken in order. Each batch is paired
--- with the first earlier unpaired batch with which it may be paired, if there is one.
+-- The pairs of a merged list, in the order of their later batches. Batches are taken in order. Take the earlier
+-- unpaired batches that may be paired with a batch. If there are any, the batch is paired with the first of them.
 abbrev pub pairs : List Sided → List Paired
 pairs list = pairs_from 0 [] list
 

@@ -33,7 +33,8 @@ first_way a b zero = None
 first_way a b (suc n) = or_way (first_way a b n) (sample_way a b n)
 
 -- How a batch of A and a batch of B differ; none if they do not differ. If the two batches have different numbers of
--- samples, the result is `Count` with both numbers. If the numbers of samples are equal, the first differing sample
--- decides: it differs in its instant or, if the instants are equal, in its bytes.
+-- samples, the result is `Count` with both numbers. If the numbers of samples are equal, the first sample that differs
+-- decides. If the two instants of that sample differ, the result is `At` with both instants; otherwise the result is
+-- `Bytes`.
 unfoldable pub way_of : Presented → Presented → Option Way
 way_of a b = if a.count == b.count then first_way a b a.count else Some (Count a.count b.count)

@@ -24,8 +24,8 @@ pub fn known_comes_first()
     ensures all { (list : List Sided) → known true true list ≡ list }
 {}
 
-/// The two batches of a pair are of different sides, are at most 512 positions apart in the merged list, have the same
-/// sequence number, and are close enough in time to present the same packet or unit.
+/// The two batches of a pair are of different sides and at most 512 positions apart in the merged list. The two batches
+/// have the same sequence number, and are close enough in time to present the same packet or unit.
 pub fn pairs_are_of_two_sides()
     ensures { (list : List Sided) → AllByRecursion IsPair (pairs list) }
 {}

@@ -22,8 +22,8 @@ use std::marker::Model;
 /// difference of each pair that differs. A difference is returned as soon as both batches of its pair are in the known
 /// part of the merged list.
 ///
-/// Memory is reserved when the matching is made. A batch is dropped when it is paired, or when none of the 512 batches
-/// after it was its partner.
+/// Memory is reserved when the matching is made. A batch is dropped when it is paired. A batch is also dropped when
+/// none of the 512 batches after it was its partner.
 #[derive(Drop)]
 pub struct Matching {
     next_a: Option<Timed>,
@@ -66,7 +66,7 @@ impl Matching {
         })
     }
 
-    /// The side for which `take` or `end` must be called next. A side qualifies if it has not ended and has no next
+    /// The side that needs the next call of `take` or `end`. A side qualifies if it has not ended and has no next
     /// batch. If both sides qualify, returns A. If no side qualifies, returns `None`.
     pub fn wants(&self) -> Option<Which>
         ensures { result ≡ wanted self.now }
@@ -123,16 +123,16 @@ impl Matching {
         }
     }
 
-    /// The counts of the known part, if `next_difference` has returned `None` and neither `take` nor `end` was called
-    /// after that. A batch that is not paired yet counts as in no pair.
+    /// Suppose that `next_difference` has returned `None`, and that neither `take` nor `end` was called since then.
+    /// Then the result is the counts of the known part. A batch that is not paired yet counts as in no pair.
     pub fn counts(&self) -> PairCounts
         ensures { IsIdle self.now → (xs ys : List Presented) (given : ℕ) → StandsFor xs ys given self.now → result ≡ counts_of (known_of self.now xs ys) }
     {
         self.counts
     }
 
-    /// Returns the memory of a batch of side `which` that was paired or dropped, so that the memory can be used again.
-    /// Returns `None` if no memory of a paired or dropped batch of that side is kept.
+    /// Returns the memory of one paired or dropped batch of side `which`, so that the memory can be used again. Returns
+    /// `None` if no memory of a paired or dropped batch of that side is kept.
     pub fn take_spent(&mut self, which: Which) -> Option<Bytes>
         ensures { self.new ≡ self.old }
     {

@@ -18,7 +18,7 @@ use std::marker::Model;
 /// A batch is paired only with one of this many batches directly before it in merged order.
 const WINDOW: usize = 512;
 
-/// The maximum number of batches whose sample memory is kept, to be used again.
+/// The memory of the samples is kept for at most this many batches, to be used again.
 const SPENT: usize = 8;
 
 /// The batches of a side that wait for a partner, and the memory of the samples of some batches that no longer wait.
@@ -72,7 +72,7 @@ impl Waiting {
         }
     }
 
-    /// Removes and returns the first waiting batch with which batch `x` of the other side may be paired.
+    /// Removes and returns the first waiting batch that may be paired with batch `x` of the other side.
     fn take_partner(&mut self, side: Which, x: &Timed) -> Option<Placed>
         ensures found { result ≡ find (takes_by side x.now) self.old }
         ensures left { self.new ≡ without_first (takes_by side x.now) self.old }
@@ -112,7 +112,7 @@ impl Waiting {
     }
 }
 
-/// The index of the first waiting batch with which batch `x` of `side` may be paired.
+/// The index of the first waiting batch that may be paired with batch `x` of `side`.
 fn find_partner(waiting: &VecDeque<Placed>, side: Which, x: &Timed) -> Option<usize>
     ensures found { IfSome result (λ i. find (takes_by side x.now) waiting.now.items ≡ slice_get waiting.now.items i) }
     ensures left { IfSome result (λ i. without_first (takes_by side x.now) waiting.now.items ≡ remove waiting.now.items i) }

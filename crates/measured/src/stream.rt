@@ -102,7 +102,7 @@ impl Stream {
         })))
     }
 
-    /// A packet of the clock, whose timestamp is the instant of packet n.
+    /// A packet of the clock. The timestamp in this packet is the instant of packet n.
     fn clock_packet(&self, alloc: Global, n: u32) -> Result<Entry, NoMemory>
         requires some { 1 ≤ self.now.waiting }
         requires most { self.now.waiting ≤ 65536 }

@@ -1,4 +1,4 @@
--- A record that carries a packet belongs to the stream, and its delivery is a copy of the packet.
+-- If a record carries a packet, the record belongs to the stream, and the record's delivery is a copy of the packet.
 use Rattle.std.proofs.Common.{◌≡◌, ℕ, ◌+◌, ◌≤◌, true, false, ℤ, List, [], ◌∷◌, length, map, filter, Option, None, is_none, refl, sym, ap, ◌∙◌, eq-eqb, arith}
 use Rattle.std.specs.Prelude.{Bool, nat_le, nat_lt, ◌==◌, if◌then◌else◌}
 use Rattle.std.specs.List.{enumerate_from, list_any}

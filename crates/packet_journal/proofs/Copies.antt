@@ -14,7 +14,7 @@ use Rattle.packet_journal.specs.Packets.{IsConforming, IsPacket, PacketJournal, 
 use Rattle.packet_journal.specs.Delivered.{IsClockCopyOf, IsCopyOf, Spells}
 use Rattle.packet_journal.specs.Laws.{IsClockReadAs, IsReadAs}
 
--- what `cvf_format::laws::packet_again` states: the bytes that are written for a packet spell it
+-- what `cvf_format::laws::packet_again` states: if bytes are written for a packet, the bytes spell the packet
 abbrev pub CvfAgain : Type 0
 CvfAgain = (v : Cvf) (trail : List ℕ) → IsWritableCvf v → Fits (layout_of v.part) v → SpellsCvf (cvf_spelling v ++ trail) (plain_cvf v)
 

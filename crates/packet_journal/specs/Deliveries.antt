@@ -48,7 +48,7 @@ belongs_to_clock (Some id) bytes = belongs clock_kinds id bytes
 abbrev pub is_delivered : ℕ → Option ℕ → List ℕ → Bool
 is_delivered stream clock bytes = belongs stream_kinds stream bytes || belongs_to_clock clock bytes
 
--- A delivery: the number of its record in the capture, counted from 1; the time at which it was captured; and its
+-- A delivery has three parts: the number of its record in the capture, counted from 1; the time of capture; and the
 -- packet, with the packet's subtype and sequence number.
 pub record Delivery : Type 0 where
   pub frame : ℕ

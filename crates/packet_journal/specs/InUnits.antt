@@ -1,4 +1,4 @@
--- The NAL unit to which a packet of H.264 belongs.
+-- The NAL unit of an H.264 packet.
 use Rattle.std.specs.Prelude.{◌≡◌, ℕ, ◌<◌, ◌≤◌}
 use Rattle.stream_journal.specs.Journal.{Journal, Part}
 use Rattle.packet_journal.specs.Units.{AreUnit}

@@ -4,14 +4,14 @@ ghost use Rattle.std.specs.Prelude.{ℤ, pos};
 ghost use Rattle.packet_journal.specs.Packets.{IsConforming};
 ghost use Rattle.packet_journal.specs.Examples.{block_packets, clocked_packets, restarted_packets};
 
-/// The packets in `restarted_packets`, sent by a sparse talker that restarts, keep the rules, whatever a listener adds
-/// to the timestamps of a clock.
+/// A sparse talker that restarts sends the packets in `restarted_packets`. These packets keep the rules, whatever a
+/// listener adds to the timestamps of a clock.
 pub fn restarted_packets_conform()
     ensures { (shift : ℤ) → IsConforming shift restarted_packets }
 {}
 
-/// The packets in `block_packets`, sent by an AM824 talker, keep the rules, whatever a listener adds to the timestamps
-/// of a clock.
+/// An AM824 talker sends the packets in `block_packets`. These packets keep the rules, whatever a listener adds to the
+/// timestamps of a clock.
 pub fn block_packets_conform()
     ensures { (shift : ℤ) → IsConforming shift block_packets }
 {

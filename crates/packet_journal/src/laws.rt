@@ -20,8 +20,8 @@ pub fn copies_are_read()
     cvf_format::laws::packet_again();
 }
 
-/// A record that carries a packet of a conforming talker belongs to the talker's stream, and the record's delivery is a
-/// copy of the packet.
+/// If a record carries a packet of a conforming talker, the record belongs to the talker's stream, and the record's
+/// delivery is a copy of the packet.
 pub fn carried_packet_is_delivered()
     ensures belongs { (shift : ℤ) (p : PacketJournal) (lead n : ℕ) (r : Record) → IsConforming shift p → Carries p lead n r → belongs stream_kinds p.stream r.bytes ≡ true }
     ensures copy { (p : PacketJournal) (lead n frame : ℕ) (r : Record) → Carries p lead n r → IsCopyOf p lead n (delivery frame r) }
@@ -37,8 +37,8 @@ pub fn carried_packets_are_delivered()
     cvf_format::laws::packet_again();
 }
 
-/// A record that carries a packet of a conforming talker's clock belongs to the clock, according to its subtype and its
-/// stream ID. The delivery of the record is a copy of the packet.
+/// If a record carries a packet of a conforming talker's clock, the record belongs to the clock, according to the
+/// record's subtype and stream ID. The delivery of the record is a copy of the packet.
 pub fn carried_clock_packet_is_delivered()
     ensures belongs { (shift : ℤ) (p : PacketJournal) (m : ℕ) (r : Record) → IsConforming shift p → CarriesClock p m r → belongs clock_kinds p.clock r.bytes ≡ true }
     ensures copy { (p : PacketJournal) (m frame : ℕ) (r : Record) → CarriesClock p m r → IsClockCopyOf p m (delivery frame r) }

@@ -1,5 +1,5 @@
-//! The packets of a talker's journal, and which records of a capture are copies of them. The crate defines these
-//! packets and copies. Each function states a law about the definitions, and does nothing.
+//! The packets of a talker's journal, and the records of a capture that are copies of these packets. The crate defines
+//! these packets and copies. Each function states a law about the definitions, and does nothing.
 #![tactic(auto)]
 
 pub mod examples;

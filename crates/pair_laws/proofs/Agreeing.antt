@@ -74,7 +74,7 @@ cancel w x y some h = elim (cases_lt y x) [
 ]
 
 -- Let a line keep the pace of `rate`. If a time `u` is at most 64 times the duration of `count` samples on this line,
--- it is at most 72 times their nominal duration.
+-- `u` is at most 72 times the nominal duration of these samples.
 paced : (u den count num rate : ℕ) → 1 ≤ den → u * den ≤ 64 * count * num → 8 * (rate * num) ≤ 9000000000 * den → u * rate ≤ 72 * (count * 1000000000)
 paced u den count num rate some near pace =
     let a : (8 * rate) * (u * den) ≤ (8 * rate) * (64 * count * num) = mul-le-mul_left (8 * rate) near in

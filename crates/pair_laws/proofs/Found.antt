@@ -120,7 +120,7 @@ first-of : (by : Bool) (p : PacketJournal) (n : ℕ) (x w : Placed) (l r : List 
 first-of by p n x w [] r is tx ox h may = ap (λ v. cond v (Some w) (find (may_pair x) r)) may
 first-of by p n x w (u ∷ l) r is tx ox h may = ap (λ v. cond v (Some u) (find (may_pair x) (l ++ w ∷ r))) (false-of (may_pair x u) (no-pair by p n x u is tx ox h.0)) ∙ first-of by p n x w l r is tx ox h.1 may
 
--- after a batch of packet n is paired, no batch of packet n is left among the waiting batches
+-- after a batch of packet n is paired, no batch of packet n still waits
 without-found : (by : Bool) (p : PacketJournal) (n : ℕ) (x w : Placed) (l r : List Placed) → Conforms p.times → IsPresentedOfTalker by p x.batch → IsOfPacket by p n x.batch → AllElse by p n l → AllElse by p n r → may_pair x w ≡ true → AllElse by p n (without_first (may_pair x) (l ++ w ∷ r))
 without-found by p n x w [] r is tx ox hl hr may = subst (AllElse by p n) (sym (ap (λ v. cond v r (w ∷ without_first (may_pair x) r)) may)) hr
 without-found by p n x w (u ∷ l) r is tx ox hl hr may =

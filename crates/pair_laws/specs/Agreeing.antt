@@ -20,8 +20,8 @@ KeepsPace SparseAaf rate batch = HasPace rate batch
 KeepsPace (Am824 interval dbc) rate batch = HasPace rate batch
 KeepsPace (H264 part) rate batch = is_unit batch ≡ true
 
--- What holds for each batch that a listener presents of the talker: it is one packet or unit of the journal, timed by
--- the clock if `by` is true, and it keeps the talker's pace.
+-- What holds for each batch that a listener presents of the talker. The batch is one packet or unit of the journal,
+-- timed by the clock if `by` is true. The batch keeps the talker's pace.
 pub record IsPresentedOfTalker (by : Bool) (p : PacketJournal) (batch : Presented) : Type 0 where
   pub is : IsOfJournal by p batch
   pub pace : KeepsPace p.times.kind p.times.rate batch

@@ -9,7 +9,7 @@ use Rattle.listener_pair.specs.Merged.{IsInOrder}
 abbrev pub AreTold : Presented → Presented → Type 0
 AreTold x y = first_instant x ≡ first_instant y → x.seq ≢ y.seq
 
--- any two batches of the list that have the same first instant have different sequence numbers
+-- if two batches of the list have the same first instant, their sequence numbers differ
 abbrev pub AreAllTold : List Presented → Type 0
 AreAllTold [] = ⊤
 AreAllTold (x ∷ rest) = AllByRecursion (AreTold x) rest × AreAllTold rest

@@ -47,7 +47,7 @@ pub fn captures_of_one_talker_never_differ()
 
 /// If all batches of both sides are of one talker, no pair differs: each pair is of one packet or unit. The batches may
 /// be all that listeners present, or the part that is known while the captures continue. If a capture is of the talker,
-/// all batches that a listener presents of it are batches of the talker.
+/// a listener that reads the capture presents only batches of the talker.
 pub fn batches_of_one_talker_never_differ()
     ensures differ { (shift : ℤ) (by : Bool) (p : PacketJournal) (list : List Sided) → IsConforming shift p → AllByRecursion (λ x. IsPresentedOfTalker by p x.batch) list → differences list ≡ [] }
     ensures one { (shift : ℤ) (by : Bool) (p : PacketJournal) (list : List Sided) → IsConforming shift p → AllByRecursion (λ x. IsPresentedOfTalker by p x.batch) list → AllByRecursion (IsOneOf by p) (pairs list) }
@@ -55,8 +55,8 @@ pub fn batches_of_one_talker_never_differ()
 {}
 
 /// The differences that a `RecordPair` has returned are the first known differences. A difference is known if no later
-/// record can change it. However the two captures continue or end, the returned differences stay the first known
-/// differences.
+/// record can change it. However the two captures continue or end, the differences that were returned are still the
+/// first known differences.
 pub fn what_was_given_stays()
     ensures within { (records others : List Record) (given : ℕ) (pair : PairState) → StandsFor records others given pair → EndsAreClosed pair → given ≤ length (differences (known_by pair records others)) }
     ensures stays { (records others more more_others : List Record) (given : ℕ) (old new : PairState) → StandsFor records others given old → EndsAreClosed old → Continues more more_others old new

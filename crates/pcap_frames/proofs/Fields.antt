@@ -114,7 +114,7 @@ part_filled order start part more p long room =
       ];
     }
 
--- 24 bytes in which no field is refused are a file header
+-- if no field is refused in 24 bytes, the 24 bytes are a file header
 pub file_header_is : (bytes : List ℕ) (s : Style) → file_refusal bytes ≡ None → length bytes ≡ 24 → style_at bytes ≡ Some s → IsFileHeader s bytes
 unfolding file_refusal
 file_header_is bytes s h size is = record {

@@ -138,7 +138,7 @@ again_by dst src (Some t) ethertype start payload whole =
 pub frame_again : (v : Frame) → IsWritableFrame v → SpellsFrame (frame_spelling v) (plain_frame v)
 frame_again v whole = again_by v.dst v.src v.tag v.ethertype v.start v.payload whole
 
--- ---- bytes that spell a frame are those that are written for it
+-- ---- if bytes spell a frame, they are the bytes that are written for that frame
 
 only_by : (bytes : List ℕ) (dst src : ℕ) (tag : Option Tag) (ethertype start : ℕ) (payload : List ℕ) → AreBytes bytes
     → header_len (is_some tag) ≤ length bytes → SpellsFrame bytes (frame dst src tag ethertype start payload)

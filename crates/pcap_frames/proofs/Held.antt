@@ -90,7 +90,7 @@ ending_is r bytes records h = (holds_one bytes _ _ _ _ (ends r bytes records h) 
 pub records_are : (r : Reading) (bytes : List ℕ) (records : List Record) → HasRead r bytes records → records ++ option_to_list (held r) ≡ whole_records bytes
 records_are r bytes records h = (holds_one bytes _ _ _ _ (ends r bytes records h) (holds_whole bytes)).0
 
--- if a reader has no refusal, no complete field of the bytes taken is refused
+-- if a reader has no refusal, none of the complete fields in the taken bytes is refused
 pub uncertain : (r : Reading) (bytes : List ℕ) (records : List Record) → r.refusal ≡ None → HasRead r bytes records → certain (first_refusal bytes) ≡ None
 uncertain r bytes records none h = ap certain (sym (ending_is r bytes records h)) ∙ uncertain_by r.refusal r.style r.start r.part none h.reading
 

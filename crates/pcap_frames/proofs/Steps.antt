@@ -141,7 +141,7 @@ steps_none r piece none = record {
   stopped = tt;
 }
 
--- a step and then steps in the rest of the piece together count as one step
+-- if a step is followed by further steps in the rest of the piece, all of these together count as one step
 pub steps_on : (a b c : Progress) (n m : ℕ) (piece : List ℕ) → Steps a piece (Ok n) b → Steps b (take (length piece - n) (drop n piece)) (Ok m) c
     → Steps a piece (Ok (n + m)) c
 steps_on a b c n m piece first then = record {

@@ -75,7 +75,7 @@ record_of style bytes = record {
   bytes = drop 16 bytes;
 }
 
--- the size in bytes of the record at the front of the bytes, header included, as the record's header states it
+-- the record at the front of the bytes has this size in bytes, header included, according to the record's header
 abbrev pub record_size : Style → List ℕ → ℕ
 record_size style bytes = 16 + number_at style.order 8 4 bytes
 

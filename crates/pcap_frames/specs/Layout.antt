@@ -27,7 +27,7 @@ abbrev pub magic_of : units.Unit → ℕ
 magic_of Micro = 0xA1B2C3D4
 magic_of Nano = 0xA1B23C4D
 
--- the style of a magic number that was read as little-endian, if it is one of the four magic numbers
+-- the style of a magic number that was read as little-endian; `None` if the number is not one of the four magic numbers
 abbrev pub style_of_magic : ℕ → Option Style
 style_of_magic n =
     if nat_eq n 0xA1B2C3D4 then Some (record { order = Little; unit = Micro })
@@ -102,8 +102,8 @@ unfoldable pub file_refusal : List ℕ → Option Refusal
 file_refusal bytes =
     option_or (first_refused Little 0 magic_number bytes) (first_refused (order_of (style_at bytes)) 0 file_header bytes)
 
--- The refusal of a record: at the first field that is cut off or whose number is refused. The record begins at offset
--- `start` of the capture.
+-- The refusal of a record. The record is refused at the first field that is cut off or has a refused number. The record
+-- begins at offset `start` of the capture.
 unfoldable pub record_refusal : Order → ℕ → List ℕ → Option Refusal
 record_refusal order start bytes =
     option_or (first_refused order start record_header bytes) (first_refused order start (packet_bytes (number_at order 8 4 bytes)) bytes)

@@ -26,7 +26,7 @@ nothing_read = record { style = None; start = 0; part = []; refusal = None }
 abbrev pub taken : Reading → ℕ
 taken r = r.start + length r.part
 
--- the record that the bytes spell, if they are a whole record in which nothing is refused
+-- if the bytes are a whole record and nothing in it is refused, the record that the bytes spell
 abbrev pub whole_record : Style → ℕ → List ℕ → Option Record
 whole_record style start bytes = cond (is_none (record_refusal style.order start bytes)) (Some (record_of style bytes)) None
 
@@ -53,8 +53,8 @@ pub record IsHeaderPart (start : ℕ) (part : List ℕ) : Type 0 where
   pub accepted : certain (file_refusal part) ≡ None
   pub partial : length part < 24
 
--- The invariant of a reader. If the reader has a refusal, the refused field is complete. Without a refusal, `part`
--- belongs to the file header if there is no style, and to a record if there is a style.
+-- The invariant of a reader. If the reader has a refusal, the refused field is complete. Without a refusal, there are
+-- two cases: if there is no style, `part` belongs to the file header; if there is a style, `part` belongs to a record.
 abbrev pub IsReading : Option Refusal → Option Style → ℕ → List ℕ → Type 0
 IsReading (Some refusal) style start part = refusal.short ≡ false
 IsReading None None start part = IsHeaderPart start part

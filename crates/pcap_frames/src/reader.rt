@@ -22,8 +22,8 @@ use std::marker::Model;
 /// of any length, and holds one record at a time. Feed a piece until all of it is taken; after each call, look at the
 /// held record and release it.
 ///
-/// A record that is complete in a piece need not be copied. If `whole_ahead` finds a complete record, use `lend` to see
-/// the record in the piece and `pass` to skip the record, instead of `feed`, `held` and `release`.
+/// A record that is complete in a piece need not be copied. If `whole_ahead` finds a complete record, the calls `feed`,
+/// `held` and `release` are not needed: use `lend` to see the record in the piece, and `pass` to skip the record.
 #[derive(Debug, Drop)]
 pub struct Reader {
     style: Option<Style>,
@@ -239,9 +239,9 @@ impl Reader {
 
     /// Whether the bytes so far are a whole capture: a file header and whole records.
     ///
-    /// If the capture is not whole, the call returns the refusal that an earlier `feed` returned, if there is one. If
-    /// no earlier `feed` returned a refusal, the call refuses the first field of which a byte is missing, with `short`
-    /// set. A held record counts as whole. The call changes nothing, and more bytes can be fed afterwards.
+    /// If the capture is not whole and an earlier `feed` returned a refusal, the call returns this refusal. If no
+    /// earlier `feed` returned a refusal, the call refuses the first field that lacks a byte, and this refusal has
+    /// `short` set. A held record counts as whole. The call changes nothing, and more bytes can be fed afterwards.
     pub fn finish(&self) -> Result<(), Refusal>
         ensures exact { (bytes : List ℕ) (records : List Record) → HasRead self.now bytes records → Holds bytes (records ++ option_to_list (held self.now)) (result_err result) }
         ensures ends { Ends meaning (progress self.now) result }

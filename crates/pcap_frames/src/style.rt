@@ -7,7 +7,7 @@ pub enum Order {
     Big,
 }
 
-/// The unit in which a capture counts the fraction of a second.
+/// A capture counts the fraction of a second in this unit.
 #[derive(Clone, Copy, Debug, PartialEq, Eq)]
 pub enum Unit {
     Micro,

@@ -44,8 +44,8 @@ pub fn write_header(out: &mut [u8], style: Style) -> Result<usize, Room>
     Ok(FILE_HEADER)
 }
 
-/// Writes a record (draft-ietf-opsawg-pcap, section 5): its header, whose fraction is below one second, and then its
-/// captured bytes. Returns the record's length.
+/// Writes a record (draft-ietf-opsawg-pcap, section 5): first its header, and then its captured bytes. The fraction in
+/// the header is below one second. Returns the record's length.
 ///
 /// `arrival` is in nanoseconds, from 0 to below 2^32 seconds. In a capture that counts microseconds, `arrival` is a
 /// multiple of 1000. `orig_len` is the frame's length on the wire, and there are at most 262,144 `bytes`. The call

@@ -116,8 +116,8 @@ after_stays kind.Packet p total bytes more h packet =
     ∙ record_stays (packet_arrival (order_or_little p.order) p.interfaces bytes) (order_or_little p.order) bytes more (packet refl))
 after_stays kind.Other p total bytes more h packet = refl
 
--- if the fixed fields of a block are present, and in a packet's block also all captured bytes, further bytes do not
--- change the next place
+-- Let the fixed fields of a block be present and, for a packet's block, also all captured bytes. Further bytes then do
+-- not change the next place.
 pub place_stays : (p : Place) (bytes more : List ℕ) → head_size (kind_at p.order bytes) ≤ length bytes → (kind_at p.order bytes ≡ kind.Packet → 28 + number_at (order_or_little p.order) 20 4 bytes ≤ length bytes) → after_any p (bytes ++ more) ≡ after_any p bytes
 place_stays p bytes more h packet =
     ap (λ (k : Kind). after_block k p (number_at (order_at k p.order (bytes ++ more)) 4 4 (bytes ++ more)) (bytes ++ more)) (kind_stays p.order bytes more (omega (arith, rows_long (kind_at p.order bytes))))

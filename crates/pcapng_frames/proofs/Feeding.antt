@@ -379,7 +379,8 @@ trailer_whole c interfaces part tail refusal whole none held is zero total size 
 and_nothing : (packet : Option Record) (rest : Contents) → packet ≡ None → and_then packet rest ≡ rest
 and_nothing packet rest e = rw e refl
 
--- once the trailer of a block that holds no packet is complete and not refused, the reader moves to the next place
+-- if a block holds no packet, and the trailer of the block is complete and not refused, the reader moves to the next
+-- place
 pub trailer_ends : (c : Cursor) (interfaces : List Interface) (part tail more : List ℕ) (q : Place) → c.stage ≡ stage.Trailer → length tail ≡ 4 → trailer_refused (order_or_little c.order) (c.start + (c.total - 4)) c.total tail ≡ None → is_some c.packet ≡ false → q ≡ after_trailer (place_of c interfaces part)
     → contents_past 0 (place_of c interfaces part) tail more ≡ contents_past 0 q [] more
 trailer_ends c interfaces part tail more q is size accepted free next =

@@ -14,7 +14,7 @@ kind_rows_accepted : (k : Kind) (order : Option Order) (interfaces : List Interf
     → first_refused start (length bytes) (kind_rows k (order_at k order bytes) interfaces bytes) ≡ None
 kind_rows_accepted k order interfaces start bytes long h = grind (arith, nat_tests)
 
--- if no more bytes of a block are needed, as many bytes were taken as `head_need` says for its kind
+-- if no more bytes of a block are needed, the number of bytes taken is `head_need` for the block's kind
 pub head_known : (k : Kind) (order : Option Order) (bytes : List ℕ) → 8 ≤ length bytes → length bytes ≡ block_need order bytes → kind_at order bytes ≡ k → length bytes ≡ head_need k (order_or_little order) bytes
 unfolding block_need
 head_known k order bytes long need is = rw (← is) (grind (arith, nat_tests))

@@ -266,7 +266,7 @@ plain_same p bytes is =
     ∙ (rw (refusal_same p bytes is, size_same p bytes is, next_same p bytes is, cut_same p bytes is, none_in_block p.stage p.packet is) refl
     ∙ sym (unroll (plain p) bytes))
 
--- whether the block of the next packet was taken or skipped, the bytes after the block hold the same contents
+-- the bytes after the block of the next packet hold the same contents, whether that block was taken or skipped
 place_after : (r : Reading) (block more : List ℕ) → IsNext r block → contents_at (after_trailer (with_block r block).place) more ≡ contents_at (passing r block).place more
 place_after r block more next =
     ap (λ (xs : List Interface). contents_at (record (after_trailer (with_block r block).place) { interfaces = xs }) more) (append-nil r.place.interfaces)

@@ -24,7 +24,7 @@ less_past n front bytes = grind (arith, nat_tests, length-append front bytes)
 both_ways : {X : Type 0} (b c : Bool) (x y z w : X) → b ≡ c → x ≡ y → z ≡ w → (if b then x else z) ≡ (if c then y else w)
 both_ways b c x y z w e f g = rw (e, f, g) refl
 
--- taking bytes that are to be skipped lowers the number of bytes still to be skipped, and changes nothing else
+-- if bytes that are to be skipped are taken, fewer bytes remain to be skipped, and nothing else changes
 pub passed : (skip : ℕ) (p : Place) (part front more : List ℕ) → length front ≤ skip → contents_past skip p part (front ++ more) ≡ contents_past (skip - length front) p part more
 passed skip p part front more h =
     let all : length front + (skip - length front) ≡ skip = omega arith in

@@ -144,7 +144,7 @@ next_stays : (p : Place) (bytes more : List ℕ) → 4 ≤ length bytes → valu
 next_stays p bytes more h need =
     rw (described_stays (order_or_little p.order) p.interface bytes more h need, size_of_stays (order_or_little p.order) p.left bytes more h) refl
 
--- if all bytes that are read of an option were taken and nothing in them is refused, the reader moves to the next place
+-- if all needed bytes of an option were taken and nothing in these bytes is refused, the reader moves to the next place
 pub option_moves : (p q : Place) (part more : List ℕ) (skip : ℕ) → p.stage ≡ stage.Option → 4 ≤ length part → length part ≡ option_need (order_or_little p.order) part → refusal_here p part ≡ None
     → next_by stage.Option p part ≡ q → size_of_option (order_or_little p.order) p.left part ≡ length part + skip → contents_past 0 p part more ≡ contents_past skip q [] more
 option_moves p q part more skip is long whole accepted next size =

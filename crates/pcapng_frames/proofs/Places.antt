@@ -50,7 +50,8 @@ fuel (suc n) (suc m) p bytes h k =
     let size = length-drop (size_here p bytes) bytes in
     fuel n m (next_place p bytes) (drop (size_here p bytes) bytes) (omega arith) (omega arith))))
 
--- the contents from a place on are what the place holds, followed by the contents from the next place on
+-- The contents from a place on are the packet that is complete at this place, if any, followed by the contents from the
+-- next place on. If the bytes at the place are refused or cut short, the contents end there.
 pub unroll : (p : Place) (bytes : List ℕ) → contents_at p bytes
     ≡ refused_or (refusal_here p bytes) (if nat_lt (length bytes) (size_here p bytes) then cut_short p bytes
     else and_then (packet_by p.stage p.packet) (contents_at (next_place p bytes) (drop (size_here p bytes) bytes)))

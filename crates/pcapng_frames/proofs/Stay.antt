@@ -1,5 +1,6 @@
--- If a field of an interface description, a packet's block or a skipped block is refused, or if all its checked fields
--- are present, further bytes do not change its first refusal.
+-- Three kinds of blocks are treated here: interface descriptions, packets' blocks and skipped blocks. If a field of
+-- such a block is refused, or if all checked fields of the block are present, further bytes do not change the block's
+-- first refusal.
 use Rattle.std.proofs.Common.{◌≡◌, ℕ, ◌≤◌, List, ◌++◌, length, Option, None, refl, arith, length-append}
 use Rattle.std.proofs.lemmas.Bool.Decides.{nat_tests}
 use Rattle.avtp_base.specs.declared.refusal.Refusal.{Refusal}

@@ -95,8 +95,8 @@ option_refused order at left bytes = first_refused at (length bytes) (option_row
 abbrev pub trailer_rows : Order → ℕ → List ℕ → List Row
 trailer_rows order total bytes = row BlockTrailer 0 4 (not (nat_eq (number_at order 0 4 bytes) total)) ∷ []
 
--- The refusal of a block's trailer, if the bytes contain the whole trailer and it does not repeat the block's total
--- length.
+-- The refusal of a block's trailer, if the bytes contain the whole trailer and the trailer does not repeat the block's
+-- total length.
 unfoldable pub trailer_refused : Order → ℕ → ℕ → List ℕ → Option Refusal
 trailer_refused order at total bytes = first_refused at (length bytes) (trailer_rows order total bytes)
 
@@ -265,8 +265,8 @@ ends ending = record { records = []; ending = ending }
 abbrev pub and_then : Option Record → Contents → Contents
 and_then packet rest = record { records = option_to_list packet ++ rest.records; ending = rest.ending }
 
--- The contents of bytes that begin at this place and end before the next place: no packet, and a refusal unless
--- `ends_at` says that the capture is whole.
+-- The contents of bytes that begin at this place and end before the next place. There is no packet. If `ends_at` says
+-- that the capture is whole, there is no refusal; otherwise there is one.
 abbrev pub cut_short : Place → List ℕ → Contents
 cut_short p bytes = if ends_at p.stage p.order p.start (length bytes) then ends None else ends (Some (cut_by p.stage p bytes))
 

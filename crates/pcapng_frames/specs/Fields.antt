@@ -21,7 +21,7 @@ kind_of n =
     else if nat_eq n 6 then kind.Packet
     else kind.Other
 
--- the byte order of a section whose magic number, read as little-endian, has this value
+-- the byte order of a section, given the section's magic number read as little-endian
 abbrev pub order_of_magic : ℕ → Option Order
 order_of_magic n = if nat_eq n 0x1A2B3C4D then Some Little else if nat_eq n 0x4D3C2B1A then Some Big else None
 
@@ -115,8 +115,8 @@ option_code order bytes = number_at order 0 2 bytes
 abbrev pub option_length : Order → List ℕ → ℕ
 option_length order bytes = number_at order 2 2 bytes
 
--- The fields that are checked in an option with this code, whose value has this length. `left` bytes of options remain
--- before the trailer.
+-- The fields that are checked in an option that has this code and a value of this length. `left` bytes of options
+-- remain before the trailer.
 abbrev pub option_rows : ℕ → ℕ → ℕ → List ℕ → List Row
 option_rows code len left bytes =
     if nat_eq code 0 then [] else

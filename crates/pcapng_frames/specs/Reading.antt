@@ -12,9 +12,9 @@ use Rattle.pcapng_frames.specs.declared.interface.Interface.{Interface}
 use Rattle.pcapng_frames.specs.Fields.{first_refused, kind_of, number_at, packet_rows}
 use Rattle.pcapng_frames.specs.Blocks.{Place, Contents, after_block, order_or_little, contents, contents_from, whole_records, first_refusal, settled, ends, and_then, first_place, after_trailer, short_at}
 
--- The state of a reader. `place` is the place at which the reader reads, once it has skipped `skip` further bytes.
--- `part` are the bytes that were taken from `place` on. `whole` tells whether the block's packet is whole. `refusal` is
--- the refusal that the reader has returned, if any.
+-- The state of a reader. Once the reader has skipped `skip` further bytes, it reads at `place`. `part` are the bytes
+-- that were taken from `place` on. `whole` tells whether the block's packet is whole. `refusal` is the refusal that the
+-- reader has returned, if any.
 pub record Reading : Type 0 where
   pub place : Place
   pub skip : ℕ
@@ -30,8 +30,8 @@ nothing_read = record { place = first_place; skip = 0; part = []; whole = false;
 abbrev pub contents_at : Place → List ℕ → Contents
 contents_at p bytes = contents_from (suc (length bytes)) p bytes
 
--- The contents of the capture from the reader's place on, if `more` are the bytes that follow those taken. The first
--- `skip` bytes of `more` precede the place. `part` are the bytes that were taken from the place on.
+-- The contents of the capture from the reader's place on, if `more` are the bytes that follow the taken bytes. The
+-- first `skip` bytes of `more` precede the place. `part` are the bytes that were taken from the place on.
 abbrev pub contents_past : ℕ → Place → List ℕ → List ℕ → Contents
 contents_past skip p part more =
     if nat_lt (length more) skip then ends (Some (short_at BlockBody (p.start + 8)))
@@ -39,8 +39,8 @@ contents_past skip p part more =
 
 -- The contents of the capture that a reader has not released yet, if the bytes taken so far are followed by `more`. If
 -- the reader has a refusal, the contents are only that refusal. If the reader holds a packet, the contents are that
--- packet, followed by the contents after the packet's block. If the reader has no refusal and holds no packet, they are
--- the contents from the reader's place on.
+-- packet, followed by the contents after the packet's block. If the reader has no refusal and holds no packet, the
+-- contents are those from the reader's place on.
 abbrev pub rest_by : Option Refusal → Bool → Reading → List ℕ → Contents
 rest_by (Some refusal) whole r more = ends (Some (record { refusal = refusal; cut = false }))
 rest_by None true r more = and_then r.place.packet (contents_at (after_trailer r.place) more)
@@ -127,6 +127,6 @@ with_block r block = record {
   refusal = r.refusal;
 }
 
--- the reader after it took the block of the next packet and released the packet
+-- the state of the reader after the reader took the block of the next packet and released the packet
 abbrev pub passing : Reading → List ℕ → Reading
 passing r block = record r { place = record r.place { start = r.place.start + length block } }

@@ -112,7 +112,7 @@ pub fn packet_arrival(order: Order, interfaces: &[Interface], bytes: &[u8]) -> O
     interface::arrival(interface, timestamp(order, bytes))
 }
 
-/// The packet with these fixed fields, whose captured bytes follow the first 28 bytes of `part`.
+/// The packet that has these fixed fields; its captured bytes follow the first 28 bytes of `part`.
 pub fn view(packet: PacketHead, part: &[u8]) -> RecordView<'_>
     requires whole { 28 ≤ length part.now }
     requires limit { packet.arrival ≤ 2 ^ 62 }

@@ -18,7 +18,7 @@ use pcap_frames::part::gather;
 use std::alloc::Global;
 use std::marker::Model;
 
-/// The greatest number of bytes of a block that are held: the fixed fields of a packet and its captured bytes.
+/// At most this many bytes of a block are held: the fixed fields of a packet and its captured bytes.
 const PART_ROOM: usize = 262_172;
 
 /// The greatest number of bytes of an option that are held: its header and the value of `if_tsoffset`.
@@ -28,8 +28,8 @@ const TAIL_ROOM: usize = 12;
 /// holds one packet at a time. Feed a piece until all of it is taken; after each call, look at the held packet and
 /// release it.
 ///
-/// A packet whose block is complete in a piece need not be copied. If `whole_ahead` finds a complete block, use `lend`
-/// to see the packet in the piece and `pass` to skip it, instead of `feed`, `held` and `release`.
+/// If a packet's block is complete in a piece, the packet need not be copied. If `whole_ahead` finds a complete block,
+/// use `lend` to see the packet in the piece and `pass` to skip it, instead of `feed`, `held` and `release`.
 #[derive(Debug, Drop)]
 pub struct Ng {
     cursor: Cursor,
@@ -82,7 +82,8 @@ impl Ng {
         })
     }
 
-    /// Takes bytes up to the end of one packet's block or of the piece, and returns how many it took.
+    /// Takes bytes up to the end of one packet's block or up to the end of the piece, and returns the number of bytes
+    /// taken.
     ///
     /// While nothing is refused, the call returns `Ok(0)` if and only if the piece is empty or a whole packet is held.
     /// As soon as the bytes so far show the first refusal of the capture, the call returns that refusal. Once `feed`
@@ -160,8 +161,8 @@ impl Ng {
     /// The size of the next packet's block, if the piece begins with the whole block and no byte of the block was taken
     /// yet.
     ///
-    /// The result is `None` if a block of another kind comes first, some bytes of the block were taken, a field is
-    /// refused, or the block continues after the piece. If the result is `None`, feed the piece.
+    /// The result is `None` in each of these cases: a block of another kind comes first, some bytes of the block were
+    /// taken, a field is refused, or the block continues after the piece. If the result is `None`, feed the piece.
     #[inline(always)]
     pub fn whole_ahead(&self, piece: &[u8]) -> Option<usize>
         ensures within { IfSome result (λ size. size ≤ length piece.now) }
@@ -193,7 +194,7 @@ impl Ng {
 
     /// Skips the block of the next packet, as if its bytes had been fed and the packet released.
     ///
-    /// The bytes taken before and the bytes of this block must together number at most 2^62.
+    /// The bytes that were taken before and the bytes of this block are together at most 2^62 bytes.
     #[inline(always)]
     pub fn pass(&mut self, block: &[u8])
         requires next { IsNext self.old block.now }
@@ -222,7 +223,7 @@ impl Ng {
         }
     }
 
-    /// What the bytes so far lack to be a whole capture, if anything.
+    /// What is missing for the bytes so far to be a whole capture; `None` if nothing is missing.
     fn missing(&self) -> Option<Refusal>
         requires accepted { self.now.refusal ≡ None }
         ensures { result ≡ lacks self.now }

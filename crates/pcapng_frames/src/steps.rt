@@ -38,7 +38,8 @@ pub fn block_need(order: Option<Order>, part: &[u8]) -> usize
     }
 }
 
-/// How many bytes of an enhanced packet must be taken before more is known of it.
+/// The number of bytes of an enhanced packet block that are needed: the fixed fields or, if these are present, also the
+/// captured bytes.
 fn packet_need(order: Order, part: &[u8]) -> usize
     ensures { result ≡ head_need kind.Packet order part.now }
 {
@@ -273,8 +274,8 @@ pub fn option_need(order: Order, tail: &[u8]) -> usize
     }
 }
 
-/// The length of an option, with its header and the padding of its value. An option with code 0 ends the options, and
-/// its length is the number of all remaining bytes of options.
+/// The length of an option, with its header and the padding of its value. An option with code 0 ends the options. The
+/// length of an option with code 0 is the number of all remaining bytes of options.
 #[tactic(auto, unfolding(crate::specs::Blocks::option_refused))]
 fn option_size(order: Order, at: u64, left: u32, tail: &[u8]) -> u32
     requires long { 4 ≤ length tail.now }

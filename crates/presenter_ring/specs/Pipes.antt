@@ -14,7 +14,7 @@ ring_of pipe = known_items pipe.back.consumer
 abbrev pub waiting_in : Pipe → List Shown
 waiting_in pipe = ring_of pipe ++ hand_of pipe.front
 
--- the answer with which the receiver ended, if it has ended
+-- if the receiver has ended, the answer that ended it
 abbrev pub ended_with : Pipe → Option Pull
 ended_with pipe = ended_of pipe.front
 
@@ -43,9 +43,9 @@ pub record IsDrained (pipe : Pipe) : Type 0 where
   pub ended : IsSome (ended_with pipe)
   pub empty : waiting_in pipe ≡ []
 
--- The work that is left if the receiver can give `left` more items. The work counts 1 for each item in the ring, which
--- is still to be presented, and 2 for each other item, which is still to be pushed and presented. Every round reduces
--- the work, unless the pipe is drained.
+-- The work that is left if the receiver can give `left` more items. An item in the ring counts 1, because it must still
+-- be presented. Each other item counts 2, because it must still be pushed and presented. Every round reduces the work,
+-- unless the pipe is drained.
 abbrev pub work : ℕ → Pipe → ℕ
 work left pipe = 2 * (left + length (hand_of pipe.front)) + length (ring_of pipe)
 

@@ -17,7 +17,7 @@ abbrev pub ending_of : Pull → Option Pull
 ending_of (Item shown) = None
 ending_of pull = Some pull
 
--- the receiver's answer from which an ending was made
+-- the receiver's answer that was turned into an ending
 abbrev pub pull_of : Ending → Pull
 pull_of ending.Done = pull.Done
 pull_of (ending.Refused refusal) = pull.Refused refusal

@@ -14,7 +14,7 @@ use rtrb::{Consumer, Producer, PushError};
 use sample_schedule::Shown;
 
 /// The producer's end of the ring that carries items, and the consumer's end of the ring that returns the samples of
-/// presented items. `hand` is the item for which there was no free slot, and `ended` is how the receiver ended.
+/// presented items. If no slot was free for an item, `hand` holds this item. `ended` is how the receiver ended.
 #[derive(Drop)]
 pub struct Front {
     pub producer: Producer<Shown>,
@@ -35,7 +35,7 @@ impl Front {
     ghost use Rattle.presenter_ring.specs.Fronts.{ended_of};
     ghost use Rattle.presenter_ring.specs.state.Fronts.{HasFed, IsStuck, Pushes, Takes};
 
-    /// The item in `hand`. If `hand` is empty, the receiver's next item, or `None` if the receiver has ended.
+    /// The item in `hand`. If `hand` is empty, returns the receiver's next item, or `None` if the receiver has ended.
     #[inline(always)]
     fn next_item<R: Receiver>(&mut self, receiver: &mut R) -> Option<Shown>
         requires live { ended_of self.old ≡ None → R.ended receiver.old ≡ None }

@@ -1,6 +1,6 @@
 //! Observers of the steps of a ring.
 
-/// The side of a ring on which a step is made.
+/// The side of a ring where a step is made.
 #[derive(Clone, Copy, Debug, PartialEq, Eq)]
 pub enum Side {
     /// An item was put into the ring.

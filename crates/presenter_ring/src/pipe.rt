@@ -80,7 +80,7 @@ impl Pipe {
         })
     }
 
-    /// The answer with which the receiver ended, if it has ended. The answer is never an item.
+    /// The answer that the receiver ended with, if the receiver has ended. The answer is never an item.
     pub fn ended(&self) -> Option<Pull>
         ensures answer { result ≡ ended_with self.now }
         ensures no_item { IfSome result (λ pull. items_of pull ≡ []) }
@@ -179,11 +179,11 @@ impl Pipe {
 
     /// Runs one round, in which each side takes its turn in a thread of its own. The receiver's side pulls and pushes
     /// at most as many items as the ring can hold. The receiver's side stops earlier if there is no free slot or the
-    /// receiver has ended. After the first push, it also stops if the receiver may have to wait. The receiver's side
-    /// keeps an item for which there is no free slot. If a round pushes and pops nothing, the kept item is presented
-    /// directly, without the ring. The presenter's side pops and presents at most as many items as the ring can hold.
-    /// The presenter's side stops earlier if the ring is empty or a presentation fails. The gate is called after each
-    /// push and each pop.
+    /// receiver has ended. After the first push, it also stops if the receiver may have to wait. If there is no free
+    /// slot for an item, the receiver's side keeps the item. If a round pushes and pops nothing, the kept item is
+    /// presented directly, without the ring. The presenter's side pops and presents at most as many items as the ring
+    /// can hold. The presenter's side stops earlier if the ring is empty or a presentation fails. The gate is called
+    /// after each push and each pop.
     ///
     /// If `ended` is `None`, the receiver must not have ended. In all rounds together, the receiver may give at most
     /// 2^62 items.

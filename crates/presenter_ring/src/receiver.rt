@@ -23,8 +23,8 @@ pub enum Pull {
     Memory,
 }
 
-/// Gives items, one after another, until it ends. `gave` relates two states of the receiver, an earlier one and a later
-/// one, because a side that borrows the receiver does not keep the receiver's first state.
+/// Gives items, one after another, until it ends. `gave` relates two states of the receiver: an earlier one and a later
+/// one. The reason: if a side borrows the receiver, the side does not keep the receiver's first state.
 pub trait Receiver: Send {
     ghost use Rattle.std.specs.Prelude.{List, ℕ, Option};
     ghost use Rattle.sample_schedule.specs.declared.shown.Shown.{Shown as ShownValue};
@@ -36,7 +36,7 @@ pub trait Receiver: Send {
     /// The maximum number of items that the receiver can still give.
     ghost left: { Self → ℕ };
 
-    /// The answer with which the receiver ended, if it has ended.
+    /// If the receiver has ended, the answer that ended it.
     ghost ended: { Self → Option PullValue };
 
     /// Gives the next item. Any answer other than an item means that the receiver has ended and must not be called

@@ -35,10 +35,11 @@ pub fn default_words_are_command_lines()
     ensures id { IsId (codes "0200000000010001") (plain false).id }
 {}
 
-/// Let a file hold a capture of a plan that has the default lead. Let `listen`, given the plan's stream ID and this
-/// file, end with `Done`. The devices then got the whole stream of the plan from the capture (`GaveAll`): each packet
-/// or, for H.264, each NAL unit. The law follows from what `run` promises (`HasRun.reports.headline`). For audio, the
-/// run of `listen` ends with `Done`, unless memory runs out, a write fails or a device fails.
+/// Let a file hold a capture of a plan that has the default lead. Suppose that `listen` is run with the plan's stream
+/// ID and this file, and that the run ends with `Done`. The devices then got the whole stream of the plan from the
+/// capture (`GaveAll`): each packet or, for H.264, each NAL unit. The law follows from what `run` promises
+/// (`HasRun.reports.headline`). For audio, the run of `listen` ends with `Done`, unless memory runs out, a write fails
+/// or a device fails.
 pub fn default_words_present_all<D: Devices>()
     ensures given { (plan : TalkPlan) (input word name : List ℕ) (files after : Files) (old new : D) (failed : Bool) → HasDefaultLead plan input → IsId word plan.id → IsName name
         → files name ≡ Some (capture plan input) → Ran (listen_words word name) (HandsOn D.handed old new) (new ≡ old) failed files after Done → GaveAll plan input (each_packet plan input) (HandsOn D.handed old new) }
@@ -54,8 +55,8 @@ pub fn default_words_present_all<D: Devices>()
 }
 
 /// Let `talk IN OUT` and then `listen 0200000000010001 OUT` both end with `Done`, and let OUT be unchanged in between.
-/// Then the devices got each packet that `talk` makes of the bytes of IN, once, in order and at its instants, and
-/// nothing else. If IN consists of whole sample frames and is at most `most_input` bytes long, `talk` ends with `Done`,
+/// The devices then got exactly the packets that `talk` makes of the bytes of IN: each once, in order and at its
+/// instants. Let IN consist of whole sample frames and be at most `most_input` bytes long. `talk` then ends with `Done`
 /// unless memory runs out or a write fails.
 pub fn talk_and_listen_present_all<D: Devices>()
     ensures made { (bytes input output : List ℕ) (files after : Files) (old new : D) (failed : Bool) → IsName input → IsName output → input ≢ output → files input ≡ Some bytes

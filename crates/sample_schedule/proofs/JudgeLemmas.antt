@@ -143,7 +143,8 @@ all-taken clock entries given s st =
     let a = length-append (option_to_list s.current) s.ahead in
     omega arith
 
--- Nothing is due: every accepted batch either has been presented, because its instant has passed, or waits.
+-- Nothing is due. If the instant of an accepted batch has passed, the batch has been presented; every other accepted
+-- batch waits.
 record Settled (clock : Clock) (entries : List Entry) (front : List Accepted) (s : JudgeState) : Type 0 where
   passed : front ≡ by_instant (between (latest (take s.place entries)) s.time (earlier_of clock entries s))
   waiting : s.waiting ≡ by_instant (standing s.time (earlier_of clock entries s))
@@ -460,7 +461,8 @@ nothing : by_instant [] ≡ []
 unfolding by_instant
 nothing = refl
 
--- the state of a judge without a current entry, if the list has not ended or an entry is left to judge
+-- the state of a judge if two things hold: the judge has no current entry, and the list has not ended or an entry is
+-- still to be judged
 pub record Idle (clock : Clock) (entries : List Entry) (given : ℕ) (s : JudgeState) : Type 0 where
   pub count : given ≡ length (steps clock s.plan entries s.place)
   pub waiting : s.waiting ≡ before_of clock entries s

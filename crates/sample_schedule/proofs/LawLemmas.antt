@@ -233,7 +233,8 @@ told clock plan entries (suc n) =
       whole = rw (presented-step clock plan entries n) whole;
     }
 
--- the batches presented so far, followed by the waiting batches, are all accepted items in the order of their instants
+-- the batches that were presented so far, followed by the waiting batches, are all accepted items in the order of their
+-- instants
 pub presented-waiting : (clock : Clock) (plan : SchedulePlan) (entries : List Entry) (n : ℕ) → presented (steps clock plan entries n) ++ by_instant (standing (latest (take n entries)) (accepted clock plan entries n)) ≡ by_instant (accepted clock plan entries n)
 presented-waiting clock plan entries n = (told clock plan entries n).whole
 

@@ -1,4 +1,4 @@
--- The head of a packet: the stamped sample from which the instants of the packet's samples are counted.
+-- The head of a packet is a stamped sample. The instants of the packet's samples are counted from the head.
 use Rattle.std.specs.Prelude.{ℕ, ◌+◌, ◌-◌, ◌%◌, ◌==◌, nat_lt, if◌then◌else◌, pos, neg_ℤ, List, Option, None, option_map, option_and_then}
 use Rattle.std.specs.List.{filter_map}
 use Rattle.std.specs.Option.{option_or}

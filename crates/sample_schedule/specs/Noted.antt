@@ -1,5 +1,5 @@
--- What is noted from a list of entries: the stamps and clock packets from which the samples of other packets can be
--- counted.
+-- What is noted from a list of entries: stamps and clock packets. The samples of other packets can be counted from
+-- them.
 use Rattle.std.specs.Prelude.{◌≡◌, ◌+◌, true, false, List, Option, None, Some}
 use Rattle.std.specs.List.{filter_map}
 use Rattle.clock_track.specs.Window.{ClockState, StandsFor as StandsForRows}
@@ -16,8 +16,8 @@ pub record HasNotedClock (plan : SchedulePlan) (entries : List Entry) (clock : C
   pub shift : clock.shift ≡ plan.shift
   pub rows : StandsForRows clock (filter_map row_of entries)
 
--- if the plan has a clock, there is a clock state, and it has noted the clock packets of the list; if the plan has no
--- clock, there is no clock state
+-- If the plan has a clock, there is a clock state, and it has noted the clock packets of the list. If the plan has no
+-- clock, there is no clock state.
 abbrev pub HasClock : SchedulePlan → List Entry → Option ClockState → Type 0
 HasClock plan entries None = plan.clock ≡ false
 HasClock plan entries (Some clock) = HasNotedClock plan entries clock

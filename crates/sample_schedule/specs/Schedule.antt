@@ -98,8 +98,9 @@ abbrev pub flag_by : ℕ → Option Entry → Option (Result Accepted Reason) �
 flag_by i (Some (OfItem item)) (Some (Err reason)) = Flags i item reason ∷ []
 flag_by i e v = []
 
--- Step i first presents each batch that was accepted before entry i and whose first instant passes when entry i
--- arrives. Then, if entry i is an item that is not accepted, step i flags it. (Before step 0, nothing is accepted.)
+-- Suppose that a batch was accepted before entry i, and that the batch's first instant passes when entry i arrives.
+-- Step i first presents each such batch. Then, if entry i is an item that is not accepted, step i flags it. (Before
+-- step 0, nothing is accepted.)
 unfoldable pub step : Clock → SchedulePlan → List Entry → ℕ → List Given
 step clock plan entries i =
     let earlier = accepted clock plan entries i in
@@ -125,11 +126,12 @@ given clock plan entries = steps clock plan entries (length entries) ++ rest_of 
 abbrev pub shown : Clock → SchedulePlan → List Entry → List Shown
 shown clock plan entries = map shown_of (given clock plan entries)
 
--- the number of entries with at least `look` entries after them: before the list has ended, these entries are judged
+-- The number of entries that have at least `look` entries after them. Before the list has ended, these entries are
+-- judged.
 abbrev pub settled : SchedulePlan → List Entry → ℕ
 settled plan entries = length entries - plan.look
 
--- what is certain before the list has ended: what the steps of the judged entries show
+-- the items that are certain before the list has ended: the steps of the judged entries show these items
 abbrev pub due : Clock → SchedulePlan → List Entry → List Shown
 due clock plan entries = map shown_of (steps clock plan entries (settled plan entries))
 

@@ -30,7 +30,7 @@ abbrev pub Clock : Type 0
 Clock = List ClockRow → ℤ → ℤ → ℕ → Option Spot
 
 -- If the plan has a clock, the answers of `clock` are those that follow from the packets of the plan's clock. If the
--- plan has no clock, `clock` can be any function, because it is not used.
+-- plan has no clock, `clock` is not used, and can be any function.
 abbrev pub IsClockOf : SchedulePlan → Clock → Type 0
 IsClockOf plan clock = plan.clock ≡ true → clock ≡ clock_spot
 

@@ -35,8 +35,9 @@ impl Accepted {
             bytes,
         } = batch;
         // Copied field by field, so that the fields go through registers. If the batch were copied whole, the processor
-        // would write it in pieces of one size and read it in pieces of another. The processor would then have to wait
-        // until the writes are done, and the wait would take a fifth of the time spent on a packet.
+        // would write the batch in pieces of one size, and read the batch in pieces of another size. The processor
+        // would then have to wait until the writes are done, and the wait would take a fifth of the time spent on a
+        // packet.
         Shown::Present(Batch {
             frame,
             seq,

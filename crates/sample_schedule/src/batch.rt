@@ -59,7 +59,7 @@ impl Batch {
         }
     }
 
-    /// Whether this is a unit of H.264 and not audio samples: its line has one nanosecond per sample.
+    /// Whether the batch is a unit of H.264 and not audio samples. The line of a unit has one nanosecond per sample.
     pub fn is_unit(&self) -> bool
         ensures { result ≡ is_unit self.now }
     {

@@ -1,4 +1,4 @@
-//! The stamped sample from which the samples of a packet are counted.
+//! The samples of a packet are counted from a stamped sample; `head_of` finds this sample.
 
 ghost use Rattle.std.specs.Prelude.{◌≡◌, ◌+◌, ◌≤◌, ◌<◌, ℕ, IfSome, List};
 ghost use Rattle.time_unfold.specs.Heads.{stamped_index as stamped_index_of};

@@ -58,7 +58,7 @@ pub fn due_stays()
     ensures { (clock : Clock) (plan : SchedulePlan) (entries more : List Entry) → IsPrefix (due clock plan entries) (due clock plan (entries ++ more)) }
 {}
 
-/// If the list ends, what is shown of the list begins with what was due before the end.
+/// If the list ends, the items that are shown of the list begin with the items that were due before the end.
 pub fn due_is_shown_first()
     ensures { (clock : Clock) (plan : SchedulePlan) (entries : List Entry) → IsPrefix (due clock plan entries) (shown clock plan entries) }
 {}

@@ -1,4 +1,4 @@
-//! The noted stamps and clock packets, from which samples are counted.
+//! The noted stamps and clock packets. Samples are counted from them.
 
 ghost use Rattle.std.specs.Prelude.{◌≡◌, ◌+◌, ◌++◌, ◌∷◌, [], IfOk, IfSome, List, ℤ};
 ghost use Rattle.time_unfold.specs.declared.stamp.Stamp.{Stamp as StampValue};

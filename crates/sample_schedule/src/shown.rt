@@ -14,9 +14,9 @@ pub enum Reason {
     Empty,
     /// The packet names no rate.
     NoRate,
-    /// No timestamp is known from which the packet's samples could be counted.
+    /// The packet's samples must be counted from a timestamp, and no such timestamp is known.
     Untimed,
-    /// The clock has no line that covers the timestamp from which the packet's samples are counted.
+    /// The packet's samples are counted from a timestamp, and the clock has no line that covers this timestamp.
     NoClock,
     /// The item's first instant had passed when the item arrived.
     Late,

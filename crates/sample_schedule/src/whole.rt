@@ -55,7 +55,7 @@ pub fn give_all(judge: &mut Judge, list: &mut Vec<Shown>) -> Result<(), NoMemory
 /// last fitting timestamp among the last `look + 16` usable ones.
 ///
 /// If the plan has a clock, samples are on the lines of the clock packets that are known when the item is judged. If
-/// the plan has no clock, nothing of a clock packet counts except its arrival.
+/// the plan has no clock, only the arrival of a clock packet counts.
 ///
 /// If there is no memory, returns `NoMemory` and shows nothing.
 pub fn schedule(

@@ -33,7 +33,7 @@ has-notes : (stream : StreamKey) (notes : List Seen) → is_tracked stream notes
 has-notes stream notes e =
     sym (any-distinct stream (map stream_of notes)) ∙ any-take (same_stream stream) most_streams (distinct (map stream_of notes)) e
 
--- one more note of a stream that already has notes does not change which streams are tracked
+-- if a stream already has notes, one more note of the stream does not change which streams are tracked
 tracked-known : (notes : List Seen) (seen : Seen) → list_any (same_stream (stream_of seen)) (map stream_of notes) ≡ true → tracked (notes ++ seen ∷ []) ≡ tracked notes
 unfolding streams
 tracked-known notes seen known =

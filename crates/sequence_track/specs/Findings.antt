@@ -58,14 +58,15 @@ stood mr notes = prefix_len (λ note. beq note.mr mr) notes
 abbrev pub least_hold : ℕ
 least_hold = 8
 
--- `all` is the number of the stream's packets. `packets` is how many of the stream's packets in a row, counted back
--- from the newest, have the same media clock restart bit. If `packets` is less than 8 and less than `all`, the answer
--- is `packets`. If `packets` is at least 8 or at least `all`, the answer is `None`. If `packets` equals `all`, the bit
--- has never changed.
+-- `all` is the number of the stream's packets. Counted back from the stream's newest packet, `packets` packets in a row
+-- have the same media clock restart bit. If `packets` is less than 8 and less than `all`, the answer is `packets`. If
+-- `packets` is at least 8 or at least `all`, the answer is `None`. If `packets` equals `all`, the bit has never
+-- changed.
 abbrev pub early : ℕ → ℕ → Option ℕ
 early packets all = if nat_lt packets all && nat_lt packets least_hold then Some packets else None
 
--- if the media clock restart bit changes too early at this packet: for how many packets it kept its previous value
+-- The number of packets for which the media clock restart bit kept its previous value. `None` if the bit does not
+-- change too early at this packet.
 abbrev pub hold_after : List Seen → Seen → Option ℕ
 hold_after [] seen = None
 hold_after (previous ∷ older) seen =

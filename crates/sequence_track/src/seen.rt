@@ -28,8 +28,8 @@ pub struct Findings {
     /// The sequence number minus the sequence number of the stream's previous packet, modulo 256, if the difference is
     /// not 1.
     pub step: Option<u8>,
-    /// If the media clock restart bit changes again at this packet, after fewer than 8 packets of the stream: for how
-    /// many packets it kept its previous value.
+    /// For how many packets the media clock restart bit kept its previous value, if the bit changes again at this
+    /// packet after fewer than 8 packets of the stream.
     pub hold: Option<u32>,
     /// The packet has a timestamp that it must not have, or lacks one that it must have.
     pub stamp: bool,

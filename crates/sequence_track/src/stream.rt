@@ -7,7 +7,7 @@ ghost use Rattle.sequence_track.specs.declared.seen.Seen.{Seen as SeenValue};
 
 use crate::seen::{Findings, Seen};
 
-/// The least number of packets for which the media clock restart bit must keep its value.
+/// The media clock restart bit must keep its value for at least this many packets.
 const LEAST_HOLD: u32 = 8;
 
 /// What identifies a stream.
@@ -78,8 +78,8 @@ impl StreamState {
         if step == 1 { None } else { Some(step) }
     }
 
-    /// For how many packets the media clock restart bit kept its previous value, if the bit changes again too early at
-    /// the next packet.
+    /// If the media clock restart bit changes again too early at the next packet, the result is how many packets in a
+    /// row had the bit's previous value.
     fn hold(&self, seen: &Seen) -> Option<u32>
         ensures { (recent : List SeenValue) → state_of recent ≡ Some self.now → result ≡ hold_after recent seen.now }
     {

@@ -96,7 +96,7 @@ module _ {old new : ListenState} {records : List Record} {items : List Shown} (k
       was.shown ∙ take_all (shown_by old) (out old records) (all_given (shown_by old) (out old records) (at (shown_by old) was.stands))
       ∙ sym (out_same old new records keeps.plan keeps.closed)
 
--- a listener that was given nothing has shown nothing
+-- if a listener was given nothing, the listener has shown nothing
 pub shown_none : (listener : ListenState) → StandsFor [] 0 listener → Shows [] listener []
 shown_none listener none =
     let count = sym (shown_count listener [] 0 none) in
@@ -147,7 +147,7 @@ shows_same {old} {new} {talker} {talker'} deliveries given {items} same still wa
 
 -- ---- stages
 
--- a hearing that has not ended and is not at stage `Showing` is at stage `Giving`
+-- if a hearing has not ended and is not at stage `Showing`, the hearing is at stage `Giving`
 pub giving_by : (stage : Stage) → pull_at stage ≡ None → (stage ≡ Showing → ⊥) → stage ≡ Giving
 giving_by Giving going other = refl
 giving_by Showing going other = absurd (other refl)
@@ -166,7 +166,8 @@ not_over stage giving over = let e : false ≡ true = ap closed_at (sym giving) 
 pub not_ended : (stage : Stage) → stage ≡ Giving → stage ≡ Ended → ⊥
 not_ended stage giving over = let e : Giving ≡ Ended = sym giving ∙ over in cc
 
--- if a delivery is left at stage `Giving`, the hearing has not ended, and giving the delivery leaves fewer steps
+-- if the stage is `Giving` and a delivery was not given yet, the hearing has not ended, and giving the delivery leaves
+-- fewer steps
 pub steps_on : (stage : Stage) (deliveries : List (ℤ × ℕ)) (given : ℕ) → stage ≡ Giving → given < length deliveries → (pull_at stage ≡ None) × (steps_left stage deliveries (given + 1) < steps_left stage deliveries given)
 steps_on Giving deliveries given giving more = (refl, omega (arith, more))
 steps_on Showing deliveries given giving more = absurd cc

@@ -82,8 +82,8 @@ module _ {X : Type 0} (lt : X → X → Bool) (o : IsStrictWeakOrder lt) where
   tails : (a b : X) (xs ys : List X) → a ∷ xs ≡ b ∷ ys → xs ≡ ys
   tails a b xs ys e = cc
 
-  -- two rising lists have the same first element if, for each x, the elements that tie with x are the same in both
-  -- lists
+  -- Suppose that two lists rise, and that for each x the elements that tie with x are the same in both lists. Then the
+  -- two lists have the same first element.
   first-same : (y z : X) (ys zs : List X) → Least y ys → Least z zs
       → ((x : X) → filter (ties lt x) (y ∷ ys) ≡ filter (ties lt x) (z ∷ zs)) → y ≡ z
   unfolding Least

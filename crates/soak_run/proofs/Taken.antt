@@ -19,8 +19,8 @@ use Rattle.soak_run.proofs.StreamSizes.{frames_of_stream}
 inside : (a b : SentFrame) → Some a ≡ Some b → a ≡ b
 inside a b e = cc
 
--- If the frame that a talker lends for a delivery is captured when the delivery arrives, the result is the delivery's
--- record.
+-- A talker lends a frame for a delivery. If that frame is captured when the delivery arrives, the result is the
+-- delivery's record.
 pub taken : (s : Stream) (d : ℤ × ℕ) (sent : SentFrame) (arrival : ℤ) (long : ℕ) → d.1 < length (numbered_frames s) → slice_get (numbered_frames s) d.1 ≡ Some sent → arrival ≡ d.0 → long ≡ length sent.bytes
     → ◌≡◌ {A = Record} (record { arrival = arrival; orig_len = long; bytes = sent.bytes }) (captured s d)
 taken s d sent arrival long known at a e =

@@ -20,7 +20,7 @@ abbrev pub is_repeat : Shown → Bool
 is_repeat (Flag frame seq Repeat) = true
 is_repeat shown = false
 
--- an item is flagged as untimed: no timestamp was found from which the instants of its samples could be counted
+-- an item is flagged as untimed: no timestamp was found that gives the instants of the item's samples
 abbrev pub is_untimed : Shown → Bool
 is_untimed (Flag frame seq Untimed) = true
 is_untimed shown = false

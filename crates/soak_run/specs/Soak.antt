@@ -59,7 +59,7 @@ all_copies seed packets = flat_map (copies seed) (range_with_len 0 packets)
 
 -- ---- the copies, sorted by arrival
 
--- a sorted list with one more copy inserted directly after all copies that arrive earlier
+-- a sorted list where one more copy was inserted, directly after all copies that arrive earlier
 abbrev pub put_in : ℤ × ℕ → List (ℤ × ℕ) → List (ℤ × ℕ)
 put_in copy [] = copy ∷ []
 put_in copy (next ∷ rest) = if int_lt next.0 copy.0 then next ∷ put_in copy rest else copy ∷ next ∷ rest

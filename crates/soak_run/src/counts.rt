@@ -20,7 +20,7 @@ pub struct SoakCounts {
     pub late: u64,
     /// The deliveries of a packet that was accepted before.
     pub repeat: u64,
-    /// The deliveries for which no timestamp was known.
+    /// The deliveries without a known timestamp.
     pub untimed: u64,
     /// The deliveries for which the buffer had no room.
     pub full: u64,

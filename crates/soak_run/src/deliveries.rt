@@ -51,7 +51,7 @@ fn delay_drawn(draw: u32) -> u32
     draw % 64 * DELAY_STEP
 }
 
-/// The instant, in nanoseconds of gPTP, at which a copy of packet `number` arrives if `draw` is drawn for the copy.
+/// If `draw` is drawn for a copy of packet `number`, the copy arrives at this instant, in nanoseconds of gPTP.
 #[tactic(auto, using(crate::proofs::SoakLemmas::sent_soon))]
 fn copy_arrival(number: u64, draw: u32) -> i64
     requires { number < 1000000 }

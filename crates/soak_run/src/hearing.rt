@@ -29,7 +29,7 @@ const SOAK_LISTENER: ListenPlan = ListenPlan {
 pub enum Stage {
     /// Deliveries are still being given to the listener, and the items that are due so far are shown.
     Giving,
-    /// All deliveries were given, and the items that are left are being shown.
+    /// All deliveries were given, and the remaining items are being shown.
     Showing,
     /// Everything was shown.
     Ended,
@@ -60,7 +60,7 @@ fn deliver(
     Ok(())
 }
 
-/// The packets of a talker that are delivered, the listener that hears them, and how far the hearing has come.
+/// The delivered packets of a talker, the listener that hears these packets, and how far the hearing has come.
 #[derive(Drop)]
 pub struct Hearing<'a> {
     pub alloc: Global,

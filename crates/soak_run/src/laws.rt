@@ -10,8 +10,8 @@ ghost use Rattle.soak_run.specs.Outcomes.{soak_counts, soak_shown, total};
 
 use cvf_format::laws::packet_again;
 
-/// The records that are read from the capture of the deliveries are exactly the records that were captured. So a
-/// listener that reads the capture's bytes shows the same items as a listener that is given the records.
+/// Reading the capture of the deliveries gives exactly the records that were captured. So two listeners show the same
+/// items: one that reads the capture's bytes, and one that is given the records.
 pub fn capture_is_heard()
     ensures records { (packets : ℕ) → packets ≤ 1000000 → whole_records (soak_capture packets) ≡ soak_records packets }
     ensures refusal { (packets : ℕ) → packets ≤ 1000000 → first_refusal (soak_capture packets) ≡ None }

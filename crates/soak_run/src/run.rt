@@ -76,8 +76,8 @@ fn want_of_memory(_fault: TalkFault) -> NoMemory
 ///
 /// The stream is sparse PCM of two channels at 48 kHz, with six sample frames in a packet. One packet in 16 is lost,
 /// one in 16 arrives twice, and each copy arrives at most 2.52 ms after the packet is sent. The listener looks 32 items
-/// ahead. The listener is given the deliveries as the records of a capture, in the order in which they arrive. Each
-/// delivery has one outcome, so the counts add up.
+/// ahead. The listener is given the deliveries as the records of a capture, in order of arrival. Each delivery has one
+/// outcome, so the counts add up.
 ///
 /// One thread talks and hears, and another thread counts what is shown. A ring carries the shown items from one thread
 /// to the other. The counts do not depend on how the threads interleave.

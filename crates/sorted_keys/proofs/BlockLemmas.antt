@@ -199,8 +199,8 @@ first-of P [] n k b d e l p = absurd (omega arith)
 first-of P (c ∷ cs) zero k b d e l p = (all-left P (k ∷ b) (all_keys cs) (subst (λ (x : List Key). AllByRecursion P (x ++ all_keys cs)) (sym e) p)).0
 first-of P (c ∷ cs) (suc n) k b d e l p = first-of P cs n k b d e (omega arith) (all-right P c (all_keys cs) p)
 
--- If `c`, followed by the keys in the blocks `bs`, is sorted, and `k` is the first key of block `n`, then each key in
--- `c` is at or before `k`.
+-- Suppose that `c`, followed by the keys in the blocks `bs`, is sorted. If `k` is the first key of block `n`, each key
+-- in `c` is at or before `k`.
 before-first : (c : List Key) (bs : List (List Key)) (n : ℕ) (k : Key) (b d : List Key) → k ∷ b ≡ get_or bs n d → n < length bs → KeysAreInOrder (c ++ all_keys bs) → AllByRecursion (λ o. o.instant ≤ℤ k.instant) c
 before-first [] bs n k b d e l s = tt
 before-first (x ∷ c) bs n k b d e l s =

@@ -103,8 +103,8 @@ below_256 : (interval : ℕ) (dbc : ℕ → ℕ) (count packets : ℕ) → Block
 below_256 interval dbc count packets is zero known = is.first
 below_256 interval dbc count packets is (suc n) known = let next = is.next n known in omega arith
 
--- The stamped block of packet a is the block from which packet b is counted. The first block of b is t blocks after the
--- first block of a, and b has no stamped block.
+-- Packet b is counted from the stamped block of packet a. The first block of b is t blocks after the first block of a,
+-- and b has no stamped block.
 abbrev IsOneBlock : ℕ → ℕ → ℕ → ℕ → ℕ → Type 0
 IsOneBlock interval a b t count =
     a < 256 → b < 256 → b ≡ (a + t) % 256 → 1 ≤ b % interval → b % interval ≤ t → t + 1 ≤ b % interval + count → count ≤ (interval - b % interval) % interval

@@ -1,4 +1,4 @@
--- Packets with the same sequence number are the same packet if their first instants are near each other.
+-- If two packets have the same sequence number, and their first instants are near each other, they are the same packet.
 use Rattle.std.proofs.Common.{◌≡◌, inl, inr, ℕ, ◌+◌, ◌-◌, ◌*◌, ◌%◌, ◌<◌, ◌≤◌, Bool, true, false, ℤ, pos, negsuc, neg_ℤ, ◌-ℤ◌, ◌*ℤ◌, ◌≤ℤ◌, ◌<ℤ◌, refl, sym, ap, ◌∙◌, subst, arith}
 use Rattle.std.specs.Prelude.{unsigned_abs}
 use Rattle.std.proofs.Math.Nat.{mul-le-mul_left}
@@ -38,8 +38,8 @@ not_further x y = of_difference (x -ℤ y) (y -ℤ x) (omega (arith, ints))
     of_difference (pos k) w e = omega (arith, ints)
     of_difference (negsuc k) w e = omega (arith, ints)
 
--- if the instants at which two packets are due differ by at least the time of 192 packets, their first instants differ
--- by more than the time of 72 packets
+-- if two packets are due at least the time of 192 packets apart, their first instants differ by more than the time of
+-- 72 packets
 too_near : (rate w : ℕ) (x y : ℤ) (a b : ℕ) → IsNearDue rate w x (pos a) → IsNearDue rate w y (pos b) → unsigned_abs (x -ℤ y) * rate ≤ 72 * w → 4 * (a * rate) + 768 * w ≤ 4 * (b * rate) → ⊥
 too_near rate w x y a b c d near h =
     let k : ℕ = unsigned_abs (x -ℤ y) in

@@ -1,4 +1,5 @@
--- A sample has at most one instant, and there is no restart between a packet and the stamp from which it is counted.
+-- A sample has at most one instant. If a packet is counted from a stamp, there is no restart between the packet and the
+-- stamp.
 use Rattle.std.proofs.Common.{◌≡◌, ◌≢◌, ◌⊎◌, inl, inr, ℕ, zero, suc, ◌+◌, ◌-◌, ◌<◌, ◌≤◌, Bool, true, false, ℤ, pos, Option, Some, None, refl, sym, ap, ◌∙◌, arith}
 use Rattle.std.specs.Prelude.{nat_le, if◌then◌else◌, option_map, option_and_then}
 use Rattle.std.specs.Option.{option_or}

@@ -1,4 +1,4 @@
--- What a listener finds among true stamps is the journal's head.
+-- The head that a listener finds among true stamps is the journal's head.
 use Rattle.std.proofs.Common.{◌≡◌, ◌⊎◌, inl, inr, ℕ, ◌+◌, ◌-◌, ◌*◌, ◌%◌, ◌<◌, ◌≤◌, Bool, true, false, pos, ◌-ℤ◌, List, All, Option, Some, None, refl, sym, ap, ◌∙◌, arith}
 use Rattle.std.specs.Prelude.{◌==◌, nat_le, if◌then◌else◌, unsigned_abs, IfSome}
 use Rattle.std.proofs.Math.Nat.{mul-le-mul_left}

@@ -1,5 +1,5 @@
--- A line that a listener finds from copies of a clock's packets follows from two adjacent points in the list of all
--- points.
+-- A listener finds a line from copies of a clock's packets. The line also follows from two adjacent points in the list
+-- of all points.
 use Rattle.std.proofs.Common.{◌≡◌, inl, inr, ℕ, suc, ◌+◌, ◌-◌, ◌%◌, ◌^◌, ◌<◌, ◌≤◌, Bool, true, false, ℤ, pos, ◌+ℤ◌, List, [], ◌∷◌, All, Option, Some, None, length, refl, sym, ap, ◌∙◌, subst, arith}
 use Rattle.std.specs.Prelude.{◌==◌, nat_lt, if◌then◌else◌, option_map, IfSome}
 use Rattle.std.specs.List.{filter_map, range_with_len}

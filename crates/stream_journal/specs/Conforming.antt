@@ -54,9 +54,9 @@ pub record IsAudio (j : Journal) : Type 0 where
   -- packets have timestamps as the format says
   pub stamps : (n : ℕ) → n < j.packets → is_some (j.stamp n) ≡ is_stamped (rule_of j.kind n) n j.count
   pub blocks : HasBlocks j.kind j.count j.packets
-  -- from the first sample of a packet to that of the next packet, at least 3/4 of a packet's time passes
+  -- at least 3/4 of a packet's time passes from a packet's first sample to the first sample of the next packet
   pub spacing : (n : ℕ) → suc n < j.packets → IsApart j 3 (j.due n) (j.due (suc n))
-  -- a packet that has a head is due at the instant of its first sample
+  -- if a packet has a head, the packet is due at the instant of its first sample
   pub first_instants : (n : ℕ) (head : Head) → n < j.packets → head_of j n ≡ Some head → pos (j.due n) ≡ nominal_instant j head 0
 
 -- ---- H.264
@@ -97,15 +97,15 @@ pub record IsClock (c : ClockJournal) : Type 0 where
   pub interval : 1 ≤ c.interval
   -- each packet has at least one point
   pub some : (n : ℕ) → n < c.packets → IsPlace c (record { packet = n; at = 0 })
-  -- from each point to the next, at least 3/4 of the nominal time of the interval passes, even if the next point begins
-  -- a new run
+  -- the time from each point to the next is at least 3/4 of the nominal time of the interval, even if the next point
+  -- begins a new run
   pub spaced : (p q : Place) → Follows c p q → IsSpaced (pair_at c p q)
   -- the time between adjacent points of a run is 7/8 to 9/8 of the nominal time of the interval
   pub even : (p q : Place) → Follows c p q → InOneRun c p q → IsJoined (pair_at c p q)
 
 -- ---- the clock and the timestamps of an audio stream
 
--- the timestamp of packet n is `instant`, and the joined pair of the points at p and q covers it
+-- packet n has the timestamp `instant`, and the joined pair of the points at p and q covers this instant
 pub record IsCovered (j : Journal) (n instant : ℕ) (p q : Place) : Type 0 where
   pub known : n < j.packets
   pub stamped : j.stamp n ≡ Some instant

@@ -1,4 +1,5 @@
--- How near to a packet's instant a copy of the packet must arrive, so that a listener can tell which instant was sent.
+-- A copy of a packet must arrive near the packet's instant, so that a listener can tell which instant was sent. The
+-- definitions say how near.
 use Rattle.std.specs.Prelude.{◌≡◌, ◌⊎◌, ℕ, ◌+◌, ◌*◌, ◌^◌, ◌<◌, ◌≤◌, ⊤, List, [], ◌∷◌, map, All, Some, None}
 use Rattle.stream_journal.specs.Journal.{Journal, Kind, DenseAaf, SparseAaf, Am824, H264, First, Middle, Last}
 

@@ -93,8 +93,8 @@ each_sixteenth = blocks_of_six 96000 16
     (1002000000 ∷ 1002062500 ∷ 1002124999 ∷ 1002187499 ∷ 1002249999 ∷ 1002312499 ∷ 1002374999 ∷ 1002437499 ∷ [])
     (Some 1002000000 ∷ None ∷ Some 1002166666 ∷ None ∷ None ∷ Some 1002333333 ∷ None ∷ None ∷ [])
 
--- What reaches a listener of `each_sixteenth`. Packet 2 is lost, so the timestamp from which packets 3 and 4 are
--- counted is missing.
+-- What reaches a listener of `each_sixteenth`. Packets 3 and 4 are counted from the timestamp of packet 2. Packet 2 is
+-- lost, so this timestamp is missing.
 abbrev pub sixteenth_copies : List Copy
 sixteenth_copies =
     came 0 1000000000 ∷

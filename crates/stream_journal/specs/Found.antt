@@ -1,4 +1,4 @@
--- When a listener finds the stamp from which a packet is counted.
+-- When a listener finds the stamp that a packet is counted from.
 use Rattle.std.specs.Prelude.{◌≡◌, ℕ, ◌+◌, ◌-◌, ◌*◌, ◌≤◌, List, Contains}
 use Rattle.time_unfold.specs.declared.head_rule.Distance.{Distance}
 use Rattle.time_unfold.specs.declared.stamp.Stamp.{Stamp}
@@ -17,8 +17,8 @@ pub record IsExpected (j : Journal) (lead : ℕ) (c : Copy) : Type 0 where
 abbrev pub HasNoRestart : Journal → ℕ → ℕ → Type 0
 HasNoRestart j k n = (i : ℕ) → k ≤ i → i ≤ n → j.mr i ≡ j.mr n
 
--- The stamp from which packet n is counted is at hand: it is among the last `room` stamps. The stamp belongs to the
--- packet that was sent `far.packets` packets before packet n. There is no restart between packet n and the earlier
+-- Packet n is counted from `stamp`, and `stamp` is at hand: it is among the last `room` stamps. The stamp belongs to
+-- the packet that was sent `far.packets` packets before packet n. There is no restart between packet n and the earlier
 -- packet.
 pub record IsAtHand (j : Journal) (room n : ℕ) (far : Distance) (stamps : List Stamp) (stamp : Stamp) : Type 0 where
   pub back : far.packets ≤ n

@@ -7,7 +7,7 @@ use Rattle.time_unfold.specs.Heads.{counted_block, distance, stamped_block}
 use Rattle.stream_journal.specs.Journal.{Journal, head_of, rule_of}
 use Rattle.stream_journal.specs.Delivered.{Copy, IsDelivered}
 
--- the stamp that a listener notes for a copy of packet k, whose timestamp is this instant
+-- the stamp that a listener notes for a copy of packet k; the timestamp of packet k is this instant
 abbrev pub stamp_at : Journal → ℕ → ℕ → Stamp
 stamp_at j k instant = record {
   seq = k % 256;
@@ -50,7 +50,7 @@ pub record IsUnstamped (j : Journal) (lead : ℕ) (c : Copy) (far : Distance) : 
   pub none : j.stamp c.number ≡ None
   pub back : distance (rule_of j.kind c.number) c.number j.count ≡ Some far
 
--- packet k has the sequence number of the packet from which packet n is counted, but is another packet
+-- packet n is counted from a packet; packet k is another packet with the sequence number of that packet
 pub record IsOther (n k : ℕ) (far : Distance) : Type 0 where
   pub same : (k + far.packets) % 256 ≡ n % 256
   pub other : k + far.packets ≢ n

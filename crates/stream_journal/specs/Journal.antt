@@ -24,7 +24,7 @@ pub data Part : Type 0 where
 pub data Kind : Type 0 where
   DenseAaf : Kind
   SparseAaf : Kind
-  -- IEC 61883-6, with the SYT interval, and with the count, modulo 256, of each packet's first block
+  -- IEC 61883-6, with the SYT interval, and with the block count of each packet's first block, modulo 256
   Am824 : ℕ → (ℕ → ℕ) → Kind
   -- H.264, with the part of a unit that each packet carries
   H264 : (ℕ → Part) → Kind
@@ -69,9 +69,9 @@ head_from j n far =
     option_map (λ instant. record { instant = pos instant; first = pos far.samples }) (j.stamp (n - far.packets))
     else None else None
 
--- The head of packet n according to its own timestamp. If packet n has no timestamp, the head follows from the
--- timestamp of the packet from which packet n is counted. The result is `None` if packet n has no timestamp, and the
--- packet from which it is counted has none or a different `mr`.
+-- The head of packet n according to its own timestamp. If packet n has no timestamp but is counted from another packet,
+-- the head follows from the timestamp of that packet. Suppose that packet n has no timestamp. The result is `None` if
+-- there is no packet that packet n is counted from, or if that packet has no timestamp or a different `mr`.
 abbrev pub head_of : Journal → ℕ → Option Head
 head_of j n = option_or (own_head j n) (option_and_then (head_from j n) (distance (rule_of j.kind n) n j.count))
 
@@ -103,7 +103,8 @@ pub record IsAtByClock (j : Journal) (n k : ℕ) (instant : ℤ) : Type 0 where
   pub at : instant ≡ instant_by (pair_at j.clock earlier later) j head k
 
 -- Sample k of packet n is at this instant in a stream of this kind: according to the clock if the Boolean is true, and
--- at the nominal rate otherwise. A NAL unit of H.264 has one sample, at the instant at which its packets are due.
+-- at the nominal rate otherwise. A NAL unit of H.264 has one sample. The instant of this sample is the time at which
+-- the unit's packets are due.
 abbrev pub IsAtBy : Kind → Bool → Journal → ℕ → ℕ → ℤ → Type 0
 IsAtBy DenseAaf true j n k instant = IsAtByClock j n k instant
 IsAtBy DenseAaf false j n k instant = IsAtNominal j n k instant

@@ -18,10 +18,10 @@ use Rattle.stream_journal.specs.Journal.{Journal, head_of, rule_of}
 abbrev pub stamps_in : Journal → List ℕ → List Stamp
 stamps_in j came = filter_map (λ n. option_map (stamp_at j n) (j.stamp n)) came
 
--- A copy of a packet without a timestamp can be counted. One of the last `room` timestamps that arrived belongs to the
--- packet from which the copy is counted. There is no restart between the packet of the copy and the packet from which
--- the copy is counted. The copy's arrival plus `lead` differs from the packet's first instant by at most the time of 60
--- packets.
+-- A copy of a packet without a timestamp can be counted. The copy is counted from another packet, and one of the last
+-- `room` timestamps that arrived belongs to that packet. The copied packet is counted from another packet, and there is
+-- no restart between the two packets. The copy's arrival plus `lead` differs from the packet's first instant by at most
+-- the time of 60 packets.
 pub record IsCounted (j : Journal) (lead room : ℕ) (c : Copy) (came : List ℕ) : Type 0 where
   pub none : j.stamp c.number ≡ None
   pub far : Distance

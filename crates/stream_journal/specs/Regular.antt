@@ -26,8 +26,8 @@ pub record IsRegularClock (c : ClockJournal) : Type 0 where
   -- adjacent periods of a run differ little, as `IsSteady` says
   pub steady : (p q r : Place) → Follows c p q → Follows c q r → InOneRun c p q → InOneRun c q r
       → IsSteady (pair_at c p q) (pair_at c q r)
-  -- The time from the last point of a run to the first point of the next run is at least as long as the last period of
-  -- the earlier run.
+  -- Take the last point of a run and the first point of the next run. The time between them is at least as long as the
+  -- last period of the earlier run.
   pub renewed : (p q r : Place) → Follows c p q → Follows c q r → InOneRun c p q → ¬ InOneRun c q r
       → point c q + period (pair_at c p q) ≤ point c r
   pub holds : HoldsEight c.packets c.mr

@@ -17,8 +17,8 @@ ghost use Rattle.stream_journal.specs.Known.{IsKnown};
 ghost use Rattle.stream_journal.specs.Heads.{IsTrue, IsUnstamped, stamp_at, wanted};
 ghost use Rattle.stream_journal.specs.Journal.{IsAt, head_of};
 
-/// Three packets of 6 samples at 48 kHz take 125,000 ns each. The talker keeps the rules if and only if the instants at
-/// which adjacent packets are due differ by at least 3/4 of 125,000 ns.
+/// Three packets of 6 samples at 48 kHz take 125,000 ns each. The talker keeps the rules if and only if adjacent
+/// packets are due at least 3/4 of 125,000 ns apart.
 pub fn three_packets_conform()
     ensures { (spacing : ℕ) → Conforms (three_packets spacing) ↔ 93750 ≤ spacing }
 {}
@@ -39,8 +39,8 @@ pub fn restarted_talker_conforms()
 {}
 
 /// Talkers of AM824 with 6 blocks in a packet keep the rules. At 48 kHz, packet 2 is counted from its own block 4.
-/// Packet 3 has no timestamp. Packet 3 is counted from block 4 of packet 2, which is 2 blocks before the first block of
-/// packet 3. At 96 kHz, packet 4 is counted from a block two packets back.
+/// Packet 3 has no timestamp. Packet 3 is counted from block 4 of packet 2. Block 4 is 2 blocks before the first block
+/// of packet 3. At 96 kHz, packet 4 is counted from a block two packets back.
 pub fn block_talkers_conform()
     ensures eighth { Conforms each_eighth }
     ensures sixteenth { Conforms each_sixteenth }
@@ -50,8 +50,8 @@ pub fn block_talkers_conform()
 {}
 
 /// Of the packets of `each_sixteenth`, packet 2 was lost. The copies are delivered to a listener that expects packets 2
-/// ms before their first instant. For packet 4, a listener that has the stamp of packet 2 finds this stamp. For packet
-/// 4, a listener that lacks the stamp of packet 2 finds no stamp.
+/// ms before their first instant. If a listener has the stamp of packet 2, the listener finds this stamp for packet 4.
+/// If a listener lacks the stamp of packet 2, the listener finds no stamp for packet 4.
 pub fn block_copies_are_delivered()
     ensures delivered { AreDelivered each_sixteenth 2000000 sixteenth_copies }
     ensures known { found 16 (wanted each_sixteenth 2000000 (came 4 1000250000) (record { packets = 2; samples = 8 })) (stamp_at each_sixteenth 0 1002000000 ∷ stamp_at each_sixteenth 2 1002166666 ∷ [])
@@ -85,13 +85,14 @@ pub fn rules_have_limits()
     ensures few { (packets : ℕ) → Conforms (one_access_unit packets) ↔ packets ≤ 255 }
 {}
 
-/// The talker of `video`, which stamps the last packet of each NAL unit, keeps the rules.
+/// The talker of `video` stamps the last packet of each NAL unit, and keeps the rules.
 pub fn video_talker_conforms()
     ensures { Conforms video }
 {}
 
 /// Packet 9 of the sparse talker has no timestamp, and is counted from packet 8. A listener finds the stamp of packet 8
-/// while it is among the last 16 stamps, that is, while at most 15 other stamps arrived after it.
+/// while this stamp is among the last 16 stamps, that is, while at most 15 other stamps arrived after the stamp of
+/// packet 8.
 pub fn heads_are_at_hand()
     ensures unstamped { IsUnstamped restarted 2000000 (came 9 1001125000) one_back }
     ensures expected { IsExpected restarted 2000000 (came 9 1001125000) }
@@ -101,8 +102,8 @@ pub fn heads_are_at_hand()
     ensures dropped { found 16 (wanted restarted 2000000 (came 9 1001125000) one_back) (followed_stamps 16) ≡ None }
 {}
 
-/// A talker sends a clock with a stream of 48 kHz. A listener that has both packets of the clock has the points that
-/// cover packet 33.
+/// A talker sends a clock with a stream of 48 kHz. If a listener has both packets of the clock, the listener has the
+/// points that cover packet 33.
 pub fn points_are_at_hand()
     ensures all_true { All (IsTrueRow (clocked 48000).clock (pos 0)) two_rows }
     ensures at_hand { ArePointsAtHand (clocked 48000).clock (pos 0) two_rows (record { packet = 0; at = 1 }) (record { packet = 1; at = 0 }) }

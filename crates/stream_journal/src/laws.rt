@@ -21,39 +21,39 @@ ghost use Rattle.stream_journal.specs.Found.{IsAtHand, IsExpected};
 ghost use Rattle.stream_journal.specs.FoundLines.{ArePointsAtHand};
 ghost use Rattle.stream_journal.specs.Heads.{AreApart, IsCountedFrom, IsHeadOf, IsOther, IsStampOf, IsTrue, IsUnstamped, behind, wanted};
 
-/// A copy's timestamp, which is an instant modulo 2^32, is unfolded to the instant that the talker sent.
+/// A copy's timestamp is an instant modulo 2^32. Unfolding this timestamp gives the instant that the talker sent.
 pub fn timestamps_are_true()
     ensures { (j : Journal) (lead : ℕ) (c : Copy) (instant : ℕ) → IsDelivered j lead c → j.stamp c.number ≡ Some instant → unfolded (instant % 2 ^ 32) (pos c.arrival) ≡ pos instant }
 {}
 
-/// If the numbers of two packets differ by m, the instants at which they are due differ by at least 3/4 of the time of
-/// m packets. Packets are due in the order of their numbers.
+/// If the numbers of two packets differ by m, the packets are due at least 3/4 of the time of m packets apart. Packets
+/// are due in the order of their numbers.
 pub fn packets_are_spaced()
     ensures rising { (j : Journal) (n m : ℕ) → IsAudio j → n < m → m < j.packets → j.due n < j.due m }
     ensures apart { (j : Journal) (n m : ℕ) → IsAudio j → n + m < j.packets → IsApart j (3 * m) (j.due n) (j.due (n + m)) }
 {}
 
-/// Suppose that packet k has the sequence number of the packet from which packet n is counted, but is another packet.
-/// The numbers of packet k and of the packet from which packet n is counted then differ by at least 256. An instant
-/// counted from packet k's timestamp is more than the time of 189 packets away from the instant at which packet n is
-/// due.
+/// Let packet n be counted from the timestamp of packet m, and let packet k be another packet with the sequence number
+/// of packet m. The numbers k and m then differ by at least 256. If an instant is counted from packet k's timestamp,
+/// this instant and packet n's due instant are more than the time of 189 packets apart.
 pub fn other_stamps_are_far()
     ensures numbers { (n k : ℕ) (far : Distance) → IsOther n k far → (k + far.packets + 256 ≤ n) ⊎ (n + 256 ≤ k + far.packets) }
     ensures instants { (j : Journal) (n k instant : ℕ) (far : Distance) → IsAudio j → n < j.packets → k < j.packets → j.stamp k ≡ Some instant → distance (rule_of j.kind n) n j.count ≡ Some far → IsOther n k far → AreApart j 189 (j.due n) (behind j instant far.samples) }
 {}
 
 /// A listener has a copy of a packet without a timestamp. If the stamp of another packet has the right sequence number,
-/// the listener refuses this stamp. The first instant that would be counted from the refused stamp is too far from the
-/// copy's arrival plus `lead`.
+/// the listener refuses this stamp. If the first instant is counted from the refused stamp, the instant is too far from
+/// the copy's arrival plus `lead`.
 pub fn other_stamps_are_refused()
     ensures candidate { (j : Journal) (lead : ℕ) (c : Copy) (far : Distance) (k : ℕ) (stamp : Stamp) (is : IsStampOf j k stamp) → candidate (wanted j lead c far) stamp ≡ pos (behind j is.instant far.samples) }
     ensures refused { (j : Journal) (lead : ℕ) (c : Copy) (far : Distance) (k : ℕ) (stamp : Stamp) → IsAudio j → IsUnstamped j lead c far → IsStampOf j k stamp → IsOther c.number k far → is_near (wanted j lead c far) stamp ≡ false }
 {}
 
-/// For a copy of a packet without a timestamp, the only stamp that a listener can find is that of the packet from which
-/// the copy is counted. No other stamp of the talker changes what the listener finds. A listener finds no stamp if
-/// there is a restart between the copied packet and the stamped packet. A head that a listener finds for a packet is
-/// the packet's head in the journal. If the packet has no head in the journal, a listener finds none.
+/// Let a packet have no timestamp, and let a copy of this packet be counted from another packet. For this copy, a
+/// listener can find only the stamp of that other packet. No other stamp of the talker changes what the listener finds.
+/// A listener finds no stamp if there is a restart between the copied packet and the stamped packet. If a listener
+/// finds a head for a packet, this head is the packet's head in the journal. If the packet has no head in the journal,
+/// a listener finds none.
 pub fn heads_are_true()
     ensures stamp { (j : Journal) (lead room : ℕ) (c : Copy) (far : Distance) (stamps : List Stamp) → IsAudio j → IsUnstamped j lead c far → All (IsTrue j) stamps → IfSome (found room (wanted j lead c far) stamps) (IsHeadOf j c.number far) }
     ensures head { (j : Journal) (lead room : ℕ) (c : Copy) (far : Distance) (stamps : List Stamp) → IsAudio j → IsUnstamped j lead c far → All (IsTrue j) stamps → IfSome (found room (wanted j lead c far) stamps) (IsCountedFrom j c.number far) }
@@ -65,18 +65,18 @@ pub fn samples_have_one_instant()
     ensures { (j : Journal) (by_clock : Bool) (n k : ℕ) (x y : ℤ) → Conforms j → n < j.packets → IsAt by_clock j n k x → IsAt by_clock j n k y → x ≡ y }
 {}
 
-/// If a listener joins two points from copies of the clock's packets, they are a joined pair of the list of all points.
-/// Packets whose numbers differ by 256 have the same sequence number, but their points are too far apart in time to be
-/// joined.
+/// If a listener joins two points from copies of the clock's packets, these two points are a joined pair of the list of
+/// all points. Packets whose numbers differ by 256 have the same sequence number, but their points are too far apart in
+/// time to be joined.
 pub fn joined_pairs_are_true()
     ensures { (c : ClockJournal) (p q : Place) → IsClock c → SeemsJoined c p q → IsJoinedAt c p q }
 {}
 
-/// A listener has copies of some or all of a clock's packets, in any order. Each pair that the listener joins is a
+/// A listener has copies of some or all of a clock's packets, in any order. If the listener joins a pair, the pair is a
 /// joined pair of the list of all points. Each line that the listener finds comes from a joined pair that covers the
 /// instant. If the stream agrees with the clock, the listener can find at most one line for the instant of a packet's
-/// head. On the line for the packet's head, the packet's samples are at the instants that the journal gives them by the
-/// clock.
+/// head. If a listener finds the line for a packet's head, the packet's samples are on that line at the instants that
+/// the journal gives them by the clock.
 pub fn clock_lines_are_true()
     ensures pairs { (c : ClockJournal) (shift : ℤ) (rows : List ClockRow) → IsClock c → All (IsTrueRow c shift) rows → All (IsTruePair c) (joined_pairs shift (window rows)) }
     ensures spot { (j : Journal) (shift instant : ℤ) (rows : List ClockRow) → IsClock j.clock → All (IsTrueRow j.clock shift) rows → IfSome (clock_spot rows shift instant j.rate) (IsSpotAt j instant) }
@@ -84,25 +84,25 @@ pub fn clock_lines_are_true()
     ensures sample { (j : Journal) (n k : ℕ) (head : Head) (spot : Spot) → head_of j n ≡ Some head → IsSpotAt j head.instant spot → IsAtByClock j n k (instant_at spot.line ((spot.from +ℤ head.first) +ℤ pos k)) }
 {}
 
-/// With the clock, audio packets with equal sequence numbers and equal first instants are the same packet. The instants
-/// at which different packets with equal sequence numbers are due differ by at least the time of 192 packets, and the
+/// With the clock, audio packets with equal sequence numbers and equal first instants are the same packet. If two
+/// different packets have equal sequence numbers, their due instants are at least the time of 192 packets apart. The
 /// clock moves a first instant by far less.
 pub fn packets_by_clock_are_told_apart()
     ensures { (j : Journal) (n m : ℕ) (x : ℤ) → Conforms j → IsAudioKind j.kind → n < j.packets → m < j.packets → n % 256 ≡ m % 256 → IsAt true j n 0 x → IsAt true j m 0 x → n ≡ m }
 {}
 
-/// Audio packets are the same packet if their sequence numbers are equal and their first instants differ by at most the
-/// time of 72 packets. The law holds with the clock and without. If different packets have equal sequence numbers,
-/// their due instants are at least the time of 192 packets apart. The clock moves a first instant by less than the time
-/// of 18 packets.
+/// If two audio packets have equal sequence numbers, and their first instants differ by at most the time of 72 packets,
+/// the two packets are the same packet. The law holds with the clock and without. If different packets have equal
+/// sequence numbers, their due instants are at least the time of 192 packets apart. The clock moves a first instant by
+/// less than the time of 18 packets.
 pub fn near_packets_are_one()
     ensures { (j : Journal) (by_clock : Bool) (n m : ℕ) (x y : ℤ) → Conforms j → IsAudioKind j.kind → n < j.packets → m < j.packets → n % 256 ≡ m % 256 → IsAt by_clock j n 0 x → IsAt by_clock j m 0 y → IsNear j 72 x y → n ≡ m }
 {}
 
 /// For a copy of a packet without a timestamp, a listener finds a given stamp if and only if three conditions hold. The
-/// stamp is that of the packet from which the copy is counted, and is among the last `room` stamps. There is no restart
-/// between the copied packet and the stamped packet. The copy's arrival plus `lead` differs from the packet's first
-/// instant by at most the time of 60 packets.
+/// copy is counted from the stamp's packet, and the stamp is among the last `room` stamps. There is no restart between
+/// the copied packet and the stamped packet. The copy's arrival plus `lead` differs from the packet's first instant by
+/// at most the time of 60 packets.
 pub fn heads_are_found()
     ensures { (j : Journal) (lead room : ℕ) (c : Copy) (far : Distance) (stamps : List Stamp) (stamp : Stamp) → IsAudio j → HoldsEight j.packets j.mr → IsUnstamped j lead c far → All (IsTrue j) stamps → (found room (wanted j lead c far) stamps ≡ Some stamp) ↔ (IsExpected j lead c × IsAtHand j room c.number far stamps stamp) }
 {}

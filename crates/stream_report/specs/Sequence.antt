@@ -42,8 +42,8 @@ abbrev pub lost : ℕ → List ℕ → ℕ
 lost first later = missing_among first later (greatest first later - first)
 
 -- The count of lost packets after one more packet, which has this place. If the place is `Ahead`, the count grows by
--- the number of packets that the new packet skips. If the place is `Late`, the count falls by one. Otherwise the count
--- does not change.
+-- the number of packets that are missing before the new packet. If the place is `Late`, the count falls by one.
+-- Otherwise the count does not change.
 abbrev pub lost_with : ℕ → Place → ℕ
 lost_with before (Ahead missing) = before + missing
 lost_with before Late = before - 1
@@ -55,8 +55,8 @@ abbrev pub repeats : ℕ → List ℕ → ℕ
 repeats first [] = 0
 repeats first (number ∷ later) = repeats first later + (if has_come first later number then 1 else 0)
 
--- How many packets are late. A packet is late if a packet with a greater number arrived before it, and no packet with
--- the same number did.
+-- How many packets are late. A packet is late if two things hold: a packet with a greater number arrived before it, and
+-- no packet with the same number arrived before it.
 abbrev pub late : ℕ → List ℕ → ℕ
 late first [] = 0
 late first (number ∷ later) = late first later + (if nat_lt (greatest first later) number then 0 else if has_come first later number then 0 else 1)
@@ -95,8 +95,8 @@ pub record Few (first : ℕ) (later : List ℕ) : Type 0 where
   pub numbers : greatest first later < 2 ^ 64
   pub packets : length later < 2 ^ 64
 
--- The window of `order` describes a stream's packets, and the counts of `order` are right: how many packets are lost,
--- repeated and late, and the maximum number of packets that a single packet skipped.
+-- The window of `order` describes a stream's packets. The counts of `order` are right: how many packets are lost,
+-- repeated and late, and the greatest number of packets that were missing immediately before a packet when it arrived.
 pub record CountsOf (order : Order) (first : ℕ) (later : List ℕ) : Type 0 where
   pub window : StandsFor order.window first later
   pub lost : order.lost.count ≡ lost first later

@@ -38,8 +38,8 @@ pub record RoundedUp (values : List ℤ) (hundredths : ℕ) (told : ℤ) : Type 
 abbrev pub side : ℕ
 side = 3712
 
--- The least magnitude in a bucket. Each magnitude below 128 has its own bucket. From each power of two that is at least
--- 128 to the next power of two, there are 64 buckets of equal width.
+-- The least magnitude in a bucket. Each magnitude below 128 has its own bucket. Starting at 128, each power of two
+-- begins a group of 64 buckets of equal width. The group reaches to the next power of two.
 unfoldable pub first_in : ℕ → ℕ
 first_in bucket = (bucket - 64 * (bucket / 64 - 1)) * 2 ^ (bucket / 64 - 1)
 
@@ -48,7 +48,7 @@ first_in bucket = (bucket - 64 * (bucket / 64 - 1)) * 2 ^ (bucket / 64 - 1)
 unfoldable pub edge : ℕ → ℤ
 edge place = if nat_lt place side then neg_ℤ (pos (first_in (side - place))) else pos (first_in (place - side))
 
--- the greatest number of values for which a spread gives percentiles
+-- a spread gives percentiles for at most this many values
 abbrev pub most_values : ℕ
 most_values = 2 ^ 32 - 1
 

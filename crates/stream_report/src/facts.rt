@@ -12,7 +12,7 @@ use iec61883_format::{IecView, anchor_index, rate_of_fdf, syt_interval};
 /// The format of a stream's packets.
 #[derive(Clone, Copy, PartialEq, Eq)]
 pub enum Format {
-    /// PCM of AAF. `depth` is the field `bit_depth`, in which 0 means that all bits of a sample are used.
+    /// PCM of AAF. `depth` is the field `bit_depth`. The value 0 means that all bits of a sample are used.
     Aaf {
         format: AafFormat,
         rate: Option<u32>,
@@ -227,7 +227,7 @@ fn labels_in(quadlets: &[u8]) -> Labels {
 /// The label of linear audio of 24 bits (IEC 61883-6).
 const PLAIN_LABEL: u8 = 0x40;
 
-/// Whether IEC 61883-6 reserves the label, which means that the label has no meaning yet.
+/// Whether IEC 61883-6 reserves the label. A reserved label has no meaning yet.
 fn is_reserved_label(label: u8) -> bool {
     matches!(label, 0x44..=0x47 | 0x5c..=0x7f | 0x84..=0x87 | 0x90..=0xbf | 0xf0..=0xff)
 }

@@ -28,11 +28,11 @@ pub const LEAST_DRIFT: u64 = 10_000;
 pub const LEAST_DRIFT_TIME: u64 = 500_000_000;
 
 /// A drift is reported only if it changes the lead, over the whole capture, by at least a quarter of the range of the
-/// leads. What looks like a smaller drift can be jitter.
+/// leads. A smaller apparent drift can be jitter.
 pub const DRIFT_PART: u64 = 4;
 
 /// An arrival is uneven if the time since the previous arrival differs from the previous packet's duration by more than
-/// half of that duration, and by more than 50 microseconds. Capture timestamps that are not made by hardware can
+/// half of that duration, and by more than 50 microseconds. If capture timestamps are not made by hardware, they can
 /// themselves be wrong by 50 microseconds.
 pub const LEAST_UNEVEN: u64 = 50_000;
 

@@ -75,7 +75,8 @@ pub struct Stamped {
     pub stamp: Stamp,
     /// The index, among the stream's events, of the packet's first event. Events of missing packets are not counted.
     pub first: u64,
-    /// The index, among the packet's events, of the event that the timestamp belongs to according to the standard.
+    /// According to the standard, the timestamp belongs to one of the packet's events. The index of this event among
+    /// the packet's events is `anchor`.
     pub anchor: u32,
     /// How many events the packet has.
     pub count: u32,
@@ -136,8 +137,9 @@ pub struct Pace {
     /// first event of each packet.
     pub by_first: Misses,
     /// The misses of timestamps with swapped bytes, on the assumption of `by_anchor`. `swapped_by_first` holds the
-    /// misses of timestamps with swapped bytes on the assumption of `by_first`. A timestamp is tried with swapped bytes
-    /// only if its own byte order makes it a miss on the assumptions of both `by_anchor` and `by_first`.
+    /// misses of timestamps with swapped bytes on the assumption of `by_first`. If a timestamp's own byte order makes
+    /// it a miss on the assumptions of both `by_anchor` and `by_first`, the timestamp is tried with swapped bytes. No
+    /// other timestamp is tried with swapped bytes.
     pub swapped_by_anchor: Misses,
     pub swapped_by_first: Misses,
 }
@@ -191,7 +193,7 @@ impl Pace {
         }
     }
 
-    /// By how many parts of 10^9 the stream's events are faster than the nominal rate, according to the timestamps.
+    /// According to the timestamps, the stream's events are faster than the nominal rate by this many parts of 10^9.
     pub fn media_rate(&self) -> Option<i128> {
         i128::from(self.nominal)
             .saturating_sub(i128::from(self.told))

@@ -59,7 +59,7 @@ pub struct Beat {
 }
 
 impl Beat {
-    /// The beat of a stream in which most packets have `events` events.
+    /// The beat of a stream where most packets have `events` events.
     pub fn new(rate: Rate, events: u32) -> Beat {
         let events = u64::from(events);
         Beat {

@@ -5,11 +5,11 @@ ghost use Rattle.std.specs.Int.{bit_at};
 ghost use Rattle.stream_report.specs.Sequence.{Follows, Passes, Returns, StandsFor, ahead_of, greatest, lost, lost_with, place_of};
 ghost use Rattle.stream_report.specs.state.Bits.{Moves, Marks};
 
-/// A sequence number that is at most this far ahead of the newest belongs to a later packet. A sequence number that is
-/// more than this far ahead of the newest belongs to an earlier packet.
+/// If a sequence number is at most this far ahead of the newest, it belongs to a later packet. A sequence number that
+/// is more than this far ahead of the newest belongs to an earlier packet.
 const FARTHEST: u8 = 192;
 
-/// The window knows, for this many sequence numbers up to and including the newest, whether they have arrived.
+/// The window covers this many sequence numbers, up to and including the newest, and knows which of them have arrived.
 const KNOWN: u64 = 64;
 
 /// The newest sequence number of a stream, and which of the 64 numbers up to the newest have arrived.
@@ -112,8 +112,8 @@ impl Window {
     }
 }
 
-/// A law: a count that is updated with the place of each arriving packet always equals the number of lost packets.
-/// Packets that arrived late or twice do not count as lost.
+/// A law about a count: if each arriving packet updates the count with the packet's place, the count always equals the
+/// number of lost packets. Packets that arrived late or twice do not count as lost.
 pub fn places_tell_what_is_lost()
     ensures { (first : ℕ) → (later : List ℕ) → (number : ℕ)
         → lost first (number ∷ later) ≡ lost_with (lost first later) (place_of first later number) }

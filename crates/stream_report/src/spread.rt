@@ -59,8 +59,8 @@ fn place_of(value: i64) -> usize
     }
 }
 
-/// Makes `counts`, whose first bucket is at index `first`, include the bucket at index `place`. Returns the new index
-/// of the first bucket of `counts`.
+/// Makes `counts` include the bucket at index `place`. Before the call, the first bucket of `counts` is at index
+/// `first`. Returns the new index of the first bucket of `counts`.
 fn reach(counts: &mut Vec<u32>, first: usize, place: usize) -> Result<usize, NoMemory>
     requires { place < 2 * side }
     ensures { IfOk result (Widens first counts.old.items place counts.new.items) }

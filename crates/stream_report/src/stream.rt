@@ -429,8 +429,8 @@ impl Stream {
         }
     }
 
-    /// Counts the packet if it lacks a timestamp that it should have, or has one that it should not have. Compares the
-    /// packet's timestamp with the previous timestamp, unless the packet's timestamp is uncertain.
+    /// Counts the packet if its timestamp is missing, or if the packet has a timestamp that it must not have. Compares
+    /// the packet's timestamp with the previous timestamp, unless the packet's timestamp is uncertain.
     fn note_stamp(&mut self, came: &Came, facts: &Facts, restarted: bool) {
         if facts.stamp_wrong {
             match facts.stamp {
@@ -456,9 +456,9 @@ impl Stream {
         self.note_trend(came.arrival, &stamped, advance);
     }
 
-    /// Adds to the trend the lead of a packet's first event, which is computed from the packet's timestamp. If the
-    /// timestamps have a step, the lead counts as unchanged. A timestamp that advances by the packets' durations is not
-    /// a step, however late its packet arrives.
+    /// Computes the lead of a packet's first event from the packet's timestamp, and adds this lead to the trend. If the
+    /// timestamps have a step, the lead counts as unchanged. If a timestamp advances by the packets' durations, the
+    /// timestamp is not a step, however late its packet arrives.
     fn note_trend(&mut self, arrival: i64, stamped: &Stamped, advance: Advance) {
         let before_anchor = match self.beat {
             Some(beat) => beat.time_of(u64::from(stamped.anchor)),

@@ -1,4 +1,4 @@
-//! The number of times that something was seen, and the frame in which it was first seen.
+//! How often something was seen, and the frame where it was first seen.
 
 ghost use Rattle.std.specs.Prelude.{◌≡◌, ◌==◌, ◌+◌, ◌-◌, ◌^◌, min, None, Some, if◌then◌else◌};
 ghost use Rattle.std.specs.Option.{option_or};

@@ -4,8 +4,8 @@ use avtp_base::NoMemory;
 use std::alloc::Global;
 use std::mem;
 
-/// The maximum number of columns of a stream. If a packet is noted when a stream has this many columns, the columns
-/// first become twice as wide, which merges neighboring columns.
+/// The maximum number of columns of a stream. If a stream has this many columns when a packet is noted, the columns
+/// first become twice as wide, and neighboring columns are merged.
 const MOST_COLUMNS: usize = 512;
 
 /// At first, each column is 2^16 ns wide, some 66 microseconds.

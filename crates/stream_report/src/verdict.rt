@@ -17,8 +17,8 @@ pub enum ClockGuess {
 /// A verdict. The kinds are in order, the worst first. Times are in nanoseconds.
 #[derive(Clone, Copy)]
 pub enum Verdict {
-    /// Most timestamps do not advance by their packets' durations. `swapped` is true if, with swapped bytes, at most
-    /// one in `FEW` timestamps would not advance by its packet's duration.
+    /// Most timestamps do not advance by their packets' durations. `swapped` is true if swapping the bytes of the
+    /// timestamps would help: at most one in `FEW` timestamps would then not advance by its packet's duration.
     NotInOrder {
         off: u64,
         compared: u64,

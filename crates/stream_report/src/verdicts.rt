@@ -92,8 +92,8 @@ fn order_verdict(stream: &Stream) -> Option<Verdict> {
 
 /// The verdict that presentation times are far from the packets' arrivals. For a stream that is not a media clock, the
 /// verdict is given if the median lead is negative or above a quarter of a second. For a media clock, the verdict is
-/// given if the median lead is more than a quarter of a second away from 0. A median that is slightly negative is
-/// normal for a media clock, because its timestamps are the times of the clock's events, which can be in the past.
+/// given if the median lead is more than a quarter of a second away from 0. For a media clock, a slightly negative
+/// median is normal. The clock's timestamps are the times of its events, and these times can be in the past.
 fn clocks_verdict(stream: &Stream) -> Option<Verdict> {
     let lead = stream.leads.percentile(50)?;
     let exact = stream.key.subtype == subtype::CRF;
@@ -132,8 +132,8 @@ fn near_zero(number: i64) -> i64 {
     i64::from(u32::try_from(low).unwrap_or(0).cast_signed())
 }
 
-/// The verdict that packets arrived after their presentation time. The verdict is given if the stream is not a media
-/// clock and its late packets outnumber its timestamps that do not advance as they should.
+/// The verdict that packets arrived after their presentation time. The verdict is given if two things hold: the stream
+/// is not a media clock, and its late packets outnumber its timestamps that do not advance as they should.
 fn late_verdict(stream: &Stream) -> Option<Verdict> {
     let explained = stream.pace.misses().count;
     if stream.key.subtype == subtype::CRF || stream.late.count <= explained {

@@ -38,8 +38,8 @@ use Rattle.time_unfold.proofs.Floors.{one_more}
 
 -- ---- what holds for kinds of audio
 
--- The time of packet n is counted from a stamped sample at the distance `far`, in a packet at most 7 packets before
--- packet n.
+-- The time of packet n is counted from a stamped sample. The sample is at the distance `far`, in a packet at most 7
+-- packets before packet n.
 pub record IsCountedBack (kind : Kind) (count n : ℕ) (far : Distance) : Type 0 where
   pub few : far.packets ≤ 7
   pub place : stamped_index (rule_of kind (n - far.packets)) + far.samples ≡ far.packets * count
@@ -369,7 +369,7 @@ head_due kind plan packets n head p k e =
     (journal_instant (nominal_times kind plan packets) head 0) = ap (due_by (nominal_times kind plan packets) n) e in
     rw (due, is.same) refl
 
--- ---- a packet has a head, unless a restart lies shortly before it
+-- ---- if no restart lies shortly before a packet, the packet has a head
 
 no_later : (a b : ℕ) → a ≤ b → nat_le a b ≡ true
 no_later a b h = grind (arith, nat_tests)

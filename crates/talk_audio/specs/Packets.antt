@@ -13,8 +13,9 @@ use Rattle.talk_plan.specs.Headers.{header_of}
 use Rattle.packet_journal.specs.Packets.{Pcm}
 use Rattle.talk_plan.specs.Ethernet.{packet_bytes}
 
--- The instant in the timestamp of packet n: the instant of the packet's sample frame that a stream of this kind stamps.
--- If a stream of this kind stamps no sample frame of the packet, the packet has no timestamp.
+-- The instant in the timestamp of packet n. If a stream of this kind stamps a sample frame of the packet, the result is
+-- the instant of that sample frame. If a stream of this kind stamps no sample frame of the packet, the packet has no
+-- timestamp.
 abbrev pub stamp_of : Kind → TalkPlan → ℕ → Option ℕ
 stamp_of kind plan n =
     if is_stamped (rule_of kind n) n plan.count then Some (stamped_instant plan n (stamped_index (rule_of kind n))) else None

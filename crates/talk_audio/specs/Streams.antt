@@ -33,8 +33,8 @@ pub record IsSteady (sparse : Bool) (plan : TalkPlan) : Type 0 where
   pub dense : sparse ≡ false
   pub once : plan.restart ≡ None
 
--- `pcm` is the format of a plan of PCM, with the headers of packet 0's frame, from which the headers of all frames are
--- made
+-- `pcm` is the format of a plan of PCM, with the headers of packet 0's frame; the headers of all frames are made from
+-- these headers
 pub record IsPcmStream (pcm : PcmFormat) (plan : TalkPlan) : Type 0 where
   pub format : IsPcm pcm plan
   pub headers : HasHeaders pcm.headers (aaf_packet pcm.format pcm.sparse plan 0 [])

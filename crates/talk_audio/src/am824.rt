@@ -89,8 +89,8 @@ impl Am824Format {
         Am824Format { fdf, interval }
     }
 
-    /// The instant in the timestamp of packet `n`, which is the instant of the packet's first block whose count is a
-    /// multiple of the interval. A packet in which no block count is a multiple of the interval has no timestamp (IEC
+    /// The instant in the timestamp of packet `n`: the instant of the packet's first block whose count is a multiple of
+    /// the interval. If no block count in a packet is a multiple of the interval, the packet has no timestamp (IEC
     /// 61883-6).
     fn stamp(&self, plan: &TalkPlan, n: u64) -> Option<u64>
         requires packet { IsPacketOf plan.now n }

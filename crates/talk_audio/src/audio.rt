@@ -143,11 +143,11 @@ impl AudioStream {
         }
     }
 
-    /// Writes the frame of packet `n`, which is sent at `arrival`. The packet's samples are `rest`, which is the end of
-    /// the input, and then silence.
+    /// Writes the frame of packet `n`, which is sent at `arrival`. The packet's samples are the end of the input,
+    /// `rest`, and then silence.
     // The code of `write_last` seldom runs while audio is sent. The function is marked cold, so that it takes no
     // registers from the code that runs often. The code for clock packets, for stamps on a clock and for H.264 is also
-    // marked cold, to leave the registers to the code that runs often.
+    // marked cold, so that it takes no registers from the code that runs often.
     #[cold]
     #[inline(never)]
     fn write_last(&self, out: &mut [u8], n: u64, arrival: i64, rest: &[u8])
@@ -170,7 +170,7 @@ impl AudioStream {
         &input[n as usize * self.size..]
     }
 
-    /// Writes the frame of packet `n`, which is made from the input and sent at `arrival`.
+    /// Writes the frame of packet `n`. The packet is made from the input, and is sent at `arrival`.
     #[tactic(auto, using(crate::proofs::SampleLemmas::last_samples, crate::proofs::FormatLemmas::whole_of))]
     #[inline(always)]
     pub fn write(&self, out: &mut [u8], input: &[u8], n: u64, arrival: i64)

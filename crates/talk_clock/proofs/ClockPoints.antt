@@ -1,4 +1,4 @@
--- In which run, and in which packet, each point of a plan's clock is.
+-- The run and the packet of each point of a plan's clock.
 use Rattle.std.proofs.Common.{◌↔◌, ◌≡◌, ◌⊎◌, inl, inr, ℕ, zero, suc, ◌+◌, ◌-◌, ◌*◌, ◌/◌, ◌%◌, ◌<◌, ◌≤◌, get_or, length, map, nat_abs, pos, Some, None, refl}
 use Rattle.std.proofs.Common.{sym, subst, ap, ◌∙◌, arith}
 use Rattle.std.specs.Prelude.{Option, ◌==◌, ⊤}

@@ -12,10 +12,10 @@ use byteorder::{BigEndian, ByteOrder};
 use crf_format::{CrfView, write_crf};
 use talk_plan::{CrfPlan, ETHERNET_HEADER, TalkPlan, write_ethernet};
 
-/// The media clock of a plan, which is sent with a stream of `stream` packets. The clock's points are counted through
-/// the whole stream, including points at sample frames that only fill up the last packet. The sample frame of point s
-/// is s times the spacing. Each restart is at the beginning of a clock packet, so a restart does not change the sample
-/// frames of points.
+/// The media clock of a plan. The clock is sent with a stream of `stream` packets. The clock's points are counted
+/// through the whole stream, including points at sample frames that only fill up the last packet. The sample frame of
+/// point s is s times the spacing. Each restart is at the beginning of a clock packet, so a restart does not change the
+/// sample frames of points.
 #[derive(Clone, Copy, Debug)]
 pub struct ClockStream {
     pub plan: TalkPlan,
@@ -37,7 +37,7 @@ const POINTS_LIMIT: usize = 180;
 const AUDIO_SAMPLE: u8 = 1;
 
 impl ClockStream {
-    /// The clock of a plan, which is sent with a stream of this many packets; `None` if the plan has no clock.
+    /// The clock that a plan sends with a stream of this many packets; `None` if the plan has no clock.
     pub fn of(plan: TalkPlan, stream: u64) -> Option<Self>
         requires plan { IsAudioPlan plan }
         requires few { AreFew plan stream }

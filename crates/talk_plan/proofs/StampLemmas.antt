@@ -72,7 +72,7 @@ is_beat plan crf p e =
 
 -- ---- timestamps lie near nominal instants
 
--- how much later than its nominal instant a timestamp can be (`late_by`), and how much earlier (`early_by`), in
+-- how much later (`late_by`) and how much earlier (`early_by`) a timestamp can be than its nominal instant, in
 -- nanoseconds; 0 without a clock
 abbrev pub late_by : Option CrfPlan → ℕ
 late_by None = 0

@@ -34,7 +34,7 @@ fdf_of rate =
     if rate == 176400 then Some 5 else
     if rate == 192000 then Some 6 else None
 
--- SYT_INTERVAL at a sample rate: one data block in this many is stamped (IEC 61883-6)
+-- SYT_INTERVAL at a sample rate: the number of data blocks from one stamped data block to the next (IEC 61883-6)
 abbrev pub interval_of : ℕ → ℕ
 interval_of rate = unwrap_or (option_and_then syt_interval (fdf_of rate)) 8
 
@@ -94,14 +94,14 @@ Restarts (Some packets) jump = IsRestart packets jump
 unfoldable pub spacing_of : CrfPlan → ℕ → ℕ
 spacing_of crf rate = crf.interval * rate * pull_down crf.pull / (crf.rate * pull_up crf.pull)
 
--- If there are restarts, the time of a run, which has `packets` packets, is a whole multiple of the time of 8 clock
--- packets.
+-- If there are restarts, a run has `packets` packets, and the time of these packets is a whole multiple of the time of
+-- 8 clock packets.
 abbrev pub HasWholeRuns : CrfPlan → ℕ → ℕ → Option ℕ → Type 0
 HasWholeRuns crf rate count None = ⊤
 HasWholeRuns crf rate count (Some packets) = packets * count % (8 * spacing_of crf rate * crf.points) ≡ 0
 
--- The limits of a clock. The stream that is stamped with the clock has `rate` sample frames a second, `count` sample
--- frames in a packet, and restarts as in `restart`.
+-- The limits of a clock. The clock stamps a stream with `rate` sample frames a second and `count` sample frames in a
+-- packet. The stream restarts after every `restart` packets, or never if `restart` is `None`.
 pub record IsClockPlan (crf : CrfPlan) (rate count : ℕ) (restart : Option ℕ) : Type 0 where
   pub id : crf.id < 2 ^ 64
   pub some_rate : 1 ≤ crf.rate
@@ -185,8 +185,8 @@ ExpectsBy Am824 plan lead = plan.count < interval_of plan.rate → IsNearLead pl
 ExpectsBy (H264 last_stamp) plan lead = ⊤
 
 -- If an audio packet has no timestamp, a listener identifies it by its arrival time. If a plan has audio packets
--- without a timestamp, the listener's lead must be near the plan's lead. Any lead will do for PCM that is not sparse,
--- for AM824 whose packets have at least SYT_INTERVAL data blocks, and for H.264.
+-- without a timestamp, the listener's lead must be near the plan's lead. Any lead will do for three kinds of plans: PCM
+-- that is not sparse, AM824 whose packets have at least SYT_INTERVAL data blocks, and H.264.
 abbrev pub Expects : TalkPlan → ℕ → Type 0
 Expects plan lead = ExpectsBy plan.kind plan lead
 

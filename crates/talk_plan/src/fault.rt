@@ -2,7 +2,7 @@
 
 use thiserror::Error;
 
-/// The faults that prevent a plan and its input from making a stream, in the order in which they are tested.
+/// The faults that prevent a plan and its input from making a stream, in the order of their tests.
 #[derive(Clone, Copy, Debug, PartialEq, Eq, Error)]
 pub enum TalkFault {
     /// The input is not a whole number of sample frames.

@@ -18,9 +18,9 @@ pub fn rates_are_named()
 
 /// The arithmetic of a media clock and of a stream that is stamped with it, on plain numbers. The period between
 /// adjacent points of a run is within 1/8 of its nominal value, and adjacent periods differ little. The time from the
-/// last point of a run to the start of the next run is at least the run's last period. The stamp of an event is covered
-/// by the pair that ends with the last point up to the event, and by no other pair of any run. If the clock's frequency
-/// is the stream's rate, the stamp is the instant of an event of the clock.
+/// last point of a run to the start of the next run is at least the run's last period. Take the pair that ends with the
+/// last point up to an event. The pair covers the stamp of the event, and no other pair of any run covers that stamp.
+/// If the clock's frequency is the stream's rate, the stamp is the instant of an event of the clock.
 pub fn clocks_keep_time()
     ensures even { (b : Beat) (start m : ℕ) → IsBeat b → IsJoined (pair_from b start m) }
     ensures steady { (b : Beat) (start m : ℕ) → IsBeat b → IsSteady (pair_from b start m) (pair_from b start (suc m)) }

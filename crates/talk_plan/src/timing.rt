@@ -128,7 +128,7 @@ impl TalkPlan {
     /// The instant in the timestamp of sample frame `i` of packet `n`, computed from the plan's clock, in nanoseconds
     /// of gPTP. If the sample frame is before the run's second point, the instant is the sample frame's nominal
     /// instant. If the sample frame is at or after the run's second point, the instant is computed from the clock's
-    /// last point up to the sample frame, with the period that ends at that point.
+    /// last point at or before the sample frame. The computation uses the period that ends at this last point.
     #[cold]
     #[inline(never)]
     fn clocked_instant(&self, crf: &CrfPlan, n: u64, i: u32) -> u64

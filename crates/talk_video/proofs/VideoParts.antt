@@ -89,8 +89,8 @@ body_is v n unit same =
     ∙ ap (λ (k : ℕ). body_by (part_by (packets_for (unit_at (nal_units v.input.now) (place_in v n).unit)) k) k
     (rest_in v.input.now (unit_at (nal_units v.input.now) (place_in v n).unit))) (fragment_is v n unit same)
 
--- if packet n is not the last packet of the stream, it ends its access unit if and only if packet n + 1 is of another
--- access unit
+-- if packet n is not the last packet of the stream, packet n ends its access unit if and only if packet n + 1 is of
+-- another access unit
 pub ends_is : (v : VideoStream) (n access next : ℕ) → IsVideo v → n + 1 ≢ v.packets → next ≡ access_unit_of v.input.now (nal_units v.input.now) (n + 1)
     → access ≡ access_unit_of v.input.now (nal_units v.input.now) n → not (next == access) ≡ ends_access_unit v.input.now (nal_units v.input.now) n
 ends_is v n access next is more e f =

@@ -48,8 +48,8 @@ access_unit_of bytes units n = access_unit bytes units (place_of units n).unit
 abbrev pub ends_access_unit : List ℕ → List (ℕ × ℕ) → ℕ → Bool
 ends_access_unit bytes units n = (suc n == all_packets units) || not (access_unit_of bytes units (suc n) == access_unit_of bytes units n)
 
--- if a unit has `packets` fragments, whether fragment k is the whole unit, the first fragment, a middle one or the last
--- one
+-- which part of its unit fragment k is, if the unit has `packets` fragments: the whole unit, the first fragment, a
+-- middle one or the last one
 unfoldable pub part_by : ℕ → ℕ → NalPart
 part_by packets k = if packets == 1 then Single else if k == 0 then First else if k + 1 == packets then Last else Middle
 
@@ -58,8 +58,8 @@ abbrev pub part_at : List (ℕ × ℕ) → Place → NalPart
 part_at units p = part_by (packets_at units p.unit) p.fragment
 
 -- What fragment k carries of `rest`, the bytes of its unit after the first byte. If the unit is sent whole, the
--- fragment carries all of `rest`. If the unit is sent in fragments, the fragment carries `full_body` bytes, or as many
--- as are left.
+-- fragment carries all of `rest`. If the unit is sent in fragments, the fragment carries `full_body` bytes, or all
+-- remaining bytes if fewer remain.
 abbrev pub body_by : NalPart → ℕ → List ℕ → List ℕ
 body_by Single k rest = rest
 body_by First k rest = take full_body (drop (k * full_body) rest)

@@ -28,7 +28,7 @@ has_long_access_unit bytes =
     list_any (λ n. access_unit_of bytes (nal_units bytes) n == access_unit_of bytes (nal_units bytes) (n + most_packets))
     (range_with_len 0 (all_packets (nal_units bytes) - most_packets))
 
--- the faults that prevent a byte stream from being sent, in the order in which they are tested
+-- the faults that prevent a byte stream from being sent, in the order of their tests
 abbrev pub unit_faults : List ℕ → List Row
 unit_faults bytes =
     row StartCode (not (has_start_code bytes)) ∷

@@ -42,7 +42,7 @@ pub struct Units {
     /// How many units the walk has passed, and the offset after the last passed unit.
     number: usize,
     at: usize,
-    /// Whether the current access unit, to which the last passed unit belongs, already has a slice.
+    /// Whether the current access unit already has a slice. The last passed unit belongs to the current access unit.
     sliced: bool,
     /// How many of the passed units begin a new access unit.
     begun: u64,
@@ -107,7 +107,8 @@ impl Units {
         }
     }
 
-    /// Whether the unit from offset `from` to offset `to`, which follows the passed units, begins a new access unit.
+    /// The unit from offset `from` to offset `to` follows the passed units. The result says whether this unit begins a
+    /// new access unit.
     fn is_begun(&self, bytes: &[u8], from: usize, to: usize) -> bool
         requires { IsInside bytes.now (from, to) }
         ensures { result ≡ is_begun_by bytes.now self.now (from, to) }

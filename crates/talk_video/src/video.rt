@@ -33,7 +33,7 @@ pub struct VideoStream<'a> {
     pub packets: u64,
 }
 
-/// How many bytes of a NAL unit a fragment carries if it is not the last fragment. The unit's first byte is not
+/// The number of bytes of a NAL unit in each of its fragments except the last fragment. The unit's first byte is not
 /// counted.
 const FULL_BODY: usize = 1398;
 

@@ -22,12 +22,13 @@ use talker::laws::{journal_conforms, losses_are_delivered};
 
 /// Let a listener without a clock hear a capture of an audio plan, and let a scan find no fault in this capture. It
 /// does not matter whether the capture loses, repeats or reorders packets. Then a gateway skips nothing that the
-/// listener presents, because each packet begins after the end of all earlier packets, and arrives before 2^32 seconds.
-/// A gateway also skips none of the batches that are already certain to be presented, whatever records follow.
+/// listener presents. The reason: each packet begins after all earlier packets have ended, and arrives before 2^32
+/// seconds. Some batches are already certain to be presented, whatever records follow. A gateway also skips none of
+/// these batches.
 ///
-/// Sparse PCM has packets without a timestamp, and so has AM824 with fewer blocks in a packet than SYT_INTERVAL. For
-/// these streams, the max transit times of the listener and of the plan must differ by less than the duration of 127
-/// packets.
+/// Two kinds of streams have packets without a timestamp: sparse PCM, and AM824 with fewer blocks in a packet than
+/// SYT_INTERVAL. For these streams, the max transit times of the listener and of the plan must differ by less than the
+/// duration of 127 packets.
 pub fn nothing_talked_is_skipped()
     ensures shown { (to : ToValue) (plan : TalkPlan) (input places : List ℕ) (listen : ListenPlan) → ListensTo plan input listen → listen.clock ≡ None → first_fault to listen.stream (captured plan input places) ≡ None
         → SkipsNone to (shape_in listen.stream (captured plan input places)) (presented_of (shown_of listen (captured plan input places))) }

@@ -50,8 +50,8 @@ pub fn talked_keeps_headline()
 }
 
 /// A capture of an H.264 plan meets the whole premise of the headline. The law holds even if the capture loses, repeats
-/// or reorders frames. If the plan stamps only the last fragments of units, there is a further condition: the numbers
-/// of adjacent captured packets differ by at most 254, unless both packets are stamped.
+/// or reorders frames. If the plan stamps only the last fragments of units, there is a further condition: of two
+/// adjacent captured packets, either both are stamped, or their numbers differ by at most 254.
 pub fn talked_video_is_heard()
     ensures { (plan : TalkPlan) (input places : List ℕ) (listen : ListenPlan) → ListensToVideo plan input places listen → HearsTalker (pos 0) (journal plan input) listen (captured plan input places) }
 {
@@ -70,8 +70,8 @@ pub fn talked_video_keeps_headline()
 }
 
 /// A unit of an H.264 plan must be presented if its packets are the first packets of the capture, in order, and there
-/// is room for the unit. What the capture holds after the unit's packets does not matter. The unit can consist of a
-/// single packet.
+/// is room for the unit. The capture can hold anything after the unit's packets. The unit can consist of a single
+/// packet.
 pub fn talked_unit_is_welcome()
     ensures { (plan : TalkPlan) (input places : List ℕ) (listen : ListenPlan) (from n : ℕ) → ListensToVideo plan input (range_with_len from (n - from) ++ n ∷ places) listen → HasRoomForUnit plan input listen from n
         → (made : MadeItem) × IsWelcome (journal plan input) listen (captured plan input (range_with_len from (n - from) ++ n ∷ places)) 0 n made }

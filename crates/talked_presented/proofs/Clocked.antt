@@ -142,8 +142,8 @@ sent_by_then plan crf input m n c sent =
 
 -- ---- which packets of the clock have arrived when a packet of the stream is sent
 
--- when packet n is sent, a packet of the clock has arrived if and only if it has a point at or before packet n's first
--- sample
+-- when packet n is sent, a packet of the clock has arrived if and only if this clock packet has a point at or before
+-- packet n's first sample
 came_upto : (plan : TalkPlan) (crf : CrfPlan) (input : List ℕ) (os : List Origin) (i n s : ℕ) → IsClocked plan crf (journal plan input).times → ((m : ℕ) → (stream_of plan input).clock_arrival m ≡ clock_arrival crf plan m) → IsOverStamp plan crf (journal plan input).times n s
     → n * plan.count / spacing_of crf plan.rate ≡ suc s → (q : IsPlaced (stream_of plan input) 0 0 os i n) → (suc s / crf.points < q.clocks) × (q.clocks ≤ suc s / crf.points + 1)
 came_upto plan crf input os i n s c sent over at q =
@@ -176,7 +176,7 @@ came_upto plan crf input os i n s c sent over at q =
       ],
     )
 
--- ---- each packet whose first sample is at or after the second point must be presented
+-- ---- if a packet's first sample is at or after the second point, the packet must be presented
 
 one_natural : (a b : ℕ) → pos a ≡ pos b → a ≡ b
 one_natural a b e = omega (arith, ints)
@@ -339,7 +339,7 @@ must_be plan crf input listen rs os i n d w at there copy le =
       bytes = let room = w.room.bytes in omega (arith, times, room);
     }
 
--- ---- each packet whose first sample is before the second point is flagged
+-- ---- a packet is flagged if its first sample is before the second point
 
 refused_seq : (d : Delivery) (o : Option Refusal) (item : Item) → seq_of item ≡ d.seq → seq_of (refused_or d o item) ≡ d.seq
 refused_seq d None item e = e

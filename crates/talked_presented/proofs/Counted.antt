@@ -25,7 +25,7 @@ use Rattle.listener.specs.Heard.{deliveries_of}
 use Rattle.listener.specs.Known.{IsKnownCopy}
 use Rattle.listener.specs.Laws.{by_clock}
 
--- ---- the packet from which another packet is counted
+-- ---- the packet that another packet is counted from
 
 -- Packet n is counted from a stamped packet, which was sent `far.packets` packets earlier. No restart lies between
 -- these two packets.
@@ -137,7 +137,7 @@ front (suc size) a (suc count) =
     holds_by zero lt known rest = omega arith
     holds_by (suc k) lt known rest = let less = rest.holds k (omega arith) (omega arith) in omega arith
 
--- ---- a packet whose stamp is kept is known
+-- ---- if the stamp of a packet is kept, the packet is known
 
 not_both : (b : Bool) → b ≡ false → b ≡ true → ⊥
 not_both b e f = cc

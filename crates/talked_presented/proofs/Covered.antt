@@ -1,4 +1,4 @@
--- For a plan without restarts: which of the plan's timestamps its clock covers, and with which points.
+-- The timestamps that the clock of a plan without restarts covers, and the points that cover them.
 use Rattle.std.proofs.Common.{◌≡◌, ℕ, zero, suc, ◌+◌, ◌-◌, ◌*◌, ◌/◌, ◌%◌, ◌^◌, ◌<◌, ◌≤◌, Bool, true, false, ℤ, pos, neg_ℤ, ◌+ℤ◌, List, drop, Some, None, zero-mul, refl, sym, ap, ◌∙◌, subst, inl, inr, arith}
 use Rattle.std.specs.Prelude.{Contains, if◌then◌else◌, ◌==◌}
 use Rattle.std.specs.List.{range_with_len}

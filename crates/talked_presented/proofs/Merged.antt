@@ -82,8 +82,8 @@ pub record IsStreamNext (s : Stream) (a b n : ℕ) : Type 0 where
   pub known : b < packets_in s
   pub first : (m : ℕ) → a ≤ m → m < clocks_in s → s.arrival b < s.clock_arrival m
 
--- after `a` packets of the clock and `b` packets of the stream, the list names the packets that are left, in the order
--- of sending
+-- after `a` packets of the clock and `b` packets of the stream, the list names the packets that remain, in the order of
+-- sending
 abbrev pub AreMerged : Stream → ℕ → ℕ → List Origin → Type 0
 AreMerged s a b [] = (clocks_in s ≤ a) × (packets_in s ≤ b)
 AreMerged s a b (OfClock m ∷ os) = IsClockNext s a b m × AreMerged s (a + 1) b os
@@ -139,8 +139,9 @@ all_merged plan s is = merge (clocks_in s - 0 + (packets_in s - 0)) plan s 0 0 i
 
 -- ---- the index of a packet of the stream
 
--- Packet n of the stream is at index `i` of `os`. The entries before index `i` are the stream's packets from `b` to n -
--- 1 and the clock's packets from `a` on that are sent before packet n, in the order of sending.
+-- Packet n of the stream is at index `i` of `os`. The entries before index `i` are packets of two kinds, in the order
+-- of sending: the stream's packets from `b` to n - 1, and the clock's packets from `a` on that are sent before packet
+-- n.
 pub record IsPlaced (s : Stream) (a b : ℕ) (os : List Origin) (i n : ℕ) : Type 0 where
   pub low : b ≤ n
   pub known : n < packets_in s

@@ -165,8 +165,8 @@ pub due_head : (j : Journal) (n : ℕ) (o : Option Head) → IsAudioKind j.kind 
 due_head j n None kind is known e some = absurd cc
 due_head j n (Some head) kind is known e some = at_nominal j.kind j n 0 _ kind (record { head = head; is_head = e; at = is.first_instants n head known e })
 
--- If a copy has a head, is known, and is judged no later than the instant at which its packet is due, the copy's item
--- is timely.
+-- Let a copy have a head and be known. If the copy is judged no later than its packet is due, the copy's item is
+-- timely.
 timely_of : (shift : ℤ) (p : PacketJournal) (plan : ListenPlan) (records : List Record) (place n : ℕ) (d : Delivery) → HearsTalker shift p plan records → IsAudioKind p.times.kind → plan.clock ≡ None → slice_get (deliveries_of plan records) place ≡ Some d
     → (copy : IsCopyOf p plan.lead n d) → IsSome (head_of p.times n) → IsKnownCopy p plan records place (record { number = n; arrival = copy.arrival }) → time_of plan records place ≤ℤ pos (p.times.due n) → IsTimely p plan records place n (made_of_one d)
 timely_of shift p plan records place n d h kind off at copy some known early =

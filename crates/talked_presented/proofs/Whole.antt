@@ -42,7 +42,7 @@ pub record IsTimelyAt (p : PacketJournal) (plan : ListenPlan) (records : List Re
   pub made : MadeItem
   pub timely : IsTimely p plan records n n made
 
--- Each packet is timely, and when it is judged, fewer than `buffer` earlier packets are not yet due.
+-- Each packet is timely. When a packet is judged, fewer than `buffer` earlier packets are not yet due.
 pub record AreTimely (shift : ℤ) (p : PacketJournal) (plan : ListenPlan) (records : List Record) : Type 0 where
   pub heard : HearsTalker shift p plan records
   pub kind : IsAudioKind p.times.kind

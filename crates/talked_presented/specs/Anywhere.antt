@@ -19,8 +19,9 @@ abbrev pub waiting_at : TalkPlan → List ℕ → ℕ → List ℕ → List ℕ
 waiting_at plan input n packets = filter (λ (k : ℕ). nat_le ((stream_of plan input).arrival n) ((journal plan input).times.due k)) packets
 
 -- Packet n of a plan without a clock is captured between the packets `before` and the packets `after`. Packet n has a
--- timestamp, or can be counted from the timestamp of an earlier captured packet or of one of the next `look` captured
--- packets. All packets of `before` were captured no later than the instant at which packet n is due.
+-- timestamp, or can be counted from the timestamp of another packet. That other packet was captured earlier, or is one
+-- of the next `look` captured packets. All packets of `before` were captured no later than the instant at which packet
+-- n is due.
 pub record ComesInTime (plan : TalkPlan) (input : List ℕ) (listen : ListenPlan) (before : List ℕ) (n : ℕ) (after : List ℕ) : Type 0 where
   pub talk : ListensTo plan input listen
   pub alone : plan.crf ≡ None

@@ -25,8 +25,8 @@ abbrev pub IsFrom : PacketJournal → ℕ → Shown → Type 0
 IsFrom p first (Present batch) = (n : ℕ) × ((first ≤ n) × IsOfPacket true p n batch)
 IsFrom p first (Flag frame seq reason) = (n : ℕ) × ((n < first) × ((seq ≡ n % 256) × (reason ≡ NoClock)))
 
--- Each packet from `first` on is presented with instants from the clock, once and in order. Any other shown item is a
--- flag of a packet before `first`, with the reason `noclock`.
+-- Each packet from `first` on is presented with instants from the clock, once and in order. Any other shown item flags
+-- a packet before `first` with the reason `noclock`.
 pub record ArePresentedFrom (p : PacketJournal) (first : ℕ) (shown : List Shown) : Type 0 where
   pub each : (n : ℕ) → first ≤ n → n < p.times.packets → Any (IsOfPacket true p n) (presented_of shown)
   pub once : AllPairs (AreOther true p) (presented_of shown)

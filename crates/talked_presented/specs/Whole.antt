@@ -34,8 +34,8 @@ pub record IsCloseLead (plan : TalkPlan) (lead : ℕ) : Type 0 where
   pub from : plan.lead * plan.rate ≤ lead * plan.rate + 59 * (plan.count * 1000000000)
   pub to : lead * plan.rate ≤ plan.lead * plan.rate + 59 * (plan.count * 1000000000)
 
--- If some packets have no timestamp, the listener must expect packets at about the time at which the plan sends them.
--- If each packet is stamped, the listener may have any lead.
+-- If some packets have no timestamp, the listener must expect packets at about the time when the plan sends them. If
+-- each packet is stamped, the listener may have any lead.
 abbrev pub ExpectsCounted : TalkKind → TalkPlan → ℕ → Type 0
 ExpectsCounted (Aaf format false) plan lead = ⊤
 ExpectsCounted (Aaf format true) plan lead = IsCloseLead plan lead
@@ -55,8 +55,8 @@ pub record HearsAll (plan : TalkPlan) (input : List ℕ) (listen : ListenPlan) :
 
 -- ---- the defaults
 
--- Each packet of a plan of this kind has a timestamp or is counted from the timestamp of another packet, because each
--- packet is stamped or there is no restart.
+-- Each packet of an audio plan of this kind has a timestamp or is counted from the timestamp of another packet. The
+-- condition: sparse PCM and AM824 have no restarts. PCM that is not sparse has no condition, and neither has H.264.
 abbrev pub HasEachHead : TalkKind → Option ℕ → Type 0
 HasEachHead (Aaf format false) restart = ⊤
 HasEachHead (Aaf format true) restart = restart ≡ None

@@ -31,9 +31,9 @@ use talker::laws::{capture_delivers, capture_reads_back, journal_conforms, losse
 
 /// Files that `talk` makes with its default lead meet the whole premise of the headline, for listeners with the default
 /// options of `listen`. Files of audio without a media clock meet the premise if each packet has a timestamp or is
-/// counted from the timestamp of another packet. Files of audio with a clock meet the premise if each packet stamps its
-/// first sample, there are no restarts, and the listener has that clock. Files of H.264 always meet the premise of the
-/// headline.
+/// counted from the timestamp of another packet. Files of audio with a clock meet the premise if three conditions hold:
+/// each packet stamps its first sample, there are no restarts, and the listener has that clock. Files of H.264 always
+/// meet the premise of the headline.
 pub fn files_are_heard()
     ensures audio { (plan : TalkPlan) (input : List ℕ) → HasDefaultLead plan input → HearsTalker (pos 0) (journal plan input) (default_listener plan.id) (records_in (capture plan input)) }
     ensures clocked { (plan : TalkPlan) (crf : CrfPlan) (input : List ℕ) → HasDefaultClock plan crf input → HearsTalker (pos 0) (journal plan input) (clocked_listener plan.id crf.id) (records_in (capture plan input)) }
@@ -45,10 +45,11 @@ pub fn files_are_heard()
     capture_reads_back();
 }
 
-/// Assume that each packet of an audio plan without a clock has a timestamp, or that its samples are counted from the
-/// timestamp of another packet. Assume that the listener, like the plan, has no clock, and that it has room for what is
-/// sent during the lead. If some packets have no timestamp, assume that the leads of the plan and of the listener are
-/// close. Then each packet of a whole capture is presented, once and in order, and nothing is flagged.
+/// Assume that an audio plan has no clock. Assume that each packet of the plan has a timestamp, or that the packet's
+/// samples are counted from the timestamp of another packet. Assume that the listener, like the plan, has no clock, and
+/// that it has room for what is sent during the lead. If some packets have no timestamp, assume that the leads of the
+/// plan and of the listener are close. Then each packet of a whole capture is presented, once and in order, and nothing
+/// is flagged.
 pub fn whole_capture_is_presented()
     ensures { (plan : TalkPlan) (input : List ℕ) (listen : ListenPlan) → HearsAll plan input listen
         → ArePresented false (journal plan input) (range_with_len 0 (journal plan input).times.packets) (shown_of listen (whole_records (capture plan input))) }
@@ -73,8 +74,8 @@ pub fn defaults_present_all()
 /// Assume that each packet of an audio plan with a clock stamps its first sample. Assume that there are no restarts,
 /// and that the lead is at least 3 ns. Assume that the listener has the talker's clock, no look-ahead, and room for
 /// what is sent during the lead. Then, from the second timestamp of the clock on, each packet of a whole capture is
-/// presented, once and in order. Any other shown item is a flag with the reason `noclock`, of a packet before the
-/// clock's second timestamp.
+/// presented, once and in order. Any other shown item flags a packet with the reason `noclock`. That packet is before
+/// the clock's second timestamp.
 pub fn clocked_capture_is_presented()
     ensures { (plan : TalkPlan) (crf : CrfPlan) (input : List ℕ) (listen : ListenPlan) → HearsClock plan crf input listen
         → ArePresentedFrom (journal plan input) (first_covered crf plan) (shown_of listen (whole_records (capture plan input))) }
@@ -85,9 +86,9 @@ pub fn clocked_capture_is_presented()
     carried_clock_packet_is_delivered();
 }
 
-/// Take a plan that meets the assumptions of `clocked_capture_is_presented` and has the default lead of `talk`. A
-/// listener that has the plan's clock, and otherwise the default options of `listen`, presents the plan's packets from
-/// the second timestamp of the clock on.
+/// Take a plan that meets the assumptions of `clocked_capture_is_presented` and has the default lead of `talk`. Suppose
+/// that a listener has the plan's clock, and otherwise the default options of `listen`. Then the listener presents the
+/// plan's packets from the second timestamp of the clock on.
 pub fn defaults_present_by_clock()
     ensures hears { (plan : TalkPlan) (crf : CrfPlan) (input : List ℕ) → HasDefaultClock plan crf input → HearsClock plan crf input (clocked_listener plan.id crf.id) }
     ensures presented { (plan : TalkPlan) (crf : CrfPlan) (input : List ℕ) → HasDefaultClock plan crf input
@@ -130,10 +131,10 @@ pub fn defaults_hear_units()
     journal_conforms();
 }
 
-/// Take a capture of an audio plan without a clock; it can lose, repeat or reorder packets. A copy of a packet must be
-/// presented, wherever the copy is in the capture, if four conditions hold. The packet has a timestamp or can be
-/// counted from a timestamp that arrived. All packets before the copy were captured no later than the instant at which
-/// the packet is due. The copy is the first copy of the packet. The buffer has room for the copy.
+/// Take a capture of an audio plan without a clock; it can lose, repeat or reorder packets. A copy of a packet can be
+/// anywhere in the capture. The copy must be presented if four conditions hold. The packet has a timestamp or can be
+/// counted from a timestamp that arrived. All packets before the copy were captured no later than the packet's due
+/// instant. The copy is the first copy of the packet. The buffer has room for the copy.
 pub fn talked_copy_is_welcome()
     ensures { (plan : TalkPlan) (input before after : List ℕ) (n : ℕ) (listen : ListenPlan) → MustBePresented plan input listen before n after
         → (made : MadeItem) × IsWelcome (journal plan input) listen (captured plan input (before ++ n ∷ after)) (length before) n made }
@@ -160,11 +161,10 @@ pub fn talked_copy_is_further()
     copies_anywhere_are_further();
 }
 
-/// Take a capture of an H.264 plan; it can lose, repeat or reorder packets. A unit must be presented, wherever it is in
-/// the capture, if four conditions hold. All packets of the unit are captured in order, with no other packet of the
-/// stream between them. All packets before the unit were captured no later than the instant at which the unit is due.
-/// The unit's last packet is not among the packets that were captured before the unit. The buffer has room for the
-/// unit.
+/// Take a capture of an H.264 plan; it can lose, repeat or reorder packets. If four conditions hold, a unit must be
+/// presented, wherever it is in the capture. All packets of the unit are captured in order, with no other packet of the
+/// stream between them. All packets before the unit were captured no later than the unit is due. The unit's last packet
+/// is not among the packets that were captured before the unit. The buffer has room for the unit.
 pub fn talked_unit_anywhere_is_welcome()
     ensures { (plan : TalkPlan) (input front after : List ℕ) (from n : ℕ) (listen : ListenPlan) → UnitMustBePresented plan input listen front from n after
         → (place : ℕ) × ((made : MadeItem) × IsWelcome (journal plan input) listen (captured plan input (front ++ (range_with_len from (n - from) ++ n ∷ after))) place n made) }

@@ -225,8 +225,8 @@ clock_carried plan s m h =
       packet = record { trail = []; whole = sym (append-nil packet) };
     }
 
--- The records of the frames `given` carry the packets that `origins` lists. The packets of the stream have the same
--- numbers, in the same order, in `origins` and in `given`.
+-- The records of the frames `given` carry the packets that `origins` lists. `origins` and the frames `given` have the
+-- packets of the stream with the same numbers in the same order.
 pub record AreCarried (j : PacketJournal) (lead : ℕ) (given : List SentFrame) : Type 0 where
   pub origins : List Origin
   pub carry : AllCarryFrom j lead origins (map record_of given)

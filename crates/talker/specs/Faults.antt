@@ -14,7 +14,8 @@ use Rattle.talk_video.specs.Units.{unit_faults}
 abbrev pub arrives_too_late : TalkPlan → List ℕ → Bool
 arrives_too_late plan input = list_any (λ f. int_le (pos (2 ^ 32 * 1000000000)) f.arrival) (frames plan input)
 
--- The possible faults of audio if there is an audio format, else those of H.264, in the order in which they are tested.
+-- The possible faults, in the order of their tests: the faults of audio if there is an audio format, otherwise the
+-- faults of H.264.
 abbrev pub faults_by : Option Audio → TalkPlan → List ℕ → List Row
 faults_by (Some audio) plan input =
     row Frames (not (is_whole audio.frame input)) ∷

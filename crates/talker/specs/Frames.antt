@@ -67,7 +67,8 @@ clock_frames plan input = numbered_clock (stream_of plan input)
 
 -- ---- all frames
 
--- the list with the frame inserted before the first frame of the list that arrives at the same time or later
+-- the list with the frame inserted: the frame comes directly before the first frame that arrives at the same time or
+-- later, or else at the end
 abbrev pub put_in : SentFrame → List SentFrame → List SentFrame
 put_in f [] = f ∷ []
 put_in f (g ∷ frames) = if int_le f.arrival g.arrival then f ∷ g ∷ frames else g ∷ put_in f frames
@@ -99,8 +100,8 @@ abbrev pub packet_numbers : List SentFrame → List ℕ
 packet_numbers [] = []
 packet_numbers (f ∷ frames) = if f.clock then packet_numbers frames else f.number ∷ packet_numbers frames
 
--- If a stream of H.264 stamps only last fragments, adjacent packets in the list of numbers are near each other. For a
--- stream that is not H.264, or that stamps every fragment, nothing is required.
+-- If a stream of H.264 stamps only last fragments, adjacent packets in the list of numbers are near each other. Nothing
+-- is required of a stream that is not H.264, or of a stream that stamps every fragment.
 abbrev pub StaysNearBy : TalkKind → Journal → List ℕ → Type 0
 StaysNearBy (Aaf format sparse) j numbers = ⊤
 StaysNearBy Am824 j numbers = ⊤

@@ -6,7 +6,8 @@ use mir.Syntax.{named}
 use Rattle.talker.specs.declared.talker.Talker.{Talker}
 use Rattle.talker.specs.contracts.talker.Talker.{the_row}
 
--- `P` holds for a talker once the frame that it lent is given back. `named 0` is the input's lifetime in the signature.
+-- When the frame that a talker lent is given back, `P` holds for the talker. `named 0` is the input's lifetime in the
+-- signature.
 abbrev pub EndsAs : MutBor Talker → (Talker → Type 0) → Fml
 EndsAs talker P =
     let row = the_row (record { mir = named 0; lft = [] }) in

@@ -45,8 +45,9 @@ pub fn packets_are_paced()
 {}
 
 /// The clock has a timestamp at the first sample frame of the stream, and at each later sample frame whose number is a
-/// multiple of the spacing. The clock's timestamps and packets are numbered across all runs. With restarts, the instant
-/// of a timestamp is counted from the start of its run, and a packet has the restart bit of its run.
+/// multiple of the spacing. The clock's timestamps and packets are numbered across all runs. If there are restarts, two
+/// things hold: the instant of a timestamp is counted from the start of the timestamp's run, and a packet has the
+/// restart bit of the packet's run.
 pub fn clocks_are_paced()
     ensures points { (plan : TalkPlan) (crf : CrfPlan) (packets s : ℕ) → IsPlan plan → plan.crf ≡ Some crf
         → s < points_for crf plan packets ↔ s * spacing_of crf plan.rate < packets * plan.count }
@@ -82,7 +83,8 @@ pub fn packets_have_heads()
         → IsSome (head_of (journal plan input).times n) }
 {}
 
-/// The bytes of a packet's frame encode an Ethernet frame, whose payload encodes the packet of PCM, AM824 or H.264.
+/// The bytes of a packet's frame encode an Ethernet frame, and the payload of this frame encodes the packet of PCM,
+/// AM824 or H.264.
 pub fn packets_read_back()
     ensures frame { (plan : TalkPlan) (format : AafFormat) (sparse : Bool) (n : ℕ) (samples : List ℕ)
         → SpellsFrame (aaf_bytes format sparse plan n samples) (ethernet (aaf_spelling (aaf_packet format sparse plan n samples))) }
@@ -118,9 +120,9 @@ pub fn journal_conforms()
 {}
 
 /// The capture of a plan delivers its journal: its records carry each packet of the stream and of its clock once.
-/// Without a clock, the records carry the packets of the stream in order. For sparse PCM, and for AM824 whose packets
-/// have fewer data blocks than the SYT interval, the capture delivers the journal to each listener whose lead is near
-/// the plan's lead. For all other plans, the capture delivers the journal to every listener.
+/// Without a clock, the records carry the packets of the stream in order. If the plan is sparse PCM, or AM824 with
+/// fewer data blocks in a packet than the SYT interval, the capture delivers the journal to each listener whose lead is
+/// near the plan's lead. For all other plans, the capture delivers the journal to every listener.
 pub fn capture_delivers()
     ensures carries { (plan : TalkPlan) (input : List ℕ) (lead : ℕ) → IsPlan plan → plan.crf ≡ None → length input ≤ most_input → Expects plan lead
         → AllCarry (journal plan input) lead (range_with_len 0 (journal plan input).times.packets) (records plan input) }
@@ -133,8 +135,8 @@ pub fn capture_delivers()
 /// Assume that a capture loses, repeats or reorders a plan's frames, and that each captured frame is captured when it
 /// is sent. The capture still reads back as exactly the records of the captured frames, and delivers the plan's journal
 /// to the listeners that `capture_delivers` names. If NAL units of H.264 are stamped only on their last fragments,
-/// there is a further condition: the numbers of adjacent captured packets differ by at most 254, unless both packets
-/// are stamped.
+/// there is a further condition for two adjacent captured packets. If at least one of the two is not stamped, their
+/// numbers differ by at most 254.
 pub fn losses_are_delivered()
     ensures records { (plan : TalkPlan) (input places : List ℕ) → IsPlan plan → length input ≤ most_input
         → whole_records (capture_of (frames_at plan input places)) ≡ map record_of (frames_at plan input places) }

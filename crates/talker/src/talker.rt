@@ -78,9 +78,9 @@ impl<'a> Talker<'a> {
     ///
     /// Returns `Frames` exactly if an audio input is not a whole number of sample frames. An input of H.264 is tested
     /// for three faults, and the first one found is returned. `StartCode`: there is no start code. `NalType`: a NAL
-    /// unit has a type other than 1 to 23. `Packets`: an access unit needs more than 255 packets. Returns `Arrival`
-    /// exactly if the input itself has no fault, and a packet would arrive at 2^32 seconds or later. No packet of a
-    /// plan within these limits arrives at 2^32 seconds or later. Returns `Memory` if memory runs out.
+    /// unit has a type other than 1 to 23. `Packets`: an access unit needs more than 255 packets. Returns `Arrival` if
+    /// and only if two things hold: the input itself has no fault, and a packet would arrive at 2^32 seconds or later.
+    /// No packet of a plan within these limits arrives at 2^32 seconds or later. Returns `Memory` if memory runs out.
     pub fn begin(alloc: Global, plan: TalkPlan, input: &'a [u8]) -> Result<Self, TalkFault>
         requires plan { IsPlan plan }
         requires limit { length input.now ≤ most_input }
@@ -268,7 +268,8 @@ fn write_front(source: &Source<'_>, clock: &Option<ClockStream>, turn: Turn, out
     write_frame(source, clock, turn, &mut out[..turn.size]);
 }
 
-/// Whether packet `m` of the clock exists and is sent no later than packet `n` of the stream, if that packet exists.
+/// Whether packet `m` of the clock exists and comes first: packet `n` of the stream does not exist, or is sent at the
+/// same time or later.
 fn clock_is_first(
     clock: &Option<ClockStream>,
     source: &Source<'_>,

@@ -97,7 +97,7 @@ fn a_capture_is_read_up_to_what_refuses_it(rt: HostRuntime) -> Result<(), Fail> 
     Ok(())
 }
 
-/// Captures that are cut off: each length at which the result of reading changes, and the new result.
+/// Captures that are cut off: each length where the result of reading changes, and the new result.
 const CUT: &str = "\
 pcap => 0: magic at 0 short; 4: version_major at 4 short; 6: version_minor at 6 short; 8: thiszone at 8 short; 12: sigfigs at 12 short; 16: snaplen at 16 short; 20: network at 20 short; 24: Some(Whole); 25: ts_sec at 24 short; 28: ts_fraction at 28 short; 32: incl_len at 32 short; 36: orig_len at 36 short; 40: packet_bytes at 40 short; 106: 1000000000 66 66, Some(Whole);
 pcapng => 0: magic at 0 short; 4: block_length at 4 short; 8: block_body at 8 short; 28: Some(Whole); 29: block_type at 28 short; 32: block_length at 32 short; 36: block_body at 36 short; 60: Some(Whole); 61: block_type at 60 short; 64: block_length at 64 short; 68: block_body at 68 short; 160: 1000000000 66 66, Some(Whole);";

@@ -165,7 +165,7 @@ fn a_file_that_is_read_is_not_written_over(rt: HostRuntime) -> Result<(), Fail> 
     Ok(())
 }
 
-/// The first write to a sink makes its file, or empties it if it exists.
+/// The first write to a sink makes the sink's file. If the file exists already, the first write empties the file.
 #[test]
 fn a_sink_makes_its_file_when_it_is_written_to(rt: HostRuntime) -> Result<(), Fail> {
     let path = temporary(&rt, "test_captures_sink")?;

@@ -39,7 +39,7 @@ fn each_field_of_a_frame_is_read_from_its_bits(rt: HostRuntime) -> Result<(), Fa
     Ok(())
 }
 
-/// Frames that are cut off: each length at which the result of reading changes, and the new result.
+/// Frames that are cut off: each length where the result of reading changes, and the new result.
 const CUT: &str = "\
 frame len=18 => 0: destination at 0 short, 6: source at 6 short, 12: ethertype at 12 short, 14: tag_control at 14 short, 16: ethertype at 16 short, 18: read,
 frame len=12 22f0 => 0: destination at 0 short, 6: source at 6 short, 12: ethertype at 12 short, 14: read,";

@@ -135,8 +135,8 @@ fn a_side_that_ends_early_is_compared_up_to_there(rt: HostRuntime) -> Result<(),
 
 /// A row has the input of `talk`, the options of `talk`, and the options of `agree`. Then the row has, for each of two
 /// captures, the records that are delivered, written as in the rows of `losses`. In the first row of H.264, each access
-/// unit has 255 NAL units. In the second row of H.264, the second access unit is a single NAL unit in 255 fragments,
-/// all of which are delivered.
+/// unit has 255 NAL units. In the second row of H.264, the second access unit is a single NAL unit in 255 fragments.
+/// All 255 fragments are delivered.
 const ROWS: &str = "\
 noise:2400 | --sparse --restart 12 |  | mixed | 0/0/0
 noise:2400 | --sparse --restart 12 |  | mixed | 9/3/4
@@ -154,8 +154,8 @@ x0000000106ab*254 x000000016588 x0000000106cd*254 x000000016588 | --kind h264 | 
 x0000000106ab*254 x000000016588 x0000000165 xff*356000 x0000000106cd*254 x000000016588 | --kind h264 |  | 600/0/0 | 520/0/0
 ";
 
-/// From the line of a packet's first sample: the instant, and the text from the sequence number on. In all captures of
-/// one talker, these parts of the line are the same.
+/// Two parts of the line of a packet's first sample: the instant, and the text from the sequence number on. In all
+/// captures of one talker, these parts of the line are the same.
 #[derive(Clone, Copy)]
 struct Sample<'a> {
     instant: &'a str,
@@ -203,8 +203,8 @@ fn in_both(a: &[Sample<'_>], b: &[Sample<'_>]) -> usize {
     both
 }
 
-/// What `agree` prints of two captures of one talker, and what it should print, according to what `listen` presents
-/// from each.
+/// The first text is what `agree` prints of two captures of one talker. The second text is what `agree` should print,
+/// according to what `listen` presents from each capture.
 fn compare<T: Threads + Sync>(
     rt: &T,
     alloc: Global,

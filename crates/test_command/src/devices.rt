@@ -50,7 +50,7 @@ impl Notes {
     }
 }
 
-/// A device that records what is done to it, in memory that it shares with the test.
+/// A device that records what is done to the device. The record is in memory that the device shares with the test.
 struct Noting {
     device: MemoryDevice,
     notes: Arc<Notes, Global>,

@@ -17,7 +17,7 @@ const READS: [usize; 2] = [1, 65_536];
 const WRITES: [usize; 2] = [7, 65_536];
 
 /// A command that reads one or two captures of equal size. `before` is printed before the command reads. `certain` is
-/// printed once the command has read all bytes, and `end` at the end of the run.
+/// printed once the command has read all bytes, and `end` is printed at the end of the run.
 #[derive(Clone, Copy)]
 struct Case {
     line: &'static str,
@@ -270,8 +270,8 @@ fn a_failing_read_of_either_capture_ends_their_comparison(rt: HostRuntime) -> Re
     ends_where_a_read_fails(&rt, rt.alloc(), &AGREED)
 }
 
-/// If a write fails, the written text is a prefix of the whole text. A run in which a later write fails writes at least
-/// as much text.
+/// If a write fails, the written text is a prefix of the whole text. If a later write fails instead, the run writes at
+/// least as much text.
 #[test]
 fn a_failing_write_leaves_a_prefix_of_the_text(rt: HostRuntime) -> Result<(), NoMemory> {
     let alloc = rt.alloc();

@@ -4,8 +4,8 @@
 //!   file, in this order.
 //! - `? NAME STEPS` asserts what a file holds. `~ NAME OTHER` asserts that two files hold the same bytes. `# NAME 24`
 //!   asserts that a file holds 24 bytes.
-//! - `! shelf 3` makes the third call of the shelf fail in the next run, and `! sink 3` the third call of the sink.
-//!   `! devices 0 3 0` makes the third call of the second of the three devices fail.
+//! - `! shelf 3` makes the third call of the shelf fail in the next run. `! sink 3` makes the third call of the sink
+//!   fail in the next run. `! devices 0 3 0` makes the third call of the second of the three devices fail.
 //! - `$ WORDS` runs the command. The lines after `$ WORDS` are the text that the command prints. In the text of a
 //!   command, `...` stands for any lines, and `*` at the end of a line stands for the rest of that line.
 //! - `[3]` is the exit status, if it is not 0. `= 12 1 12` has a number for each device: its digits are the frame
@@ -257,7 +257,7 @@ fn fits(line: &str, stated: &str) -> bool {
     }
 }
 
-/// The first line in which a text differs from the stated lines.
+/// The first line where a text differs from the stated lines.
 fn other_line<'a>(text: &'a str, stated: &[&str]) -> Option<&'a str> {
     let mut place = 0usize;
     let mut skips = false;

@@ -154,7 +154,8 @@ const LONG: [(u64, &str, &str, &str); 5] = [
     ),
 ];
 
-/// A unit that is too long is lost with all its fragments. Fragments that follow a unit that is too long are lost, too.
+/// A unit that is too long is lost with all its fragments. If a unit is too long, the fragments that follow the unit
+/// are lost, too.
 #[test]
 fn a_unit_has_at_most_4096_fragments_and_4194304_bytes(rt: HostRuntime) -> Result<(), Fail> {
     let mut assembler = Assembler::new(rt.alloc())?;

@@ -54,7 +54,7 @@ h264 28=65 21=05 => nal: 101, part: Single, body: []
 // The highest numbers of a clock, and each of its timestamps.
 crf 2=09ff 12=bfffffff 18=ffff => seq: 9, kind: 255, pull: 5, base_frequency: 536870911, interval: 65535
 crf 3=00 => kind: 0
-// Bytes after the stated length do not belong to the packet, whose last byte is 250 or 7.
+// Bytes after the stated length do not belong to the packet. The packet's last byte is 250 or 7.
 aaf len=60 => count: 6, 250], reserved: false
 iec 79=07 len=96 => count: 6, 7], reserved: false
 h264 len=40 => body: [66, 0, 10], reserved: false

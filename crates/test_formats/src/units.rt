@@ -4,8 +4,8 @@ use cvf_format::{next_unit, split_annex_b};
 use std::test::Fail;
 use vectors_avtp::{bytes_of, row_of};
 
-/// Byte streams. Each stream is followed by the index of the first byte and the index after the last byte of each of
-/// its units.
+/// Byte streams. Each stream is followed by two indexes for each of its units: the index of the first byte, and the
+/// index after the last byte.
 const STREAMS: &str = "\
  => []
 01 => []

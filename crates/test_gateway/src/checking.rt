@@ -7,7 +7,7 @@ use sequence_track::{Findings, Seen, Tracker};
 use std::alloc::Global;
 use std::test::Fail;
 
-/// What `check` returns for a packet in which it finds nothing.
+/// `check` returns this value for a packet if nothing is found in the packet.
 pub const NOTHING: Findings = Findings {
     reserved: false,
     step: None,

@@ -114,9 +114,9 @@ fn batches_of_another_shape_are_skipped(rt: HostRuntime) -> Result<(), Fail> {
     Ok(())
 }
 
-/// A stream of PCM, and one of the frames to which it is converted: the frame's index, its arrival, and the first bytes
-/// of its packet, without the stream ID. A block count that is not a multiple of the SYT interval is raised to the next
-/// multiple. The block count wraps after 255.
+/// A stream of PCM, and one of the frames that the stream is converted to. The frame is given by its index, its
+/// arrival, and the first bytes of its packet, without the stream ID. If a block count is not a multiple of the SYT
+/// interval, the count is raised to the next multiple. The block count wraps after 255.
 const FRAMES: &str = "\
 packets=1 | 0 => 1000000000 00810000 3bb94e80 0000000000385fa03f0200009002ffff
 packets=2 | 1 => 1000125000 00810100 3bbb36c8 0000000000385fa03f0200089002ffff

@@ -110,10 +110,10 @@ fn are_same(a: &[Recorded], b: &[Recorded]) -> bool {
     true
 }
 
-/// Checks that a row's stream is converted to as many packets as the row says. From the converted packets, a listener
-/// must present the same values at the same instants, and `check` must find nothing in them. The conversion back must
-/// also keep the values and the instants, and `check` must find nothing in its packets. If AM824 that a gateway made is
-/// converted to PCM and back, the frames must stay the same.
+/// Checks that a row's stream is converted to as many packets as the row says. A listener must present the same values
+/// at the same instants from the converted packets. `check` must find nothing in the converted packets. The conversion
+/// back must also keep the values and the instants, and `check` must find nothing in the packets that come from the
+/// conversion back. If AM824 that a gateway made is converted to PCM and back, the frames must stay the same.
 fn check_row(rt: &impl Abort, alloc: Global, to: To, line: &str) -> Result<(), Fail> {
     let (words, wanted) = row_of(line)?;
     let back = match to {

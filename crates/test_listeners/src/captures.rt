@@ -4,7 +4,7 @@ use avtp_base::NoMemory;
 use std::alloc::Global;
 use vectors_avtp::{changed, vector};
 
-/// The kind of test vector from which a packet is made.
+/// The kind of test vector that a packet is made from.
 #[derive(Clone, Copy)]
 pub enum Format {
     Audio,

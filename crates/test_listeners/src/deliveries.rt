@@ -21,8 +21,8 @@ fn numbers_are_drawn_from_a_seed(rt: HostRuntime) {
 }
 
 /// How many packets are sent, and how many copies of them are delivered. The third value is the index of a copy. The
-/// list has some copies in a row, the first of them at the index in the third value: for each copy, its arrival and the
-/// number of its packet.
+/// list has an entry for each of some copies in a row: the copy's arrival, and the number of the copy's packet. The
+/// first of these copies is at the index in the third value.
 const ROWS: [(u32, usize, usize, &[(i64, u64)]); 6] = [
     (0, 0, 0, &[]),
     (1, 1, 0, &[(1_002_480_000, 0)]),
@@ -45,7 +45,7 @@ const ROWS: [(u32, usize, usize, &[(i64, u64)]); 6] = [
             (1_002_995_000, 7),
         ],
     ),
-    // copies that arrive at the same time are in the order of their packets' numbers
+    // if copies arrive at the same time, they are in the order of their packets' numbers
     (25, 22, 8, &[(1_002_440_000, 0), (1_002_440_000, 16)]),
     (1_000, 1_002, 1_001, &[(1_126_485_000, 993)]),
 ];

@@ -3,7 +3,7 @@
 use sequence_track::{Findings, Seen, Tracker};
 use std::test::Fail;
 
-/// A packet that has no finding by itself.
+/// A packet without a finding of its own.
 const PLAIN: Seen = Seen {
     id: 0x0200_0000_0001_0001,
     subtype: 0x02,

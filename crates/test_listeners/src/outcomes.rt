@@ -3,9 +3,9 @@
 use soak_run::soak;
 use std::test::Fail;
 
-/// How many packets are sent; then six counts. The first count is the number of deliveries. The other counts are the
-/// numbers of deliveries that are presented, that are late, that are repeats, that have no known timestamp, and that
-/// find no room in the buffer.
+/// How many packets are sent; then six counts. The first count is the number of deliveries. The other five counts are
+/// numbers of deliveries: those that are presented, late, repeats, without a known timestamp, or without room in the
+/// buffer.
 type Row = (u32, [u64; 6]);
 
 /// The counts for at most ten packets were worked out by hand. The counts for more packets come from another program,

@@ -7,8 +7,9 @@ use std::alloc::Global;
 use std::test::Fail;
 use vectors_avtp::{changed, vector};
 
-/// The capture of the first vector, with some bytes changed, cut after `len` bytes, and followed by `zeros` zero bytes.
-/// `packets` is the number of packets of the stream in that capture, and `refused` is the capture's first refusal.
+/// The capture of the first vector after three changes: some bytes are changed, the capture is cut after `len` bytes,
+/// and `zeros` zero bytes are appended. `packets` is the number of packets of the stream in that capture, and `refused`
+/// is the capture's first refusal.
 struct Row {
     name: &'static str,
     changes: &'static [(usize, u8)],

@@ -159,8 +159,8 @@ fn bytes_of(heard: &Heard) -> Option<&[u8]> {
     }
 }
 
-/// Long fragments of a unit. `LONG_FIRST` and `LONG_MIDDLE` have 65,529 zero bytes each, `LONG_LAST` has 447, and
-/// `LONGER_LAST` has 448.
+/// Long fragments of a unit. `LONG_FIRST` and `LONG_MIDDLE` have 65,529 zero bytes each. `LONG_LAST` has 447 zero
+/// bytes, and `LONGER_LAST` has 448 zero bytes.
 const LONG_FIRST: Captured =
     captured!(SINGLE, changes: &[(20, 0xff), (21, 0xff), (28, 0x7c), (29, 0x85)], len: 48, zeros: 65_529);
 

@@ -12,8 +12,8 @@ use std::alloc::Global;
 use std::test::Fail;
 use vectors_avtp::{bytes_of, refusal_text, row_of};
 
-/// The captures A and B. After `=>` is what is found, in order: differences where they become known, a capture's first
-/// refusal where the capture ends, and the counts.
+/// The captures A and B. The text after `=>` lists what is found, in order: differences where they become known, a
+/// capture's first refusal where the capture ends, and the counts.
 const ROWS: &str = "\
 pcap | pcap => matched 1 only 0 0 differ 0
 pcap | pcap 105=fb => 1 1 seq 0 Bytes { sample: 5 }, matched 1 only 0 0 differ 1
@@ -100,7 +100,7 @@ fn end(alloc: Global, bounded: &mut Bounded, which: Which) -> Result<String, Fai
 }
 
 /// Feeds at most `most` of the bytes that are left of the wanted side. If no bytes are left, ends the side. Returns the
-/// bytes that are left afterwards and, if it ended the side, the side's refusal.
+/// remaining bytes. If the call ended the side, the call also returns the side's refusal.
 fn put<'a>(
     alloc: Global,
     bounded: &mut Bounded,

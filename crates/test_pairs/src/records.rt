@@ -12,9 +12,9 @@ use std::collections::VecDeque;
 use std::test::Fail;
 use vectors_avtp::{bytes_of, row_of};
 
-/// The records of A and the records of B. Each record is written after the millisecond in which it was captured. After
-/// `=>` is what happens, in order: `a` and `b` are records that were wanted, `-a` and `-b` are ends of captures, and
-/// each difference is listed where it became known.
+/// The records of A and the records of B. Each record comes after a number: the millisecond in which the record was
+/// captured. After `=>` is what happens, in order: `a` and `b` are records that were wanted, `-a` and `-b` are ends of
+/// captures, and each difference is listed where it became known.
 const ROWS: &str = "\
 1000 frame | 1000 frame => a -a b -b matched 1 only 0 0 differ 0
 1000 frame | 1000 frame 65=fb => a -a b -b 1 1 seq 0 Bytes { sample: 5 }, matched 1 only 0 0 differ 1

@@ -80,7 +80,7 @@ const fn stamped(seq: u8, stamp: Option<u32>, form: Form, arrival: u64) -> Sent 
 }
 
 /// Packet `n` of a sparse stream, after `run` restarts. Packet 0 is due 1.002 s after the epoch. Each packet has 6
-/// samples, which last 125,000 ns, and is captured 2 ms before it is due.
+/// samples and lasts 125,000 ns. Each packet is captured 2 ms before it is due.
 fn sparse(n: u16, run: u16) -> Sent {
     let due = 1_002_000_000 + 125_000 * u64::from(n) + 1_000_000 * u64::from(run);
     Sent {

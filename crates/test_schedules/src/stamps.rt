@@ -106,7 +106,7 @@ fn packets_are_shown_by_their_timestamps(rt: HostRuntime) {
     }
 }
 
-/// Data blocks that are numbered from 18, which is two after the stamped block 16.
+/// Data blocks with numbers from 18 on. Block 18 comes two blocks after the stamped block 16.
 const BEHIND: Captured = Blocks(1, 18, None, 4_998_041_666);
 
 const COUNTED: [Case; 7] = [

@@ -77,8 +77,8 @@ fn is_same(sent: Sent<'_>, frame: &Frame) -> bool {
         && sent.bytes == frame.bytes.as_slice()
 }
 
-/// Checks that a talker writes exactly these frames in order, and that it also returns each frame of the stream by its
-/// packet's number.
+/// Checks that a talker writes exactly these frames in order. Checks also that the talker returns each frame of the
+/// stream for the number of the frame's packet.
 fn check_written(
     rt: &impl Abort,
     name: &str,

@@ -97,8 +97,8 @@ const ACCESS: [(&[u16], &[i64]); 8] = [
     (&[0x0605, 0x0910, 0x0e80, 0x6588, 0x0910], &[1, 1, 1, 1, 2]),
 ];
 
-/// Access unit 1 is sent at 1 s, and each later access unit 1 s after its predecessor. The last packet of each access
-/// unit has the marker.
+/// Access unit 1 is sent at 1 s. Each later access unit is sent 1 s after the access unit before it. The last packet of
+/// each access unit has the marker.
 #[test]
 fn a_picture_begins_an_access_unit(rt: HostRuntime) -> Result<(), Fail> {
     for row in &ACCESS {

@@ -1,4 +1,4 @@
-//! Tests of the search for the line that a sample is on, among the lines of a media clock.
+//! Tests of a search: among the lines of a media clock, the line of a sample is found.
 
 ghost use Rattle.std.specs.Prelude.{IfOk};
 ghost use Rattle.clock_track.specs.Limits.{IsNotable};

@@ -1,4 +1,4 @@
-//! The timestamps from which the samples of packets are counted.
+//! Which timestamps the samples of packets are counted from.
 
 use avtp_base::NoMemory;
 use std::alloc::Global;

@@ -1,30 +1,32 @@
--- To which sample of an audio packet the packet's timestamp belongs, and from which earlier sample a packet without a
--- timestamp is counted. Packets are numbered through the stream; a packet's number can be given modulo 256.
+-- The rules for timestamps of audio packets. A packet's timestamp belongs to one of the packet's samples. A packet
+-- without a timestamp is counted from a stamped sample of an earlier packet. Packets are numbered through the stream; a
+-- packet's number can be given modulo 256.
 use Rattle.std.specs.Prelude.{ℕ, ◌+◌, ◌-◌, ◌*◌, ◌%◌, ◌==◌, nat_lt, if◌then◌else◌, Option, Some, None}
 use Rattle.std.specs.Int.{div_ceil}
 use Rattle.time_unfold.specs.declared.head_rule.Distance.{Distance}
 use Rattle.time_unfold.specs.declared.head_rule.HeadRule.{HeadRule}
 use Rattle.time_unfold.specs.declared.head_rule.HeadRule.TheVariants.{Own, Eight, Blocks}
 
--- The index of the sample to which a packet's timestamp belongs. In AAF, the timestamp belongs to the first sample
--- (IEEE 1722-2016, 7). In IEC 61883-6 the timestamp belongs to the first block whose block count is a multiple of the
--- interval.
+-- A packet's timestamp belongs to one sample, and the result is the index of that sample. In AAF, the timestamp belongs
+-- to the first sample (IEEE 1722-2016, 7). In IEC 61883-6 the timestamp belongs to the first block whose block count is
+-- a multiple of the interval.
 abbrev pub stamped_index : HeadRule → ℕ
 stamped_index Own = 0
 stamped_index Eight = 0
 stamped_index (Blocks dbc interval) = (interval - dbc % interval) % interval
 
--- in IEC 61883-6, the block count, modulo 256, of the block to which a packet's timestamp belongs; `None` for AAF
+-- in IEC 61883-6, a packet's timestamp belongs to one block; the result is the block count of that block, modulo 256,
+-- or `None` for AAF
 abbrev pub stamped_block : HeadRule → Option ℕ
 stamped_block Own = None
 stamped_block Eight = None
 stamped_block (Blocks dbc interval) = Some ((dbc + stamped_index (Blocks dbc interval)) % 256)
 
--- How far back the stamped sample is if packet n, which has `count` samples, has no timestamp. In sparse AAF, the
--- stamped sample is the first sample of the nearest earlier packet whose number is a multiple of 8. In IEC 61883-6, the
--- stamped sample is the nearest earlier block whose block count is a multiple of the interval. `None` for AAF that is
--- not sparse. The result is also `None` if the packet's own first sample should be stamped, or if the stamped sample is
--- more than 7 packets back.
+-- How far back the stamped sample is from packet n, if packet n has `count` samples and no timestamp. In sparse AAF,
+-- the stamped sample is the first sample of the nearest earlier packet whose number is a multiple of 8. In IEC 61883-6,
+-- the stamped sample is the nearest earlier block whose block count is a multiple of the interval. `None` for AAF that
+-- is not sparse. The result is also `None` if the packet's own first sample should be stamped, or if the stamped sample
+-- is more than 7 packets back.
 abbrev pub distance : HeadRule → ℕ → ℕ → Option Distance
 distance Own n count = None
 distance Eight n count =

@@ -12,8 +12,7 @@ floor_of numerator denominator = int_div_euclid numerator (pos denominator)
 abbrev pub instant_at : Line → ℤ → ℤ
 instant_at line k = line.base +ℤ floor_of (k *ℤ pos line.num) line.den
 
--- The instant is that of sample k of a line, defined without a division: it is the last whole nanosecond at or before
--- the sample.
+-- The instant of sample k of a line, defined without a division: the last whole nanosecond at or before the sample.
 pub record IsAt (line : Line) (k instant : ℤ) : Type 0 where
   pub not_after : ((instant -ℤ line.base) *ℤ pos line.den) ≤ℤ (k *ℤ pos line.num)
   pub last : (k *ℤ pos line.num) <ℤ (((instant -ℤ line.base) +ℤ pos 1) *ℤ pos line.den)

@@ -1,4 +1,4 @@
--- The stamp from which the time of a packet without a timestamp is counted.
+-- The stamp for a packet without a timestamp. The packet's time is counted from that stamp.
 use Rattle.std.specs.Prelude.{◌≡◌, ℕ, ◌*◌, ◌-◌, ◌==◌, Bool, true, false, nat_le, if◌then◌else◌, ℤ, pos, ◌+ℤ◌, ◌-ℤ◌, unsigned_abs, List, [], ◌∷◌, ◌++◌, length, drop, All, Option, Some, None}
 use Rattle.time_unfold.specs.declared.stamp.Stamp.{Stamp}
 use Rattle.time_unfold.specs.declared.stamp.Want.{Want}
@@ -21,8 +21,9 @@ same_flag false false = true
 abbrev pub candidate : Want → Stamp → ℤ
 candidate want stamp = instant_at (nominal_line stamp.instant want.rate) (pos want.back)
 
--- Counted from the stamp, the packet's first sample is at most 60 packet durations away from its expected instant,
--- which is the packet's arrival plus the lead. This test is needed because sequence numbers repeat after 256 packets.
+-- If the instant of the packet's first sample is counted from the stamp, this instant differs from the expected instant
+-- by at most 60 packet durations. The expected instant is the packet's arrival plus the lead. This test is needed
+-- because sequence numbers repeat after 256 packets.
 abbrev pub is_near : Want → Stamp → Bool
 is_near want stamp =
     nat_le (unsigned_abs ((want.arrival +ℤ pos want.lead) -ℤ candidate want stamp) * want.rate) (60 * want.count * 1000000000)
@@ -48,7 +49,7 @@ find_last {T} test (x ∷ xs) = last_or (find_last test xs) (if test x then Some
 abbrev pub last_of : {T : Type 0} → ℕ → List T → List T
 last_of n xs = drop (length xs - n) xs
 
--- the stamp from which the packet is counted: the last stamp that fits, among the last `room` stamps of the list
+-- the last stamp that fits, among the last `room` stamps of the list; the packet is counted from this stamp
 abbrev pub found : ℕ → Want → List Stamp → Option Stamp
 found room want stamps = find_last (fits want) (last_of room stamps)
 

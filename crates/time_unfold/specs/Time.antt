@@ -13,8 +13,8 @@ pub record IsInstant (instant : ℤ) : Type 0 where
   pub from : neg_ℤ (pos (2 ^ 62)) ≤ℤ instant
   pub to : instant <ℤ pos (2 ^ 63)
 
--- The instant that a timestamp means in a packet with this arrival. Of all instants whose low 32 bits are the
--- timestamp, the one meant is at most 2^31 ns before the arrival or less than 2^31 ns after it.
+-- The instant that a timestamp means in a packet with this arrival. The low 32 bits of the instant are the timestamp.
+-- The instant is at most 2^31 ns before the arrival, or less than 2^31 ns after the arrival.
 pub record Unfolds (timestamp : ℕ) (arrival instant : ℤ) : Type 0 where
   pub low_bits : int_rem_euclid instant (pos (2 ^ 32)) ≡ pos timestamp
   pub from : (arrival -ℤ pos (2 ^ 31)) ≤ℤ instant

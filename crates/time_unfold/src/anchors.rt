@@ -1,4 +1,4 @@
-//! The newest stamps of a running stream, from which packets without a timestamp are counted.
+//! The newest stamps of a running stream. Packets without a timestamp are counted from these stamps.
 
 ghost use Rattle.std.specs.Prelude.{◌≡◌, ◌++◌, ◌∷◌, [], IfOk, IfSome, List};
 ghost use Rattle.time_unfold.specs.declared.stamp.Stamp.{Stamp as StampValue};
@@ -52,8 +52,8 @@ impl Anchors {
         self.stamps.push_back(stamp);
     }
 
-    /// The stamp from which a packet without a timestamp is counted: what `head_among` returns for all stamps that were
-    /// noted. `None` if and only if no kept stamp fits. Allocates nothing.
+    /// A packet without a timestamp is counted from this stamp: the stamp that `head_among` returns for all stamps that
+    /// were noted. `None` if and only if no kept stamp fits. Allocates nothing.
     pub fn find(&self, want: &Want) -> Option<Stamp>
         requires { IsWant want.now }
         ensures value { (stamps : List StampValue) → KeepsLast self.now stamps → result ≡ found self.now.room want.now stamps }

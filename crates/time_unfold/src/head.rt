@@ -1,4 +1,4 @@
-//! The stamp from which a packet without a timestamp is counted.
+//! A packet without a timestamp is counted from another packet's stamp; `head_among` finds this stamp.
 
 ghost use Rattle.std.specs.Prelude.{◌≡◌, ◌≤◌, ◌*◌, All, IfSome};
 ghost use Rattle.time_unfold.specs.Limits.{IsStamp, IsWant};
@@ -9,8 +9,8 @@ use crate::stamp::{Stamp, Want};
 
 const NANOSECONDS: u64 = 1_000_000_000;
 
-/// A stamp is near if the packet's first sample, counted from the stamp, is at most this many packet durations away
-/// from its expected instant, which is the packet's arrival plus the lead.
+/// A packet's first sample is expected at the packet's arrival plus the lead. A stamp is near if the first sample,
+/// counted from the stamp, is at most this many packet durations away from that expected instant.
 const REACH: u64 = 60;
 
 fn candidate(stamp: &Stamp, want: &Want) -> i64
@@ -66,13 +66,13 @@ pub fn last_fit(stamps: &[Stamp], want: &Want) -> Option<Stamp>
     None
 }
 
-/// The stamp from which a packet without a timestamp is counted: of the last `room` stamps of the list, the last that
-/// fits. `None` if and only if none of the last `room` stamps fits.
+/// A packet without a timestamp is counted from the returned stamp. The returned stamp is the last that fits among the
+/// last `room` stamps of the list. `None` if and only if none of the last `room` stamps fits.
 ///
 /// A stamp fits if it has the wanted sequence number, media clock restart bit, rate and block count, and is near (IEEE
-/// 1722-2016, 7, sparse timestamps; IEC 61883-6, block counts). A stamp is near if the packet's first sample, counted
-/// from the stamp, is at most 60 packet durations away from its expected instant, which is the packet's arrival plus
-/// the lead.
+/// 1722-2016, 7, sparse timestamps; IEC 61883-6, block counts). A packet's first sample is expected at the packet's
+/// arrival plus the lead. A stamp is near if the first sample, counted from the stamp, is at most 60 packet durations
+/// away from that expected instant.
 ///
 /// The stamps are in the order in which their packets arrived, and their instants are from -2^62 to below 2^62 + 2^31
 /// ns. The packet has at most 65,535 samples, and its rate is at least 1 Hz. `want.back` is at most 7 times the

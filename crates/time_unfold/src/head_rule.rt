@@ -16,15 +16,15 @@ const FARTHEST: u32 = 7;
 pub enum HeadRule {
     /// AAF: each packet has a timestamp, which belongs to its first sample (IEEE 1722-2016, 7).
     Own,
-    /// AAF in sparse mode: a packet whose sequence number is a multiple of 8 has a timestamp, which belongs to its
-    /// first sample (IEEE 1722-2016, 7).
+    /// AAF in sparse mode: a packet has a timestamp if its sequence number is a multiple of 8, and the timestamp
+    /// belongs to the packet's first sample (IEEE 1722-2016, 7).
     Eight,
     /// IEC 61883-6: the timestamp belongs to the first data block whose block count is a multiple of `interval`. The
     /// first block of the packet has the count `dbc`, modulo 256.
     Blocks { dbc: u8, interval: u32 },
 }
 
-/// The stamped sample from which a packet is counted.
+/// A packet is counted from this stamped sample.
 #[derive(Clone, Copy, Debug, PartialEq, Eq)]
 pub struct Head {
     /// The instant of the stamped sample, in nanoseconds of gPTP.
@@ -76,9 +76,10 @@ fn block_distance(dbc: u8, interval: u32, count: u32) -> Option<Distance>
 }
 
 impl HeadRule {
-    /// The sample, counted from 0, to which the timestamp of a packet belongs. In AAF the stamped sample is the first
-    /// sample (IEEE 1722-2016, 7). In IEC 61883-6 the timestamp belongs to the first block whose block count is a
-    /// multiple of the interval, which is 8, 16 or 32. The stamped block can be past the end of the packet.
+    /// The timestamp of a packet belongs to one sample. The result is the number of that sample, counted from 0. In AAF
+    /// the stamped sample is the first sample (IEEE 1722-2016, 7). In IEC 61883-6 the timestamp belongs to the first
+    /// block whose block count is a multiple of the interval, which is 8, 16 or 32. The stamped block can be past the
+    /// end of the packet.
     pub fn stamped_index(self) -> u32
         requires { IsRule self }
         ensures value { result ≡ stamped_index_of self }
@@ -90,8 +91,8 @@ impl HeadRule {
         }
     }
 
-    /// The block count, modulo 256, of the block to which the timestamp of a packet belongs (IEC 61883-6); `None` for
-    /// AAF. The interval is 8, 16 or 32.
+    /// The timestamp of a packet belongs to one block (IEC 61883-6). The result is the block count of that block,
+    /// modulo 256; `None` for AAF. The interval is 8, 16 or 32.
     pub fn stamped_block(self) -> Option<u8>
         requires { IsRule self }
         ensures { result ≡ stamped_block_of self }

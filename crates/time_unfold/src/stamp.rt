@@ -1,4 +1,4 @@
-//! The stamps from which samples are counted, and what a packet without a timestamp looks for among them.
+//! Stamps, and what a packet without a timestamp looks for among them. The instants of samples are counted from stamps.
 
 /// A packet's timestamp, as an instant.
 #[derive(Clone, Copy, Debug, PartialEq, Eq)]
@@ -15,7 +15,7 @@ pub struct Stamp {
     pub instant: i64,
 }
 
-/// The search for the stamp from which a packet without a timestamp is counted.
+/// A search for a stamp: a packet without a timestamp is counted from that stamp.
 #[derive(Clone, Copy, Debug, PartialEq, Eq)]
 pub struct Want {
     /// The sequence number of the stamped packet.

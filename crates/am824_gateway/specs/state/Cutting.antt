@@ -28,8 +28,8 @@ pub record CountsPiece (rate most : ℕ) (batch : Presented) (old new : Instant)
   pub is : IsInstantOf new batch
 
 -- A batch is cut into `pieces`, and the first piece has the block count `block`. `next` is the block count of the
--- packet after `pieces`. `late` says whether the packet of any of the pieces would arrive at a time that a capture
--- cannot state.
+-- packet after `pieces`. `late` says whether the packet of some piece would arrive at a time that a capture cannot
+-- state.
 pub record CutsBatch (to : To) (shape : Shape) (batch : Presented) (block : ℕ) (pieces : List Piece) (next : ℕ) (late : Bool) : Type 0 where
   pub cut : pieces ≡ pieces_of to shape batch block
   pub following : next ≡ block_after (interval_of shape.rate) block (pieces_of to shape batch block)

@@ -1,5 +1,6 @@
--- Only private functions and proofs use these definitions. The names that a shelf was asked for, in
--- order. A shelf in memory keeps the names that it was asked for, up to the first name for which there is no memory.
+-- Only private functions and proofs use these definitions. The names that a shelf was asked for, in order. A shelf in
+-- memory keeps the names that it was asked for. If there is no memory for a name, the shelf keeps neither this name nor
+-- any later name.
 use Rattle.std.specs.Prelude.{◌≡◌, ℕ, Bool, true, false, List, [], ◌∷◌, ◌++◌}
 use Rattle.avtp_memory.specs.declared.asked_names.AskedNames.{AskedNames}
 use Rattle.avtp_base.specs.States.{Account}

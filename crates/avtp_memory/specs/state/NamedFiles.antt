@@ -19,7 +19,7 @@ GrowsFile old new name piece =
 abbrev pub KeepsNamed : List (String Global × Vec ℕ) → List (String Global × Vec ℕ) → Type 0
 KeepsNamed old new = (name : List ℕ) → bytes_under new name ≡ bytes_under old name
 
--- the number of bytes for which the first entry with the name has memory
+-- the first entry with the name has memory for this number of bytes
 abbrev pub capacity_under : List (String Global × Vec ℕ) → List ℕ → ℕ
 capacity_under entries name = unwrap_or (option_map (λ entry. vec_capacity entry.1) (find (has_name name) entries)) 0
 

@@ -105,8 +105,8 @@ unread stage source = 0
 abbrev pub left_of : Stage → Sourcing → ListenState → ℕ
 left_of stage source listener = (listener.counts.frames + unread stage source) - (listener.counts.presented + listener.counts.flagged)
 
--- There is a list of records after which a new listener has the state `listener`. The listener has shown the first
--- `given` items of these records.
+-- For some list of records, a new listener that was given these records has the state `listener`. The listener has
+-- shown the first `given` items of these records.
 pub record WasGiven (listener : ListenState) : Type 0 where
   pub records : List Record
   pub given : ℕ

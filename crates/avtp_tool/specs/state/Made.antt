@@ -17,9 +17,9 @@ use Rattle.avtp_tool.specs.state.Outcome.{TellsText}
 use Rattle.avtp_tool.specs.declared.status.Status.{Status}
 use Rattle.avtp_tool.specs.declared.status.Status.TheVariants as status
 
--- What becomes of the file `name` in a run whose task is to make this file, given the run's result. If everything was
--- done, the file has these bytes. If memory ran out or a write failed, the file is unchanged or has a prefix of these
--- bytes. If the run ends with a status other than `Done`, `WriteFault` and `Memory`, all files are unchanged.
+-- What becomes of the file `name`, given the result of a run that has to make this file. If everything was done, the
+-- file has these bytes. If memory ran out or a write failed, the file is unchanged or has a prefix of these bytes. If
+-- the run ends with a status other than `Done`, `WriteFault` and `Memory`, all files are unchanged.
 pub record Makes (name bytes : List ℕ) (files files' : Option Files) (result : Result Status Failed) : Type 0 where
   pub done : result ≡ Ok status.Done → PutsFile files files' name bytes
   pub part : MakesPrefix files files' name bytes
@@ -36,8 +36,8 @@ pub record CountsWriting (name : Option (List ℕ)) (before after : ℕ) (result
 -- ---- one file
 
 -- A call made the file `name` with these bytes, or returned why the file was not made. If the file was not made, then
--- memory ran out or a writing fault was counted. A file that was not made is unchanged or has a prefix of the bytes.
--- All else is unchanged, and no other name was asked for.
+-- memory ran out or a writing fault was counted. If the file was not made, the file `name` is unchanged or has a prefix
+-- of the bytes. All else is unchanged, and no other name was asked for.
 pub record MakesFile (shelf shelf' : ShelfState) (name bytes : List ℕ) (result : Result Unit OpenFault) : Type 0 where
   pub made : OnOk result (PutsFile shelf.files shelf'.files name bytes)
   pub part : OnErr result (MakesPrefix shelf.files shelf'.files name bytes)

@@ -1,5 +1,5 @@
--- Only private functions and proofs use these definitions. The possible outcomes of a command's run:
--- its status, and what it yields. A run that was cut short gave out only a part of what it yields.
+-- Only private functions and proofs use these definitions. The possible outcomes of a command's run: its status, and
+-- what it yields. If a run was cut short, the run gave out only a part of what it yields.
 use Rattle.std.specs.Prelude.{◌≡◌, ◌≢◌, ◌⊎◌, ℕ, ◌≤◌, List, [], Option, Result, Ok, Err, IfOk, true, IsErr, MatchResult}
 use Rattle.avtp_base.specs.declared.failed.Failed.{Failed}
 use Rattle.avtp_base.specs.declared.failed.OpenFault.{OpenFault}
@@ -30,8 +30,8 @@ pub record Tells {Y : Type 0} (Outcome : Status → Y → Type 0) (Whole Part : 
   pub whole : IfOk result (λ s. s ≢ status.Memory → s ≢ status.WriteFault → (s ≡ ended) × Whole yields)
   pub part : Part yields
 
--- `Tells` for outcomes that yield a text. A text is given out by appending it to the known bytes `before`, which gives
--- the bytes `now`.
+-- `Tells` for outcomes that yield a text. A text is given out: the text is appended to the known bytes `before`, and
+-- the result is the bytes `now`.
 abbrev pub TellsText : (Status → List ℕ → Type 0) → Option (List ℕ) → Option (List ℕ) → Result Status Failed → Type 0
 TellsText Outcome before now result = Tells Outcome (Appends before now) (AppendsPrefix before now) result
 
@@ -39,9 +39,9 @@ TellsText Outcome before now result = Tells Outcome (Appends before now) (Append
 abbrev pub TellsYield : (Status → Yield → Type 0) → (List Shown → Type 0) → Option (List ℕ) → Option (List ℕ) → Result Status Failed → Type 0
 TellsYield Outcome handed before now result = Tells Outcome (Gives handed before now) (GivesPart handed before now) result
 
--- For one of the possible outcomes, the run gave out a prefix of what the outcome yields. Unless memory ran out or a
--- write failed, the run gave out all that the outcome yields, ended with the outcome's status, and asked the shelf for
--- exactly the outcome's names.
+-- For one of the possible outcomes, the run gave out a prefix of what the outcome yields. If memory did not run out and
+-- no write failed, three things hold: the run gave out all that the outcome yields, ended with the outcome's status,
+-- and asked the shelf for exactly the outcome's names.
 pub record TellsRun (Outcome : List (List ℕ) → Status → Yield → Type 0) (handed : List Shown → Type 0) (shelf shelf' : ShelfState) (before now : Option (List ℕ)) (result : Result Status Failed) : Type 0 where
   pub came : List (List ℕ)
   pub ended : Status

@@ -20,7 +20,7 @@ use Rattle.avtp_tool.specs.Yield.{Yield}
 
 -- ---- an open capture
 
--- The file is open, its reading has not ended, and what is left to read is bounded.
+-- The file is open, its reading has not ended, and the remaining work of the reading is bounded.
 abbrev pub IsOpen : Slots → Sourcing → Type 0
 IsOpen slots source = (source.ended ≡ None) × IsSome (slots (slot_of source)) × (to_do source ≤ 2 ^ 41)
 

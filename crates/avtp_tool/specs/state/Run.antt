@@ -33,14 +33,14 @@ abbrev pub IsThrough : Result Status Failed → Type 0
 IsThrough (Ok ended) = is_through ended ≡ true
 IsThrough (Err e) = ⊥
 
--- A run ends with the status `DeviceFault` only if the command is `listen` and a device failed. A run of `listen` in
--- which a device failed does not end with `Done`.
+-- A run ends with the status `DeviceFault` only if the command is `listen` and a device failed. If a device failed in a
+-- run of `listen`, the run does not end with `Done`.
 pub record TellsDevices (request : Request) (failed : Bool) (result : Result Status Failed) : Type 0 where
   pub fault : result ≡ Ok status.DeviceFault → (is_listening request ≡ true) × (failed ≡ true)
   pub quiet : is_listening request ≡ true → result ≡ Ok status.Done → failed ≡ false
 
--- What a run of the request printed, gave to the devices and asked for, and what the files, the slots and the counts of
--- faults are after the run. `failed` says whether a device failed.
+-- A run of the request: what the run printed, what it gave to the devices, which names it asked for, and the files, the
+-- slots and the counts of faults after the run. `failed` says whether a device failed.
 pub record Runs (request : Request) (handed : List Shown → Type 0) (failed : Bool) (shelf shelf' : ShelfState)
     (out out' : SinkState) (waits waits' : List ℕ) (result : Result Status Failed) : Type 0 where
   pub tells : (all : Files) → shelf.files ≡ Some all → IsSome shelf'.files → TellsAll request all (Rose shelf.reading_faults shelf'.reading_faults) failed handed shelf shelf' (written out.held waits) (written out'.held waits') result

@@ -31,8 +31,8 @@ next_bytes t = frame_bytes (slice_get (frames t.plan t.input) t.given)
 
 -- ---- what is done
 
--- Unless memory ran out or a write failed, a run over an input ends with a read fault if and only if a read fault
--- stopped the reading. The run never ends with the status of wrong words or of a failed device.
+-- Let memory not run out, and let no write fail. A run over an input then ends with a read fault if and only if a read
+-- fault stopped the reading. The run never ends with the status of wrong words or of a failed device.
 pub record FaultStops (halt : Stop) (result : Result Status Failed) : Type 0 where
   pub fault : result ≡ Ok status.ReadFault → halt ≡ stop.Fault
   pub quiet : IfOk result (λ s. s ≢ status.ReadFault → s ≢ status.Memory → s ≢ status.WriteFault → halt ≢ stop.Fault)
@@ -49,7 +49,7 @@ pub record WritesOnly (shelf shelf' : ShelfState) (name : List ℕ) (result : Re
   pub asked : AsksFor (name ∷ []) shelf shelf' (IsDone result)
   pub came : IfOk result (λ s. s ≢ status.Memory → s ≢ status.WriteFault → Asks (if is_done s then name ∷ [] else []) shelf shelf')
 
--- a possible outcome; the files are unchanged unless everything was done
+-- a possible outcome; if not everything was done, the files are unchanged
 abbrev pub OutcomeWith : (Status → List ℕ → Type 0) → Option Files → Option Files → Status → List ℕ → Type 0
 OutcomeWith Outcome files files' ended text = Outcome ended text × (ended ≢ status.Done → KeepsFiles files files')
 

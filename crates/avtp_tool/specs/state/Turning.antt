@@ -73,7 +73,7 @@ wrote (Ok did.Done) = Ok tt
 wrote (Ok did.Unwritten) = Err (record {})
 wrote (Err e) = Ok tt
 
--- A batch was put: its packets were written, or it was skipped and the line that says why was printed.
+-- A batch was put: either its packets were written, or the batch was skipped and the line with the reason was printed.
 pub record PutsBatch (batch : Presented) (before after : ShelfState) (old new : Output) (out out' : SinkState) (waits waits' : List ℕ) (result : Result Put Failed) : Type 0 where
   -- if the result is `Done`, the gateway was given `batch` after `batches`
   pub put : result ≡ Ok did.Done → (to : To) (shape : Option Shape) (id : ℕ) (batches : List Presented) → HasPut to shape id batches old.gateway → HasPut to shape id (batches ++ batch ∷ []) new.gateway
@@ -130,15 +130,15 @@ pub record IsToTurn (asked : Asked) (shape : Option Shape) (bytes : List ℕ) (f
   pub going : is_closed listener ≡ false
   pub plan : listener.plan ≡ plan_of asked.listener
 
--- These batches were put: for each batch, its packets were written, or the line that says why the batch is skipped was
--- printed.
+-- These batches were put. For each batch, either its packets were written, or a line with the reason for skipping the
+-- batch was printed.
 pub record HasTurned (asked : Asked) (shape : Option Shape) (batches : List Presented) (files : Option Files) (shelf : ShelfState) (o : Output) (before now : Option (List ℕ)) : Type 0 where
   pub put : HasPut (format_of asked.to) shape asked.id batches o.gateway
   pub lines : Appends before now (flat_map skipped_line (skips_in asked shape batches))
   pub holds : HoldsCapture files shelf o.writer asked.output (map record_of (turned_frames asked shape batches))
 
--- A capture of these bytes was heard as far as it could be read. Every batch that a listener presents from the part
--- that was read was put, and `presented` counts these batches.
+-- A capture of these bytes was heard as far as it could be read. A listener presents batches from the part that was
+-- read. Every such batch was put, and `presented` counts these batches.
 pub record HasHeard (asked : Asked) (shape : Option Shape) (bytes : List ℕ) (fault : Type 0) (files : Option Files) (shelf : ShelfState) (o : Output) (how : End) (presented : ℕ) (before now : Option (List ℕ)) : Type 0 where
   pub prefix : List ℕ
   pub ends : EndsAt asked.listener.limit (Some bytes) fault how prefix
@@ -155,7 +155,7 @@ abbrev pub TurnsTo : Asked → Option Shape → List ℕ → Type 0 → Option F
 TurnsTo asked shape bytes fault files shelf o before now (Ok (turned.Ended how presented)) = HasHeard asked shape bytes fault files shelf o how presented before now
 TurnsTo asked shape bytes fault files shelf o before now other = IsCutShort asked shape bytes files shelf o before now
 
--- the file that is read and the file that is written are open, each in its own slot
+-- two files are open, each in its own slot: the file that is read, and the file that is written
 pub record AreOpenIn (slots : Slots) (source : Sourcing) (o : Output) : Type 0 where
   pub apart : slot_of source ≢ o.writer.slot
   pub live : IsSome (slots (slot_of source))
@@ -178,8 +178,8 @@ pub record Turns (before after : ShelfState) (source source' : Sourcing) (listen
   pub told : (asked : Asked) (shape : Option Shape) (bytes : List ℕ) (files : Option Files) → IsToTurn asked shape bytes files before source listener old
       → TurnsTo asked shape bytes (Rose before.reading_faults after.reading_faults) files after new (written out.held waits) (written out'.held waits') result
   pub slot : slot_of source' ≡ slot_of source
-  -- Each slot keeps its file. What is left to read changes only in the slot that is read and in slots of the file that
-  -- is written.
+  -- Each slot keeps its file. The unread bytes change only in slots of two kinds: the slot that is read, and slots of
+  -- the file that is written.
   pub same : (j : ℕ) → option_map file_of (after.slots j) ≡ option_map file_of (before.slots j)
   pub left : (j : ℕ) → j ≢ slot_of source → name_in before.slots j ≢ name_in before.slots old.writer.slot → left_in after.slots j ≡ left_in before.slots j
   pub writes : WritesOutput before after old new result

@@ -91,7 +91,7 @@ pub record IsReadFormat (default : AafFormat) (word : Option (List ℕ)) (format
   pub absent : IfNone word (format ≡ default)
   pub read : IfSome word (λ word. (named : AafFormat) → word ≡ format_name named → format ≡ named)
 
--- the number that is read for `option` from the words `options` is `n`; `option` has a default
+-- `n` is the number that is read for `option` from the words `options`; `option` has a default
 abbrev pub IsReadOf : ℕ → NumberOption → List (List ℕ) → ℕ → Type 0
 IsReadOf bound option options n = IsSomeAnd option.default (λ default. IsRead bound default (value_after option.name options) n)
 
@@ -139,7 +139,7 @@ pub record AreHeard (options : List (List ℕ)) (asked : Listening) : Type 0 whe
   pub raw : IsReadRaw options asked.raw
   pub annexb : IsReadFile (codes "--annexb") options asked.annexb
 
--- The options ask for an AAF stream. The sample format that is read from the options is `format`, and `sparse` is
+-- The options ask for an AAF stream. `format` is the sample format that is read from the options, and `sparse` is
 -- `tells`. `tells` says whether `--sparse` is among the words after the command.
 pub record IsReadAaf (options : List (List ℕ)) (tells : Bool) (format : AafFormat) (sparse : Bool) : Type 0 where
   pub no_blocks : IfSome (value_after (codes "--kind") options) (λ word. word ≢ codes "am824")
@@ -256,7 +256,7 @@ pub record StopsOptions (rows : List Row) (words : List (List ℕ)) (place : ℕ
   pub begins : Begins (AreOptions rows) before
   pub stops : Stops (IsTail rows) before rest
 
--- The first word of `words` that is wrong for a line of `L` is at index `place`. On the whole command line, the
+-- `place` is the index of the first word of `words` that is wrong for a line of `L`. On the whole command line, the
 -- position of this word is `position`; the command has position 1.
 pub record StopsAfter (L : List (List ℕ) → Type 0) (words : List (List ℕ)) (position : ℕ) : Type 0 where
   pub place : ℕ

@@ -21,7 +21,8 @@ abbrev pub ShowsRecords : ListenState → Taken → List Shown → ℕ → Type 
 ShowsRecords listener (OfRecords records) list n = IsGiven records n listener × (list ≡ out listener records)
 ShowsRecords listener (OfBytes bytes) list n = ⊥
 
--- a listener of bytes took these bytes, shows this list of them, and has shown the first n items of the list so far
+-- a listener of bytes took these bytes, `list` is all that it shows of the bytes, and it has shown the first n items of
+-- `list` so far
 abbrev pub ShowsBytes : Feeding → Taken → List Shown → ℕ → Type 0
 ShowsBytes fed (OfRecords records) list n = ⊥
 ShowsBytes fed (OfBytes bytes) list n = IsFed bytes n fed × (list ≡ out_fed fed bytes)
@@ -48,7 +49,7 @@ handed which (Some (Present batch)) ended m = given_to which batch m
 handed which (Some (Flag frame seq reason)) ended m = m
 handed which None ended m = if ended then ended_by which m else m
 
--- whether the listener must be asked again, which is the case only after a flag
+-- whether the listener must be asked again: true after a flag, and false otherwise
 abbrev pub is_passed : Option Shown → Bool
 is_passed (Some (Present batch)) = false
 is_passed (Some (Flag frame seq reason)) = true

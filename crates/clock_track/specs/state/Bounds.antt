@@ -29,9 +29,9 @@ pub record Widens (old new : Bounds) (later end : ℤ) : Type 0 where
 abbrev pub IsOutside : Bounds → ℤ → ℕ → Type 0
 IsOutside bounds instant lead = (bounds.latest ≤ℤ instant) ⊎ ((instant +ℤ pos lead) <ℤ bounds.earliest)
 
--- In a stream of this rate, if an instant is before a joined pair's later point by more than the lead, the pair does
--- not cover the instant. The lead is at least the following bound: 9/8 of half the nominal spacing of samples, rounded
--- down to a whole nanosecond.
+-- In a stream of this rate, let an instant be earlier than a joined pair's later point by more than the lead. The pair
+-- then does not cover the instant. The lead is at least the following bound: 9/8 of half the nominal spacing of
+-- samples, rounded down to a whole nanosecond.
 abbrev pub IsLead : ℕ → ℕ → Type 0
 IsLead rate lead = (d : ℕ) → rate * d ≤ 562500000 → d ≤ lead
 
@@ -44,7 +44,7 @@ HasInside shift row bounds first end = (i : ℕ) → first ≤ i → i < end →
 abbrev pub AreGroups : ℤ → ClockRow → List Bounds → Type 0
 AreGroups shift row groups = (g : ℕ) (bounds : Bounds) → slice_get groups g ≡ Some bounds → (end : ℕ) → end ≤ 32 * g + 32 → end ≤ timestamps row - 1 → HasInside shift row bounds (32 * g) end
 
--- the joined pairs whose later point is in a packet are within the bounds
+-- if the later point of a joined pair is in the packet `row`, the pair is within the bounds
 pub record HasPairs (shift : ℤ) (row : ClockRow) (bounds : Bounds) : Type 0 where
   pub inside : HasInside shift row bounds 0 (timestamps row - 1)
   pub across : (before : ClockRow) → IfSome (across shift row before) (λ pair. IsWithin bounds pair)

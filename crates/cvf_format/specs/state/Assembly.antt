@@ -11,7 +11,7 @@ use Rattle.cvf_format.specs.declared.piece.Piece.TheVariants as variant
 use Rattle.cvf_format.specs.Stretches.{Fragment, Event, held, given_up, reason, piece, goes_on, begins, completes, sequence_numbers, longest_unit, most_fragments}
 use Rattle.cvf_format.specs.Assembly.{Assembly, StandsFor}
 
--- the last of these events is a packet, for which the assembler returned `pushed`
+-- the last of these events is a packet, and the assembler returned `pushed` for this packet
 pub record IsPushed (a : Assembly) (events : List Event) (pushed : Pushed) : Type 0 where
   pub stands : StandsFor a events
   pub lost : pushed.lost ≡ length (given_up events)

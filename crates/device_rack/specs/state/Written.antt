@@ -6,7 +6,7 @@ use Rattle.avtp_base.specs.Faults.{IsCounted}
 use Rattle.avtp_base.specs.States.{SinkState}
 use Rattle.avtp_base.specs.Told.{Appends}
 
--- the bytes of a sink, if they are known, grew by a prefix of `bs`
+-- if the bytes of a sink are known, they grew by a prefix of `bs`
 abbrev pub AppendsPrefix : Option (List ℕ) → Option (List ℕ) → List ℕ → Type 0
 AppendsPrefix before after bs = (part : List ℕ) × IsPrefix part bs × Appends before after part
 

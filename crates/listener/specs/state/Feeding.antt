@@ -22,7 +22,7 @@ pub record HasHeard (bytes : List ℕ) (given : ℕ) (reader : Reading) (listene
   pub read : HasRead reader bytes records
   pub stands : RecordsStandFor records given listener
 
--- The invariant of every listener. There is a list of bytes that leads to the listener's state. Unless these bytes were
+-- The invariant of every listener. There is a list of bytes that leads to the listener's state. If these bytes were not
 -- refused, the number of counted records is at most the number of bytes. If nothing is due, the listener has returned
 -- all items that are shown of the bytes so far. Once memory has run out, nothing is due.
 pub record IsSound (fed : Feeding) : Type 0 where

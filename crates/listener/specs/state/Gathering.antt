@@ -20,15 +20,15 @@ use Rattle.listener.specs.Gathering.{Gathered, lost_item, item_entry, left, HasU
 
 -- ---- what a delivery does
 
--- A delivery whose own item is `item` ends the current unit.
+-- A delivery ends the current unit; the delivery's own item is `item`.
 pub record Cuts (item : Item) (old new : Gathered) : Type 0 where
   pub stands : (es : List Event) → StandsFor old.assembly es → StandsFor new.assembly (es ++ cut ∷ [])
   pub why : new.why ≡ Broken
   pub taken : new.taken ≡ 0
   pub own : new.own ≡ Some item
 
--- A delivery whose own item is `item` ends the current unit. The first resulting item, if any, is `answer`; the other
--- items are queued.
+-- A delivery ends the current unit; the delivery's own item is `item`. The first resulting item, if any, is `answer`;
+-- the other items are queued.
 pub record CutsFirst (item : Item) (old new : Gathered) (answer : Option Item) : Type 0 where
   pub between : Gathered
   pub cuts : Cuts item old between

@@ -15,8 +15,8 @@ use Rattle.sample_schedule.specs.Verdicts.{spot_of}
 abbrev pub spot_in : SchedulePlan → List Entry → Packet → Option Spot
 spot_in plan prefix packet = option_and_then (spot_of clock_spot plan prefix packet.rate) (head_of plan prefix packet)
 
--- The search finds a timestamp from which the item's samples are counted and, if the listener has a clock, two CRF
--- timestamps that cover that timestamp. A unit always has its own timestamp.
+-- The search finds a timestamp that the item's samples are counted from. If the listener has a clock, the search also
+-- finds two CRF timestamps that cover that timestamp. A unit always has its own timestamp.
 abbrev pub is_known : SchedulePlan → List Entry → Entry → Bool
 is_known plan prefix (OfItem (OfPacket packet)) = is_some (spot_in plan prefix packet)
 is_known plan prefix (OfItem (OfUnit whole)) = true

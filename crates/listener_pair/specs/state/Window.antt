@@ -49,9 +49,10 @@ abbrev pub kept : Placed → Option Paired → List Placed
 kept x None = x ∷ []
 kept x (Some pair) = []
 
--- Batch x was added; `pair` is the pair that x made, if any. Before x was added, `own` were the waiting batches of the
--- side of x, and `other` those of the other side. After x was added, `own_then` are the waiting batches of the side of
--- x, and `other_then` are those of the other side. `next` is the position of the batch after x.
+-- Batch x was added; `pair` is the pair that x made, if any. `own` and `other` list the batches that waited before x
+-- was added: `own` those of the side of x, and `other` those of the other side. After x was added, `own_then` are the
+-- waiting batches of the side of x, and `other_then` are those of the other side. `next` is the position of the batch
+-- after x.
 pub record Enters (x : Placed) (next : ℕ) (own other own_then other_then : List Placed) (pair : Option Paired) : Type 0 where
   pub made : pair ≡ made x other
   pub others : other_then ≡ without_passed next (without_first (takes x) other)

@@ -5,8 +5,8 @@ use Rattle.avtp_base.specs.declared.refusal.Refusal.{Refusal}
 use Rattle.pcap_frames.specs.Capture.{Record}
 use Rattle.pcap_frames.specs.Readers.{Meaning, Progress, GoesOn, IsRefusedAfter}
 
--- A reader can take the bytes of a piece: the reader has no refusal, and the bytes taken so far and the piece are
--- together at most 2^62 bytes.
+-- A reader can take the bytes of a piece. Two things hold: the reader has no refusal, and the piece and the bytes that
+-- were taken so far are together at most 2^62 bytes.
 pub record Accepts (reader : Progress) (piece : List ℕ) : Type 0 where
   pub accepted : reader.refusal ≡ None
   pub bounded : reader.taken + length piece ≤ 2 ^ 62

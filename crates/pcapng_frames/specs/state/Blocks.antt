@@ -6,7 +6,8 @@ use Rattle.pcapng_frames.specs.declared.block.Kind.{Kind}
 use Rattle.pcapng_frames.specs.declared.block.Kind.TheVariants as kind
 use Rattle.pcapng_frames.specs.declared.interface.Interface.{Interface}
 
--- the interfaces of the section after the fixed fields of a block; a section header begins a section without interfaces
+-- the interfaces of the section, once the fixed fields of a block were read; a section header begins a section without
+-- interfaces
 abbrev pub interfaces_after : Kind → List Interface → List Interface
 interfaces_after kind.Section interfaces = []
 interfaces_after kind.Interface interfaces = interfaces

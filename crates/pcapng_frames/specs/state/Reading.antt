@@ -162,7 +162,7 @@ lacks_by false p part = if ends_at p.stage p.order p.start (length part) then No
 abbrev pub lacks : Reading → Option Refusal
 lacks r = lacks_by r.whole r.place r.part
 
--- The bytes begin with the whole block of a packet, in which nothing is refused.
+-- The bytes begin with the whole block of a packet. Nothing in this block is refused.
 pub record BeginsPacket (order : Order) (interfaces : List Interface) (bytes : List ℕ) : Type 0 where
   pub long : 28 ≤ length bytes
   pub kind : kind_of (number_at order 0 4 bytes) ≡ kind.Packet

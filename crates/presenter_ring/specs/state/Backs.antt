@@ -22,9 +22,8 @@ pub record IsIdle (before after : Back) : Type 0 where
   pub none : length (received after.consumer) ≡ length (received before.consumer)
   pub empty : known_items before.consumer ≡ []
 
--- The presenter's side took a turn, in which it presented each item that it popped. If the presenter's side popped no
--- item, it knew of no item in the ring. If the presenter failed, at least one item was popped, and the fault was
--- counted.
+-- The presenter's side took a turn, and presented each item that it popped. If the presenter's side popped no item, it
+-- knew of no item in the ring. If the presenter failed, at least one item was popped, and the fault was counted.
 pub record TakesBackTurn {P : Type 0} (handed : P → P → List Shown → Type 0) (faults : P → ℕ) (presenter presenter' : P) (before after : Back) (result : Result Unit Failed) : Type 0 where
   pub presented : HasPresented handed presenter presenter' before after
   pub idle : length (received after.consumer) ≡ length (received before.consumer) → IsIdle before after

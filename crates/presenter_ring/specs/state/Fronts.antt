@@ -7,8 +7,8 @@ use Rattle.presenter_ring.specs.declared.front.Front.{Front}
 use Rattle.presenter_ring.specs.declared.receiver.Pull.{Pull}
 use Rattle.presenter_ring.specs.Fronts.{hand_of, ended_of}
 
--- What the receiver's side did. `gave` tells which items a receiver gave, `left` tells how many items it can still give
--- at most, and `ended` tells the answer with which it ended, if it has ended.
+-- What the receiver's side did. `gave` tells which items a receiver gave, and `left` tells how many items it can still
+-- give at most. If the receiver has ended, `ended` tells its final answer.
 pub record HasFed {R : Type 0} (gave : R → R → List Shown → Type 0) (left : R → ℕ) (ended : R → Option Pull) (receiver receiver' : R) (before after : Front) : Type 0 where
   pub given : List Shown
   pub pushed : List Shown
@@ -21,8 +21,8 @@ pub record HasFed {R : Type 0} (gave : R → R → List Shown → Type 0) (left 
   pub ends : ended_of before ≡ None → ended_of after ≡ ended receiver'
   pub stays : IsSome (ended_of before) → (ended_of after ≡ ended_of before) × (receiver' ≡ receiver)
 
--- nothing could be pushed: no slot was known to be free for the item in `hand`, or `hand` is empty and the receiver has
--- ended
+-- Nothing could be pushed, for one of two reasons. Either `hand` holds an item and no slot was known to be free, or
+-- `hand` is empty and the receiver has ended.
 abbrev pub IsStuck : Front → Front → Type 0
 IsStuck before after = MatchOption after.hand (IsSome (ended_of after)) (λ shown. known_free before.producer ≡ 0)
 

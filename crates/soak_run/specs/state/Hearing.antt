@@ -31,8 +31,8 @@ pull_at Showing = None
 pull_at Ended = Some pull.Done
 pull_at NoMemory = Some pull.Memory
 
--- how many steps are left at stage `Giving`: one for each delivery that was not given yet, and one for the end; at any
--- other stage, no step is left
+-- The number of steps that remain at stage `Giving`: one for each delivery that was not given yet, and one for the end.
+-- At any other stage, no step remains.
 abbrev pub steps_left : Stage → List (ℤ × ℕ) → ℕ → ℕ
 steps_left Giving deliveries given = (length deliveries - given) + 1
 steps_left stage deliveries given = 0
@@ -44,7 +44,7 @@ pub record IsDeliverable (talker : Talking) (delivery : ℤ × ℕ) : Type 0 whe
   pub known : delivery.1 < length (stream_frames talker.plan talker.input)
   pub time : IsArrival delivery.0
 
--- the records of the first deliveries of the list; `given` is their number
+-- the records of the first `given` deliveries of the list
 abbrev pub records_of : Talking → List (ℤ × ℕ) → ℕ → List Record
 records_of talker deliveries given = map (captured (stream_of talker.plan talker.input)) (take given deliveries)
 

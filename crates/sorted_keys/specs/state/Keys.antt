@@ -1,5 +1,4 @@
--- Only private functions and proofs use these definitions. Sorted keys, and the blocks in which they
--- are kept.
+-- Only private functions and proofs use these definitions. Sorted keys, and the blocks that hold them.
 use Rattle.std.specs.Prelude.{◌≡◌, ⊤, ℕ, ◌+◌, ◌*◌, ◌-◌, ◌==◌, ◌≤◌, zero, suc, Bool, true, false, if◌then◌else◌, ℤ, int_le, int_lt, ◌≤ℤ◌, ◌<ℤ◌, ◌<◌, List, [], ◌∷◌, length, take, drop, slice_index_or, slice_set}
 use Rattle.std.specs.List.{AllByRecursion, flat_map}
 use Rattle.sorted_keys.specs.declared.key.Key.{Key}
@@ -72,7 +71,8 @@ IsBlockFor instant [] place = ⊥
 IsBlockFor instant (block ∷ rest) zero = AllByRecursion (λ key. instant <ℤ key.instant) (all_keys rest)
 IsBlockFor instant (block ∷ rest) (suc place) = AllByRecursion (λ key. key.instant ≤ℤ instant) block × IsBlockFor instant rest place
 
--- the number of keys for which this many blocks always suffice, if each block except the first has at least 256 keys
+-- if each block except the first has at least 256 keys, this many blocks always suffice for the resulting number of
+-- keys
 abbrev pub room_of : ℕ → ℕ
 room_of blocks = 256 * (blocks - 1)
 

@@ -6,8 +6,9 @@ use Rattle.talker.specs.state.Frames.{left_of}
 use Rattle.talk_clock.specs.Streams.{IsClockOf}
 use Rattle.talker.specs.state.Talking.{IsSource, input_in, plan_in, stream_in}
 
--- A talker has a valid plan, the plan's clock, and memory for the longest frame. The plan's remaining frames are those
--- of the clock's packets from number `given_clocks` on and of the stream's packets from number `given_packets` on.
+-- A talker has a valid plan, the plan's clock, and memory for the longest frame. The plan has remaining frames of two
+-- kinds: those of the clock's packets from number `given_clocks` on, and those of the stream's packets from number
+-- `given_packets` on.
 pub record IsTalker (t : Inside) : Type 0 where
   pub source : IsSource t.source
   pub packets : t.packets ≡ (stream_in t.source).journal.times.packets

@@ -1,5 +1,5 @@
--- The three cases of a packet that is noted: its stream is tracked already, is not tracked because 1,024 other streams
--- are, or becomes tracked.
+-- A noted packet has three cases: its stream is tracked already; its stream becomes tracked; or its stream is not
+-- tracked because 1,024 other streams are tracked.
 use Rattle.std.proofs.Common.{◌≡◌, ℕ, ◌+◌, ◌<◌, ◌≤◌, List, length, Option, Some, None, sym, ap, ◌∙◌, subst, arith, rules}
 use Rattle.std.specs.Prelude.{if◌then◌else◌, is_some}
 use Rattle.std.specs.HashMap.{HashMap}
@@ -11,7 +11,7 @@ use Rattle.sequence_track.specs.Tracking.{StandsFor}
 use Rattle.sequence_track.proofs.Noted.{noted-known, found-known, noted-full, found-full, noted-new, found-new, Puts}
 use Rattle.sequence_track.proofs.tracker.Tracker.note.Goals as goal
 
--- the state that the tracker's map holds for the packet's stream is the state that contracts see
+-- contracts see the state that the tracker's map holds for the packet's stream
 view : (entries shown : List (StreamKey × StreamState)) (a b : StreamKey) (o : Option StreamState) → entries ≡ shown → a ≡ b
     → o ≡ lookup (same_stream a) entries → lookup (same_stream b) entries ≡ o
 view entries shown a b o e s is = ap (λ (x : StreamKey). lookup (same_stream x) entries) (sym s) ∙ sym is

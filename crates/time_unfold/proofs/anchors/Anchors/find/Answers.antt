@@ -8,7 +8,7 @@ use Rattle.time_unfold.specs.Stamps.{find_last, fits, found}
 use Rattle.time_unfold.proofs.Found.{All-back, find_last-before, find_last-behind}
 use Rattle.time_unfold.proofs.anchors.Anchors.find.Goals as goal
 
--- a search of the kept stamps finds what `found` defines for all stamps that were noted
+-- `found` says which of all noted stamps is wanted; a search of the kept stamps finds this stamp
 held : (state : LastStamps) (want : Want) (parts stamps : List Stamp) → parts ≡ state.stamps → KeepsLast state stamps → find_last (fits want) parts ≡ found state.room want stamps
 held state want parts stamps e keeps = ap (λ (l : List Stamp). find_last (fits want) l) (e ∙ keeps)
 
