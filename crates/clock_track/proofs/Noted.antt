@@ -1,5 +1,5 @@
 -- What a clock keeps after one more packet.
-use Rattle.std.proofs.Common.{◌≡◌, ℕ, zero, suc, ◌+◌, ◌-◌, true, ℤ, Some, slice_get, List, [], ◌∷◌, ◌++◌, All, length, drop, map, vec_len, sym, ap, ◌∙◌, subst, arith}
+use Rattle.std.proofs.Common.{◌≡◌, ℕ, zero, suc, ◌-◌, true, ℤ, Some, slice_get, List, [], ◌∷◌, ◌++◌, All, length, drop, map, sym, ap, ◌∙◌, subst, arith}
 use Rattle.std.specs.Global.{Vec}
 use Rattle.std.proofs.lemmas.List.{drop-map, length-append, length-map, map-append}
 use Rattle.std.proofs.lemmas.List.Elements.{All-append, All-cons, All-drop, All-head, All-nil, All-tail}
@@ -10,7 +10,7 @@ use Rattle.clock_track.specs.declared.clock_row.ClockRow.{ClockRow}
 use Rattle.clock_track.specs.Limits.{IsNotable}
 use Rattle.clock_track.specs.Rows.{window}
 use Rattle.clock_track.specs.state.Bounds.{AreGroups, HasPairs}
-use Rattle.clock_track.specs.state.Window.{HasBounds, HasRoom, IsRoom, IsWindow, kept_row}
+use Rattle.clock_track.specs.state.Window.{HasBounds, HasRoom, HoldsRooms, IsWindow, kept_row}
 use Rattle.clock_track.proofs.Windows.{window-more}
 
 rows-noted : (xs : List Kept) (kept : Kept) → map kept_row (keep_last 63 xs ++ kept ∷ []) ≡ drop (length (map kept_row xs) - 63) (map kept_row xs) ++ kept_row kept ∷ []
@@ -27,17 +27,19 @@ abbrev pub IsNoted : Buffer Kept → Buffer Kept → Kept → Type 0
 IsNoted old new kept = new ≡ buffer (keep_last 63 old.items ++ kept ∷ []) 64
 
 pub window-noted : (shift : ℤ) (old new : Buffer Kept) (kept : Kept) (spare left : Vec Room) → IsWindow shift old spare → IsNoted old new kept → HasRoom kept → IsNotable (kept_row kept) → HasBounds shift kept
-    → All IsRoom left.items → length (keep_last 63 old.items) + vec_len left ≡ 63 → IsWindow shift new left
-window-noted shift old new kept spare left is e room notable bounds left_room count =
+    → HoldsRooms (keep_last 63 old.items) left 63 → IsWindow shift new left
+window-noted shift old new kept spare left is e room notable bounds rooms =
     let items : new.items ≡ keep_last 63 old.items ++ kept ∷ [] = ap (λ (b : Buffer Kept). b.items) e in
     let rows : map kept_row new.items ≡ drop (length (map kept_row old.items) - 63) (map kept_row old.items) ++ kept_row kept ∷ [] = ap (λ (l : List Kept). map kept_row l) items ∙ rows-noted old.items kept in
     let sum = length-append (keep_last 63 old.items) (kept ∷ []) in
     let size : length new.items ≡ length (keep_last 63 old.items ++ kept ∷ []) = ap (λ (l : List Kept). length l) items in
     record {
       capacity = ap (λ (b : Buffer Kept). b.capacity) e;
-      count = omega arith;
-      room = subst (λ (l : List Kept). All HasRoom l) (sym items) (all-one HasRoom (keep_last 63 old.items) kept (All-drop HasRoom (length old.items - 63) old.items is.room) room);
-      spare_room = left_room;
+      rooms = record {
+        all = let count = rooms.all in omega arith;
+        kept = subst (λ (l : List Kept). All HasRoom l) (sym items) (all-one HasRoom (keep_last 63 old.items) kept rooms.kept room);
+        unused = rooms.unused;
+      };
       notable = subst (λ (l : List ClockRow). All IsNotable l) (sym rows)
           (all-one IsNotable (drop (length (map kept_row old.items) - 63) (map kept_row old.items)) (kept_row kept) (All-drop IsNotable (length (map kept_row old.items) - 63) (map kept_row old.items) is.notable) notable);
       bounds = subst (λ (l : List Kept). All (HasBounds shift) l) (sym items) (all-one (HasBounds shift) (keep_last 63 old.items) kept (All-drop (HasBounds shift) (length old.items - 63) old.items is.bounds) bounds);
@@ -63,8 +65,8 @@ bounds-kept shift (x ∷ xs) zero kept row e all there =
     (subst (λ (r : ClockRow). HasPairs shift r x.bounds × AreGroups shift r x.groups.items) same_row (has.all, has.groups))
 bounds-kept shift (x ∷ xs) (suc k) kept row e all there = bounds-kept shift xs k kept row e (All-tail (HasBounds shift) x xs all) there
 
-pub has-bounds : (shift s : ℤ) (row : ClockRow) (kept : Kept) → s ≡ shift → kept_row kept ≡ row → HasPairs s row kept.bounds → AreGroups s row kept.groups.items → HasBounds shift kept
-has-bounds shift s row kept e same all groups = record {
-  all = subst (λ (r : ClockRow). HasPairs shift r kept.bounds) (sym same) (subst (λ (z : ℤ). HasPairs z row kept.bounds) e all);
-  groups = subst (λ (r : ClockRow). AreGroups shift r kept.groups.items) (sym same) (subst (λ (z : ℤ). AreGroups z row kept.groups.items) e groups);
+pub has-bounds : (shift : ℤ) (row : ClockRow) (kept : Kept) → kept_row kept ≡ row → HasPairs shift row kept.bounds → AreGroups shift row kept.groups.items → HasBounds shift kept
+has-bounds shift row kept same all groups = record {
+  all = subst (λ (r : ClockRow). HasPairs shift r kept.bounds) (sym same) all;
+  groups = subst (λ (r : ClockRow). AreGroups shift r kept.groups.items) (sym same) groups;
 }

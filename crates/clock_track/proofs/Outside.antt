@@ -16,7 +16,7 @@ use Rattle.clock_track.specs.Pairs.{IsJoined, covers, is_joined, nominal, period
 use Rattle.clock_track.specs.Rows.{across, inside, joined_by, pair_of, pairs_at, seems_next, timestamp, timestamps}
 use Rattle.clock_track.specs.state.Bounds.{AreGroups, HasInside, HasPairs, IsLead, IsOutside, IsWithin, Widens}
 use Rattle.clock_track.specs.state.Search.{kept}
-use Rattle.clock_track.proofs.Latest.{across_is, by_is}
+use Rattle.clock_track.proofs.Latest.{across_each, across_is, by_is}
 use Rattle.clock_track.proofs.Lists.{last-split}
 use Rattle.clock_track.proofs.Pairs.{covers_so, joins}
 use Rattle.clock_track.proofs.TooLate.{none-found, none-more}
@@ -115,21 +115,10 @@ inside-more shift row old new first i o a b has p q e here more j from to =
           subst (λ (k : ℕ). IfSome (inside shift row k) (λ pair. IsWithin new pair)) (sym same) there
     ]
 
-pub all-inside : (shift s : ℤ) (row : ClockRow) (bounds : Bounds) (count : ℕ) → s ≡ shift → count ≡ timestamps row → HasInside s row bounds 0 (count - 1) → HasInside shift row bounds 0 (timestamps row - 1)
-all-inside shift s row bounds count e f has i from to = subst (λ (z : ℤ). IfSome (inside z row i) (λ pair. IsWithin bounds pair)) e (has i from (omega arith))
+pub all-inside : (shift : ℤ) (row : ClockRow) (bounds : Bounds) (count : ℕ) → count ≡ timestamps row → HasInside shift row bounds 0 (count - 1) → HasInside shift row bounds 0 (timestamps row - 1)
+all-inside shift row bounds count e has i from to = has i from (omega arith)
 
 -- ---- a packet's first timestamp
-
-across-by : (shift : ℤ) (row before : ClockRow) (bounds : Bounds) → ((first : ℕ) → IfSome (joined_by shift row first (timestamp row 0)) (λ pair. IsWithin bounds pair))
-    → IfSome (across shift row before) (λ pair. IsWithin bounds pair)
-across-by shift row before bounds each = cases (seems_next row before) (nat_lt 0 (timestamps before)) (nat_lt 0 (timestamps row))
-  where
-    cases : (a b d : Bool)
-        → IfSome (if a then if b then if d then joined_by shift row (timestamp before (timestamps before - 1)) (timestamp row 0) else None else None else None) (λ pair. IsWithin bounds pair)
-    cases true true true = each (timestamp before (timestamps before - 1))
-    cases true true false = tt
-    cases true false d = tt
-    cases false b d = tt
 
 across-empty : (shift : ℤ) (row before : ClockRow) (bounds : Bounds) → nat_lt 0 (timestamps row) ≡ false → IfSome (across shift row before) (λ pair. IsWithin bounds pair)
 across-empty shift row before bounds e = cases (seems_next row before) (nat_lt 0 (timestamps before)) (nat_lt 0 (timestamps row)) e
@@ -163,7 +152,7 @@ not_below a b h = grind (arith, nat_tests)
 pub pairs-late : (shift : ℤ) (row : ClockRow) (bounds : Bounds) → HasInside shift row bounds 0 (timestamps row - 1) → 2 ^ 62 ≤ timestamp row 0 → HasPairs shift row bounds
 pairs-late shift row bounds has late = record {
   inside = has;
-  across = λ before. across-by shift row before bounds (λ first. by-late shift row bounds first (timestamp row 0) (not_below (timestamp row 0) (2 ^ 62) late));
+  across = λ before. across_each (λ pair. IsWithin bounds pair) shift row before (λ first. by-late shift row bounds first (timestamp row 0) (not_below (timestamp row 0) (2 ^ 62) late));
 }
 
 -- each joined pair of the same clock and interval as `pair` has a period of at most `longest`
@@ -202,7 +191,7 @@ pairs-wide shift row old new pair longest has wider same is =
     let to = wider.to in
     record {
       inside = widened-inside shift row old new pair.later (pair.later +ℤ pos longest) 0 (timestamps row - 1) has wider;
-      across = λ before. across-by shift row before new (λ first. by-wide shift row new first (timestamp row 0) longest (omega (arith, ints)) (omega (arith, ints)) (subst (λ (p : Pair). IsLongest p longest) same is));
+      across = λ before. across_each (λ pair. IsWithin new pair) shift row before (λ first. by-wide shift row new first (timestamp row 0) longest (omega (arith, ints)) (omega (arith, ints)) (subst (λ (p : Pair). IsLongest p longest) same is));
     }
 
 -- ---- groups of the pairs inside a packet
@@ -231,13 +220,13 @@ last-or (z ∷ zs) x y (suc k) e = elim (last-or zs x y k e) [
 pub no-groups : (shift : ℤ) (row : ClockRow) → AreGroups shift row []
 no-groups shift row g bounds there = absurd cc
 
-pub groups-more : (shift s : ℤ) (row : ClockRow) (groups : List Bounds) (bounds : Bounds) (first last : ℕ) → s ≡ shift → AreGroups shift row groups → first ≡ 32 * length groups
-    → ((end : ℕ) → end ≤ 32 * length groups + 32 → end ≤ timestamps row - 1 → end ≤ last) → HasInside s row bounds first last → AreGroups shift row (groups ++ bounds ∷ [])
-groups-more shift s row groups bounds first last same are e most has g other there end within inner = elim (last-or groups bounds other g there) [
+pub groups-more : (shift : ℤ) (row : ClockRow) (groups : List Bounds) (bounds : Bounds) (first last : ℕ) → AreGroups shift row groups → first ≡ 32 * length groups
+    → ((end : ℕ) → end ≤ 32 * length groups + 32 → end ≤ timestamps row - 1 → end ≤ last) → HasInside shift row bounds first last → AreGroups shift row (groups ++ bounds ∷ [])
+groups-more shift row groups bounds first last are e most has g other there end within inner = elim (last-or groups bounds other g there) [
   | inl before ↦ are g other before end within inner
   | inr last_is ↦ λ i from to.
       let place = last_is.0 in
       let enough : end ≤ last = most end (omega arith) inner in
       subst (λ (b : Bounds). IfSome (inside shift row i) (λ pair. IsWithin b pair)) last_is.1
-      (subst (λ (z : ℤ). IfSome (inside z row i) (λ pair. IsWithin bounds pair)) same (has i (omega arith) (omega arith)))
+      (has i (omega arith) (omega arith))
 ]

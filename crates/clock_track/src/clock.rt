@@ -3,17 +3,18 @@
 ghost use Rattle.std.specs.Prelude.{◌≡◌, ◌<◌, ◌≤◌, ◌+◌, ◌++◌, ◌∷◌, [], All, IfOk, IfSome, List, length, map, vec_capacity, vec_len};
 ghost use Rattle.circular_buffer.specs.Buffer.{buffer, keep_last};
 ghost use Rattle.clock_track.specs.declared.clock_row.ClockRow.{ClockRow as ClockRowValue};
-ghost use Rattle.clock_track.specs.Limits.{IsClockLine, IsNotable, IsRow, IsShift};
+ghost use Rattle.clock_track.specs.Limits.{IsClockLine, IsNotable, IsShift};
 ghost use Rattle.clock_track.specs.Rows.{clock_spot};
 ghost use Rattle.clock_track.specs.Views.{answered, row_of};
 ghost use Rattle.clock_track.specs.Window.{StandsFor};
-ghost use Rattle.clock_track.specs.state.Window.{HasBounds, HasRoom, IsRoom, kept_row};
+ghost use Rattle.clock_track.specs.state.Window.{HasBounds, HasRoom, HoldsRooms, IsRoom, kept_row};
 
 use crate::answer::ClockAnswer;
 use crate::bounds::Bounds;
 use crate::clock_row::Points;
 use crate::over::{WINDOW, line_among};
-use crate::search::{Query, Rows, bound_groups, bounds_of, lead_of};
+use crate::query::{Query, Usable, lead_of};
+use crate::search::{Rows, bound_groups, bounds_of};
 use avtp_base::NoMemory;
 use circular_buffer::HeapCircularBuffer;
 use std::alloc::Global;
@@ -50,14 +51,13 @@ struct Kept {
 
 impl Kept {
     /// The packet, with its timestamps copied into `room`. Allocates nothing.
-    fn in_room(room: Room, points: &Points<'_>, shift: i64) -> Self
-        requires room { IsRoom room }
-        requires row { IsRow (row_of points.now) }
-        requires shift { IsShift shift }
-        ensures row { kept_row result ≡ row_of points.now }
+    fn in_room(room: Room, row: &Usable<'_>) -> Self
+        requires { IsRoom room }
+        ensures row { kept_row result ≡ row_of row.now.points }
         ensures room { HasRoom result }
-        ensures bounds { HasBounds shift result }
+        ensures bounds { HasBounds row.now.shift result }
     {
+        let points = &row.points;
         let Room {
             mut payload,
             mut groups,
@@ -66,7 +66,7 @@ impl Kept {
         let Ok(()) = payload.extend_from_slice(points.payload) else {
             unreachable!()
         };
-        bound_groups(&mut groups, points, shift);
+        bound_groups(&mut groups, row);
         Kept {
             usable: points.usable,
             seq: points.seq,
@@ -75,7 +75,7 @@ impl Kept {
             pull: points.pull,
             interval: points.interval,
             payload,
-            bounds: bounds_of(points, shift),
+            bounds: bounds_of(row),
             groups,
         }
     }
@@ -134,13 +134,10 @@ impl Rows for Ring<'_> {
 
 /// Room for one more packet. If there is no spare room, the oldest packet is dropped and its room is returned.
 fn take_room(rows: &mut HeapCircularBuffer<Kept>, spare: &mut Vec<Room>) -> Room
-    requires room { All HasRoom rows.old.items }
-    requires spare { All IsRoom spare.old.items }
-    requires count { length rows.old.items + vec_len spare.old ≡ 64 }
+    requires { HoldsRooms rows.old.items spare.old 64 }
     ensures result { IsRoom result }
     ensures rows { rows.new ≡ buffer (keep_last 63 rows.old.items) rows.old.capacity }
-    ensures spare { All IsRoom spare.new.items }
-    ensures count { length rows.new.items + vec_len spare.new ≡ 63 }
+    ensures left { HoldsRooms rows.new.items spare.new 63 }
 {
     if let Some(room) = spare.pop() {
         return room;
@@ -216,7 +213,11 @@ impl Clock {
     {
         if points.usable {
             let room = take_room(&mut self.rows, &mut self.spare);
-            put_behind(&mut self.rows, Kept::in_room(room, points, self.shift));
+            let row = Usable {
+                points: *points,
+                shift: self.shift,
+            };
+            put_behind(&mut self.rows, Kept::in_room(room, &row));
         }
     }
 

@@ -9,6 +9,7 @@ pub mod laws;
 mod over;
 mod pair;
 mod pull;
+mod query;
 mod search;
 
 pub use answer::ClockAnswer;

@@ -4,13 +4,13 @@ ghost use Rattle.std.specs.Prelude.{◌≡◌, ◌≤◌, All, IfSome, option_ma
 ghost use Rattle.clock_track.specs.Limits.{IsClockLine, IsNotable, IsShift};
 ghost use Rattle.clock_track.specs.Pairs.{spot_by};
 ghost use Rattle.clock_track.specs.Rows.{clock_spot, latest as latest_of, used, window};
-ghost use Rattle.clock_track.specs.state.Bounds.{IsLead};
 ghost use Rattle.clock_track.specs.Views.{answered};
 
 use crate::answer::ClockAnswer;
 use crate::bounds::Bounds;
 use crate::clock_row::{ClockRow, Points};
-use crate::search::{Query, Rows, latest, lead_of};
+use crate::query::{Query, lead_of};
+use crate::search::{Rows, latest};
 
 /// The maximum number of packets that are searched. Packets that give no points are not counted.
 pub const WINDOW: usize = 64;
@@ -64,9 +64,6 @@ fn recent(rows: &[ClockRow]) -> &[ClockRow]
 pub fn line_among<R: Rows>(rows: &R, query: &Query) -> ClockAnswer
     requires rows { All IsNotable (R.rows rows.now) }
     requires bounded { R.bounded rows.now query.now.shift }
-    requires shift { IsShift query.now.shift }
-    requires rate { 1 ≤ query.now.rate }
-    requires lead { IsLead query.now.rate query.now.lead }
     ensures value { answered result ≡ option_map (λ pair. spot_by pair query.now.rate query.now.instant) (latest_of query.now.shift query.now.instant query.now.rate (used (R.rows rows.now))) }
     ensures line { IfSome (answered result) (IsClockLine query.now.rate query.now.instant) }
 {

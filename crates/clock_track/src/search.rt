@@ -4,11 +4,11 @@ ghost use Rattle.std.specs.Prelude.{IsSome, IsTrue, None, if◌then◌else◌, �
 ghost use Rattle.std.specs.List.{filter_map, range_with_len};
 ghost use Rattle.time_unfold.specs.Stamps.{find_last};
 ghost use Rattle.clock_track.specs.declared.clock_row.ClockRow.{ClockRow as ClockRowValue};
-ghost use Rattle.clock_track.specs.Limits.{IsNotable, IsRow, IsShift, IsSmall};
+ghost use Rattle.clock_track.specs.Limits.{IsNotable, IsSmall};
 ghost use Rattle.clock_track.specs.Pairs.{IsJoined};
 ghost use Rattle.clock_track.specs.Rows.{across as across_rows, inside as inside_row, joined_by, latest as latest_of, pair_of as pair_of_rows, pairs_at, seems_next as seems_next_of, timestamp as timestamp_of, timestamps as timestamps_of, used};
 ghost use Rattle.clock_track.specs.Search.{IsCovering};
-ghost use Rattle.clock_track.specs.state.Bounds.{AreGroups, HasInside, HasPairs, IsLead, IsOutside, IsPair};
+ghost use Rattle.clock_track.specs.state.Bounds.{AreGroups, HasInside, HasPairs, IsOutside, IsPair};
 ghost use Rattle.clock_track.specs.state.Search.{kept, test_of};
 ghost use Rattle.clock_track.specs.Views.{row_of};
 
@@ -16,6 +16,7 @@ use crate::bounds::{Bounds, excludes, no_bounds, widened, widened_by};
 use crate::clock_row::Points;
 use crate::pair::Pair;
 use crate::pull::{pull_down, pull_up};
+use crate::query::{Query, Usable};
 use avtp_base::octets::u64_at;
 
 /// The number of pairs inside a packet that share one `Bounds`.
@@ -23,27 +24,6 @@ const GROUP: usize = 32;
 
 /// A timestamp of this value or more is not a point.
 const POINTS_END: u64 = 1 << 62;
-
-/// What is searched for: a pair that covers `instant`, for a stream of `rate` samples a second. `shift` is added to the
-/// clock's timestamps.
-#[derive(Clone, Copy)]
-pub struct Query {
-    pub shift: i64,
-    pub instant: i64,
-    pub rate: u32,
-    /// If an instant is more than this many nanoseconds before a pair's later point, the pair does not cover the
-    /// instant.
-    pub lead: u64,
-}
-
-/// A joined pair covers no instant that is more than this many nanoseconds before the pair's later point. The number is
-/// 9/8 of half the nominal spacing of samples at `rate` samples a second, rounded down.
-pub fn lead_of(rate: u32) -> u64
-    requires { 1 ≤ rate }
-    ensures { IsLead rate result }
-{
-    562_500_000 / u64::from(rate)
-}
 
 /// The packets of a clock, which are read by index. The oldest packet has index 0.
 pub trait Rows {
@@ -84,45 +64,38 @@ fn timestamp(row: &Points<'_>, i: usize) -> u64
     u64_at(row.payload, 8 * i)
 }
 
-fn pair_of(row: &Points<'_>, shift: i64, first: u64, second: u64) -> Pair
-    requires row { IsRow (row_of row.now) }
-    requires shift { IsShift shift }
+fn pair_of(row: &Usable<'_>, first: u64, second: u64) -> Pair
     requires first { first < 2 ^ 62 }
     requires second { second < 2 ^ 62 }
-    ensures value { result ≡ pair_of_rows shift (row_of row.now) first second }
+    ensures value { result ≡ pair_of_rows row.now.shift (row_of row.now.points) first second }
     ensures small { IsSmall result }
 {
     Pair {
-        earlier: first as i64 + shift,
-        later: second as i64 + shift,
-        interval: row.interval,
-        up: u64::from(row.base_frequency) * pull_up(row.pull),
-        down: pull_down(row.pull),
+        earlier: first as i64 + row.shift,
+        later: second as i64 + row.shift,
+        interval: row.points.interval,
+        up: u64::from(row.points.base_frequency) * pull_up(row.points.pull),
+        down: pull_down(row.points.pull),
     }
 }
 
 /// The pair of two timestamps, if both are points and the pair is joined.
-fn joined(row: &Points<'_>, shift: i64, first: u64, second: u64) -> Option<Pair>
-    requires row { IsRow (row_of row.now) }
-    requires shift { IsShift shift }
-    ensures value { result ≡ joined_by shift (row_of row.now) first second }
+fn joined(row: &Usable<'_>, first: u64, second: u64) -> Option<Pair>
+    ensures value { result ≡ joined_by row.now.shift (row_of row.now.points) first second }
     ensures pair { IfSome result IsPair }
 {
     if first >= POINTS_END || second >= POINTS_END {
         return None;
     }
-    let pair = pair_of(row, shift, first, second);
+    let pair = pair_of(row, first, second);
     if pair.is_joined() { Some(pair) } else { None }
 }
 
 /// The pair of two timestamps, if both are points, and the pair is joined and covers the instant.
-fn covering(row: &Points<'_>, query: &Query, first: u64, second: u64) -> Option<Pair>
-    requires row { IsRow (row_of row.now) }
-    requires shift { IsShift query.now.shift }
-    ensures value { result ≡ kept (test_of query.now) (joined_by query.now.shift (row_of row.now) first second) }
-    ensures covering { IfSome result (IsCovering query.now.rate query.now.instant) }
+fn covering(row: &Usable<'_>, query: &Query, first: u64, second: u64) -> Option<Pair>
+    ensures { result ≡ kept (test_of query.now) (joined_by row.now.shift (row_of row.now.points) first second) }
 {
-    match joined(row, query.shift, first, second) {
+    match joined(row, first, second) {
         Some(pair) => {
             if pair.covers(query.rate, query.instant) {
                 Some(pair)
@@ -136,16 +109,18 @@ fn covering(row: &Points<'_>, query: &Query, first: u64, second: u64) -> Option<
 
 /// The bounds of some of the pairs inside a packet: those whose earlier timestamp has an index from `first` to below
 /// `end`.
-fn bounds_inside(row: &Points<'_>, shift: i64, first: usize, end: usize) -> Bounds
-    requires row { IsRow (row_of row.now) }
-    requires shift { IsShift shift }
-    requires end { end ≤ timestamps_of (row_of row.now) - 1 }
-    ensures { HasInside shift (row_of row.now) result first end }
+fn bounds_inside(row: &Usable<'_>, first: usize, end: usize) -> Bounds
+    requires { end ≤ timestamps_of (row_of row.now.points) - 1 }
+    ensures { HasInside row.now.shift (row_of row.now.points) result first end }
 {
     let mut bounds = no_bounds();
     let mut i = first;
     while i < end {
-        let pair = joined(row, shift, timestamp(row, i), timestamp(row, i + 1));
+        let pair = joined(
+            row,
+            timestamp(&row.points, i),
+            timestamp(&row.points, i + 1),
+        );
         bounds = widened_by(&bounds, pair);
         i += 1;
     }
@@ -167,16 +142,14 @@ fn group_end(group: usize, pairs: usize) -> usize
 
 /// Replaces `groups` by the bounds of each group of 32 pairs inside a packet. If memory runs out, the remaining groups
 /// have no bounds.
-pub fn bound_groups(groups: &mut Vec<Bounds>, row: &Points<'_>, shift: i64)
-    requires row { IsRow (row_of row.now) }
-    requires shift { IsShift shift }
-    ensures { AreGroups shift (row_of row.now) groups.new.items }
+pub fn bound_groups(groups: &mut Vec<Bounds>, row: &Usable<'_>)
+    ensures { AreGroups row.now.shift (row_of row.now.points) groups.new.items }
 {
     groups.clear();
-    let pairs = timestamps(row).saturating_sub(1);
+    let pairs = timestamps(&row.points).saturating_sub(1);
     while GROUP * groups.len() < pairs {
         let group = groups.len();
-        let bounds = bounds_inside(row, shift, GROUP * group, group_end(group, pairs));
+        let bounds = bounds_inside(row, GROUP * group, group_end(group, pairs));
         match groups.push(bounds) {
             Ok(()) => {}
             Err(_) => return,
@@ -185,21 +158,19 @@ pub fn bound_groups(groups: &mut Vec<Bounds>, row: &Points<'_>, shift: i64)
 }
 
 /// Bounds of the pairs that have their later point in a packet, whatever packets precede this packet.
-pub fn bounds_of(row: &Points<'_>, shift: i64) -> Bounds
-    requires row { IsRow (row_of row.now) }
-    requires shift { IsShift shift }
-    ensures { HasPairs shift (row_of row.now) result }
+pub fn bounds_of(row: &Usable<'_>) -> Bounds
+    ensures { HasPairs row.now.shift (row_of row.now.points) result }
 {
-    let count = timestamps(row);
+    let count = timestamps(&row.points);
     if count == 0 {
         return no_bounds();
     }
-    let inside = bounds_inside(row, shift, 0, count - 1);
-    let first = timestamp(row, 0);
+    let inside = bounds_inside(row, 0, count - 1);
+    let first = timestamp(&row.points, 0);
     if first >= POINTS_END {
         return inside;
     }
-    let pair = pair_of(row, shift, first, first);
+    let pair = pair_of(row, first, first);
     widened(
         &inside,
         pair.later,
@@ -209,17 +180,19 @@ pub fn bounds_of(row: &Points<'_>, shift: i64) -> Bounds
 
 /// Looks at pairs inside a packet: those whose earlier timestamp has an index of at least `first` and less than `end`.
 /// Returns the last of these pairs that covers the instant.
-fn latest_between(row: &Points<'_>, first: usize, end: usize, query: &Query) -> Option<Pair>
-    requires row { IsRow (row_of row.now) }
-    requires shift { IsShift query.now.shift }
-    requires end { end ≤ timestamps_of (row_of row.now) - 1 }
-    ensures value { result ≡ find_last (test_of query.now) (filter_map (inside_row query.now.shift (row_of row.now)) (range_with_len first (end - first))) }
-    ensures covering { IfSome result (IsCovering query.now.rate query.now.instant) }
+fn latest_between(row: &Usable<'_>, first: usize, end: usize, query: &Query) -> Option<Pair>
+    requires { end ≤ timestamps_of (row_of row.now.points) - 1 }
+    ensures { result ≡ find_last (test_of query.now) (filter_map (inside_row row.now.shift (row_of row.now.points)) (range_with_len first (end - first))) }
 {
     let mut left = end;
     while left > first {
         left -= 1;
-        let pair = covering(row, query, timestamp(row, left), timestamp(row, left + 1));
+        let pair = covering(
+            row,
+            query,
+            timestamp(&row.points, left),
+            timestamp(&row.points, left + 1),
+        );
         if pair.is_some() {
             return pair;
         }
@@ -239,18 +212,15 @@ fn is_past_group(groups: &[Bounds], group: usize, query: &Query) -> bool
 
 /// The last pair that covers the instant, among a group's pairs up to index `end` - 1.
 fn latest_of_group(
-    row: &Points<'_>,
+    row: &Usable<'_>,
     groups: &[Bounds],
     group: usize,
     end: usize,
     query: &Query,
 ) -> Option<Pair>
-    requires row { IsRow (row_of row.now) }
-    requires groups { AreGroups query.now.shift (row_of row.now) groups.now }
-    requires query { IsShift query.now.shift × IsLead query.now.rate query.now.lead }
-    requires group { 32 * group < end × end ≤ 32 * group + 32 × end ≤ timestamps_of (row_of row.now) - 1 }
-    ensures value { result ≡ find_last (test_of query.now) (filter_map (inside_row query.now.shift (row_of row.now)) (range_with_len (32 * group) (end - 32 * group))) }
-    ensures covering { IfSome result (IsCovering query.now.rate query.now.instant) }
+    requires groups { AreGroups row.now.shift (row_of row.now.points) groups.now }
+    requires group { 32 * group < end × end ≤ 32 * group + 32 × end ≤ timestamps_of (row_of row.now.points) - 1 }
+    ensures { result ≡ find_last (test_of query.now) (filter_map (inside_row row.now.shift (row_of row.now.points)) (range_with_len (32 * group) (end - 32 * group))) }
 {
     if is_past_group(groups, group, query) {
         return None;
@@ -259,15 +229,11 @@ fn latest_of_group(
 }
 
 /// Of the pairs inside a packet, the last that covers the instant.
-fn latest_inside(row: &Points<'_>, groups: &[Bounds], query: &Query) -> Option<Pair>
-    requires row { IsRow (row_of row.now) }
-    requires groups { AreGroups query.now.shift (row_of row.now) groups.now }
-    requires shift { IsShift query.now.shift }
-    requires lead { IsLead query.now.rate query.now.lead }
-    ensures value { result ≡ find_last (test_of query.now) (filter_map (inside_row query.now.shift (row_of row.now)) (range_with_len 0 (timestamps_of (row_of row.now) - 1))) }
-    ensures covering { IfSome result (IsCovering query.now.rate query.now.instant) }
+fn latest_inside(row: &Usable<'_>, groups: &[Bounds], query: &Query) -> Option<Pair>
+    requires { AreGroups row.now.shift (row_of row.now.points) groups.now }
+    ensures { result ≡ find_last (test_of query.now) (filter_map (inside_row row.now.shift (row_of row.now.points)) (range_with_len 0 (timestamps_of (row_of row.now.points) - 1))) }
 {
-    let mut left = timestamps(row).saturating_sub(1);
+    let mut left = timestamps(&row.points).saturating_sub(1);
     while left > 0 {
         let group = (left - 1) / GROUP;
         let pair = latest_of_group(row, groups, group, left, query);
@@ -293,30 +259,25 @@ fn seems_next(row: &Points<'_>, before: &Points<'_>) -> bool
 
 /// The pair of the last timestamp of `before` and the first timestamp of `row`. The result is `None` if there is no
 /// such pair, or if the pair is not joined or does not cover the instant.
-fn covering_across(row: &Points<'_>, before: &Points<'_>, query: &Query) -> Option<Pair>
-    requires row { IsRow (row_of row.now) }
-    requires shift { IsShift query.now.shift }
-    ensures value { result ≡ kept (test_of query.now) (across_rows query.now.shift (row_of row.now) (row_of before.now)) }
-    ensures covering { IfSome result (IsCovering query.now.rate query.now.instant) }
+fn covering_across(row: &Usable<'_>, before: &Points<'_>, query: &Query) -> Option<Pair>
+    ensures { result ≡ kept (test_of query.now) (across_rows row.now.shift (row_of row.now.points) (row_of before.now)) }
 {
-    if !seems_next(row, before) {
+    if !seems_next(&row.points, before) {
         return None;
     }
     let count = timestamps(before);
-    if count == 0 || timestamps(row) == 0 {
+    if count == 0 || timestamps(&row.points) == 0 {
         return None;
     }
-    covering(row, query, timestamp(before, count - 1), timestamp(row, 0))
+    let first = timestamp(&row.points, 0);
+    covering(row, query, timestamp(before, count - 1), first)
 }
 
 /// The pair of the last timestamp of the packet at index `place` and the first timestamp of `row`. `None` if that
 /// packet gives no points, or if the pair is not joined or does not cover the instant.
-fn covering_from<R: Rows>(rows: &R, place: usize, row: &Points<'_>, query: &Query) -> Option<Pair>
-    requires place { place < length (R.rows rows.now) }
-    requires row { IsRow (row_of row.now) }
-    requires shift { IsShift query.now.shift }
-    ensures value { (before : ClockRowValue) → slice_get (R.rows rows.now) place ≡ Some before → result ≡ (if before.usable then kept (test_of query.now) (across_rows query.now.shift (row_of row.now) before) else None) }
-    ensures covering { IfSome result (IsCovering query.now.rate query.now.instant) }
+fn covering_from<R: Rows>(rows: &R, place: usize, row: &Usable<'_>, query: &Query) -> Option<Pair>
+    requires { place < length (R.rows rows.now) }
+    ensures { (before : ClockRowValue) → slice_get (R.rows rows.now) place ≡ Some before → result ≡ (if before.usable then kept (test_of query.now) (across_rows row.now.shift (row_of row.now.points) before) else None) }
 {
     let before = rows.row(place);
     if before.usable {
@@ -328,25 +289,19 @@ fn covering_from<R: Rows>(rows: &R, place: usize, row: &Points<'_>, query: &Quer
 
 /// Whether the first timestamp of a packet is missing, is not a point, or is more than one nominal sample after the
 /// instant. If the result is true, the instant is covered by no pair whose later point is the first timestamp.
-fn is_too_late(row: &Points<'_>, query: &Query) -> bool
-    requires row { IsRow (row_of row.now) }
-    requires shift { IsShift query.now.shift }
-    ensures { IsTrue result → (before : ClockRowValue) → kept (test_of query.now) (across_rows query.now.shift (row_of row.now) before) ≡ None }
+fn is_too_late(row: &Usable<'_>, query: &Query) -> bool
+    ensures { IsTrue result → (before : ClockRowValue) → kept (test_of query.now) (across_rows row.now.shift (row_of row.now.points) before) ≡ None }
 {
-    if timestamps(row) == 0 {
+    if timestamps(&row.points) == 0 {
         return true;
     }
-    let first = timestamp(row, 0);
-    first >= POINTS_END
-        || pair_of(row, query.shift, first, first).is_after(query.rate, query.instant)
+    let first = timestamp(&row.points, 0);
+    first >= POINTS_END || pair_of(row, first, first).is_after(query.rate, query.instant)
 }
 
 /// The last pair that covers the instant and has the first timestamp of `row` as its later point.
-fn latest_across<R: Rows>(rows: &R, row: &Points<'_>, query: &Query) -> Option<Pair>
-    requires row { IsRow (row_of row.now) }
-    requires shift { IsShift query.now.shift }
-    ensures value { result ≡ find_last (test_of query.now) (filter_map (across_rows query.now.shift (row_of row.now)) (used (R.rows rows.now))) }
-    ensures covering { IfSome result (IsCovering query.now.rate query.now.instant) }
+fn latest_across<R: Rows>(rows: &R, row: &Usable<'_>, query: &Query) -> Option<Pair>
+    ensures { result ≡ find_last (test_of query.now) (filter_map (across_rows row.now.shift (row_of row.now.points)) (used (R.rows rows.now))) }
 {
     if is_too_late(row, query) {
         return None;
@@ -367,7 +322,6 @@ fn latest_across<R: Rows>(rows: &R, row: &Points<'_>, query: &Query) -> Option<P
 fn is_outside<R: Rows>(rows: &R, place: usize, query: &Query) -> bool
     requires bounded { R.bounded rows.now query.now.shift }
     requires place { place < length (R.rows rows.now) }
-    requires lead { IsLead query.now.rate query.now.lead }
     ensures { IsTrue result → (row : ClockRowValue) (used_rows : List ClockRowValue) → slice_get (R.rows rows.now) place ≡ Some row → find_last (test_of query.now) (pairs_at query.now.shift used_rows row) ≡ None }
 {
     match rows.bounds(place) {
@@ -382,18 +336,19 @@ fn latest_at<R: Rows>(rows: &R, place: usize, query: &Query) -> Option<Pair>
     requires rows { All IsNotable (R.rows rows.now) }
     requires bounded { R.bounded rows.now query.now.shift }
     requires place { place < length (R.rows rows.now) }
-    requires shift { IsShift query.now.shift }
-    requires lead { IsLead query.now.rate query.now.lead }
-    ensures value { (row : ClockRowValue) → slice_get (R.rows rows.now) place ≡ Some row → result ≡ (if row.usable then find_last (test_of query.now) (pairs_at query.now.shift (used (R.rows rows.now)) row) else None) }
-    ensures covering { IfSome result (IsCovering query.now.rate query.now.instant) }
+    ensures { (row : ClockRowValue) → slice_get (R.rows rows.now) place ≡ Some row → result ≡ (if row.usable then find_last (test_of query.now) (pairs_at query.now.shift (used (R.rows rows.now)) row) else None) }
 {
     if is_outside(rows, place, query) {
         return None;
     }
-    let row = rows.row(place);
-    if !row.usable {
+    let points = rows.row(place);
+    if !points.usable {
         return None;
     }
+    let row = Usable {
+        points,
+        shift: query.shift,
+    };
     let pair = latest_inside(&row, rows.groups(place), query);
     if pair.is_some() {
         return pair;
@@ -406,8 +361,6 @@ fn latest_at<R: Rows>(rows: &R, place: usize, query: &Query) -> Option<Pair>
 pub fn latest<R: Rows>(rows: &R, query: &Query) -> Option<Pair>
     requires rows { All IsNotable (R.rows rows.now) }
     requires bounded { R.bounded rows.now query.now.shift }
-    requires shift { IsShift query.now.shift }
-    requires lead { IsLead query.now.rate query.now.lead }
     ensures value { result ≡ latest_of query.now.shift query.now.instant query.now.rate (used (R.rows rows.now)) }
     ensures covering { IfSome result (IsCovering query.now.rate query.now.instant) }
 {

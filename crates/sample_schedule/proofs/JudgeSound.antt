@@ -85,6 +85,22 @@ puts-some s pending next items new p is =
       full = λ h. p.size;
     })
 
+pub taken-pass : (s old : JudgeState) (pending next : Pending) (capacity : ℕ) (items : List Pending) → s ≡ old → Passes s.ahead pending capacity next items → taken old < 2 ^ 62 → taken (record s { ahead = items }) < 2 ^ 62
+taken-pass s old pending next capacity items e p few =
+    let size = p.size in
+    let same : taken s ≡ taken old = ap (λ (x : JudgeState). taken x) e in
+    omega arith
+
+-- a judge with no current entry has taken one entry more after an entry was put into the delay line
+pub taken-put : (pending : Pending) (s new : JudgeState) → s.current ≡ None → Puts pending s new → taken new ≡ taken s + 1
+taken-put pending s new idle p =
+    let place : new.place ≡ s.place = ap (λ (x : JudgeState). x.place) p.same in
+    let none : length (option_to_list s.current) ≡ 0 = rw idle refl in
+    let all : length (option_to_list new.current ++ new.ahead) ≡ length (s.ahead ++ pending ∷ []) = ap (λ (q : List Pending). length q) p.line in
+    let here = length-append (option_to_list new.current) new.ahead in
+    let before = length-append s.ahead (pending ∷ []) in
+    omega arith
+
 -- ---- the invariant of every judge
 
 pub sound-put : (s : JudgeState) (capacity size : ℕ) (held : Held) (pending : Pending) (items : List Pending) → IsSound s capacity held → s.current ≡ None → taken s < 2 ^ 62 → IsPending pending → size ≡ capacity → Fits s.ahead pending capacity items → IsSound (record s { ahead = items }) size held

@@ -11,6 +11,7 @@ use Rattle.time_unfold.proofs.Floors.{floor_below, floor_above, times_more}
 use Rattle.sample_schedule.specs.declared.item.Packet.{Packet}
 use Rattle.sample_schedule.specs.Batches.{IsPresentable}
 use Rattle.sample_schedule.specs.Limits.{IsPacket}
+use Rattle.sample_schedule.specs.state.Heads.{HasSamples}
 use Rattle.sample_schedule.specs.Reach.{IsCountable}
 use Rattle.sample_schedule.specs.Verdicts.{moved, nominal_spot, samples_at}
 
@@ -52,27 +53,27 @@ in_range base k rate fast from to own low high =
       to = omega (arith, ints);
     }
 
-pub presentable : (p : Packet) (head : Head) → IsPacket p → 1 ≤ p.rate → 1 ≤ p.count → IsCountable head → IsPresentable (samples_at p (nominal_spot p.rate head))
-presentable p head is some_rate some near =
-    let fast = is.rate_from some_rate in
-    let slow = is.rate_to in
-    let many = is.count in
+pub presentable : (p : Packet) (head : Head) → HasSamples p → IsCountable head → IsPresentable (samples_at p (nominal_spot p.rate head))
+presentable p head is near =
+    let fast = is.packet.rate_from is.rate in
+    let slow = is.packet.rate_to in
+    let many = is.packet.count in
     let first_from = near.first_from in
     let first_to = near.first_to in
     record {
-      some = some;
+      some = is.some;
       count = many;
       some_num = omega arith;
       num = omega arith;
-      some_den = some_rate;
+      some_den = is.rate;
       den = omega arith;
-      frames = is.frames some;
+      frames = is.packet.frames is.some;
       numbers = omega (arith, ints);
       instants = λ j within. in_range head.instant (head.first +ℤ pos j) p.rate fast near.from near.to (λ h. near.own (omega (arith, ints))) (omega (arith, ints)) (omega (arith, ints));
     }
 
-pub counted_presentable : (p : Packet) (head : Head) (base first : ℤ) (den : ℕ) → base ≡ head.instant → den ≡ p.rate → first ≡ head.first → IsPacket p → 1 ≤ p.rate → 1 ≤ p.count → IsCountable head → IsPresentable (record { frame = p.frame; seq = p.seq; line = record { base = base; num = 1000000000; den = den }; from = first; count = p.count; bytes = p.bytes })
-counted_presentable p head base first den e f g is some_rate some near = rw (e, f, g) (presentable p head is some_rate some near)
+pub counted_presentable : (p : Packet) (head : Head) (base first : ℤ) (den : ℕ) → base ≡ head.instant → den ≡ p.rate → first ≡ head.first → HasSamples p → IsCountable head → IsPresentable (record { frame = p.frame; seq = p.seq; line = record { base = base; num = 1000000000; den = den }; from = first; count = p.count; bytes = p.bytes })
+counted_presentable p head base first den e f g is near = rw (e, f, g) (presentable p head is near)
 
 -- ---- on a line of a clock
 

@@ -92,3 +92,18 @@ pub record Keeps (old new : JudgeState) : Type 0 where
   pub plan : new.plan ≡ old.plan
   pub taken : taken new ≡ taken old
   pub closed : new.closed ≡ old.closed
+
+-- the judge has taken no entries
+pub record Begins (asked : SchedulePlan) (judge : JudgeState) : Type 0 where
+  pub stands : (clock : Clock) → IsClockOf asked clock → StandsFor clock [] 0 judge
+  pub plan : judge.plan ≡ asked
+  pub none : taken judge ≡ 0
+  pub «open» : judge.closed ≡ false
+  pub idle : IsIdle judge
+
+-- the judge has taken one more entry
+pub record Takes (entry : Entry) (old new : JudgeState) : Type 0 where
+  pub stands : (clock : Clock) (entries : List Entry) (given : ℕ) → StandsFor clock entries given old → StandsFor clock (entries ++ entry ∷ []) given new
+  pub plan : new.plan ≡ old.plan
+  pub taken : taken new ≡ taken old + 1
+  pub «open» : new.closed ≡ false

@@ -1,4 +1,5 @@
 -- Only private functions and proofs use these definitions.
+pub mod Heads
 pub mod Judge
 pub mod Order
 pub mod Waiting

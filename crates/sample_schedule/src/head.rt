@@ -1,13 +1,13 @@
 //! The samples of a packet are counted from a stamped sample; `head_of` finds this sample.
 
-ghost use Rattle.std.specs.Prelude.{◌≡◌, ◌+◌, ◌≤◌, ◌<◌, ℕ, IfSome, List};
-ghost use Rattle.time_unfold.specs.Heads.{stamped_index as stamped_index_of};
+ghost use Rattle.std.specs.Prelude.{◌≡◌, ◌+◌, ◌<◌, ℕ, IfSome, List};
 ghost use Rattle.time_unfold.specs.Limits.{IsBehind, IsRule, IsStamp, IsWant};
 ghost use Rattle.sample_schedule.specs.declared.entry.Entry.{Entry as EntryValue};
 ghost use Rattle.sample_schedule.specs.declared.entry.Entry.TheVariants.{Item as OfItem};
-ghost use Rattle.sample_schedule.specs.Heads.{head_at, head_back as head_back_of, head_of as head_of_packet, stamp_of as stamp_of_entry, stamp_of_packet as stamp_of_packet_value, usable_stamp as usable_stamp_of, want_of as want_of_packet};
-ghost use Rattle.sample_schedule.specs.Limits.{IsItem, IsPacket, IsPlan};
+ghost use Rattle.sample_schedule.specs.Heads.{head_back as head_back_of, head_of as head_of_packet, stamp_of as stamp_of_entry, usable_stamp as usable_stamp_of, want_of as want_of_packet};
+ghost use Rattle.sample_schedule.specs.Limits.{IsItem, IsPlan};
 ghost use Rattle.sample_schedule.specs.Noted.{HasNoted};
+ghost use Rattle.sample_schedule.specs.state.Heads.{HasSamples};
 ghost use Rattle.sample_schedule.specs.Reach.{IsCountable};
 
 use crate::item::{Item, Packet};
@@ -25,23 +25,6 @@ fn usable_stamp(packet: &Packet) -> Option<u32>
     packet.stamp
 }
 
-fn stamp_of_packet(packet: &Packet) -> Option<Stamp>
-    requires { IsPacket packet.now }
-    ensures value { result ≡ stamp_of_packet_value packet.now }
-    ensures stamp { IfSome result IsStamp }
-{
-    match usable_stamp(packet) {
-        Some(timestamp) => Some(Stamp {
-            seq: packet.seq,
-            mr: packet.mr,
-            block: packet.rule.stamped_block(),
-            rate: packet.rate,
-            instant: unfold(timestamp, packet.arrival),
-        }),
-        None => None,
-    }
-}
-
 /// The usable stamp of an item, if it has one. The samples of other packets can be counted from this stamp.
 pub fn stamp_of(item: &Item) -> Option<Stamp>
     requires { IsItem item.now }
@@ -49,14 +32,22 @@ pub fn stamp_of(item: &Item) -> Option<Stamp>
     ensures stamp { IfSome result IsStamp }
 {
     match item {
-        Item::Packet(packet) => stamp_of_packet(packet),
+        Item::Packet(packet) => match usable_stamp(packet) {
+            Some(timestamp) => Some(Stamp {
+                seq: packet.seq,
+                mr: packet.mr,
+                block: packet.rule.stamped_block(),
+                rate: packet.rate,
+                instant: unfold(timestamp, packet.arrival),
+            }),
+            None => None,
+        },
         _ => None,
     }
 }
 
 fn want_of(plan: &SchedulePlan, packet: &Packet, far: &Distance) -> Want
-    requires packet { IsPacket packet.now }
-    requires rate { 1 ≤ packet.now.rate }
+    requires samples { HasSamples packet.now }
     requires behind { IsBehind packet.now.count far.now }
     ensures value { result ≡ want_of_packet plan.now packet.now far.now }
     ensures want { IsWant result }
@@ -73,23 +64,9 @@ fn want_of(plan: &SchedulePlan, packet: &Packet, far: &Distance) -> Want
     }
 }
 
-fn own_head(packet: &Packet, timestamp: u32) -> Head
-    requires packet { IsPacket packet.now }
-    requires stamped { stamped_index_of packet.now.rule < packet.now.count }
-    ensures value { result ≡ head_at packet.now timestamp }
-    ensures countable { IsCountable result }
-{
-    Head {
-        instant: unfold(timestamp, packet.arrival),
-        first: -i64::from(packet.rule.stamped_index()),
-    }
-}
-
 fn head_back(plan: &SchedulePlan, noted: &Noted, packet: &Packet) -> Option<Head>
     requires plan { IsPlan plan.now }
-    requires packet { IsPacket packet.now }
-    requires rate { 1 ≤ packet.now.rate }
-    requires some { 1 ≤ packet.now.count }
+    requires samples { HasSamples packet.now }
     ensures value { (prefix : List EntryValue) → HasNoted plan.now prefix noted.now → result ≡ head_back_of plan.now prefix packet.now }
     ensures countable { IfSome result IsCountable }
 {
@@ -107,14 +84,15 @@ fn head_back(plan: &SchedulePlan, noted: &Noted, packet: &Packet) -> Option<Head
 /// fits, there is no head.
 pub fn head_of(plan: &SchedulePlan, noted: &Noted, packet: &Packet) -> Option<Head>
     requires plan { IsPlan plan.now }
-    requires packet { IsPacket packet.now }
-    requires rate { 1 ≤ packet.now.rate }
-    requires some { 1 ≤ packet.now.count }
+    requires samples { HasSamples packet.now }
     ensures value { (prefix : List EntryValue) → HasNoted plan.now prefix noted.now → result ≡ head_of_packet plan.now prefix packet.now }
     ensures countable { IfSome result IsCountable }
 {
     match usable_stamp(packet) {
-        Some(timestamp) => Some(own_head(packet, timestamp)),
+        Some(timestamp) => Some(Head {
+            instant: unfold(timestamp, packet.arrival),
+            first: -i64::from(packet.rule.stamped_index()),
+        }),
         None => head_back(plan, noted, packet),
     }
 }

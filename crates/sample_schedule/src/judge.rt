@@ -1,18 +1,18 @@
 //! The schedule of a stream, from one entry at a time.
 
-ghost use Rattle.std.specs.Prelude.{◌≡◌, ◌+◌, ◌*◌, ◌^◌, ◌<◌, ◌≤◌, ◌≢◌, ◌<ℤ◌, ◌++◌, ◌∷◌, [], ℕ, true, false, List, length, slice_get, Option, Some, None, IfNone, IfOk, IfSome};
+ghost use Rattle.std.specs.Prelude.{◌≡◌, ◌+◌, ◌*◌, ◌^◌, ◌<◌, ◌≤◌, ◌<ℤ◌, ◌++◌, ◌∷◌, [], ℕ, true, false, List, length, slice_get, Option, Some, None, IfNone, IfOk, IfSome};
 ghost use Rattle.std.specs.Option.{option_to_list};
 ghost use Rattle.sample_schedule.specs.declared.entry.Entry.{Entry as EntryValue};
 ghost use Rattle.sample_schedule.specs.declared.entry.Entry.TheVariants.{Item as OfItem, Clock as OfClock};
 ghost use Rattle.clock_track.specs.Limits.{IsNotable};
 ghost use Rattle.clock_track.specs.Views.{row_of};
 ghost use Rattle.time_unfold.specs.Time.{IsArrival};
-ghost use Rattle.sample_schedule.specs.Judge.{IsIdle, Keeps, StandsFor, out, taken, work};
-ghost use Rattle.sample_schedule.specs.state.Judge.{IsPending, Puts, now_with};
+ghost use Rattle.sample_schedule.specs.Judge.{Begins, IsIdle, Keeps, StandsFor, Takes, out, taken, work};
+ghost use Rattle.sample_schedule.specs.state.Judge.{CanTake, Puts, TakesFirst, Works, now_with};
 ghost use Rattle.sample_schedule.specs.Limits.{IsItem, IsPlan};
 ghost use Rattle.sample_schedule.specs.state.Order.{starts_due};
 ghost use Rattle.sample_schedule.specs.Schedule.{waiting};
-ghost use Rattle.sample_schedule.specs.Verdicts.{Clock, IsClockOf, total_bytes};
+ghost use Rattle.sample_schedule.specs.Verdicts.{Clock, total_bytes};
 
 use crate::accepted::Accepted;
 use crate::item::Item;
@@ -69,12 +69,8 @@ impl Judge {
     /// A judge that has taken no entries. Reserves all the memory that it needs, including some 4 MiB for a clock if
     /// the plan has one. No later call allocates.
     pub fn begin(alloc: Global, plan: SchedulePlan) -> Result<Self, NoMemory>
-        requires plan { IsPlan plan }
-        ensures stands { IfOk result (λ judge. (clock : Clock) → IsClockOf plan clock → StandsFor clock [] 0 judge) }
-        ensures plan { IfOk result (λ judge. judge.plan ≡ plan) }
-        ensures none { IfOk result (λ judge. taken judge ≡ 0) }
-        ensures open { IfOk result (λ judge. judge.closed ≡ false) }
-        ensures idle { IfOk result IsIdle }
+        requires { IsPlan plan }
+        ensures { IfOk result (Begins plan) }
     {
         let noted = Noted::new(alloc, &plan)?;
         let waiting = Waiting::with_room(alloc, plan.buffer)?;
@@ -95,9 +91,7 @@ impl Judge {
     /// before it, the judge's time becomes the entry's arrival.
     #[inline(always)]
     fn judge_next(&mut self, next: Pending)
-        requires idle { IsIdle self.old }
-        requires taken { taken self.old < 2 ^ 62 }
-        requires pending { IsPending next }
+        requires { CanTake next self.old }
         ensures { self.new ≡ record self.old { time = now_with self.old.time (Some next); current = Some next } }
     {
         self.time = self.time.max(next.arrival());
@@ -109,9 +103,7 @@ impl Judge {
     /// Puts an entry into the delay line. If the delay line then has more entries than the look-ahead, its first entry
     /// becomes the current one.
     fn put_ahead(&mut self, pending: Pending)
-        requires idle { IsIdle self.old }
-        requires taken { taken self.old < 2 ^ 62 }
-        requires pending { IsPending pending }
+        requires { CanTake pending self.old }
         ensures { Puts pending self.old self.new }
     {
         match self.ahead.push_back(pending) {
@@ -123,9 +115,7 @@ impl Judge {
     /// Puts an entry into the delay line. If the look-ahead is 0, the entry becomes the current one immediately.
     #[inline(always)]
     fn put(&mut self, pending: Pending)
-        requires idle { IsIdle self.old }
-        requires taken { taken self.old < 2 ^ 62 }
-        requires pending { IsPending pending }
+        requires { CanTake pending self.old }
         ensures { Puts pending self.old self.new }
     {
         if self.plan.look == 0 {
@@ -143,10 +133,7 @@ impl Judge {
         requires idle { IsIdle self.old }
         requires taken { taken self.old < 2 ^ 62 }
         requires item { IsItem item }
-        ensures stands { (clock : Clock) (entries : List EntryValue) (given : ℕ) → StandsFor clock entries given self.old → StandsFor clock (entries ++ OfItem item ∷ []) given self.new }
-        ensures plan { self.new.plan ≡ self.old.plan }
-        ensures taken { taken self.new ≡ taken self.old + 1 }
-        ensures open { self.new.closed ≡ false }
+        ensures { Takes (OfItem item) self.old self.new }
     {
         self.noted.note_item(&item);
         self.put(Pending::Item(item));
@@ -161,10 +148,7 @@ impl Judge {
         requires taken { taken self.old < 2 ^ 62 }
         requires arrival { IsArrival arrival }
         requires points { IsNotable (row_of points.now) }
-        ensures stands { (clock : Clock) (entries : List EntryValue) (given : ℕ) → StandsFor clock entries given self.old → StandsFor clock (entries ++ OfClock arrival (row_of points.now) ∷ []) given self.new }
-        ensures plan { self.new.plan ≡ self.old.plan }
-        ensures taken { taken self.new ≡ taken self.old + 1 }
-        ensures open { self.new.closed ≡ false }
+        ensures { Takes (OfClock arrival (row_of points.now)) self.old self.new }
     {
         self.noted.note_points(points);
         self.put(Pending::Clock { arrival });
@@ -173,20 +157,17 @@ impl Judge {
     /// Returns the first waiting batch, if the current entry arrived after the batch's instant.
     #[inline(always)]
     fn give_due(&mut self) -> Option<Accepted>
-        requires { self.old.current ≢ None }
         ensures due { IfSome result (λ first. first.instant <ℤ self.old.time) }
-        ensures waiting { self.old.waiting ≡ option_to_list result ++ self.new.waiting }
         ensures none { IfNone result (starts_due self.new.time self.new.waiting ≡ false) }
-        ensures same { self.new ≡ record self.old { waiting = self.new.waiting } }
+        ensures takes { TakesFirst self.old result self.new }
     {
         self.waiting.take_due(self.time)
     }
 
     /// Returns the first waiting batch.
     fn give_first(&mut self) -> Option<Accepted>
-        ensures waiting { self.old.waiting ≡ option_to_list result ++ self.new.waiting }
         ensures none { IfNone result (self.old.waiting ≡ []) }
-        ensures same { self.new ≡ record self.old { waiting = self.new.waiting } }
+        ensures takes { TakesFirst self.old result self.new }
     {
         self.waiting.take_first()
     }
@@ -195,12 +176,8 @@ impl Judge {
     #[inline(always)]
     fn judge(&mut self) -> Option<Shown>
         requires { starts_due self.old.time self.old.waiting ≡ false }
-        ensures given { (clock : Clock) (entries : List EntryValue) (given : ℕ) → StandsFor clock entries given self.old → IfSome result (λ shown. slice_get (out clock self.old entries) given ≡ Some shown) }
-        ensures stands { (clock : Clock) (entries : List EntryValue) (given : ℕ) → StandsFor clock entries given self.old → StandsFor clock entries (given + length (option_to_list result)) self.new }
+        ensures works { Works self.old result self.new }
         ensures idle { IsIdle self.new }
-        ensures keeps { Keeps self.old self.new }
-        ensures ahead { self.new.ahead ≡ self.old.ahead }
-        ensures less { work self.new + length (option_to_list result) ≤ work self.old }
     {
         let Some(pending) = self.current.take() else {
             return None;
@@ -234,12 +211,8 @@ impl Judge {
     /// entry's flag, if the entry has one.
     #[inline(always)]
     fn give_or_judge(&mut self) -> Option<Shown>
-        ensures given { (clock : Clock) (entries : List EntryValue) (given : ℕ) → StandsFor clock entries given self.old → IfSome result (λ shown. slice_get (out clock self.old entries) given ≡ Some shown) }
-        ensures stands { (clock : Clock) (entries : List EntryValue) (given : ℕ) → StandsFor clock entries given self.old → StandsFor clock entries (given + length (option_to_list result)) self.new }
+        ensures works { Works self.old result self.new }
         ensures idle { IfNone result (IsIdle self.new) }
-        ensures keeps { Keeps self.old self.new }
-        ensures ahead { self.new.ahead ≡ self.old.ahead }
-        ensures less { work self.new + length (option_to_list result) ≤ work self.old }
     {
         if self.current.is_none() {
             return None;
@@ -255,11 +228,9 @@ impl Judge {
     #[inline(always)]
     fn take_ahead(&mut self) -> bool
         requires { IsIdle self.old }
-        ensures stands { (clock : Clock) (entries : List EntryValue) (given : ℕ) → StandsFor clock entries given self.old → StandsFor clock entries given self.new }
-        ensures keeps { Keeps self.old self.new }
+        ensures works { Works self.old None self.new }
         ensures none { result ≡ false → (self.new ≡ self.old) × (self.old.closed ≡ true → self.old.ahead ≡ []) }
         ensures shorter { result ≡ true → length self.new.ahead < length self.old.ahead }
-        ensures work { work self.new ≡ work self.old }
     {
         if !self.closed {
             return false;
@@ -279,11 +250,9 @@ impl Judge {
         requires idle { IsIdle self.old }
         requires over { self.old.closed ≡ true → self.old.ahead ≡ [] }
         ensures given { (clock : Clock) (entries : List EntryValue) (given : ℕ) → StandsFor clock entries given self.old → result ≡ slice_get (out clock self.old entries) given }
-        ensures stands { (clock : Clock) (entries : List EntryValue) (given : ℕ) → StandsFor clock entries given self.old → StandsFor clock entries (given + length (option_to_list result)) self.new }
+        ensures works { Works self.old result self.new }
         ensures idle { IsIdle self.new }
         ensures empty { IfNone result (self.old.closed ≡ true → self.new.waiting ≡ []) }
-        ensures keeps { Keeps self.old self.new }
-        ensures less { work self.new + length (option_to_list result) ≤ work self.old }
     {
         if !self.closed {
             return None;
@@ -320,10 +289,7 @@ impl Judge {
         requires open { self.old.closed ≡ false }
         requires idle { IsIdle self.old }
         ensures stands { (clock : Clock) (entries : List EntryValue) (given : ℕ) → StandsFor clock entries given self.old → StandsFor clock entries given self.new }
-        ensures plan { self.new.plan ≡ self.old.plan }
-        ensures taken { taken self.new ≡ taken self.old }
-        ensures closed { self.new.closed ≡ true }
-        ensures work { work self.new ≡ work self.old }
+        ensures same { self.new ≡ record self.old { closed = true } }
     {
         self.closed = true;
     }

@@ -1,13 +1,13 @@
 //! Whether an item can be presented, and at which instants.
 
-ghost use Rattle.std.specs.Prelude.{◌≡◌, ◌≤◌, pos, List, Some};
+ghost use Rattle.std.specs.Prelude.{◌≡◌, pos, List, Some};
 ghost use Rattle.clock_track.specs.Limits.{IsClockLine};
 ghost use Rattle.sample_schedule.specs.declared.entry.Entry.{Entry as EntryValue};
 ghost use Rattle.sample_schedule.specs.declared.plan.SchedulePlan.{SchedulePlan as SchedulePlanValue};
 ghost use Rattle.sample_schedule.specs.Batches.{IsPresentable};
-ghost use Rattle.sample_schedule.specs.Limits.{IsItem, IsPacket, IsPlan, IsUnit};
+ghost use Rattle.sample_schedule.specs.Limits.{IsItem, IsPlan, IsUnit};
 ghost use Rattle.sample_schedule.specs.Noted.{HasNoted};
-ghost use Rattle.sample_schedule.specs.Reach.{IsCountable};
+ghost use Rattle.sample_schedule.specs.state.Heads.{CanCount};
 ghost use Rattle.sample_schedule.specs.Verdicts.{Clock, IsClockOf, counted_from as counted_from_head, moved, nominal_spot, samples_at, timed as timed_of, unit_at_once};
 
 use crate::batch::Batch;
@@ -52,10 +52,7 @@ fn samples_on(packet: Packet, line: Line, from: i64) -> Batch
 /// The samples of a packet on the nominal line of its head.
 #[inline(always)]
 fn on_nominal_line(packet: Packet, head: &Head) -> Batch
-    requires packet { IsPacket packet }
-    requires rate { 1 ≤ packet.rate }
-    requires some { 1 ≤ packet.count }
-    requires countable { IsCountable head.now }
+    requires { CanCount packet head.now }
     ensures { result ≡ samples_at packet (nominal_spot packet.rate head.now) }
 {
     let line = Line {
@@ -69,9 +66,7 @@ fn on_nominal_line(packet: Packet, head: &Head) -> Batch
 /// The samples of a packet on a line of the clock. `number` is the number that the packet's stamped sample has on
 /// `line`.
 fn on_clock_line(packet: Packet, head: &Head, line: Line, number: u64) -> Batch
-    requires packet { IsPacket packet }
-    requires some { 1 ≤ packet.count }
-    requires countable { IsCountable head.now }
+    requires head { CanCount packet head.now }
     requires line { IsClockLine packet.rate head.now.instant (record { line = line; from = pos number }) }
     ensures { result ≡ samples_at packet (moved head.now.first (record { line = line; from = pos number })) }
 {
@@ -82,10 +77,7 @@ fn on_clock_line(packet: Packet, head: &Head, line: Line, number: u64) -> Batch
 /// the head's instant; otherwise they are on the nominal line.
 #[inline(always)]
 fn counted(noted: &Noted, packet: Packet, head: &Head) -> Result<Batch, Reason>
-    requires packet { IsPacket packet }
-    requires rate { 1 ≤ packet.rate }
-    requires some { 1 ≤ packet.count }
-    requires countable { IsCountable head.now }
+    requires { CanCount packet head.now }
     ensures { (clock : Clock) (plan : SchedulePlanValue) (prefix : List EntryValue) → IsClockOf plan clock → HasNoted plan prefix noted.now → result ≡ counted_from_head clock plan prefix packet (Some head.now) }
 {
     match &noted.clock {
@@ -94,28 +86,6 @@ fn counted(noted: &Noted, packet: Packet, head: &Head) -> Result<Batch, Reason>
             ClockAnswer::OnLine { line, offset } => Ok(on_clock_line(packet, head, line, offset)),
             ClockAnswer::NoClock => Err(Reason::NoClock),
         },
-    }
-}
-
-#[tactic(auto, unfolding(crate::specs::Verdicts::timed))]
-#[inline(always)]
-fn timed_packet(plan: &SchedulePlan, noted: &Noted, packet: Packet) -> Result<Batch, Reason>
-    requires plan { IsPlan plan.now }
-    requires packet { IsPacket packet }
-    ensures { (clock : Clock) (prefix : List EntryValue) → IsClockOf plan.now clock → HasNoted plan.now prefix noted.now → result ≡ timed_of clock plan.now prefix (Item.Packet packet) }
-{
-    if packet.tu {
-        return Err(Reason::Uncertain);
-    }
-    if packet.count == 0 {
-        return Err(Reason::Empty);
-    }
-    if packet.rate == 0 {
-        return Err(Reason::NoRate);
-    }
-    match head_of(plan, noted, &packet) {
-        Some(head) => counted(noted, packet, &head),
-        None => Err(Reason::Untimed),
     }
 }
 
@@ -154,7 +124,21 @@ pub fn timed(plan: &SchedulePlan, noted: &Noted, item: Item) -> Result<Batch, Re
     ensures { (clock : Clock) (prefix : List EntryValue) → IsClockOf plan.now clock → HasNoted plan.now prefix noted.now → result ≡ timed_of clock plan.now prefix item }
 {
     match item {
-        Item::Packet(packet) => timed_packet(plan, noted, packet),
+        Item::Packet(packet) => {
+            if packet.tu {
+                return Err(Reason::Uncertain);
+            }
+            if packet.count == 0 {
+                return Err(Reason::Empty);
+            }
+            if packet.rate == 0 {
+                return Err(Reason::NoRate);
+            }
+            match head_of(plan, noted, &packet) {
+                Some(head) => counted(noted, packet, &head),
+                None => Err(Reason::Untimed),
+            }
+        }
         Item::Unit(unit) => Ok(timed_unit(unit)),
         Item::Bad(bad) => Err(bad.reason),
     }

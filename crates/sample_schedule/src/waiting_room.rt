@@ -1,8 +1,7 @@
 //! Accepted batches that wait for their instants.
 
-ghost use Rattle.std.specs.Prelude.{◌≡◌, ◌+◌, ◌^◌, ◌<◌, ◌≤◌, ◌<ℤ◌, ◌++◌, [], false, length, IfNone, IfOk, IfSome};
+ghost use Rattle.std.specs.Prelude.{◌≡◌, ◌+◌, ◌^◌, ◌<◌, ◌≤◌, ◌<ℤ◌, [], false, length, IfNone, IfOk, IfSome};
 ghost use Rattle.std.specs.List.{list_any};
-ghost use Rattle.std.specs.Option.{option_to_list};
 ghost use Rattle.sample_schedule.specs.Order.{put_behind as put_behind_of};
 ghost use Rattle.sample_schedule.specs.state.Order.{starts_due};
 ghost use Rattle.sample_schedule.specs.Verdicts.{is_copy as is_copy_of, is_full as is_full_of, total_bytes};
@@ -53,6 +52,8 @@ impl Model for Waiting {
 }
 
 impl Waiting {
+    ghost use Rattle.sample_schedule.specs.state.Waiting.{Hands, HasPlace};
+
     /// An empty waiting room. Reserves the memory for this many batches.
     pub fn with_room(alloc: Global, batches: u32) -> Result<Self, NoMemory>
         ensures none { IfOk result (λ waiting. waiting.list ≡ []) }
@@ -93,8 +94,7 @@ impl Waiting {
     #[inline(always)]
     pub fn is_full(&self, plan: &SchedulePlan, size: usize) -> bool
         ensures full { result ≡ is_full_of plan.now self.now.list size }
-        ensures buffer { result ≡ false → length self.now.list < plan.now.buffer }
-        ensures fits { result ≡ false → total_bytes self.now.list + size ≤ plan.now.room }
+        ensures place { result ≡ false → HasPlace plan.now self.now.list size }
     {
         self.len() >= plan.buffer as usize
             || self.bytes().saturating_add(size as u64) > u64::from(plan.room)
@@ -129,9 +129,8 @@ impl Waiting {
     /// Removes and returns the first batch.
     #[inline(always)]
     pub fn take_first(&mut self) -> Option<Accepted>
-        ensures taken { self.old.list ≡ option_to_list result ++ self.new.list }
+        ensures hands { Hands self.old result self.new }
         ensures none { IfNone result (self.old.list ≡ []) }
-        ensures room { self.new.room ≡ self.old.room }
     {
         let Some(key) = self.keys.take_first() else {
             return None;
@@ -144,10 +143,9 @@ impl Waiting {
     /// If the instant of the first batch is before `now`, removes and returns the batch.
     #[inline(always)]
     pub fn take_due(&mut self, now: i64) -> Option<Accepted>
-        ensures taken { self.old.list ≡ option_to_list result ++ self.new.list }
+        ensures hands { Hands self.old result self.new }
         ensures due { IfSome result (λ first. first.instant <ℤ now) }
         ensures none { IfNone result (starts_due now self.new.list ≡ false) }
-        ensures room { self.new.room ≡ self.old.room }
     {
         if self.is_due(now) {
             self.take_first()

@@ -1,9 +1,8 @@
 //! The schedule of a list.
 
 ghost use Rattle.std.specs.Prelude.{◌≡◌, ◌+◌, ◌^◌, ◌<◌, ◌++◌, ◌∷◌, [], ℕ, false, List, All, IfOk, OnOk};
-ghost use Rattle.sample_schedule.specs.declared.entry.Entry.{Entry as EntryValue};
-ghost use Rattle.sample_schedule.specs.Judge.{IsIdle, Keeps, StandsFor, out, taken};
-ghost use Rattle.sample_schedule.specs.state.Judge.{HasGiven};
+ghost use Rattle.sample_schedule.specs.Judge.{IsIdle, Takes, taken};
+ghost use Rattle.sample_schedule.specs.state.Judge.{GivesAll};
 ghost use Rattle.sample_schedule.specs.Limits.{IsEntry, IsPlan};
 ghost use Rattle.sample_schedule.specs.Schedule.{shown};
 ghost use Rattle.sample_schedule.specs.Verdicts.{Clock, IsClockOf};
@@ -22,10 +21,7 @@ pub fn take_entry(judge: &mut Judge, entry: Entry)
     requires idle { IsIdle judge.old }
     requires taken { taken judge.old < 2 ^ 62 }
     requires entry { IsEntry entry }
-    ensures stands { (clock : Clock) (entries : List EntryValue) (given : ℕ) → StandsFor clock entries given judge.old → StandsFor clock (entries ++ entry ∷ []) given judge.new }
-    ensures plan { judge.new.plan ≡ judge.old.plan }
-    ensures taken { taken judge.new ≡ taken judge.old + 1 }
-    ensures open { judge.new.closed ≡ false }
+    ensures { Takes entry judge.old judge.new }
 {
     match entry {
         Entry::Item(item) => judge.step(item),
@@ -35,10 +31,7 @@ pub fn take_entry(judge: &mut Judge, entry: Entry)
 
 /// Puts all items that the judge returns into a list.
 pub fn give_all(judge: &mut Judge, list: &mut Vec<Shown>) -> Result<(), NoMemory>
-    ensures given { OnOk result ((clock : Clock) (entries : List EntryValue) → HasGiven clock entries list.old.items judge.old → HasGiven clock entries list.new.items judge.new) }
-    ensures all { OnOk result ((clock : Clock) (entries : List EntryValue) → HasGiven clock entries list.old.items judge.old → list.new.items ≡ out clock judge.new entries) }
-    ensures idle { OnOk result (IsIdle judge.new) }
-    ensures keeps { OnOk result (Keeps judge.old judge.new) }
+    ensures { OnOk result (GivesAll list.old.items judge.old list.new.items judge.new) }
 {
     while let Some(shown) = judge.next_out() {
         list.push(shown)?;

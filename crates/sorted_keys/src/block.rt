@@ -5,7 +5,7 @@ ghost use Rattle.std.specs.List.{list_any};
 ghost use Rattle.std.specs.Option.{option_to_list};
 ghost use Rattle.std.specs.VecDeque.{deque_capacity};
 ghost use Rattle.sorted_keys.specs.Keys.{is_key, put_key};
-ghost use Rattle.sorted_keys.specs.state.Keys.{IsPlace, KeysAreInOrder, starts_before as starts_before_of, starts_by as starts_by_of};
+ghost use Rattle.sorted_keys.specs.state.Keys.{IsPlace, KeysAreInOrder, Moves, starts_before as starts_before_of, starts_by as starts_by_of};
 
 use crate::key::Key;
 use avtp_base::NoMemory;
@@ -42,18 +42,19 @@ fn find_place(keys: &VecDeque<Key>, instant: i64) -> usize
     keys.partition_point(|key| key.instant <= instant)
 }
 
-fn insert_key(keys: &mut VecDeque<Key>, place: usize, key: Key)
-    requires place { place ≤ length keys.old.items }
-    requires room { length keys.old.items < deque_capacity keys.old }
-    ensures items { keys.new.items ≡ insert keys.old.items place key }
-    ensures capacity { deque_capacity keys.old ≤ deque_capacity keys.new }
+/// Inserts an item, for which there must be room.
+pub fn insert_at<T: Drop>(queue: &mut VecDeque<T>, place: usize, item: T)
+    requires place { place ≤ length queue.old.items }
+    requires room { length queue.old.items < deque_capacity queue.old }
+    ensures items { queue.new.items ≡ insert queue.old.items place item }
+    ensures capacity { deque_capacity queue.old ≤ deque_capacity queue.new }
 {
-    // Usually the key is the last one, because most packets arrive in the order of their instants.
-    if place == keys.len() {
-        keys.push_back_reserved(key);
+    // Usually a key is the last one, because most packets arrive in the order of their instants.
+    if place == queue.len() {
+        queue.push_back_reserved(item);
         return;
     }
-    let Ok(()) = keys.insert(place, key) else {
+    let Ok(()) = queue.insert(place, item) else {
         unreachable!()
     };
 }
@@ -62,8 +63,7 @@ fn insert_key(keys: &mut VecDeque<Key>, place: usize, key: Key)
 fn move_behind(keys: &mut VecDeque<Key>, count: usize, others: &mut VecDeque<Key>)
     requires count { count ≤ length keys.old.items }
     requires room { length keys.old.items + length others.old.items ≤ count + deque_capacity others.old }
-    ensures all { keys.new.items ++ others.new.items ≡ keys.old.items ++ others.old.items }
-    ensures left { length keys.new.items ≡ count }
+    ensures moves { Moves count keys.old.items others.old.items keys.new.items others.new.items }
     ensures capacity { deque_capacity keys.new ≡ deque_capacity keys.old }
     ensures others_capacity { deque_capacity others.new ≡ deque_capacity others.old }
 {
@@ -161,7 +161,7 @@ impl Block {
         ensures { self.new ≡ put_key self.old key }
     {
         let place = place_behind(&self.keys, key.instant);
-        insert_key(&mut self.keys, place, key);
+        insert_at(&mut self.keys, place, key);
     }
 
     /// Whether one of the keys has this instant and this sequence number.

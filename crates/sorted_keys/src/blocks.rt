@@ -1,14 +1,12 @@
 //! Blocks of sorted keys.
 
-ghost use Rattle.std.specs.Prelude.{◌≡◌, ◌+◌, ◌^◌, ◌<◌, ◌≤◌, [], insert, length, slice_index_or, IfOk, IfSome};
-ghost use Rattle.std.specs.List.{AllByRecursion};
+ghost use Rattle.std.specs.Prelude.{◌≡◌, ◌+◌, ◌^◌, ◌<◌, ◌≤◌, [], length, IfOk, IfSome};
 ghost use Rattle.std.specs.Option.{option_to_list};
-ghost use Rattle.std.specs.Vec.{vec_capacity, vec_len};
 ghost use Rattle.std.specs.VecDeque.{deque_capacity};
 ghost use Rattle.sorted_keys.specs.Keys.{put_key};
-ghost use Rattle.sorted_keys.specs.state.Keys.{AreBlocks, AreBlocksBut, AreTaken, IsBlockFor, all_keys};
+ghost use Rattle.sorted_keys.specs.state.Keys.{AreBlocks, AreBlocksBut, AreSpare, AreTaken, IsBlockFor, IsFullAt, KeepsKeys, all_keys};
 
-use crate::block::Block;
+use crate::block::{Block, insert_at};
 use crate::key::Key;
 use avtp_base::NoMemory;
 use std::alloc::Global;
@@ -50,38 +48,24 @@ pub fn put_into(blocks: &mut VecDeque<Block>, key: Key) -> usize
     place
 }
 
-pub fn insert_block(blocks: &mut VecDeque<Block>, place: usize, block: Block)
-    requires place { place ≤ length blocks.old.items }
-    requires room { length blocks.old.items < deque_capacity blocks.old }
-    ensures items { blocks.new.items ≡ insert blocks.old.items place block }
-    ensures capacity { deque_capacity blocks.old ≤ deque_capacity blocks.new }
-{
-    let Ok(()) = blocks.insert(place, block) else {
-        unreachable!()
-    };
-}
-
 /// Splits a full block. The upper half of the block goes into `upper`, which must be empty before the call. `upper` is
 /// inserted after the block.
 pub fn split(blocks: &mut VecDeque<Block>, place: usize, mut upper: Block)
-    requires blocks { AreBlocksBut place blocks.old.items }
-    requires full { length (slice_index_or blocks.old.items place []) ≡ 512 }
+    requires full { IsFullAt place blocks.old.items }
     requires empty { upper ≡ [] }
     requires room { length blocks.old.items < deque_capacity blocks.old }
-    ensures all { all_keys blocks.new.items ≡ all_keys blocks.old.items }
-    ensures blocks { AreBlocks blocks.new.items }
+    ensures keys { KeepsKeys blocks.old.items blocks.new.items }
     ensures count { length blocks.new.items ≡ length blocks.old.items + 1 }
     ensures capacity { deque_capacity blocks.old ≤ deque_capacity blocks.new }
 {
     blocks[place].split(&mut upper);
-    insert_block(blocks, place + 1, upper);
+    insert_at(blocks, place + 1, upper);
 }
 
 /// If the first block has no keys and other blocks follow it, removes and returns the first block.
 pub fn take_empty(blocks: &mut VecDeque<Block>) -> Option<Block>
     requires { AreTaken blocks.old.items }
-    ensures all { all_keys blocks.new.items ≡ all_keys blocks.old.items }
-    ensures blocks { AreBlocks blocks.new.items }
+    ensures keys { KeepsKeys blocks.old.items blocks.new.items }
     ensures empty { IfSome result (λ block. block ≡ []) }
     ensures count { length blocks.new.items + length (option_to_list result) ≡ length blocks.old.items }
     ensures capacity { deque_capacity blocks.new ≡ deque_capacity blocks.old }
@@ -96,9 +80,7 @@ pub fn take_empty(blocks: &mut VecDeque<Block>) -> Option<Block>
 /// `count` blocks without keys, in a vector that has room for one more block.
 pub fn spare_blocks(alloc: Global, count: usize) -> Result<Vec<Block>, NoMemory>
     requires { count < 2 ^ 32 }
-    ensures spare { IfOk result (λ spare. AllByRecursion (λ block. block ≡ []) spare.items) }
-    ensures count { IfOk result (λ spare. vec_len spare ≡ count) }
-    ensures capacity { IfOk result (λ spare. count + 1 ≤ vec_capacity spare) }
+    ensures { IfOk result (AreSpare count) }
 {
     let mut spare = Vec::with_capacity(alloc, count + 1)?;
     for i in 0..count {

@@ -5,8 +5,8 @@ ghost use Rattle.std.specs.List.{list_any};
 ghost use Rattle.std.specs.Option.{option_to_list};
 ghost use Rattle.sorted_keys.specs.Keys.{is_key, put_key};
 
-use crate::block::{Block, HALF};
-use crate::blocks::{block_for, insert_block, put_into, spare_blocks, split, take_empty};
+use crate::block::{Block, HALF, insert_at};
+use crate::blocks::{block_for, put_into, spare_blocks, split, take_empty};
 use crate::key::Key;
 use avtp_base::NoMemory;
 use std::alloc::Global;
@@ -44,7 +44,7 @@ impl SortedKeys {
         let count = (keys as usize).div_ceil(HALF);
         let mut blocks = VecDeque::with_capacity(alloc, count + 1)?;
         let spare = spare_blocks(alloc, count)?;
-        insert_block(&mut blocks, 0, Block::new(alloc)?);
+        insert_at(&mut blocks, 0, Block::new(alloc)?);
         Ok(SortedKeys { blocks, spare })
     }
 

@@ -2,7 +2,7 @@
 -- and what it finds.
 use Rattle.std.specs.Prelude.{Bool, if◌then◌else◌, Option, Some, None}
 use Rattle.clock_track.specs.declared.pair.Pair.{Pair}
-use Rattle.clock_track.specs.declared.search.Query.{Query}
+use Rattle.clock_track.specs.declared.query.Query.{Query}
 use Rattle.clock_track.specs.Pairs.{covers}
 
 -- whether a pair covers the instant of a query

@@ -1,5 +1,5 @@
 -- Only private functions and proofs use these definitions. A clock that keeps its last packets.
-use Rattle.std.specs.Prelude.{◌≡◌, ◌≤◌, ◌+◌, ℤ, All, length, map, vec_capacity, vec_len}
+use Rattle.std.specs.Prelude.{◌≡◌, ◌≤◌, ◌+◌, ℕ, ℤ, List, All, length, map, vec_capacity, vec_len}
 use Rattle.std.specs.Global.{Vec}
 use Rattle.circular_buffer.specs.Buffer.{Buffer}
 use Rattle.clock_track.specs.declared.clock.Kept.{Kept}
@@ -31,12 +31,16 @@ pub record HasBounds (shift : ℤ) (kept : Kept) : Type 0 where
   pub all : HasPairs shift (kept_row kept) kept.bounds
   pub groups : AreGroups shift (kept_row kept) kept.groups.items
 
--- The kept packets and the spare rooms together number 64. Each kept packet's room and each spare room can hold any
--- packet's timestamps. The bounds of each packet hold its pairs.
+-- The kept packets and the spare rooms together number `count`. Each kept packet's room and each spare room can hold
+-- any packet's timestamps.
+pub record HoldsRooms (rows : List Kept) (spare : Vec Room) (count : ℕ) : Type 0 where
+  pub all : length rows + vec_len spare ≡ count
+  pub kept : All HasRoom rows
+  pub unused : All IsRoom spare.items
+
+-- The kept packets and the spare rooms together number 64. The bounds of each packet hold its pairs.
 pub record IsWindow (shift : ℤ) (rows : Buffer Kept) (spare : Vec Room) : Type 0 where
   pub capacity : rows.capacity ≡ 64
-  pub count : length rows.items + vec_len spare ≡ 64
-  pub room : All HasRoom rows.items
-  pub spare_room : All IsRoom spare.items
+  pub rooms : HoldsRooms rows.items spare 64
   pub notable : All IsNotable (map kept_row rows.items)
   pub bounds : All (HasBounds shift) rows.items

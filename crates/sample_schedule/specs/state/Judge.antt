@@ -1,10 +1,11 @@
 -- Only private functions and proofs use these definitions. A judge, which takes a stream of entries
 -- one at a time and shows items as soon as they are certain.
-use Rattle.std.specs.Prelude.{◌≡◌, ℕ, ◌+◌, ◌^◌, ◌≤◌, ℤ, ◌<◌, List, [], ◌∷◌, ◌++◌, All, length, Option, None, Some, IfSome}
+use Rattle.std.specs.Prelude.{◌≡◌, ℕ, ◌+◌, ◌^◌, ◌≤◌, ℤ, ◌<◌, List, [], ◌∷◌, ◌++◌, All, length, Option, None, Some, IfSome, slice_get}
 use mathlib.Core.List.{IsPrefix}
 use Rattle.std.specs.Int.{int_max}
 use Rattle.std.specs.Option.{option_to_list}
 use Rattle.time_unfold.specs.Time.{IsArrival}
+use Rattle.sample_schedule.specs.declared.accepted.Accepted.{Accepted}
 use Rattle.sample_schedule.specs.declared.entry.Entry.{Entry}
 use Rattle.sample_schedule.specs.declared.pending.Pending.{Pending}
 use Rattle.sample_schedule.specs.declared.pending.Pending.TheVariants.{Item as PendingItem, Clock as PendingClock}
@@ -13,7 +14,7 @@ use Rattle.sample_schedule.specs.Limits.{IsItem, IsPlan}
 use Rattle.sample_schedule.specs.Schedule.{item_arrival}
 use Rattle.sample_schedule.specs.Verdicts.{Clock, total_bytes}
 use Rattle.sample_schedule.specs.Waiting.{Held}
-use Rattle.sample_schedule.specs.Judge.{JudgeState, taken, out, StandsFor}
+use Rattle.sample_schedule.specs.Judge.{IsIdle, JudgeState, Keeps, StandsFor, out, taken, work}
 
 abbrev pub pending_arrival : Pending → ℤ
 pending_arrival (PendingItem item) = item_arrival item
@@ -40,6 +41,33 @@ pub record Puts (pending : Pending) (old new : JudgeState) : Type 0 where
   pub line : option_to_list new.current ++ new.ahead ≡ old.ahead ++ pending ∷ []
   pub fits : length old.ahead < old.plan.look → length new.ahead ≡ length old.ahead + 1
   pub full : old.plan.look ≤ length old.ahead → length new.ahead ≡ length old.ahead
+
+-- the judge can take one more entry, and this entry is within the limits of the format
+pub record CanTake (next : Pending) (judge : JudgeState) : Type 0 where
+  pub idle : IsIdle judge
+  pub taken : taken judge < 2 ^ 62
+  pub pending : IsPending next
+
+-- The judge has returned `result`. An item that it returned is the next one. The judge stands for the same entries as
+-- before, and has fewer steps left by one if it returned an item.
+pub record Works (old : JudgeState) (result : Option Shown) (new : JudgeState) : Type 0 where
+  pub next : (clock : Clock) (entries : List Entry) (given : ℕ) → StandsFor clock entries given old → IfSome result (λ shown. slice_get (out clock old entries) given ≡ Some shown)
+  pub stands : (clock : Clock) (entries : List Entry) (given : ℕ) → StandsFor clock entries given old → StandsFor clock entries (given + length (option_to_list result)) new
+  pub keeps : Keeps old new
+  pub less : work new + length (option_to_list result) ≤ work old
+  pub ahead : length new.ahead ≤ length old.ahead
+
+-- `first` was taken from the front of the waiting batches; `None` if no batch was taken
+pub record TakesFirst (old : JudgeState) (first : Option Accepted) (new : JudgeState) : Type 0 where
+  pub waiting : old.waiting ≡ option_to_list first ++ new.waiting
+  pub same : new ≡ record old { waiting = new.waiting }
+
+-- The judge has returned all items that it shows for its entries so far, and these items were put at the end of a list.
+pub record GivesAll (before : List Shown) (old : JudgeState) (after : List Shown) (new : JudgeState) : Type 0 where
+  pub given : (clock : Clock) (entries : List Entry) → HasGiven clock entries before old → HasGiven clock entries after new
+  pub all : (clock : Clock) (entries : List Entry) → HasGiven clock entries before old → after ≡ out clock new entries
+  pub idle : IsIdle new
+  pub keeps : Keeps old new
 
 -- The invariant of every judge: the judge's parts are within the limits of its plan and of the memory that is reserved.
 pub record IsSound (judge : JudgeState) (capacity : ℕ) (held : Held) : Type 0 where

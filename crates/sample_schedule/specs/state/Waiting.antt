@@ -1,11 +1,14 @@
 -- Only private functions and proofs use these definitions. The batches that wait for their instant,
 -- and their keys.
-use Rattle.std.specs.Prelude.{◌≡◌, ◌≢◌, ⊤, ℕ, List, [], ◌∷◌, length, Option, Some}
+use Rattle.std.specs.Prelude.{◌≡◌, ◌≢◌, ◌+◌, ◌<◌, ◌≤◌, ◌≤ℤ◌, ⊤, ℕ, ℤ, List, [], ◌∷◌, ◌++◌, length, Option, Some}
 use Rattle.std.specs.List.{AllByRecursion, filter_map}
+use Rattle.std.specs.Option.{option_to_list}
 use Rattle.slab.specs.Slab.{Slab, get, slab_len}
 use Rattle.sample_schedule.specs.declared.accepted.Accepted.{Accepted}
+use Rattle.sample_schedule.specs.declared.plan.SchedulePlan.{SchedulePlan}
 use Rattle.sorted_keys.specs.declared.key.Key.{Key}
 use Rattle.sample_schedule.specs.Verdicts.{total_bytes}
+use Rattle.sample_schedule.specs.Waiting.{Held}
 
 abbrev pub batch_of : Slab Accepted → Key → Option Accepted
 batch_of batches key = get batches key.slot
@@ -33,3 +36,18 @@ pub record IsWaiting (keys : List Key) (batches : Slab Accepted) (bytes : ℕ) :
   pub own : HaveOwnSlots keys
   pub total : bytes ≡ total_bytes (held batches keys)
   pub count : slab_len batches ≡ length keys
+
+-- the buffer has room for one batch of `size` bytes beside the waiting ones
+pub record HasPlace (plan : SchedulePlan) (waiting : List Accepted) (size : ℕ) : Type 0 where
+  pub buffer : length waiting < plan.buffer
+  pub fits : total_bytes waiting + size ≤ plan.room
+
+-- the buffer has room for the accepted batch beside the waiting ones, and the batch's instant has not passed
+pub record CanWait (plan : SchedulePlan) (now : ℤ) (waiting : List Accepted) (accepted : Accepted) : Type 0 where
+  pub place : HasPlace plan waiting (length accepted.batch.bytes)
+  pub stands : now ≤ℤ accepted.instant
+
+-- `first` was taken from the front of the waiting batches; `None` if no batch was taken
+pub record Hands (old : Held) (first : Option Accepted) (new : Held) : Type 0 where
+  pub list : old.list ≡ option_to_list first ++ new.list
+  pub room : new.room ≡ old.room

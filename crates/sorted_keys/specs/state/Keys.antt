@@ -1,5 +1,6 @@
 -- Only private functions and proofs use these definitions. Sorted keys, and the blocks that hold them.
-use Rattle.std.specs.Prelude.{◌≡◌, ⊤, ℕ, ◌+◌, ◌*◌, ◌-◌, ◌==◌, ◌≤◌, zero, suc, Bool, true, false, if◌then◌else◌, ℤ, int_le, int_lt, ◌≤ℤ◌, ◌<ℤ◌, ◌<◌, List, [], ◌∷◌, length, take, drop, slice_index_or, slice_set}
+use Rattle.std.specs.Prelude.{◌≡◌, ⊤, ℕ, ◌+◌, ◌*◌, ◌-◌, ◌==◌, ◌≤◌, zero, suc, Bool, true, false, if◌then◌else◌, ℤ, int_le, int_lt, ◌≤ℤ◌, ◌<ℤ◌, ◌<◌, List, [], ◌∷◌, length, take, drop, slice_index_or, slice_set, ◌++◌, vec_capacity, vec_len}
+use Rattle.std.specs.Global.{Vec}
 use Rattle.std.specs.List.{AllByRecursion, flat_map}
 use Rattle.sorted_keys.specs.declared.key.Key.{Key}
 
@@ -57,6 +58,16 @@ pub record AreBlocksBut (place : ℕ) (blocks : List (List Key)) : Type 0 where
   pub most : length (slice_index_or blocks place []) ≤ 512
   pub others : AllByRecursion (λ block. length block < 512) (slice_set blocks place [])
 
+-- the block at index `place` is full, and no other block is
+pub record IsFullAt (place : ℕ) (blocks : List (List Key)) : Type 0 where
+  pub but : AreBlocksBut place blocks
+  pub full : length (slice_index_or blocks place []) ≡ 512
+
+-- the keys are kept in other blocks, in the same order
+pub record KeepsKeys (old new : List (List Key)) : Type 0 where
+  pub all : all_keys new ≡ all_keys old
+  pub blocks : AreBlocks new
+
 -- Sorted keys in blocks. The first block can be without keys even if there are other blocks.
 pub record AreTaken (blocks : List (List Key)) : Type 0 where
   pub in_order : KeysAreInOrder (all_keys blocks)
@@ -82,3 +93,14 @@ pub record HaveRoom (blocks spare : List (List Key)) (places : ℕ) : Type 0 whe
   pub kept : AreBlocks blocks
   pub empty : AllByRecursion (λ block. block ≡ []) spare
   pub within : length blocks + length spare ≤ places
+
+-- `count` blocks without keys, in a vector that has room for one more block
+pub record AreSpare (count : ℕ) (spare : Vec (List Key)) : Type 0 where
+  pub empty : AllByRecursion (λ block. block ≡ []) spare.items
+  pub number : vec_len spare ≡ count
+  pub capacity : count + 1 ≤ vec_capacity spare
+
+-- keys were moved from the end of `keys` to the beginning of `others`, until the first list had `count` keys
+pub record Moves (count : ℕ) (keys others keys_after others_after : List Key) : Type 0 where
+  pub all : keys_after ++ others_after ≡ keys ++ others
+  pub left : length keys_after ≡ count

@@ -7,7 +7,7 @@ use Rattle.clock_track.proofs.search.bound_groups.Given as goal
 abbrev pub invariant-loop-groups : goal.invariant-loop-groups
 invariant-loop-groups l = record {
   few : 32 * vec_len l.groups ≤ l.pairs + 31;
-  has : AreGroups l.shift (row_of l.row) l.groups.items;
+  has : AreGroups l.row.shift (row_of l.row.points) l.groups.items;
 }
 
 abbrev pub decreases-loop-groups : goal.decreases-loop-groups

@@ -5,7 +5,7 @@ use Rattle.clock_track.proofs.search.bounds_inside.Given as goal
 
 -- the pairs before index `i` are within the bounds
 abbrev pub invariant-loop-i : goal.invariant-loop-i
-invariant-loop-i l = HasInside l.shift (row_of l.row) l.bounds l.first l.i
+invariant-loop-i l = HasInside l.row.shift (row_of l.row.points) l.bounds l.first l.i
 
 abbrev pub decreases-loop-i : goal.decreases-loop-i
 decreases-loop-i l = l.end - l.i

@@ -1,4 +1,4 @@
-use Rattle.std.proofs.Common.{◌≡◌, ◌+ℤ◌, pos, w64, to_z, of_z, arith}
+use Rattle.std.proofs.Common.{◌≡◌, ◌+ℤ◌, pos, arith}
 use Rattle.std.proofs.lemmas.Int.{ints}
 use Rattle.clock_track.specs.Rows.{pair_of, timestamp}
 use Rattle.clock_track.specs.state.Bounds.{Widens}
@@ -7,19 +7,17 @@ use Rattle.clock_track.proofs.Outside.{all-inside, pairs-empty, pairs-late, pair
 use Rattle.clock_track.proofs.search.bounds_of.Goals as goal
 
 pub returns-then-count-eq0 : goal.returns-then-count-eq0
-returns-then-count-eq0 c = pairs-empty c.args.shift (row_of c.args.row.now) c.no_bounds.result (omega arith)
+returns-then-count-eq0 c = pairs-empty c.args.row.now.shift (row_of c.args.row.now.points) c.no_bounds.result (omega arith)
 
 pub returns-then-first-ge-POINTS_END : goal.returns-then-first-ge-POINTS_END
 returns-then-first-ge-POINTS_END c =
-    let shift : to_z w64 (of_z w64 c.args.shift) ≡ c.args.shift = omega (arith, ints) in
-    pairs-late c.args.shift (row_of c.args.row.now) c.bounds_inside-inside.result
-    (all-inside c.args.shift _ (row_of c.args.row.now) c.bounds_inside-inside.result c.timestamps-count.result shift c.timestamps-count.ensures c.bounds_inside-inside.ensures) (omega arith)
+    pairs-late c.args.row.now.shift (row_of c.args.row.now.points) c.bounds_inside-inside.result
+    (all-inside c.args.row.now.shift (row_of c.args.row.now.points) c.bounds_inside-inside.result c.timestamps-count.result c.timestamps-count.ensures c.bounds_inside-inside.ensures) (omega arith)
 
 pub returns : goal.returns
 returns c =
-    let shift : to_z w64 (of_z w64 c.args.shift) ≡ c.args.shift = omega (arith, ints) in
-    let same : c.pair_of-pair.result ≡ pair_of c.args.shift (row_of c.args.row.now) (timestamp (row_of c.args.row.now) 0) (timestamp (row_of c.args.row.now) 0) =
-    rw (c.timestamp-first.ensures, shift) at c.pair_of-pair.ensures.value in
+    let same : c.pair_of-pair.result ≡ pair_of c.args.row.now.shift (row_of c.args.row.now.points) (timestamp (row_of c.args.row.now.points) 0) (timestamp (row_of c.args.row.now.points) 0) =
+    rw c.timestamp-first.ensures at c.pair_of-pair.ensures.value in
     let within = c.longest_period.ensures.within in
     let low = c.pair_of-pair.ensures.small.later.from in
     let high = c.pair_of-pair.ensures.small.later.to in
@@ -31,6 +29,6 @@ returns c =
       latest = c.widened.ensures.latest;
       to = omega (arith, ints);
     } in
-    pairs-wide c.args.shift (row_of c.args.row.now) c.bounds_inside-inside.result c.widened.result c.pair_of-pair.result c.longest_period.result
-    (all-inside c.args.shift _ (row_of c.args.row.now) c.bounds_inside-inside.result c.timestamps-count.result shift c.timestamps-count.ensures c.bounds_inside-inside.ensures)
+    pairs-wide c.args.row.now.shift (row_of c.args.row.now.points) c.bounds_inside-inside.result c.widened.result c.pair_of-pair.result c.longest_period.result
+    (all-inside c.args.row.now.shift (row_of c.args.row.now.points) c.bounds_inside-inside.result c.timestamps-count.result c.timestamps-count.ensures c.bounds_inside-inside.ensures)
     wider same c.longest_period.ensures.value

@@ -8,5 +8,5 @@ pub returns-in-Some : goal.returns-in-Some
 returns-in-Some g c true_is row used_rows there =
     let instant : to_z w64 (of_z w64 c.args.query.now.instant) ≡ c.args.query.now.instant = omega (arith, ints) in
     let outside : IsOutside c.in-Some.bounds c.args.query.now.instant c.args.query.now.lead = rw instant at (c.excludes.ensures true_is) in
-    pairs-none c.args.query.now.shift row c.in-Some.bounds c.args.query.now.rate c.args.query.now.lead c.args.query.now.instant used_rows c.requires.lead
+    pairs-none c.args.query.now.shift row c.in-Some.bounds c.args.query.now.rate c.args.query.now.lead c.args.query.now.instant used_rows c.args.query.now.leads
     (c.in-Some.ensures c.args.query.now.shift row c.requires.bounded there) outside

@@ -11,9 +11,8 @@ use Rattle.clock_track.proofs.search.is_too_late.Goals as goal
 pub returns-else-first-ge-POINTS_END : goal.returns-else-first-ge-POINTS_END
 returns-else-first-ge-POINTS_END c true_is before =
     let instant : to_z w64 (of_z w64 c.args.query.now.instant) ≡ c.args.query.now.instant = omega (arith, ints) in
-    let shift : to_z w64 (of_z w64 c.args.query.now.shift) ≡ c.args.query.now.shift = omega (arith, ints) in
     let after : IsAfter c.pair_of.result c.args.query.now.rate c.args.query.now.instant = rw instant at (c.is_after.ensures.0 true_is) in
-    let same : c.pair_of.result ≡ pair_of c.args.query.now.shift (row_of c.args.row.now) (timestamp (row_of c.args.row.now) 0) (timestamp (row_of c.args.row.now) 0) =
-    rw (c.timestamp-first.ensures, shift) at c.pair_of.ensures.value in
-    late-none c.args.query.now.shift (row_of c.args.row.now) before c.args.query.now.rate c.args.query.now.instant
+    let same : c.pair_of.result ≡ pair_of c.args.row.now.shift (row_of c.args.row.now.points) (timestamp (row_of c.args.row.now.points) 0) (timestamp (row_of c.args.row.now.points) 0) =
+    rw c.timestamp-first.ensures at c.pair_of.ensures.value in
+    late-none c.args.row.now.shift (row_of c.args.row.now.points) before c.args.query.now.rate c.args.query.now.instant
     (subst (λ (p : Pair). IsAfter p c.args.query.now.rate c.args.query.now.instant) same after)

@@ -10,8 +10,8 @@ use Rattle.clock_track.proofs.search.latest_across.Given as goal
 abbrev pub invariant-loop-left : goal.invariant-loop-left
 invariant-loop-left g l = record {
   within : l.left ≤ length (g.R.Rows.rows l.rows);
-  same : find_last (test_of l.query) (filter_map (across l.query.shift (row_of l.row)) (used (take l.left (g.R.Rows.rows l.rows))))
-      ≡ find_last (test_of l.query) (filter_map (across l.query.shift (row_of l.row)) (used (g.R.Rows.rows l.rows)));
+  same : find_last (test_of l.query) (filter_map (across l.row.shift (row_of l.row.points)) (used (take l.left (g.R.Rows.rows l.rows))))
+      ≡ find_last (test_of l.query) (filter_map (across l.row.shift (row_of l.row.points)) (used (g.R.Rows.rows l.rows)));
 }
 
 abbrev pub decreases-loop-left : goal.decreases-loop-left

@@ -1,23 +1,34 @@
 -- In the list of pairs, the pairs that end at the packet's first timestamp precede the pairs inside the packet.
-use Rattle.std.proofs.Common.{sym, ◌∙◌}
-use Rattle.clock_track.specs.Rows.{used}
+use Rattle.std.proofs.Common.{◌≡◌, ◌-◌, ℤ, sym, subst, ◌∙◌, w64, to_z, of_z, arith}
+use Rattle.std.specs.List.{filter_map, range_with_len}
+use Rattle.std.proofs.lemmas.Int.{ints}
+use Rattle.time_unfold.specs.Stamps.{find_last}
+use Rattle.clock_track.specs.Rows.{across, inside, timestamps, used}
+use Rattle.clock_track.specs.state.Bounds.{AreGroups}
 use Rattle.clock_track.specs.state.Search.{test_of}
 use Rattle.clock_track.specs.Views.{row_of}
-use Rattle.clock_track.proofs.Lists.{across-last, inside-last, row-is}
+use Rattle.clock_track.proofs.Lists.{across-last, inside-last}
 use Rattle.clock_track.proofs.search.latest_at.Goals as goal
 
-pub returns-then-is_some-clause-value : goal.returns-then-is_some-clause-value
-returns-then-is_some-clause-value g c row there =
-    inside-last c.args.query.now.shift (used (g.R.Rows.rows c.args.rows.now)) (test_of c.args.query.now) (row_of c.row-row.result) row _ c.latest_inside-pair.result
-    c.row-row.ensures c.if-not-row.false c.latest_inside-pair.ensures.value (sym c.is_some.ensures ∙ c.if-is_some.true) there
+pub returns-then-is_some : goal.returns-then-is_some
+returns-then-is_some g c row there =
+    let shift : to_z w64 (of_z w64 c.args.query.now.shift) ≡ c.args.query.now.shift = omega (arith, ints) in
+    let here = row_of c.row-points.result in
+    let found = subst (λ (z : ℤ). c.latest_inside-pair.result ≡ find_last (test_of c.args.query.now) (filter_map (inside z here) (range_with_len 0 (timestamps here - 1)))) shift c.latest_inside-pair.ensures in
+    inside-last c.args.query.now.shift (used (g.R.Rows.rows c.args.rows.now)) (test_of c.args.query.now) here row _ c.latest_inside-pair.result
+    c.row-points.ensures c.if-not-points.false found (sym c.is_some.ensures ∙ c.if-is_some.true) there
 
-pub latest_across-requires-clause-row : goal.latest_across-requires-clause-row
-latest_across-requires-clause-row g c = row-is (g.R.Rows.rows c.args.rows.now) c.args.place (row_of c.row-row.result) c.requires.rows c.row-row.ensures c.if-not-row.false
+pub returns : goal.returns
+returns g c row there =
+    let shift : to_z w64 (of_z w64 c.args.query.now.shift) ≡ c.args.query.now.shift = omega (arith, ints) in
+    let here = row_of c.row-points.result in
+    let found = subst (λ (z : ℤ). c.latest_inside-pair.result ≡ find_last (test_of c.args.query.now) (filter_map (inside z here) (range_with_len 0 (timestamps here - 1)))) shift c.latest_inside-pair.ensures in
+    let first = subst (λ (z : ℤ). c.latest_across.result ≡ find_last (test_of c.args.query.now) (filter_map (across z here) (used (g.R.Rows.rows c.args.rows.now)))) shift c.latest_across.ensures in
+    across-last c.args.query.now.shift (used (g.R.Rows.rows c.args.rows.now)) (test_of c.args.query.now) here row _ c.latest_inside-pair.result c.latest_across.result
+    c.row-points.ensures c.if-not-points.false found (sym c.is_some.ensures ∙ c.if-is_some.false) first there
 
-pub returns-clause-value : goal.returns-clause-value
-returns-clause-value g c row there =
-    across-last c.args.query.now.shift (used (g.R.Rows.rows c.args.rows.now)) (test_of c.args.query.now) (row_of c.row-row.result) row _ c.latest_inside-pair.result c.latest_across.result
-    c.row-row.ensures c.if-not-row.false c.latest_inside-pair.ensures.value (sym c.is_some.ensures ∙ c.if-is_some.false) c.latest_across.ensures.value there
-
-pub latest_inside-pair-requires-clause-groups : goal.latest_inside-pair-requires-clause-groups
-latest_inside-pair-requires-clause-groups g c = c.groups.ensures c.args.query.now.shift (row_of c.row-row.result) c.requires.bounded c.row-row.ensures
+pub latest_inside-pair-requires : goal.latest_inside-pair-requires
+latest_inside-pair-requires g c =
+    let shift : to_z w64 (of_z w64 c.args.query.now.shift) ≡ c.args.query.now.shift = omega (arith, ints) in
+    subst (λ (z : ℤ). AreGroups z (row_of c.row-points.result) c.groups.result.now) (sym shift)
+    (c.groups.ensures c.args.query.now.shift (row_of c.row-points.result) c.requires.bounded c.row-points.ensures)

@@ -10,8 +10,8 @@ use Rattle.clock_track.proofs.search.latest_between.Given as goal
 abbrev pub invariant-loop-left : goal.invariant-loop-left
 invariant-loop-left l = record {
   within : l.left ≤ l.end;
-  same : find_last (test_of l.query) (filter_map (inside l.query.shift (row_of l.row)) (range_with_len l.first (l.left - l.first)))
-      ≡ find_last (test_of l.query) (filter_map (inside l.query.shift (row_of l.row)) (range_with_len l.first (l.end - l.first)));
+  same : find_last (test_of l.query) (filter_map (inside l.row.shift (row_of l.row.points)) (range_with_len l.first (l.left - l.first)))
+      ≡ find_last (test_of l.query) (filter_map (inside l.row.shift (row_of l.row.points)) (range_with_len l.first (l.end - l.first)));
 }
 
 abbrev pub decreases-loop-left : goal.decreases-loop-left

@@ -9,9 +9,9 @@ use Rattle.clock_track.proofs.search.latest_inside.Given as goal
 -- the result is among the pairs before index `left`
 abbrev pub invariant-loop-left : goal.invariant-loop-left
 invariant-loop-left l = record {
-  within : l.left ≤ timestamps (row_of l.row) - 1;
-  same : find_last (test_of l.query) (filter_map (inside l.query.shift (row_of l.row)) (range_with_len 0 l.left))
-      ≡ find_last (test_of l.query) (filter_map (inside l.query.shift (row_of l.row)) (range_with_len 0 (timestamps (row_of l.row) - 1)));
+  within : l.left ≤ timestamps (row_of l.row.points) - 1;
+  same : find_last (test_of l.query) (filter_map (inside l.row.shift (row_of l.row.points)) (range_with_len 0 l.left))
+      ≡ find_last (test_of l.query) (filter_map (inside l.row.shift (row_of l.row.points)) (range_with_len 0 (timestamps (row_of l.row.points) - 1)));
 }
 
 abbrev pub decreases-loop-left : goal.decreases-loop-left

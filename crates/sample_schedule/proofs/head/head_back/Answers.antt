@@ -5,6 +5,7 @@ use Rattle.sample_schedule.proofs.head.head_back.Goals as goal
 pub returns-clause-countable : goal.returns-clause-countable
 returns-clause-countable c =
     let held = c.in_ok-stamp.ensures.stamp in
+    let many = c.requires.samples.packet.count in
     let behind = c.in_ok-far.ensures.behind in
     record {
       from = omega (arith, ints);

@@ -11,11 +11,11 @@ sum_is number first to first_from first_to = omega (arith, ints)
 
 pub samples_on-requires : goal.samples_on-requires
 samples_on-requires c =
-    let sum = sum_is c.args.number c.args.head.now.first c.requires.line.to c.requires.countable.first_from c.requires.countable.first_to in
+    let sum = sum_is c.args.number c.args.head.now.first c.requires.line.to c.requires.head.countable.first_from c.requires.head.countable.first_to in
     subst (λ (z : ℤ). IsPresentable (samples_at c.args.packet (record { line = c.args.line; from = z }))) (sym sum)
-    (presentable-clock c.args.packet c.args.head.now (record { line = c.args.line; from = pos c.args.number }) c.requires.packet c.requires.some c.requires.countable c.requires.line)
+    (presentable-clock c.args.packet c.args.head.now (record { line = c.args.line; from = pos c.args.number }) c.requires.head.samples.packet c.requires.head.samples.some c.requires.head.countable c.requires.line)
 
 pub returns : goal.returns
 returns c =
-    let sum = sum_is c.args.number c.args.head.now.first c.requires.line.to c.requires.countable.first_from c.requires.countable.first_to in
+    let sum = sum_is c.args.number c.args.head.now.first c.requires.line.to c.requires.head.countable.first_from c.requires.head.countable.first_to in
     c.samples_on.ensures ∙ ap (λ (z : ℤ). samples_at c.args.packet (record { line = c.args.line; from = z })) sum

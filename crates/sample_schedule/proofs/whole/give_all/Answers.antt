@@ -16,12 +16,14 @@ loop-shown-preserved c = record {
   keeps = keeps-all _ _ _ c.loop-shown.invariant.keeps c.in-Some.ensures.keeps;
 }
 
-pub returns-clause-given : goal.returns-clause-given
-returns-clause-given c clock entries h =
-    let here = c.loop-shown.invariant.given clock entries h in
-    given-on clock entries c.loop-shown.list.items c.loop-shown.judge c.next_out.new.self here (c.in_default.ensures.stands clock entries _ here.stands) c.in_default.ensures.keeps
-
-pub returns-clause-all : goal.returns-clause-all
-returns-clause-all c clock entries h =
-    let here = c.loop-shown.invariant.given clock entries h in
-    given-all clock entries c.loop-shown.list.items c.loop-shown.judge c.next_out.new.self here (c.in_default.ensures.given clock entries _ here.stands) c.in_default.ensures.keeps
+pub returns : goal.returns
+returns c = record {
+  given = λ clock entries h.
+      let here = c.loop-shown.invariant.given clock entries h in
+      given-on clock entries c.loop-shown.list.items c.loop-shown.judge c.next_out.new.self here (c.in_default.ensures.stands clock entries _ here.stands) c.in_default.ensures.keeps;
+  all = λ clock entries h.
+      let here = c.loop-shown.invariant.given clock entries h in
+      given-all clock entries c.loop-shown.list.items c.loop-shown.judge c.next_out.new.self here (c.in_default.ensures.given clock entries _ here.stands) c.in_default.ensures.keeps;
+  idle = c.in_default.ensures.idle;
+  keeps = keeps-all _ _ _ c.loop-shown.invariant.keeps c.in_default.ensures.keeps;
+}

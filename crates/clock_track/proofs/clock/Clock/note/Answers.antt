@@ -1,12 +1,12 @@
 -- The packet is appended to the kept packets. If 64 packets are kept already, the oldest packet is dropped and its
 -- memory is reused.
-use Rattle.std.proofs.Common.{[], ◌∷◌, ◌+◌, ◌++◌, ap, sym, ◌∙◌, ◌≡◌, ℤ, w64, to_z, of_z, arith, subst, length, vec_len}
+use Rattle.std.proofs.Common.{[], ◌∷◌, ◌++◌, ap, sym, ◌∙◌, ◌≡◌, ℤ, w64, to_z, of_z, arith, subst}
 use Rattle.std.proofs.lemmas.Int.{ints}
 use Rattle.circular_buffer.specs.Buffer.{Buffer, buffer}
 use Rattle.clock_track.specs.declared.clock.Kept.{Kept}
 use Rattle.clock_track.specs.Limits.{IsNotable}
 use Rattle.clock_track.specs.Views.{row_of}
-use Rattle.clock_track.specs.state.Window.{HasBounds}
+use Rattle.clock_track.specs.state.Window.{HasBounds, HoldsRooms}
 use Rattle.clock_track.specs.Window.{ClockState}
 use Rattle.clock_track.proofs.Noted.{stands-noted, window-noted}
 use Rattle.clock_track.proofs.clock.Clock.note.Goals as goal
@@ -18,8 +18,8 @@ invariant_of-self c =
     let shift : to_z w64 (of_z w64 c.self.inside.shift) ≡ c.self.inside.shift = omega (arith, ints) in (
       window-noted c.self.inside.shift c.self.inside.rows c.put_behind.new.rows c.in_room.result c.self.inside.spare c.take_room-room.new.spare c.self.invariant.0
           (c.put_behind.ensures ∙ ap (λ (b : Buffer Kept). buffer (b.items ++ c.in_room.result ∷ []) 64) c.take_room-room.ensures.rows)
-          c.in_room.ensures.room (subst IsNotable (sym c.in_room.ensures.row) c.requires) (subst (λ (s : ℤ). HasBounds s c.in_room.result) shift c.in_room.ensures.bounds) c.take_room-room.ensures.spare
-          (ap (λ (b : Buffer Kept). length b.items + vec_len c.take_room-room.new.spare) (sym c.take_room-room.ensures.rows) ∙ c.take_room-room.ensures.count),
+          c.in_room.ensures.room (subst IsNotable (sym c.in_room.ensures.row) c.requires) (subst (λ (s : ℤ). HasBounds s c.in_room.result) shift c.in_room.ensures.bounds)
+          (subst (λ (b : Buffer Kept). HoldsRooms b.items c.take_room-room.new.spare 63) c.take_room-room.ensures.rows c.take_room-room.ensures.left),
       c.self.invariant.1,
     )
 

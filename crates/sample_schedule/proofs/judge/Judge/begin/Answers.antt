@@ -1,8 +1,14 @@
-use Rattle.std.proofs.Common.{ap}
+use Rattle.std.proofs.Common.{ap, rules}
 use Rattle.circular_buffer.specs.Buffer.{Buffer}
 use Rattle.sample_schedule.specs.declared.pending.Pending.{Pending}
 use Rattle.sample_schedule.proofs.JudgeLemmas.{stands-begin}
 use Rattle.sample_schedule.proofs.judge.Judge.begin.Goals as goal
 
-pub returns-clause-stands : goal.returns-clause-stands
-returns-clause-stands c clock asks = stands-begin clock c.args.plan c.in_ok-noted.noted _ _ asks c.in_ok-noted.ensures c.in_ok-waiting.ensures.none (ap (λ (b : Buffer Pending). b.items) c.in_ok-ahead.ensures)
+pub returns : goal.returns
+returns c = record {
+  stands = λ clock asks. stands-begin clock c.args.plan c.in_ok-noted.noted _ _ asks c.in_ok-noted.ensures c.in_ok-waiting.ensures.none (ap (λ (b : Buffer Pending). b.items) c.in_ok-ahead.ensures);
+  plan = search rules;
+  none = search rules;
+  «open» = search rules;
+  idle = search rules;
+}

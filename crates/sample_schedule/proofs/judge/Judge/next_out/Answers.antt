@@ -8,7 +8,7 @@ use Rattle.sample_schedule.proofs.judge.Judge.next_out.Goals as goal
 pub returns-then-not-take_ahead-clause-given : goal.returns-then-not-take_ahead-clause-given
 returns-then-not-take_ahead-clause-given c clock entries given st =
     let here = c.loop-shown.invariant.stands clock entries given st in
-    let judged = none-more clock entries given _ (c.in_default.ensures.stands clock entries given here) in
-    let ready = c.take_ahead.ensures.stands clock entries given judged in
-    let keeps = keeps-all _ _ _ c.loop-shown.invariant.keeps (keeps-all _ _ _ c.give_or_judge.ensures.keeps c.take_ahead.ensures.keeps) in
+    let judged = none-more clock entries given _ (c.in_default.ensures.works.stands clock entries given here) in
+    let ready = none-more clock entries given _ (c.take_ahead.ensures.works.stands clock entries given judged) in
+    let keeps = keeps-all _ _ _ c.loop-shown.invariant.keeps (keeps-all _ _ _ c.give_or_judge.ensures.works.keeps c.take_ahead.ensures.works.keeps) in
     c.give_last.ensures.given clock entries given ready ∙ ap (λ (o : List Shown). slice_get o given) (out-keeps clock entries _ _ keeps)

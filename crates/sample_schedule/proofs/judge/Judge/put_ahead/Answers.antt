@@ -3,7 +3,7 @@ use Rattle.std.proofs.Common.{ℕ, ◌^◌, ◌<◌, ap, sym, subst, ◌∙◌}
 use Rattle.circular_buffer.specs.Buffer.{Buffer}
 use Rattle.sample_schedule.specs.declared.pending.Pending.{Pending}
 use Rattle.sample_schedule.specs.Judge.{JudgeState, taken}
-use Rattle.sample_schedule.proofs.JudgeSound.{Fits, Passes, passes-fits, pushed, pushes-none, puts-none, puts-of, puts-some, sound-pass, sound-put}
+use Rattle.sample_schedule.proofs.JudgeSound.{Fits, Passes, passes-fits, pushed, pushes-none, puts-none, puts-of, puts-some, sound-pass, sound-put, taken-pass}
 use Rattle.sample_schedule.proofs.judge.Judge.put_ahead.Goals as goal
 
 fits : (c : goal.In-None) → Fits c.self.inside.ahead.items c.args.pending c.self.inside.ahead.capacity c.push_back.new.self.items
@@ -23,8 +23,14 @@ pub invariant_of-self : goal.invariant_of-self
 invariant_of-self c =
     sound-pass _ c.self.inside.ahead.capacity _ c.self.inside.waiting c.args.pending c.in-Some.next c.push_back.new.self.items c.self.invariant c.requires.pending (ap (λ (b : Buffer Pending). b.capacity) c.in-Some.ensures.items) (pushed c.self.inside.ahead.items c.args.pending c.self.inside.ahead.capacity _ c.in-Some.next c.push_back.new.self c.self.invariant.line c.self.invariant.behind c.in-Some.ensures.items c.in-Some.ensures.value)
 
-pub judge_next-requires-clause-pending : goal.judge_next-requires-clause-pending
-judge_next-requires-clause-pending c = passes-fits c.self.inside.ahead.items c.args.pending c.self.inside.ahead.capacity c.in-Some.next c.push_back.new.self.items (pushed c.self.inside.ahead.items c.args.pending c.self.inside.ahead.capacity _ c.in-Some.next c.push_back.new.self c.self.invariant.line c.self.invariant.behind c.in-Some.ensures.items c.in-Some.ensures.value) c.self.invariant.ahead c.requires.pending
+pub judge_next-requires : goal.judge_next-requires
+judge_next-requires c =
+    let passed = pushed c.self.inside.ahead.items c.args.pending c.self.inside.ahead.capacity _ c.in-Some.next c.push_back.new.self c.self.invariant.line c.self.invariant.behind c.in-Some.ensures.items c.in-Some.ensures.value in
+    record {
+      idle = ap (λ (s : JudgeState). s.current) c.self.view_is ∙ c.requires.idle;
+      taken = taken-pass _ _ c.args.pending c.in-Some.next c.self.inside.ahead.capacity c.push_back.new.self.items c.self.view_is passed c.requires.taken;
+      pending = passes-fits c.self.inside.ahead.items c.args.pending c.self.inside.ahead.capacity c.in-Some.next c.push_back.new.self.items passed c.self.invariant.ahead c.requires.pending;
+    }
 
 pub returns-in-Some : goal.returns-in-Some
 returns-in-Some c =

@@ -8,7 +8,7 @@ use Rattle.sorted_keys.proofs.block.Block.split.Goals as goal
 in_order : (c : goal.After-move_behind) → KeysAreInOrder (c.move_behind.new.keys.items ++ c.move_behind.new.others.items)
 in_order c =
     let none = c.upper.view_is ∙ c.requires.empty in
-    let all = c.move_behind.ensures.all ∙ ap (λ (l : List Key). c.self.inside.keys.items ++ l) none ∙ append-nil c.self.inside.keys.items in
+    let all = c.move_behind.ensures.moves.all ∙ ap (λ (l : List Key). c.self.inside.keys.items ++ l) none ∙ append-nil c.self.inside.keys.items in
     subst KeysAreInOrder (sym all) c.self.invariant.1
 
 pub invariant_of-self : goal.invariant_of-self

@@ -35,8 +35,11 @@ unreachable-requires c =
     omega arith
 
 pub split-requires-clause-full : goal.split-requires-clause-full
-split-requires-clause-full c =
-    is-full c.put_into-place.new.blocks.items c.put_into-place.result c.index.result.now c.put_into-place.ensures.blocks c.index.ensures (sym c.is_full.ensures ∙ c.if-is_full.true)
+split-requires-clause-full c = record {
+  but = c.put_into-place.ensures.blocks;
+  full =
+      is-full c.put_into-place.new.blocks.items c.put_into-place.result c.index.result.now c.put_into-place.ensures.blocks c.index.ensures (sym c.is_full.ensures ∙ c.if-is_full.true);
+}
 
 pub split-requires-clause-empty : goal.split-requires-clause-empty
 split-requires-clause-empty c =
