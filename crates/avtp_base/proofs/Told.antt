@@ -35,7 +35,7 @@ Keeps-appends (Some x) b None bs p q = tt
 Keeps-appends (Some x) None (Some z) bs p q = absurd q
 Keeps-appends (Some x) (Some y) (Some z) bs p q = q ∙ ap (λ l. l ++ bs) p
 
--- if all bytes were kept, nothing was appended
+-- if the bytes are unchanged, nothing was appended
 pub Keeps-none : (a b : Option (List ℕ)) → Keeps a b → Appends a b []
 Keeps-none a b p = Keeps-appends a b b [] p (Appends-nil b)
 

@@ -81,8 +81,9 @@ const TALK_OPERANDS: [Operand; 2] = [Operand::Name, Operand::Name];
 const RATE_CODES: [u8; 10] = [1, 2, 3, 4, 5, 6, 7, 8, 9, 10];
 
 /// Reads the words after `talk`. If a word is missing, the offence is one past the last word. If each word is valid but
-/// the words contradict one another, the offence is at the command. For H.264, a rate above 240 access units a second
-/// counts as a contradiction, because `--kind` can follow `--rate`.
+/// the words contradict one another, the offence is at the command. The option `--kind` can follow `--rate`, so a rate
+/// is compared with the kind only after all words are read. For H.264, a rate above 240 access units a second is
+/// therefore a contradiction, not an invalid word.
 pub fn read_talk(words: &[String]) -> Result<Command<'_>, Offence>
     ensures ok { IfOk result (λ command. IsCommandLine (codes "talk" ∷ texts words.now) (request_of command)) }
     ensures err { IfErr result (λ offence. IsOffence (codes "talk" ∷ texts words.now) offence.position) }

@@ -202,7 +202,8 @@ inside-last shift used_rows test row other o r e u is some f =
     one-row (pairs_at shift used_rows) test row other o r e f u
     (sym (or-some r (find_last test xs) some) ∙ ap (λ (p : Option Pair). option_or p (find_last test xs)) is ∙ sym (last-split test xs ys))
 
--- if no pair inside the packet passes, the last pair that passes ends at the packet's first timestamp
+-- if each pair inside the packet fails the test, the last pair that passes is found among the pairs that end at the
+-- packet's first timestamp
 pub across-last : (shift : ℤ) (used_rows : List ClockRow) (test : Pair → Bool) (row other : ClockRow) (o : Option ClockRow) (p r : Option Pair) → o ≡ Some row → row.usable ≡ true
     → p ≡ find_last test (filter_map (inside shift row) (range_with_len 0 (timestamps row - 1))) → is_some p ≡ false
     → r ≡ find_last test (filter_map (across shift row) used_rows)

@@ -4,7 +4,7 @@ use Rattle.avtp_header.specs.Header.{peeked_of}
 use Rattle.packet_journal.specs.Deliveries.{packet_in}
 use Rattle.listener.specs.declared.delivery.StreamPacket.{StreamPacket}
 
--- A packet of a stream and its subtype, without the packet's location in memory.
+-- The subtype and the bytes of a stream's packet, without the packet's location in memory.
 pub record PacketOfStream : Type 0 where
   pub subtype : ℕ
   pub bytes : List ℕ

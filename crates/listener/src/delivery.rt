@@ -104,8 +104,8 @@ pub fn packet_of_stream(stream: u64, frame: &[u8]) -> Option<StreamPacket<'_>>
 
 /// The record as a delivery, if the record belongs to the plan's stream or to the plan's clock. The record must be a
 /// readable Ethernet frame of AVTP. For the stream, the record's packet must be of IEC 61883, AAF or CVF; for the
-/// clock, the packet must be of CRF. The packet's stream ID must be valid and equal to the plan's ID of the stream or
-/// of the clock.
+/// clock, the packet must be of CRF. The packet must have a valid stream ID: the plan's stream ID for a packet of the
+/// stream, and the plan's clock ID for a packet of the clock.
 pub fn delivery_of<'a>(
     plan: &ListenPlan,
     frame: u64,

@@ -26,7 +26,7 @@ pub struct ListenPlan {
 }
 
 impl ListenPlan {
-    /// The schedule's part of the plan.
+    /// The settings of the plan that a schedule uses.
     pub(crate) fn schedule_plan(&self) -> SchedulePlan
         ensures { result ≡ schedule_plan_of self.now }
     {

@@ -143,8 +143,9 @@ impl Pipe {
         }
     }
 
-    /// Both sides take their turns. If nothing was pushed or popped and an item is in `hand`, the ring is empty and its
-    /// producer knew of no free slot. The item is then presented directly, without the ring.
+    /// Both sides take their turns. Suppose that nothing was pushed or popped, and that `hand` holds an item. Then the
+    /// ring is now empty, but at the start of the turns its producer knew of no free slot. The item is then presented
+    /// directly, without the ring.
     fn advance<T: Threads + Sync, R: Receiver, P: Presenter, G: Gate>(
         &mut self,
         rt: &T,

@@ -100,9 +100,9 @@ pub fn near_packets_are_one()
 {}
 
 /// For a copy of a packet without a timestamp, a listener finds a given stamp if and only if three conditions hold. The
-/// copy is counted from the stamp's packet, and the stamp is among the last `room` stamps. There is no restart between
-/// the copied packet and the stamped packet. The copy's arrival plus `lead` differs from the packet's first instant by
-/// at most the time of 60 packets.
+/// stamp belongs to the packet that the copy's instants are counted from, and is among the last `room` stamps. There is
+/// no restart between the copied packet and the stamped packet. The copy's arrival plus `lead` differs from the
+/// packet's first instant by at most the time of 60 packets.
 pub fn heads_are_found()
     ensures { (j : Journal) (lead room : ℕ) (c : Copy) (far : Distance) (stamps : List Stamp) (stamp : Stamp) → IsAudio j → HoldsEight j.packets j.mr → IsUnstamped j lead c far → All (IsTrue j) stamps → (found room (wanted j lead c far) stamps ≡ Some stamp) ↔ (IsExpected j lead c × IsAtHand j room c.number far stamps stamp) }
 {}

@@ -61,7 +61,7 @@ abbrev pub late : ℕ → List ℕ → ℕ
 late first [] = 0
 late first (number ∷ later) = late first later + (if nat_lt (greatest first later) number then 0 else if has_come first later number then 0 else 1)
 
--- the greatest number of packets that were missing immediately before a packet when it arrived
+-- the number of packets missing in the longest gap, as counted when the packet after that gap arrived
 abbrev pub most_passed : ℕ → List ℕ → ℕ
 most_passed first [] = 0
 most_passed first (number ∷ later) = max (most_passed first later) (number - greatest first later - 1)

@@ -12,8 +12,8 @@ use crate::tally::{At, Tally};
 #[derive(Clone, Copy)]
 pub struct Order {
     window: Window,
-    /// Packets that are missing. `most_lost` is the greatest number of packets that were missing immediately before a
-    /// packet when it arrived.
+    /// Packets that are missing. `most_lost` is the number of packets missing in the longest gap, as counted when the
+    /// packet after that gap arrived.
     pub lost: Tally,
     pub most_lost: u64,
     /// Packets whose sequence number had arrived before.

@@ -143,8 +143,9 @@ pub fn unread_format(subtype: u8, field: Field, pdu: &[u8]) -> Option<Other> {
     }
 }
 
-/// Whether an IEC 61883 packet is of a part other than IEC 61883-6. A packet of another part has a whole header, and
-/// was refused at a field that differs between the parts.
+/// Whether an IEC 61883 packet is of a part other than IEC 61883-6. A refused packet is of another part if three things
+/// hold: its header is whole, its FMT is not that of IEC 61883-6, and it was refused at a field that differs between
+/// the parts.
 fn is_other_part(field: Field, pdu: &[u8]) -> bool {
     let differs = matches!(field, Field::FnBits | Field::Qpc | Field::Sph | Field::Fmt);
     differs && pdu.len() >= 32 && byte_at(pdu, 28) % 64 != AM824

@@ -318,8 +318,8 @@ impl Stream {
         self.counted().lost
     }
 
-    /// The greatest number of packets that were missing immediately before a packet when it arrived. Packets that
-    /// arrive later do not lower it.
+    /// The number of packets missing in the longest gap, as counted when the packet after that gap arrived. Packets
+    /// that arrive later do not lower it.
     pub fn most_lost(&self) -> u64 {
         self.counted().most_lost
     }

@@ -40,8 +40,8 @@ pub enum Verdict {
     Senders {
         packets: Tally,
     },
-    /// Packets that are missing, and the greatest number of packets that were missing immediately before a packet when
-    /// it arrived.
+    /// Packets that are missing, and the number of packets missing in the longest gap, as counted when the packet after
+    /// that gap arrived.
     Lost {
         packets: Tally,
         most: u64,

@@ -147,8 +147,8 @@ pub fn talked_copy_is_welcome()
 }
 
 /// Assume that a copy of a packet must be presented, and that the packet is captured again anywhere later in the
-/// capture. The later copy must be flagged as a repeat, if two conditions hold. The later copy can be timed. All
-/// packets before the later copy were captured no later than the instant at which the packet is due.
+/// capture. The later copy must be flagged as a repeat, if two conditions hold. The later copy can be timed. Every
+/// packet before the later copy was captured no later than the instant when the copied packet is due.
 pub fn talked_copy_is_further()
     ensures { (plan : TalkPlan) (input before between after : List ℕ) (n : ℕ) (listen : ListenPlan) → MustBePresented plan input listen before n (between ++ n ∷ after) → ComesInTime plan input listen (before ++ n ∷ between) n after
         → (made : MadeItem) × IsFurther (journal plan input) listen (captured plan input ((before ++ n ∷ between) ++ n ∷ after)) (length (before ++ n ∷ between)) n made }

@@ -270,8 +270,8 @@ fn a_failing_read_of_either_capture_ends_their_comparison(rt: HostRuntime) -> Re
     ends_where_a_read_fails(&rt, rt.alloc(), &AGREED)
 }
 
-/// If a write fails, the written text is a prefix of the whole text. If a later write fails instead, the run writes at
-/// least as much text.
+/// If a write fails, the written text is a prefix of the whole text. A run that fails at write n writes at most as much
+/// text as a run that fails at write n + 1.
 #[test]
 fn a_failing_write_leaves_a_prefix_of_the_text(rt: HostRuntime) -> Result<(), NoMemory> {
     let alloc = rt.alloc();

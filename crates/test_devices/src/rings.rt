@@ -11,7 +11,7 @@ use std::sync::atomic::{AtomicU64, Ordering};
 use std::test::Fail;
 use std::thread::Threads;
 
-/// Gives flags of the frames 1, 2, 3 and so on, up to a limit.
+/// Gives one flagged item for each of the frames 1, 2, 3 and so on, up to a limit.
 #[derive(Drop)]
 struct Flags {
     given: u64,
