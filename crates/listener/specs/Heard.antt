@@ -13,7 +13,7 @@ use Rattle.listener.specs.declared.plan.ListenPlan.{ListenPlan}
 use Rattle.packet_journal.specs.Deliveries.{Delivery, deliveries}
 use Rattle.listener.specs.Items.{MadeItem, entries, entries_so_far, items_of}
 
--- the schedule's part of a listener's plan
+-- the settings of a listener's plan that a schedule uses
 abbrev pub schedule_plan : ListenPlan → SchedulePlan
 schedule_plan plan = record {
   buffer = plan.buffer;

@@ -96,7 +96,7 @@ pub record Few (first : ℕ) (later : List ℕ) : Type 0 where
   pub packets : length later < 2 ^ 64
 
 -- The window of `order` describes a stream's packets. The counts of `order` are right: how many packets are lost,
--- repeated and late, and the greatest number of packets that were missing immediately before a packet when it arrived.
+-- repeated and late, and how many are missing in the longest gap, as counted when the packet after that gap arrived.
 pub record CountsOf (order : Order) (first : ℕ) (later : List ℕ) : Type 0 where
   pub window : StandsFor order.window first later
   pub lost : order.lost.count ≡ lost first later
